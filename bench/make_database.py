@@ -29,7 +29,7 @@ def header(entries):
         offset = len(data)
         if kind in SIZES:
             data += b"".join(value.to_bytes(size, "big") for value in values)
-        elif kind == BIN:
+        elif kind in (BIN, CHAR):
             data += bytes(values)
         else:
             data += b"".join(value.encode() + b"\0" for value in values)
@@ -74,7 +74,7 @@ def own(i):
 def package(i, states=False, parts=common):
     provides, needs, directories, files = parts(i)
     version = f"1.{i % 10}-1.fc40"
-    there = [(1029, CHAR, [""] * 20)] if states else []
+    there = [(1029, CHAR, [0] * 20)] if states else []
     return header(sorted(there + [
         (1000, TEXT, [f"package{i}"]), (1001, TEXT, [f"1.{i % 10}"]), (1002, TEXT, ["1.fc40"]), (1004, I18N, ["A package"]),
         (1005, I18N, ["A package that is there to be measured, with a few lines of text.\n" * 4]), (1006, INT32, [1700000000 + i]),
