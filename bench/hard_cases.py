@@ -3,8 +3,9 @@
 
 PROGRAM is crates/rpm_prog/out/rpm_prog (made by `rt run` there). Wants rpm, as Debian 12 has it (4.18, sqlite). What a case alone wants is named in its
 row where it isn't there: strace, setpriv and to be root, faketime. Each case is done to both, in folders of their own. Prints the tables of
-docs/HARD_CASES.md, and with --write writes that page; --quick has 2,000 packages in place of 50,000 and 1,000 random changes in place of 10,000; a PART
-is a function of the list below. Fails where this program loses a package, or gives another answer than the one that stands beside the case.
+docs/HARD_CASES.md, and with --write writes that page. --quick has 2,000 packages in place of 50,000, and 1,000 random changes in place of 10,000, of rpm a
+tenth each time; a PART is the name of a function below. Fails where this program loses a package, or gives another answer than the one that stands beside
+the case. TMPDIR=/dev/shm spares the waiting for a disk.
 """
 import os
 import sys

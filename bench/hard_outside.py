@@ -132,9 +132,9 @@ def rights(table):
 def memory(table):
     """Less and less memory."""
     table.title("Want of memory")
-    sizes = [int((1 << 20) * 1.25 ** k) for k in range(26)]
+    sizes = [int((1 << 20) * 1.5 ** k) for k in range(14)]
     limits = [{"limit": (resource.RLIMIT_AS, (size, size))} for size in sizes]
-    tried(table, f"an import of 1,000, {sizes[0] >> 20} to {sizes[-1] >> 20} MiB", lambda side: limits, r"\d+ tries: [\w, ]*; 0 or 1000 added", 1000)
+    tried(table, f"an import of 500, {sizes[0] >> 20} to {sizes[-1] >> 20} MiB", lambda side: limits, r"\d+ tries: [\w, ]*; 0 or 500 added", 500)
     cells = []
     for side in table.sides:
         side.fresh()
@@ -145,32 +145,43 @@ def memory(table):
     table.row("`-qa`, the same", cells, [len(side.headers()) for side in table.sides], r"\d+ tries: .*; each prints a beginning", 40)
 
 
-def start(side, words, stdin):
-    """A command that runs beside others."""
+def start(side, words, stdin, before=()):
+    """A command that runs beside others, maybe behind other words."""
     path = f"{side.folder}/input"
     with open(path, "wb") as file:
         file.write(stdin)
     with open(path, "rb") as file:
         os.remove(path)
-        return subprocess.Popen(side.words(list(words)), stdin=file, stdout=subprocess.PIPE, stderr=subprocess.DEVNULL)
+        return subprocess.Popen(list(before) + side.words(list(words)), stdin=file, stdout=subprocess.PIPE, stderr=subprocess.DEVNULL)
 
 
-def two_at_once(table, times=10):
+def two_imports(side, times, slowly=()):
+    """What became of two imports at one time, the first maybe slowed down; and how many packages from before are left at least."""
+    ended, added, left = [], [], []
+    for _ in range(times):
+        side.fresh()
+        first = start(side, IMPORT, more(41), slowly)
+        time.sleep(0.2 if slowly else 0)
+        both = [first, start(side, IMPORT, more(61))]
+        ended += [str(process.wait()) for process in both]
+        found = side.headers() or []
+        left.append(sum(header in found for header in side.before))
+        added.append(len(found) - left[-1])
+    return f"{times} tries: {endings(ended)}; {span(added)} of 40 added", min(left)
+
+
+def two_at_once(table, times=6):
     """Two commands at one time."""
     table.title("Two at once")
-    cells, counts = [], []
-    for side in table.sides:
-        ended, added, left = [], [], []
-        for _ in range(times):
-            side.fresh()
-            both = [start(side, IMPORT, more(41 + 20 * k)) for k in (0, 1)]
-            ended += [str(process.wait()) for process in both]
-            found = side.headers() or []
-            left.append(sum(header in found for header in side.before))
-            added.append(len(found) - left[-1])
-        cells.append(f"{times} tries: {endings(ended)}; {span(added)} of 40 added")
-        counts.append(min(left))
+    # What becomes of two changes at one time isn't stated of this program: nobody locks its files.
+    cells, counts = zip(*[two_imports(side, times) for side in table.sides])
     table.row("two imports of 20", cells, counts, ".*")
+    if shutil.which("strace"):
+        slowly = [UNTRACED + ["/dev/null", "-e", f"inject=pwrite64:delay_enter={delay}"] for delay in (1000, 50000)]
+        cells, counts = zip(*[two_imports(side, 2, it) for side, it in zip(table.sides, slowly)])
+        table.row("the same, the first slowed down", cells, counts, ".*")
+    else:
+        table.apart("the same, the first slowed down", "wants strace")
     cells = []
     for side in table.sides:
         side.fresh()
@@ -183,20 +194,20 @@ def two_at_once(table, times=10):
 
 
 def beside_an_import(table):
-    """Questions while an import of 1,000 packages runs."""
+    """Questions while an import of 500 packages runs."""
     cells = []
     for side in table.sides:
         side.fresh()
-        right = set(side.run(*ALL).out.split()) | {f"package{i}-1.{i % 10}-1.fc40.x86_64".encode() for i in range(41, 1041)}
-        process, seen = start(side, IMPORT, more(41, 1000)), []
+        right = set(side.run(*ALL).out.split()) | {f"package{i}-1.{i % 10}-1.fc40.x86_64".encode() for i in range(41, 541)}
+        process, seen = start(side, IMPORT, more(41, 500)), []
         while process.poll() is None:
             seen.append(side.run(*ALL))
         counts = {len(it.out.split()) for it in seen}
         wrong = sum(not set(it.out.split()) <= right for it in seen)
         cells.append(f"{endings([it.ended() for it in seen])}, {span(counts)} packages" + (f", {wrong} wrong" if wrong else ""))
-        if process.returncode or len(side.headers()) != 1040:
+        if process.returncode or len(side.headers()) != 540:
             cells[-1] += f"; the import ends with {process.returncode}"
-    table.row("`-qa` during an import of 1,000", cells, [40, 40], ".*")
+    table.row("`-qa` during an import of 500", cells, [40, 40], ".*")
 
 
 def clock(table):
