@@ -159,12 +159,15 @@ def line(*cells):
 
 
 def answers_table(systems):
-    """Of each system how much was asked, and how many answers differ in which way."""
-    kinds = [kind for kind in RULES if any(system.pair.counts[kind] for system in systems)]
-    text = line("System", "Packages", "Bytes", "Questions", *kinds) + line(*["---"] * (4 + len(kinds)))
-    for system in systems:
-        text += line(system.name, system.packages, system.bytes, system.pair.asked, *(system.pair.counts[kind] for kind in kinds))
-    return text + "\n" + "".join(f"- {kind}: {RULES[kind][0]}\n" for kind in kinds)
+    """How much was asked of each system, and how many answers differ in which way, of the systems in the same order."""
+    text = line("", "System", "Packages", "Bytes", "Questions") + line(*["---"] * 5)
+    for at, system in enumerate(systems, 1):
+        text += line(at, system.name, system.packages, system.bytes, system.pair.asked)
+    text += "\n" + line("Kind", *range(1, len(systems) + 1), "What differs") + line(*["---"] * (len(systems) + 2))
+    for kind, (sentence, _) in RULES.items():
+        if any(system.pair.counts[kind] for system in systems):
+            text += line(kind, *(system.pair.counts[kind] for system in systems), sentence)
+    return text
 
 
 def shares(costs, which):
