@@ -58,7 +58,7 @@ def tried(table, name, runs_of, wanted, count=ADDED):
     table.row(name, [it.cell() for it in tries], [min(it.kept) for it in tries], wanted, 40)
 
 
-def refusals(how, most=12):
+def refusals(how, most=8):
     """For a side: something done at each of its writes, or at so many of them."""
     def runs(side):
         side.fresh()
@@ -79,7 +79,7 @@ def disk(table):
         tried(table, "killed at some write", refusals(lambda place: f"signal=SIGKILL:when={place}"), r"\d+ tries: (signal 9|137); 0( or 20)? added")
     else:
         table.apart("no space, a write that fails, a kill", "wants strace")
-    sizes = [{"limit": (resource.RLIMIT_FSIZE, (size << 10, size << 10))} for size in range(20, 420, 40)]
+    sizes = [{"limit": (resource.RLIMIT_FSIZE, (size << 10, size << 10))} for size in range(20, 420, 80)]
     tried(table, "a limit on the size of files", lambda side: sizes, r"\d+ tries: (0, )?252; 0( or 20)? added")
 
 
@@ -170,7 +170,7 @@ def two_imports(side, times, slowly=()):
     return f"{times} tries: {endings(ended)}; {span(added)} of 40 added", min(left)
 
 
-def two_at_once(table, times=6):
+def two_at_once(table, times=4):
     """Two commands at one time."""
     table.title("Two at once")
     # What becomes of two changes at one time isn't stated of this program: nobody locks its files.
