@@ -29,7 +29,7 @@ A cell has the status, how much of the right answer was printed, and the first l
 an export has afterwards, unchanged, of rpm and of this program; for damaged, missing and cut files after their `--rebuilddb`. "Refused" is a database that
 none of these commands reads or changes. `bench/refused_memory.sh` refuses each allocation in turn.
 
-Two rows to know: nobody locks the files of this program, so that of two changes at one time one may be lost, though both end with 0. And a damaged place of a
+Two things to know: nobody locks the files of this program, so that of two changes at one time one may be lost, though both end with 0. And a damaged place of a
 package, a damaged log or a cut file has it refuse the whole database: copy it before you repair it by hand. A file that is cut to nothing is a blank database.
 """
 TITLES = ("A flipped byte", "The index", "A file that is cut", "A disk that is full, and a crash", "An output that fails", "A user without rights",
