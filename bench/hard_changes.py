@@ -1,7 +1,6 @@
 """The cases of bench/hard_cases.py that are large: many packages, and many random changes, compared at the end with a model of the database."""
 import hashlib
 import random
-import time
 
 from hard_sides import MAGIC, show, split
 from make_database import package
@@ -29,17 +28,15 @@ def many(table, count):
                 ("`--whatprovides`", ("rpm", "-q", "--whatprovides", f"lib{count // 2}.so.1"), b"", label),
                 ("export", ("rpmdb", "--exportdb"), b"", None), ("one erased", erase, b"", b""),
                 ("rebuilt", ("rpmdb", "--rebuilddb"), b"", b"")):
-            begin = time.time()
             seen = side.run(*words, stdin=stdin)
-            seconds = time.time() - begin
             if name == "export":
                 side.before = split(seen.out)
                 answer = seen.out if len(side.before) == count and (side is table.theirs or seen.out == headers) else b"\0"
-            rows[name].append(f"{seen.ended()}, {'all' if seen.out == answer else 'other'}, {seconds:.2f} s")
+            rows[name].append(f"{seen.ended()}, {'all' if seen.out == answer else 'other'}")
         left = set(side.headers())
         side.left = sum(it in left for it in side.before)
     for name, cells in rows.items():
-        table.row(f"{count:,}: {name}", cells, [side.left for side in table.sides], r"0, all, [\d.]+ s", count - 1)
+        table.row(f"{count:,}: {name}", cells, [side.left for side in table.sides], "0, all", count - 1)
 
 
 class Model:
