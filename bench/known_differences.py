@@ -117,14 +117,20 @@ def without_epoch(_, question, theirs, __):
     return [re.sub(r"^(\S+)-\d+:(\S+: unsatisfied: )", r"\1-\2", line) for line in theirs] if question[0] == "-Va" else None
 
 
+def signed(flags, name, version):
+    """A requirement as reports have it."""
+    sign = "".join(text for bit, text in ((2, "<"), (4, ">"), (8, "=")) if flags & bit)
+    return f"{name} {sign} {version}" if sign and version else name
+
+
 def unmet_install(pair, question, theirs, ours):
     """The same, with what a package requires for scripts of its installation alone."""
-    added = []
-    for line in set(ours) - set(theirs) if question[0] == "-Va" else []:
-        label, _, need = line.partition(": unsatisfied: ")
-        flags = [flag for number, flag in pair.rows("--whatrequires", need.split(" ")[0]) if pair.labels[number][5] == label]
-        added += [line] if flags and all(map(install_only, flags)) else []
-    return theirs + added
+    if question[0] != "-Va":
+        return None
+    flags = collections.defaultdict(list)
+    for number, flag, name, version in pair.column("REQUIREFLAGS", "REQUIRENAME", "REQUIREVERSION"):
+        flags[f"{pair.labels[number][5]}: unsatisfied: {signed(int(flag), name, version)}"].append(int(flag))
+    return theirs + [line for line in ours if line not in set(theirs) and flags[line] and all(map(install_only, flags[line]))]
 
 
 def unmet_once(_, question, theirs, ours):
