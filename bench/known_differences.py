@@ -52,6 +52,15 @@ def unindexed(kind):
     return rule
 
 
+def within_rich(pair, question, theirs, ours):
+    """Packages with a rich dependency that has this name within."""
+    if question[0] not in TAGS:
+        return None
+    rich = {row[0] for row in pair.column(TAGS[question[0]]) if row[1].startswith("(") and question[1] in re.split(r"[\s()]+", row[1])}
+    added = set(numbers(theirs)) - set(numbers(ours))
+    return [line for line in theirs if line not in added] if added and added <= rich else None
+
+
 def on_this_disk(pair, question, theirs, ours):
     """Packages with files that this machine's folders make the same path, once for each of them."""
     if question[0] not in ("-f", "--whatprovides") or not question[1].startswith("/"):
@@ -143,6 +152,7 @@ RULES = {
     "doubled": ("rpm prints a package once for each element that has the key, this program once.", doubled),
     "rpmlib": ("rpm's index leaves out requirements on rpm itself (flag RPMLIB).", unindexed(of_rpm)),
     "install only": ("rpm's index leaves out requirements that only scripts of an installation have.", unindexed(install_only)),
+    "rich": ("rpm indexes each name within a rich dependency, this program its whole text.", within_rich),
     "disk": ("rpm compares folders by the disk of the machine that it runs on.", on_this_disk),
     "not there": ("for a path that no package has, rpm's line is by what the disk has.", not_on_disk),
     "state": ("rpm finds files alone whose state is normal.", not_normal),
