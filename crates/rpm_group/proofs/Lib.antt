@@ -14,6 +14,7 @@ pub mod Stages
 pub mod Tables
 pub mod Laids
 pub mod Readouts
+pub mod Spares
 pub mod Countings
 pub mod Runs
 pub mod LoggedLaws

@@ -1,6 +1,6 @@
 -- What calls on an overlay keep of the disk below.
-use Rattle.std.specs.Prelude.{◌≡◌, ◌⊎◌, ℕ, ◌+◌, ◌-◌, ◌≤◌, ◌^◌, Bool, IsTrue}
-use Rattle.std.proofs.Common.{inl, inr, ⊎_elim, refl, ◌∙◌, arith}
+use Rattle.std.specs.Prelude.{◌≡◌, ℕ, ◌+◌, ◌≤◌, Bool, IsTrue}
+use Rattle.std.proofs.Common.{inl, refl, ◌∙◌, arith}
 use Rattle.rpm_outside.specs.declared.disk.File.{File}
 use Rattle.rpm_outside.specs.Files.{Files}
 use Rattle.rpm_outside.specs.Crash.{LeavesOnly}
@@ -13,8 +13,7 @@ pub record KeepsBelow {D : Type 0} (tells : Bool) (files : D → Files) (moment 
   pub images : IsTrue tells → (t : ℕ) (image : Files) → left_since new t image → left_since old t image
   pub kept : IsTrue tells → (t : ℕ) (image : Files) → left_since old t image → left_since new t image
   pub moment_same : moment new ≡ moment old
-  pub reads_later : (f : File) → read_old f ≤ read_new f
-  pub reads : (f : File) → (bytes_read new f + read_old f ≤ bytes_read old f + read_new f) ⊎ (2 ^ 64 - 1 ≤ read_new f)
+  pub reads : (f : File) → bytes_read new f + read_old f ≤ bytes_read old f + read_new f
   pub below : follows old new
   pub later : faults old ≤ faults new
 
@@ -26,8 +25,7 @@ module _ {D : Type 0} (tells : Bool) (files : D → Files) (moment : D → ℕ) 
     images = λ told t image left. left;
     kept = λ told t image left. left;
     moment_same = refl;
-    reads_later = λ f. omega arith;
-    reads = λ f. inl (omega arith);
+    reads = λ f. omega arith;
     below = below;
     later = omega arith;
   }
@@ -41,9 +39,7 @@ module _ {D : Type 0} (tells : Bool) (files : D → Files) (moment : D → ℕ) 
     images = λ told t image left. first.images told t image (second.images told t image left);
     kept = λ told t image left. second.kept told t image (first.kept told t image left);
     moment_same = second.moment_same ∙ first.moment_same;
-    reads_later = λ f. omega (arith, first.reads_later f, second.reads_later f);
-    reads = λ f. ⊎_elim (λ one. ⊎_elim (λ two. inl (omega (arith, one, two))) (λ two. inr two) (second.reads f))
-        (λ one. inr (omega (arith, one, second.reads_later f))) (first.reads f);
+    reads = λ f. omega (arith, first.reads f, second.reads f);
     below = trans a b c first.below second.below;
     later = omega (arith, first.later, second.later);
   }

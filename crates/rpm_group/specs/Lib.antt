@@ -2,6 +2,7 @@ pub mod Readings
 pub mod LogReads
 pub mod Held
 pub mod Layers
+pub mod Spared
 pub mod Below
 pub mod Overlay
 pub mod Loads

@@ -6,7 +6,7 @@ use Rattle.rpm_group.specs.declared.load.LoadFault.{LoadFault}
 use Rattle.rpm_group.specs.declared.load.LoadFault.TheVariants.{DiskFault}
 use Rattle.rpm_group.specs.declared.load.LoadRefused.{LoadRefused}
 use Rattle.rpm_group.specs.declared.overlay.Overlay.{Overlay}
-use Rattle.rpm_group.specs.Overlay.{overlay_read}
+use Rattle.rpm_group.specs.Spared.{spared_of}
 use Rattle.rpm_group.specs.Loads.{LoadSays}
 
 module _ {D : Type 0} where
@@ -32,4 +32,4 @@ module _ {D : Type 0} where
   pub record IsLoaded (overlay : Overlay D) : Type 0 where
     pub starved : overlay.starved ≡ 0
     pub moment : overlay.moment ≡ 0
-    pub reads : (file : File) → overlay_read overlay file ≡ 0
+    pub spared : (file : File) → spared_of overlay.spared file ≡ 0

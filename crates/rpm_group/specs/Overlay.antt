@@ -3,17 +3,15 @@ use Rattle.std.specs.Prelude.{◌≡◌, ℕ, List, Bool, true, false}
 use Rattle.rpm_outside.specs.Calls.{Call, Len, Read, Write, Sync}
 use Rattle.rpm_outside.specs.Causes.{Rose}
 use Rattle.rpm_outside.specs.declared.disk.File.{File}
-use Rattle.rpm_outside.specs.declared.disk.File.TheVariants.{Pkg, Idx, Log}
 use Rattle.rpm_outside.specs.Files.{Files, file_of, with_file, units_of, put}
 use Rattle.rpm_group.specs.declared.layers.Layers.{Layers}
 use Rattle.rpm_group.specs.declared.overlay.Overlay.{Overlay}
 use Rattle.rpm_group.specs.Layers.{laid_files}
+use Rattle.rpm_group.specs.Spared.{spared_of, read_in_all}
 
--- the bytes that were read of a file through the overlay
-abbrev pub overlay_read : {D : Type 0} → Overlay D → File → ℕ
-overlay_read disk Pkg = disk.read_pkg
-overlay_read disk Idx = disk.read_idx
-overlay_read disk Log = disk.read_log
+-- the bytes that were read of a file, through the overlay or of the disk below before
+abbrev pub overlay_read : {D : Type 0} → (D → File → ℕ) → Overlay D → File → ℕ
+overlay_read bytes_read disk file = read_in_all bytes_read disk.below disk.spared file
 
 -- the disk below
 abbrev pub overlay_below : {D : Type 0} → Overlay D → D
@@ -33,7 +31,7 @@ pub record IsOver {D : Type 0} (below : D) (held : Layers) (disk : Overlay D) : 
   pub held_is : disk.held ≡ held
   pub starved : disk.starved ≡ 0
   pub moment : disk.moment ≡ 0
-  pub reads : (file : File) → overlay_read disk file ≡ 0
+  pub spared : (file : File) → spared_of disk.spared file ≡ 0
 
 -- under what is held each file reads as before
 abbrev pub HoldsSame : {D : Type 0} → Overlay D → Overlay D → Type 0

@@ -17,6 +17,7 @@ mod page;
 mod pages;
 mod recovery;
 mod scan;
+mod spared;
 mod table;
 mod words;
 mod writes;

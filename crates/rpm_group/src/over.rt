@@ -8,9 +8,11 @@ ghost use Rattle.rpm_outside.specs.Looks.{Looks};
 ghost use Rattle.rpm_group.specs.Held.{unit_in};
 ghost use Rattle.rpm_group.specs.Counts.{is_held};
 ghost use Rattle.rpm_group.specs.Layers.{laid_files};
+ghost use Rattle.rpm_group.specs.Spared.{CountsRead};
 
 use crate::layers::Layers;
 use crate::pages::Pages;
+use crate::spared::Spared;
 use rpm_outside::{Disk, Failed, File};
 
 /// Reads units, or none.
@@ -19,6 +21,7 @@ fn read_some<D: Disk>(below: &mut D, file: File, unit: u64, into: &mut [u8]) -> 
     requires within { IsTrue D.tells → 0 < length into.old → unit + length into.old / 16 ≤ length (file_of file (D.files below.old)) }
     ensures units { OnOk result (IsTrue D.tells → units_of into.new ≡ take (length into.old / 16) (drop unit (file_of file (D.files below.old)))) }
     ensures looks { Looks D.tells D.files D.left_since D.moment D.bytes_read D.follows file (length into.old) below.old below.new }
+    ensures reads { (f : File) → RoseBy (D.bytes_read below.old f) (bytes_for file f (length into.old)) (D.bytes_read below.new f) }
     ensures cause { HasCause (D.faults below.old) (D.faults below.new) result }
 {
     if into.is_empty() {
@@ -38,6 +41,7 @@ fn available(unit: u64, length: u64, count: usize) -> usize
 #[inline(never)]
 fn read_below<D: Disk>(
     below: &mut D,
+    spared: &mut Spared,
     file: File,
     unit: u64,
     end: u64,
@@ -48,9 +52,11 @@ fn read_below<D: Disk>(
     ensures units { OnOk result (IsTrue D.tells → (k : ℕ) → k < length into.old / 16 → unit_in into.new k ≡ unit_at (file_of file (D.files below.old))
         (unit + k)) }
     ensures looks { Looks D.tells D.files D.left_since D.moment D.bytes_read D.follows file (length into.old) below.old below.new }
+    ensures reads { CountsRead D.bytes_read file (length into.old) below.old below.new spared.old spared.new }
     ensures cause { HasCause (D.faults below.old) (D.faults below.new) result }
 {
     let there = available(unit, end, into.len() / 16);
+    spared.add(file, into.len() - 16 * there);
     into[16 * there..].fill(0);
     read_some(below, file, unit, &mut into[..16 * there])
 }
@@ -59,6 +65,7 @@ fn read_below<D: Disk>(
 fn read_partly<D: Disk>(
     layers: &Layers,
     below: &mut D,
+    spared: &mut Spared,
     file: File,
     unit: u64,
     into: &mut [u8],
@@ -68,6 +75,7 @@ fn read_partly<D: Disk>(
     ensures units { OnOk result (IsTrue D.tells
         → units_of into.new ≡ take (length into.old / 16) (drop unit (file_of file (laid_files layers.now (D.files below.old))))) }
     ensures looks { Looks D.tells D.files D.left_since D.moment D.bytes_read D.follows file (length into.old) below.old below.new }
+    ensures reads { CountsRead D.bytes_read file (length into.old) below.old below.new spared.old spared.new }
     ensures cause { HasCause (D.faults below.old) (D.faults below.new) result }
 {
     let pages = layers.file(file);
@@ -75,13 +83,16 @@ fn read_partly<D: Disk>(
     if pages.end == 0 {
         return below.read_at(file, unit, into);
     }
-    let end = below.len(file)?;
+    let Ok(end) = below.len(file) else {
+        spared.add(file, into.len());
+        return Err(Failed);
+    };
     let whole = pages.length(end);
     // Only the disk below can count the fault of a read past the end.
     if unit > whole || into.len() as u64 / 16 > whole - unit {
         return below.read_at(file, unit, into);
     }
-    read_below(below, file, unit, end, into)?;
+    read_below(below, spared, file, unit, end, into)?;
     pages.lay(unit as usize, into);
     Ok(())
 }
@@ -90,6 +101,7 @@ fn read_partly<D: Disk>(
 pub fn read_over<D: Disk>(
     layers: &Layers,
     below: &mut D,
+    spared: &mut Spared,
     file: File,
     unit: u64,
     into: &mut [u8],
@@ -99,15 +111,18 @@ pub fn read_over<D: Disk>(
     ensures units { OnOk result (IsTrue D.tells
         → units_of into.new ≡ take (length into.old / 16) (drop unit (file_of file (laid_files layers.now (D.files below.old))))) }
     ensures looks { Looks D.tells D.files D.left_since D.moment D.bytes_read D.follows file (length into.old) below.old below.new }
+    ensures reads { CountsRead D.bytes_read file (length into.old) below.old below.new spared.old spared.new }
     ensures cause { HasCause (D.faults below.old) (D.faults below.new) result }
 {
     let pages = layers.file(file);
     if pages.copy_held(unit, into) {
+        spared.add(file, into.len());
         return Ok(());
     }
     if pages.covers(unit, into.len() as u64 / 16) {
+        spared.add(file, into.len());
         pages.lay(unit as usize, into);
         return Ok(());
     }
-    read_partly(layers, below, file, unit, into)
+    read_partly(layers, below, spared, file, unit, into)
 }

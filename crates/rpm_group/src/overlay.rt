@@ -7,6 +7,7 @@ ghost use Rattle.rpm_group.specs.Layers.{laid_files};
 use crate::layers::Layers;
 use crate::over::read_over;
 use crate::scan::extent;
+use crate::spared::{Spared, none_spared};
 use rpm_outside::{Disk, Failed, File};
 use std::alloc::Global;
 
@@ -21,9 +22,7 @@ pub struct Overlay<D: Disk> {
     held: Layers,
     moment: u64,
     starved: u64,
-    read_pkg: u64,
-    read_idx: u64,
-    read_log: u64,
+    spared: Spared,
 }
 
 impl<D: Disk> Overlay<D> {
@@ -40,9 +39,7 @@ impl<D: Disk> Overlay<D> {
             held,
             moment: 0,
             starved: 0,
-            read_pkg: 0,
-            read_idx: 0,
-            read_log: 0,
+            spared: none_spared(),
         }
     }
 
@@ -56,9 +53,7 @@ impl<D: Disk> Overlay<D> {
             held: _,
             moment: _,
             starved: _,
-            read_pkg: _,
-            read_idx: _,
-            read_log: _,
+            spared: _,
         } = self;
         below
     }
@@ -74,9 +69,7 @@ impl<D: Disk> Overlay<D> {
             held,
             moment: _,
             starved: _,
-            read_pkg: _,
-            read_idx: _,
-            read_log: _,
+            spared: _,
         } = self;
         (below, held)
     }
@@ -112,12 +105,12 @@ impl<D: Disk> Disk for Overlay<D> {
 
     ghost moment = { λ disk. disk.moment };
 
-    ghost bytes_read = { λ disk file. overlay_read disk file };
+    ghost bytes_read = { λ disk file. overlay_read D.bytes_read disk file };
 
     ghost faults = { λ disk. D.faults disk.below + disk.starved };
 
-    ghost follows = { λ old new. KeepsBelow D.tells D.files D.moment D.left_since D.bytes_read D.follows D.faults old.below new.below (overlay_read old)
-        (overlay_read new) };
+    ghost follows = { λ old new. KeepsBelow D.tells D.files D.moment D.left_since D.bytes_read D.follows D.faults old.below new.below
+        (overlay_read D.bytes_read old) (overlay_read D.bytes_read new) };
 
     ghost outcome = { StarvesOrHolds };
 
@@ -125,11 +118,11 @@ impl<D: Disk> Disk for Overlay<D> {
 
     ghost earlier = { λ disk s t image told le below left. left };
 
-    ghost follows_refl = { λ disk. keeps_refl D.tells D.files D.moment D.left_since D.bytes_read D.follows D.faults disk.below (overlay_read disk)
-        (D.follows_refl disk.below) };
+    ghost follows_refl = { λ disk. keeps_refl D.tells D.files D.moment D.left_since D.bytes_read D.follows D.faults disk.below
+        (overlay_read D.bytes_read disk) (D.follows_refl disk.below) };
 
     ghost follows_trans = { λ a b c f g. keeps_trans D.tells D.files D.moment D.left_since D.bytes_read D.follows D.faults D.follows_trans a.below b.below
-        c.below (overlay_read a) (overlay_read b) (overlay_read c) f g };
+        c.below (overlay_read D.bytes_read a) (overlay_read D.bytes_read b) (overlay_read D.bytes_read c) f g };
 
     fn len(&mut self, file: File) -> Result<u64, Failed> {
         let below = self.below.len(file)?;
@@ -137,13 +130,14 @@ impl<D: Disk> Disk for Overlay<D> {
     }
 
     fn read_at(&mut self, file: File, unit: u64, into: &mut [u8]) -> Result<(), Failed> {
-        let count = into.len() as u64;
-        match file {
-            File::Pkg => self.read_pkg = self.read_pkg.saturating_add(count),
-            File::Idx => self.read_idx = self.read_idx.saturating_add(count),
-            File::Log => self.read_log = self.read_log.saturating_add(count),
-        }
-        read_over(&self.held, &mut self.below, file, unit, into)
+        read_over(
+            &self.held,
+            &mut self.below,
+            &mut self.spared,
+            file,
+            unit,
+            into,
+        )
     }
 
     fn write_at(&mut self, file: File, unit: u64, bytes: &[u8]) -> Result<(), Failed> {

@@ -1,5 +1,5 @@
 -- A command on the files that a disk's files stand for.
-use Rattle.std.proofs.Common.{◌≡◌, ◌⊎◌, ℕ, ◌+◌, ◌-◌, ◌^◌, ◌≤◌, Bool, true, false, List, [], Result, Ok, Err, refl, sym, subst, inl, inr, ⊎_elim, arith}
+use Rattle.std.proofs.Common.{◌≡◌, ℕ, ◌+◌, ◌≤◌, Bool, true, false, List, [], Result, Ok, Err, refl, sym, subst, arith}
 use Rattle.rpm_outside.specs.Logs.{LogState, Closed, Malformed, Open}
 use Rattle.rpm_pkgdb.specs.declared.slot.Damage.{Damage}
 use Rattle.rpm_pkgdb.specs.Store.{Store}
@@ -10,7 +10,7 @@ use Rattle.rpm_tool.specs.declared.answer.Why.{Why}
 use Rattle.rpm_tool.specs.declared.answer.Why.TheVariants as why
 use Rattle.rpm_change.specs.Steps.{Bearer, Course}
 use Rattle.rpm_change.specs.Endings.{Outputs, outputs}
-use Rattle.rpm_tool.specs.Answers.{Went, Opened, Loaded, why_of_load, AtMost}
+use Rattle.rpm_tool.specs.Answers.{Went, Opened, Loaded, why_of_load}
 use Rattle.rpm_tool.proofs.Reaching.{through_none}
 use Rattle.rpm_tool.proofs.Stopping.{within_reads}
 
@@ -45,10 +45,8 @@ module _ (course : Store → Course) (reads_to : Store → Bearer → Type 0) wh
   loaded_refused ot et s (Open entries) load.NoMemory o e says = opened_starved ot et s o e
 
 -- what the disk below read, by what the overlay did
-pub below_reads : (before below now over over' most : ℕ) → below ≤ before → over ≡ 0 → over' ≤ over + most
-    → (now + over ≤ below + over') ⊎ (2 ^ 64 - 1 ≤ over') → AtMost before now most
-below_reads before below now over over' most same none le reads =
-    ⊎_elim (λ one. inl (omega (arith, one, le, none, same))) (λ two. inr (omega (arith, two, le, none))) reads
+pub below_reads : (before below now over over' most : ℕ) → below ≤ before → over' ≤ over + most → now + over ≤ below + over' → now ≤ before + most
+below_reads before below now over over' most same le reads = omega arith
 
 -- the same answers, with what was read put otherwise
 pub went_reads : (c : Course) (w : Why) (old new : Outputs) (P Q : Bearer → Type 0) → ((b : Bearer) → P b → Q b) → Went c w old new P → Went c w old new Q

@@ -1,5 +1,5 @@
 -- The records of the theorem's page, from what each kind of command says.
-use Rattle.std.proofs.Common.{◌≡◌, ◌∙◌, ℕ, List, [], Bool, true, false, refl, sym, inl, arith}
+use Rattle.std.proofs.Common.{◌≡◌, ◌∙◌, ℕ, List, [], Bool, true, false, refl, sym, arith}
 use Rattle.std.specs.Prelude.{IsTrue}
 use Rattle.rpm_outside.specs.declared.disk.Disk as disk
 use Rattle.rpm_outside.specs.declared.shelf.Shelf as shelf
@@ -102,7 +102,7 @@ module _ {D S : Type 0} {d : disk.Ghosts D} {s : shelf.Ghosts S} (words : List (
   does_nothing a tree = record {
     plain = λ _f _k _c told. record {
       went = not_begun tree words a (d.files it) ot et o e (d.bytes_read it Pkg);
-      reads = inl (omega arith);
+      reads = omega arith;
     };
     files = λ is. record {
       went = λ told. ([], (query_files tree (s.paths at) words a).steps, refl, through_none {ot = ot} {et = et} o e);

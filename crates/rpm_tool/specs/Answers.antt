@@ -1,6 +1,6 @@
 -- How far a command went, and what it answers. On it rest `plain` and `files` of the page (Theorem.antt), and `Ends`, by which `run` puts the
 -- closing line after all of it.
-use Rattle.std.specs.Prelude.{◌≡◌, ◌≢◌, ◌⊎◌, ℕ, ◌+◌, ◌-◌, ◌^◌, ◌<◌, ◌≤◌, List, [], ◌∷◌, ◌++◌, map, Bool, true, false, Option, Some, None, Result, Ok, Err, IfOk, IsTrue}
+use Rattle.std.specs.Prelude.{◌≡◌, ◌≢◌, ◌⊎◌, ℕ, ◌+◌, ◌-◌, ◌<◌, ◌≤◌, List, [], ◌∷◌, ◌++◌, map, Bool, true, false, Option, Some, None, Result, Ok, Err, IfOk, IsTrue}
 use Rattle.std.specs.Ordering.{nat_cmp}
 use Rattle.std.specs.FinMap.{FinMap}
 use Rattle.rpm_outside.specs.Causes.{Rose}
@@ -244,13 +244,9 @@ reach_cost what file words a s = reach_sum (unkeyed_reaches what (packages file 
 abbrev pub read_to : Units → List (List ℕ) → AskParts → Store → Bearer → ℕ
 read_to file words a s for = opening_cost file + reach_by (deed_of a.mode) file words a s for
 
--- a count rose by at most so much, where that is a number that counts have
-abbrev pub AtMost : ℕ → ℕ → ℕ → Type 0
-AtMost before now most = (now ≤ before + most) ⊎ (2 ^ 64 - 1 ≤ most)
-
 -- of the store at most the bytes that a question asks up to a bearer were read
 abbrev pub ReadsTo : Units → List (List ℕ) → AskParts → Store → ℕ → ℕ → Bearer → Type 0
-ReadsTo file words a s before now for = AtMost before now (read_to file words a s for)
+ReadsTo file words a s before now for = now ≤ before + read_to file words a s for
 
 -- a damaged store is reported and nothing is printed, any other is answered by the course
 abbrev pub Opened : (Store → Course) → Result Store Damage → Why → Outputs → Outputs → (Store → Bearer → Type 0) → Type 0

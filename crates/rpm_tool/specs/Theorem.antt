@@ -25,7 +25,7 @@ use Rattle.rpm_change.specs.Endings.{Outputs}
 use Rattle.rpm_change.specs.Steps.{Course}
 use Rattle.rpm_tool.specs.declared.answer.Why.{Why}
 use Rattle.rpm_tool.specs.declared.answer.Why.TheVariants as why
-use Rattle.rpm_tool.specs.Answers.{ComesWhere, Queried, Anywhere, Went, AtMost, is_foreign, query_cost}
+use Rattle.rpm_tool.specs.Answers.{ComesWhere, Queried, Anywhere, Went, is_foreign, query_cost}
 use Rattle.rpm_tool.specs.Asked.{is_query, of_files, by_key, is_changing, asks_change, asks_format, asks}
 use Rattle.rpm_tool.specs.Changing.{DidOn, ChangesWith, EmptyBy}
 use Rattle.rpm_tool.specs.Frame.{images, pkg_read, Leaves, LeavesIn}
@@ -65,8 +65,8 @@ module _ {D S : Type 0} {d : disk.Ghosts D} {s : shelf.Ghosts S} where
   pub record AnswersPlain (r : Run d s) (a : AskParts) (tree : Tree) (mid : Outputs) : Type 0 where
     pub went : Queried tree r.words a (d.files r.found) r.why r.before mid
         (pkg_read d r.found) (pkg_read d r.left)
-    pub reads : AtMost (pkg_read d r.found) (pkg_read d r.left)
-        (query_cost r.words a (reopened (d.files r.found)).pkg)
+    pub reads : pkg_read d r.left
+        ≤ pkg_read d r.found + query_cost r.words a (reopened (d.files r.found)).pkg
 
   -- 3. PACKAGE FILES are queried with no call on the disk.
   pub record AnswersOfFiles (r : Run d s) (a : AskParts) (tree : Tree) (mid : Outputs) : Type 0 where

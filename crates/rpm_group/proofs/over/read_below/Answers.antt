@@ -4,6 +4,7 @@ use borrow.Rule.Slice.PartMut.{put_mid}
 use Rattle.rpm_outside.specs.Files.{file_of}
 use Rattle.rpm_group.proofs.ByteLaws.{length-put_mid}
 use Rattle.rpm_group.proofs.Readouts.{on_ok_map, read_units}
+use Rattle.rpm_group.proofs.Spares.{counts_both}
 use Rattle.rpm_group.proofs.over.read_below.Goals as goal
 
 pub returns-clause-units : goal.returns-clause-units
@@ -30,3 +31,21 @@ returns-clause-units g c =
     (λ read told. read_units file c.args.unit t n (16 * t) (length into - 16 * t) into c.read_some.new.into c.fill.new.self
     (c.available-there.ensures ∙ ap (λ (l : ℕ). min (l - c.args.unit) n) (c.requires.end told)) whole refl (ap (λ (l : ℕ). l - 16 * t) whole) zeros
     front_long (read told ∙ ap (λ (k : ℕ). take k (drop c.args.unit file)) (omega (arith, part))))
+
+pub returns-clause-reads : goal.returns-clause-reads
+returns-clause-reads g c =
+    let into = c.args.into.now in
+    let t = c.available-there.result in
+    let mid = put_mid (16 * t) (length into - 16 * t) into c.fill.new.self in
+    let tail : length (drop (16 * t) into) ≡ length into - 16 * t = length-drop (16 * t) into in
+    let zeros_long : length c.fill.new.self ≡ length into - 16 * t =
+    omega (arith, c.fill.ensures.len, length-take (length into - 16 * t) (drop (16 * t) into), tail) in
+    let part : length (take (16 * t) mid) ≡ 16 * t =
+    omega (
+      arith,
+      length-take (16 * t) mid,
+      length-put_mid (16 * t) (length into - 16 * t) into c.fill.new.self zeros_long
+          (omega (arith, c.available-there.ensures)),
+    ) in
+    counts_both g.D.Disk.bytes_read c.args.file (length (take (16 * t) mid)) (length into - 16 * t) (length into) c.args.below.now c.read_some.new.below
+    c.args.spared.now c.add.new.self (omega (arith, part, c.available-there.ensures)) c.read_some.ensures.reads c.add.ensures

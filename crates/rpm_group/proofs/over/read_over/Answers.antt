@@ -5,6 +5,7 @@ use Rattle.rpm_group.specs.Layers.{laid_file, file_of-laid}
 use Rattle.rpm_group.specs.inner.HeldUnits.{AreHeld}
 use Rattle.rpm_group.proofs.Laids.{length-laid}
 use Rattle.rpm_group.proofs.Readouts.{read_laid}
+use Rattle.rpm_group.proofs.Spares.{counts_spared}
 use Rattle.rpm_group.proofs.over.read_over.Goals as goal
 
 pub returns-then-copy_held-clause-units : goal.returns-then-copy_held-clause-units
@@ -38,3 +39,11 @@ returns-then-covers-clause-units g c = λ told.
     c.lay.ensures
     ∙ ap (λ (p : Pages). take n (drop unit (laid_file p file))) c.file-pages.ensures
     ∙ ap (λ (us : Units). take n (drop unit us)) (sym (file_of-laid c.args.file c.args.layers.now files))
+
+pub returns-then-copy_held-clause-reads : goal.returns-then-copy_held-clause-reads
+returns-then-copy_held-clause-reads g c = counts_spared g.D.Disk.bytes_read c.args.file _ _ c.args.below.now c.args.below.now c.args.spared.now
+    c.add.new.self c.copy_held.auto.into (λ f. refl) c.add.ensures
+
+pub returns-then-covers-clause-reads : goal.returns-then-covers-clause-reads
+returns-then-covers-clause-reads g c = counts_spared g.D.Disk.bytes_read c.args.file _ _ c.args.below.now c.args.below.now c.args.spared.now
+    c.add-then-covers.new.self c.copy_held.auto.into (λ f. refl) c.add-then-covers.ensures

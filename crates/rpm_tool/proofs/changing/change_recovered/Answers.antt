@@ -28,14 +28,14 @@ use Rattle.rpm_tool.proofs.changing.change_recovered.Goals as goal
 pub end_group-requires-clause-settled : goal.end_group-requires-clause-settled
 end_group-requires-clause-settled g c = λ told.
     below_settled g.D.Disk.tells g.D.Disk.files g.D.Disk.left_since g.D.Disk.moment g.D.Disk.bytes_read g.D.Disk.follows g.D.Disk.faults c.args.disk
-    (overlay_below c.in-Ok.overlay) (overlay_below c.change_on-ended.new.disk) (overlay_read c.in-Ok.overlay) (overlay_read c.change_on-ended.new.disk)
-    c.in-Ok.ensures.looks c.change_on-ended.ensures.runs.goes_on told (c.requires.settled told)
+    (overlay_below c.in-Ok.overlay) (overlay_below c.change_on-ended.new.disk) (overlay_read g.D.Disk.bytes_read c.in-Ok.overlay)
+    (overlay_read g.D.Disk.bytes_read c.change_on-ended.new.disk) c.in-Ok.ensures.looks c.change_on-ended.ensures.runs.goes_on told (c.requires.settled told)
 
 pub end_group-requires-clause-closed : goal.end_group-requires-clause-closed
 end_group-requires-clause-closed g c = λ told.
     below_closed g.D.Disk.tells g.D.Disk.files g.D.Disk.left_since g.D.Disk.moment g.D.Disk.bytes_read g.D.Disk.follows g.D.Disk.faults c.args.disk
-    (overlay_below c.in-Ok.overlay) (overlay_below c.change_on-ended.new.disk) (overlay_read c.in-Ok.overlay) (overlay_read c.change_on-ended.new.disk)
-    c.in-Ok.ensures.looks c.change_on-ended.ensures.runs.goes_on told (c.requires.closed told)
+    (overlay_below c.in-Ok.overlay) (overlay_below c.change_on-ended.new.disk) (overlay_read g.D.Disk.bytes_read c.in-Ok.overlay)
+    (overlay_read g.D.Disk.bytes_read c.change_on-ended.new.disk) c.in-Ok.ensures.looks c.change_on-ended.ensures.runs.goes_on told (c.requires.closed told)
 
 pub returns-in-Ok-clause-one : goal.returns-in-Ok-clause-one
 returns-in-Ok-clause-one g c = λ told shelf.
@@ -55,8 +55,8 @@ returns-in-Ok-clause-one g c = λ told shelf.
     let ends = c.end_group.ensures.ends told in
     let looks = c.in-Ok.ensures.looks in
     let keeps = c.change_on-ended.ensures.runs.goes_on in
-    let ro = overlay_read c.in-Ok.overlay in
-    let rn = overlay_read end in
+    let ro = overlay_read D.bytes_read c.in-Ok.overlay in
+    let rn = overlay_read D.bytes_read end in
     let before = outputs g.O.Sink.tells (g.O.Sink.taken (inner c.args.out.now)) g.E.Sink.tells (g.E.Sink.taken (inner c.args.err.now)) in
     let now = outputs g.O.Sink.tells (g.O.Sink.taken (inner c.change_on-ended.new.out)) g.E.Sink.tells (g.E.Sink.taken (inner c.change_on-ended.new.err)) in
     let worked : WorkedWith (is_anew t) (changes_index t) course (with_file Log (D.files first).log r) new ended before now =

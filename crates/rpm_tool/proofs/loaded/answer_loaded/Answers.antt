@@ -1,4 +1,4 @@
-use Rattle.std.proofs.Common.{◌≡◌, ◌+◌, ◌≤◌, true, refl, sym, ap, ◌∙◌, subst, ⊎_elim, arith}
+use Rattle.std.proofs.Common.{◌≡◌, ◌+◌, ◌≤◌, true, refl, sym, ap, ◌∙◌, subst, arith}
 use Rattle.rpm_outside.specs.Buffered.{inner}
 use Rattle.rpm_outside.specs.declared.disk.File.TheVariants.{Pkg, Idx}
 use Rattle.rpm_outside.specs.Files.{Units, Files}
@@ -30,8 +30,8 @@ returns-in-Ok-clause-went g c = λ told.
     let start = g.D.Disk.bytes_read c.args.disk Pkg in
     let below = g.D.Disk.bytes_read ov.below Pkg in
     let now = g.D.Disk.bytes_read end.below Pkg in
-    let over = ov.read_pkg in
-    let over' = end.read_pkg in
+    let over = below + ov.spared.pkg in
+    let over' = now + end.spared.pkg in
     let words = c.args.words.now in
     let a = c.args.ask.now in
     let does : Units → Store → Course = λ u t. course c.args.format.now u t words a in
@@ -44,8 +44,7 @@ returns-in-Ok-clause-went g c = λ told.
     (c.answer_unindexed-ended.ensures.went told) in
     let answered : Opened (does file) (store file) (unless_starved c.is_starved.result ended) old new there =
     opened_reads (does file) here there (store file) (unless_starved c.is_starved.result ended) old new
-    (λ t b le. below_reads start below now over over' (read_to file words a t b) (omega (arith, c.in-Ok.ensures.looks.reads.pkg))
-    (c.in-Ok.ensures.loaded.reads Pkg) le (keeps.reads Pkg))
+    (λ t b le. below_reads start below now over over' (read_to file words a t b) (omega (arith, c.in-Ok.ensures.looks.reads.pkg)) le (keeps.reads Pkg))
     (opened_unless (does file) here (store file) c.is_starved.result ended old new opened) in
     rw (c.release.ensures, c.unless_starved-why.ensures) (loaded_sound (does file) there (store file) (log_state files.log)
     (unless_starved c.is_starved.result ended) old new (c.in-Ok.ensures.says told) answered)
@@ -60,10 +59,12 @@ returns-in-Ok-clause-reads g c = λ told.
     let now = g.D.Disk.bytes_read end.below Pkg in
     let pkg : (laid_files ov.held (g.D.Disk.files ov.below)).pkg ≡ file = ap (λ (f : Files). f.pkg) (c.in-Ok.ensures.files told) in
     let keeps = c.answer_unindexed-ended.ensures.looks.1.goes_on in
-    let le : end.read_pkg ≤ ov.read_pkg + query_cost c.args.words.now c.args.ask.now file =
-    subst (λ (u : Units). end.read_pkg ≤ ov.read_pkg + query_cost c.args.words.now c.args.ask.now u) pkg (c.answer_unindexed-ended.ensures.reads told) in
-    rw c.release.ensures (below_reads start below now ov.read_pkg end.read_pkg (query_cost c.args.words.now c.args.ask.now file)
-    (omega (arith, c.in-Ok.ensures.looks.reads.pkg)) (c.in-Ok.ensures.loaded.reads Pkg) le (keeps.reads Pkg))
+    let over = below + ov.spared.pkg in
+    let over' = now + end.spared.pkg in
+    let le : over' ≤ over + query_cost c.args.words.now c.args.ask.now file =
+    subst (λ (u : Units). over' ≤ over + query_cost c.args.words.now c.args.ask.now u) pkg (c.answer_unindexed-ended.ensures.reads told) in
+    rw c.release.ensures (below_reads start below now over over' (query_cost c.args.words.now c.args.ask.now file)
+    (omega (arith, c.in-Ok.ensures.looks.reads.pkg)) le (keeps.reads Pkg))
 
 pub returns-in-Ok-clause-looks : goal.returns-in-Ok-clause-looks
 returns-in-Ok-clause-looks g c =
@@ -81,8 +82,7 @@ returns-in-Ok-clause-looks g c =
             kept = λ t i x. keeps.kept told t i (f.kept t i x);
           };
       moment_stays = keeps.moment_same ∙ first.moment_stays;
-      index_unread = ⊎_elim (λ one. omega (arith, one, over, first.reads.idx)) (λ two. omega (arith, two, over, c.in-Ok.ensures.loaded.reads Idx))
-          (keeps.reads Idx);
+      index_unread = omega (arith, keeps.reads Idx, over, first.reads.idx);
       goes_on = g.met.D.Disk.follows_trans c.args.disk ov.below end.below first.goes_on keeps.below;
     })
 
