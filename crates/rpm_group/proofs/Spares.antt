@@ -61,9 +61,9 @@ module _ {D : Type 0} (bytes_read : D → File → ℕ) (file : File) where
       → CountsRead bytes_read file most old new so sn → CountsRead bytes_read file most first new so sn
   counts_after most first old new so sn same counts = record {
     rose = λ f. record {
-        later = omega (arith, same f, (counts.rose f).later);
-        no_less = omega (arith, same f, (counts.rose f).no_less);
-        no_more = omega (arith, same f, (counts.rose f).no_more);
-      };
+      later = omega (arith, same f, (counts.rose f).later);
+      no_less = omega (arith, same f, (counts.rose f).no_less);
+      no_more = omega (arith, same f, (counts.rose f).no_more);
+    };
     later = counts.later;
   }

@@ -1,5 +1,5 @@
 -- What an overlay is made of.
-use Rattle.std.specs.Prelude.{◌≡◌, ℕ, List, Bool, true, false}
+use Rattle.std.specs.Prelude.{◌≡◌, ℕ, ◌+◌, List, Bool, true, false}
 use Rattle.rpm_outside.specs.Calls.{Call, Len, Read, Write, Sync}
 use Rattle.rpm_outside.specs.Causes.{Rose}
 use Rattle.rpm_outside.specs.declared.disk.File.{File}
@@ -7,11 +7,11 @@ use Rattle.rpm_outside.specs.Files.{Files, file_of, with_file, units_of, put}
 use Rattle.rpm_group.specs.declared.layers.Layers.{Layers}
 use Rattle.rpm_group.specs.declared.overlay.Overlay.{Overlay}
 use Rattle.rpm_group.specs.Layers.{laid_files}
-use Rattle.rpm_group.specs.Spared.{spared_of, read_in_all}
+use Rattle.rpm_group.specs.Spared.{spared_of}
 
--- the bytes that were read of a file, through the overlay or of the disk below before
+-- the bytes that were read of a file: of the disk below, and without it
 abbrev pub overlay_read : {D : Type 0} → (D → File → ℕ) → Overlay D → File → ℕ
-overlay_read bytes_read disk file = read_in_all bytes_read disk.below disk.spared file
+overlay_read bytes_read disk file = bytes_read disk.below file + spared_of disk.spared file
 
 -- the disk below
 abbrev pub overlay_below : {D : Type 0} → Overlay D → D

@@ -1,4 +1,4 @@
--- How the reads of an overlay are counted: by the disk below, where it is asked, and else by the overlay.
+-- How the reads of an overlay are counted: by the disk below where it is asked, and else by the overlay.
 use Rattle.std.specs.Prelude.{ℕ, ◌+◌, ◌≤◌}
 use Rattle.rpm_outside.specs.declared.disk.File.{File}
 use Rattle.rpm_outside.specs.declared.disk.File.TheVariants.{Pkg, Idx, Log}
@@ -12,11 +12,7 @@ spared_of spared Pkg = spared.pkg
 spared_of spared Idx = spared.idx
 spared_of spared Log = spared.log
 
--- the bytes that were read of a file in all
-abbrev pub read_in_all : {D : Type 0} → (D → File → ℕ) → D → Spared → File → ℕ
-read_in_all bytes_read below spared file = bytes_read below file + spared_of spared file
-
--- a read of so many bytes of a file is counted once: what the disk below doesn't count is counted as spared
+-- a read of so many bytes of a file was counted once: as spared as far as the disk below didn't count it
 pub record CountsRead {D : Type 0} (bytes_read : D → File → ℕ) (file : File) (bytes : ℕ) (old new : D) (so sn : Spared) : Type 0 where
-  pub rose : (f : File) → RoseBy (read_in_all bytes_read old so f) (bytes_for file f bytes) (read_in_all bytes_read new sn f)
+  pub rose : (f : File) → RoseBy (bytes_read old f + spared_of so f) (bytes_for file f bytes) (bytes_read new f + spared_of sn f)
   pub later : (f : File) → spared_of so f ≤ spared_of sn f
