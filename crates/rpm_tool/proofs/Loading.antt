@@ -1,5 +1,5 @@
 -- A command on the files that a disk's files stand for.
-use Rattle.std.proofs.Common.{◌≡◌, ℕ, ◌+◌, ◌≤◌, Bool, true, false, List, [], Result, Ok, Err, refl, sym, subst, arith}
+use Rattle.std.proofs.Common.{ℕ, ◌+◌, ◌≤◌, Bool, true, false, List, [], Result, Ok, Err, refl, sym, subst, arith}
 use Rattle.rpm_outside.specs.Logs.{LogState, Closed, Malformed, Open}
 use Rattle.rpm_pkgdb.specs.declared.slot.Damage.{Damage}
 use Rattle.rpm_pkgdb.specs.Store.{Store}
