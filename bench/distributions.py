@@ -6,7 +6,7 @@
 Two commands on Debian 12: `apt-get install rpm valgrind golang-github-knqyf263-go-rpmdb-dev`, and this one without arguments, which takes the databases of
 ten CentOS systems that the last of these packages has. A DATABASE is the folder of another system's database, whatever its backend: /var/lib/rpm or
 /usr/lib/sysimage/rpm, of this machine or of a file system that was unpacked (`docker export $(docker create centos:7) | tar x -C SYSTEM var/lib/rpm`). It
-is copied, and never written. PROGRAM is what release/rpm_prog.gz holds, or another, as crates/rpm_prog/out/rpm_prog.
+is copied, and never written. PROGRAM is what release/program.sh names, where none is given.
 
 rpm exports each database, and the list is imported into rpm (sqlite) and into this program. Both then have to give the list back byte for byte, to verify
 their database without a word, and to answer all of bench/questions.py alike, but for differences that a rule of bench/known_differences.py explains; these are
@@ -17,7 +17,6 @@ one where it isn't given. --write puts the tables into docs/REAL.md. Wants rpm, 
 import argparse
 import collections
 import datetime
-import gzip
 import os
 import re
 import shutil
@@ -218,11 +217,9 @@ def options():
 
 
 def released(folder):
-    """The program of release/."""
-    program = folder / "rpm_prog"
-    program.write_bytes(gzip.decompress((TOP / "release" / "rpm_prog.gz").read_bytes()))
-    program.chmod(0o755)
-    return program
+    """The program that a build left, or that of release/."""
+    told = subprocess.run([TOP / "release" / "program.sh", folder], stdout=subprocess.PIPE, text=True, check=True)
+    return Path(told.stdout.rstrip("\n"))
 
 
 def checked(program, source, folder):
