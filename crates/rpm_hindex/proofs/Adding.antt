@@ -21,7 +21,9 @@ use Rattle.rpm_hindex.specs.inner.Changes.{HasWord, Puts, CanGo, AddsRows, unit_
 use Rattle.rpm_hindex.proofs.Counts.{times-append, times_none}
 use Rattle.rpm_hindex.proofs.Wholes.{has_chains}
 use Rattle.rpm_hindex.proofs.Made.{length-bytes, units-made}
-use Rattle.rpm_hindex.proofs.Adds.{AddsRecord, AddsWithin, whole_more, times_more}
+use Rattle.rpm_hindex.proofs.Adds.{AddsRecord, AddsWithin, whole_more, times_more, padded_more}
+use Rattle.rpm_hindex.specs.Padding.{AddsPadded}
+use Rattle.rpm_hindex.proofs.Padding.{adds_none, adds_then}
 
 module _ (buckets used : ℕ) (units later : ℕ → Option (List ℕ)) (tail more : List ℕ) (file : Units) (kind : ℕ) (key : List ℕ) (number place : ℕ) where
   abbrev old : Index
@@ -123,15 +125,20 @@ row_added c d file go kind key number place b u next words w eb below ew eu has 
       whole = subst (IsWhole d.records d.live) (sym same) (subst (λ (n : ℕ). IsWhole d.records n new) (sym live)
           (subst (λ (n : ℕ). IsWhole n (c.live + record_units (length key)) new) (sym count) all));
       rows' = λ r. ap (λ (x : Index). times r (rows_of x)) same ∙ times_more old new kind key number place adds within (places_of old) chains r;
+      padded = subst (AddsPadded old) (sym same) (padded_more old new kind key number place adds within (places_of old) chains);
     }
 
 -- no rows more
 pub rows_none : (c : Change) (file : Units) → IsWhole c.records c.live (changing c file) → AddsRows c c file []
-rows_none c file whole = record { whole = whole; rows' = λ r. omega (arith, times_none r) }
+rows_none c file whole = record { whole = whole; rows' = λ r. omega (arith, times_none r); padded = adds_none (changing c file) }
 
 -- and rows one after the other
 pub rows_then : (c d e : Change) (file : Units) (rows : List Row) (row : Row) → AddsRows c d file rows → (IsWhole d.records d.live (changing d file)
     → AddsRows d e file (row ∷ [])) → AddsRows c e file (rows ++ row ∷ [])
 rows_then c d e file rows row first second =
     let more = second first.whole in
-    record { whole = more.whole; rows' = λ r. omega (arith, more.rows' r, first.rows' r, times-append r rows (row ∷ [])) }
+    record {
+      whole = more.whole;
+      rows' = λ r. omega (arith, more.rows' r, first.rows' r, times-append r rows (row ∷ []));
+      padded = adds_then (changing c file) (changing d file) (changing e file) first.padded more.padded;
+    }

@@ -10,11 +10,13 @@ use Rattle.rpm_hindex.specs.Sizes.{first_record, record_units}
 use Rattle.rpm_hindex.specs.inner.Making.{record_of}
 use Rattle.rpm_hindex.specs.Index.{Index, is_link, next_at, units_at, row_at, bucket_of, all_places, rows_of}
 use Rattle.rpm_hindex.specs.Whole.{IsWhole}
-use Rattle.rpm_hindex.proofs.Made.{made_next, made_size, row-made}
+use Rattle.rpm_hindex.specs.Padding.{IsPadded, AddsPadded}
+use Rattle.rpm_hindex.proofs.Made.{made_next, made_size, row-made, made_padded}
 use Rattle.rpm_hindex.proofs.Chains.{Sound}
 use Rattle.rpm_hindex.proofs.FollowedLinks.{IsChain, within, link_at}
 use Rattle.rpm_hindex.proofs.Wholes.{HasChains, chains_ok, all_are, in_all, all_in}
 use Rattle.rpm_hindex.proofs.Extends.{Extends, Stands, stands_in, sound_whole, units_same, same_units, same_row, chain_extends, heads_extend}
+use Rattle.rpm_hindex.proofs.Padding.{remains}
 use Rattle.rpm_hindex.proofs.Tallies.{tally, times_rows, sum_flat, sum_at, sum_each, length_sum}
 use Rattle.rpm_hindex.proofs.Counts.{times_one}
 
@@ -166,6 +168,18 @@ module _ (x y : Index) (kind : ℕ) (key : List ℕ) (number place : ℕ) (adds 
             ]
         | inr other ↦ inr (all_in x ps has p i.0 lt (subst (λ (qs : List ℕ). Contains qs p) (more_other i.0 other) i.2))
       ]
+
+  padded_new : IsPadded y.unit x.used
+  padded_new = made_padded (x.head bucket) kind key number place (omega (arith, small_head)) w.kinds w.short w.numbers w.places y.unit x.used adds.new
+
+  -- the new one is padded, and the others are as they were
+  pub padded_more : AddsPadded x y
+  padded_more p c = elim (places_more p c) [
+    | inl new ↦ inl (subst (IsPadded y.unit) (sym new) padded_new)
+    | inr old ↦
+        let s = stands p old in
+        inr (remains x y extends s.0 p s.1 old)
+  ]
 
   pub whole_more : (count live : ℕ) → IsWhole count live x → IsWhole (count + 1) (live + record_units (length key)) y
   whole_more count live whole = record {

@@ -14,7 +14,8 @@ use Rattle.rpm_hindex.specs.inner.Drafts.{draft_index, IsDraft}
 use Rattle.rpm_hindex.proofs.Made.{units-made}
 use Rattle.rpm_hindex.proofs.Counts.{times-append}
 use Rattle.rpm_hindex.proofs.Wholes.{HasChains, has_chains, chains_ok, all_are}
-use Rattle.rpm_hindex.proofs.Adds.{AddsRecord, AddsWithin, whole_more, times_more}
+use Rattle.rpm_hindex.proofs.Adds.{AddsRecord, AddsWithin, whole_more, times_more, padded_more}
+use Rattle.rpm_hindex.proofs.Padding.{padded_then}
 
 pub live_push : (rows : List Row) (row : Row) → live_of (rows ++ row ∷ []) ≡ live_of rows + record_units (length row.key)
 unfolding live_of
@@ -60,6 +61,7 @@ module _ (buckets : ℕ) (count : is_bucket_count buckets ≡ true) (heads bytes
       live = ap (sum_by _) none;
     };
     same = λ r. ap (λ (ps : List ℕ). times r (map (row_at (draft_index heads bytes).unit) ps)) none;
+    padded = λ p m. let c = subst (λ (ps : List ℕ). Contains ps p) none m in absurd (omega (arith, c.1));
   }
 
 -- ---- one more
@@ -119,4 +121,5 @@ module _ (rows : List Row) (heads bytes later : List ℕ) (kind : ℕ) (key : Li
             (subst (λ (m : ℕ). IsWhole m (live_of rows + record_units (length key)) new) (sym (length_push rows row)) whole);
         same = λ r. times_more old new kind key number place adds within (places_of old) has r ∙ ap (λ (m : ℕ). m + times r (row ∷ [])) (draft.same r)
             ∙ sym (times-append r rows (row ∷ []));
+        padded = padded_then old new draft.padded (padded_more old new kind key number place adds within (places_of old) has);
       }

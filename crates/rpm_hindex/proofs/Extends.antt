@@ -125,7 +125,7 @@ module _ (x y : Index) (e : Extends x y) (heads : (b : ℕ) → b < x.buckets �
       ∙ ap (λ (n : ℕ). flat_map ps (range_with_len 0 n)) e.buckets
       ∙ sym (all_are x ps has)
 
-  stands_all : (ps : ℕ → List ℕ) → HasChains x ps → (p : ℕ) → Contains (all_places x) p → (b : ℕ) × Stands x b p
+  pub stands_all : (ps : ℕ → List ℕ) → HasChains x ps → (p : ℕ) → Contains (all_places x) p → (b : ℕ) × Stands x b p
   stands_all ps has p c =
       let i = in_all x ps has p c in
       let h = has i.0 i.1 in

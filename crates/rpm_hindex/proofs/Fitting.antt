@@ -8,8 +8,8 @@ use Rattle.std.proofs.Math.Nat.{pow-le-pow_right, pow-succ'}
 use Rattle.rpm_outside.specs.Files.{Units, unit_at, units_of, bytes_of}
 use Rattle.rpm_outside.specs.inner.Cuts.{length-cut_up, unit_at-cut_up}
 use Rattle.rpm_outside.specs.inner.Puts.{put_inside}
-use Rattle.rpm_hindex.specs.declared.planning.Work.{Work}
-use Rattle.rpm_hindex.specs.declared.planning.Work.TheVariants.{InPlace, Scratch}
+use Rattle.rpm_hindex.specs.declared.plan.Work.{Work}
+use Rattle.rpm_hindex.specs.declared.plan.Work.TheVariants.{InPlace, Scratch}
 use Rattle.rpm_hindex.specs.Words.{word}
 use Rattle.rpm_hindex.specs.Rows.{Row, times, SameRows}
 use Rattle.rpm_hindex.specs.Sizes.{doubled, bucket_count, is_bucket_count, live_of, record_units, key_units}

@@ -13,11 +13,12 @@ use Rattle.rpm_hindex.specs.Rows.{Row, times, SameRows}
 use Rattle.rpm_hindex.specs.Index.{Index, chain, row_at, places_of}
 use Rattle.rpm_hindex.specs.Answers.{HitsAre}
 use Rattle.rpm_outside.specs.Files.{Units, units_of, put, blank}
-use Rattle.rpm_hindex.specs.declared.planning.Work.{Work}
-use Rattle.rpm_hindex.specs.declared.planning.Work.TheVariants.{InPlace, Scratch}
-use Rattle.rpm_hindex.specs.Index.{records}
+use Rattle.rpm_hindex.specs.declared.plan.Work.{Work}
+use Rattle.rpm_hindex.specs.declared.plan.Work.TheVariants.{InPlace, Scratch}
+use Rattle.rpm_hindex.specs.Index.{index_in, records}
 use Rattle.rpm_hindex.specs.inner.Drafts.{Holds, IsMade}
-use Rattle.rpm_hindex.specs.Plans.{IsPlanFor, IsSizedFor, ReachesFor, units_after, second_after}
+use Rattle.rpm_hindex.specs.Padding.{ArePadded}
+use Rattle.rpm_hindex.specs.Plans.{IsPlanFor, IsPaddedPlan, IsSizedFor, ReachesFor, units_after, second_after}
 use Rattle.rpm_hindex.proofs.Seals.{image_held}
 use Rattle.rpm_hindex.proofs.Counts.{times-append}
 use Rattle.rpm_hindex.proofs.Same.{units_same_rows, length_same_rows}
@@ -79,6 +80,15 @@ scratch_plan drops adds kept buckets file (Scratch image) (count, made) less =
     let held : Holds (units_of image.bytes.items) new = image_held image.bytes.items (put 0 (blank ∷ []) file) new refl in
     let here = subst (λ (n : ℕ). IsMade (kept ++ adds) n new) (sym count) (made.made new held) in
     record { whole = here.whole; rows = λ r. here.same r ∙ times-append r kept adds ∙ ap (λ (n : ℕ). n + times r adds) (less r) }
+
+-- and its records are padded
+pub scratch_padded : (rows : List Row) (buckets : ℕ) (file : Units) (work : Work) → IsScratchOf rows work → IsPaddedPlan buckets file work
+unfolding IsPaddedPlan
+scratch_padded rows buckets file (InPlace p) is = absurd is
+scratch_padded rows buckets file (Scratch image) (count, made) =
+    let old = put 0 (blank ∷ []) file in
+    let new = put 1 (units_of image.bytes.items) old in
+    subst (λ (n : ℕ). ArePadded (index_in n new)) (sym count) (made.made new (image_held image.bytes.items old new refl)).padded
 
 -- ---- faults
 

@@ -9,7 +9,7 @@ use Rattle.std.proofs.lemmas.Cmp.{nat_cmp_total}
 use Rattle.std.proofs.lemmas.Map.Lookups.{CmpEqualImpliesEq}
 use Rattle.std.proofs.lemmas.Map.Views.{btree_map_get_iff}
 use Rattle.std.proofs.lemmas.Bool.Decides.{nat_tests}
-use Rattle.rpm_hindex.specs.declared.planning.Patch.{Patch}
+use Rattle.rpm_hindex.specs.declared.plan.Patch.{Patch}
 use Rattle.rpm_hindex.specs.Plans.{patch_at}
 use Rattle.std.proofs.lemmas.Bool.{cases_eq}
 use Rattle.rpm_hindex.specs.declared.change.Change.{Change}

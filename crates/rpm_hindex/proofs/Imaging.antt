@@ -13,6 +13,7 @@ use Rattle.rpm_hindex.specs.Sizes.{first_record, live_of, is_bucket_count}
 use Rattle.rpm_hindex.specs.Index.{Index, index_in, places_of}
 use Rattle.rpm_hindex.specs.Whole.{IsWhole}
 use Rattle.rpm_hindex.specs.inner.Drafts.{draft_index, IsDraft, IsImage, IsMade, Holds}
+use Rattle.rpm_hindex.proofs.Padding.{padded_then, adds_same}
 use Rattle.rpm_hindex.proofs.UnitWords.{length-unit, word_0, word_1, word_2, word_3}
 use Rattle.rpm_hindex.proofs.FollowedLinks.{within}
 use Rattle.rpm_hindex.proofs.Wholes.{has_chains}
@@ -197,6 +198,8 @@ module _ (rows : List Row) (buckets : ℕ) (heads bytes second all : List ℕ)
           whole = subst (λ (n : ℕ). IsWhole n (word 2 (unit_at file 1)) (index_in buckets file)) (sym one)
               (subst (λ (n : ℕ). IsWhole (length rows) n (index_in buckets file)) (sym two) whole);
           same = λ r. ap (times r) all_rows ∙ draft.same r;
+          padded = padded_then (draft_index heads bytes) (index_in buckets file) draft.padded (adds_same (draft_index heads bytes) (index_in buckets file)
+              extends heads_are (places_of (draft_index heads bytes)) (has_chains (draft_index heads bytes) draft.whole.chains));
         }
 
   pub image_made : IsImage rows buckets all

@@ -20,6 +20,7 @@ pub mod Seals
 pub mod Made
 pub mod Adding
 pub mod Adds
+pub mod Padding
 pub mod Drafting
 pub mod Imaging
 pub mod Scratch

@@ -1,6 +1,8 @@
 -- A record that was made, as it is read.
-use Rattle.std.proofs.Common.{◌≡◌, ℕ, zero, suc, ◌+◌, ◌-◌, ◌*◌, ◌/◌, ◌%◌, ◌^◌, ◌<◌, ◌≤◌, List, [], ◌∷◌, ◌++◌, length, take, drop, refl, sym, ap, ◌∙◌, arith, length-append, length-drop, zero-add}
-use Rattle.std.proofs.lemmas.List.{nil_from_length, length-replicate, take-append-le, take_all, take_at, drop-append-le}
+use Rattle.std.proofs.Common.{◌≡◌, ℕ, zero, suc, ◌+◌, ◌-◌, ◌*◌, ◌/◌, ◌%◌, ◌^◌, ◌<◌, ◌≤◌, List, [], ◌∷◌, ◌++◌, length, take, drop, refl, sym, ap, ◌∙◌, arith, subst, length-append, length-drop, zero-add}
+use Rattle.std.specs.List.{All}
+use Rattle.std.proofs.lemmas.List.{nil_from_length, length-replicate, take-append-le, take_all, take_at, drop_at, drop-append-le}
+use Rattle.std.proofs.lemmas.List.Elements.{All-replicate}
 use Rattle.std.proofs.lemmas.Nat.{div-mul-add, mod-mul-add}
 use Rattle.rpm_outside.specs.Files.{Units, cut_up, units_of, bytes_of, unit_at}
 use Rattle.rpm_outside.specs.inner.Cuts.{length-cut_up, bytes_of-cut_up}
@@ -9,6 +11,7 @@ use Rattle.rpm_hindex.specs.Rows.{Row}
 use Rattle.rpm_hindex.specs.Sizes.{key_units, record_units}
 use Rattle.rpm_hindex.specs.inner.Making.{record_of, padding}
 use Rattle.rpm_hindex.specs.Index.{next_at, length_at, row_at, key_at, run}
+use Rattle.rpm_hindex.specs.Padding.{IsPadded, past_key}
 use Rattle.rpm_hindex.proofs.UnitWords.{length-unit, word_0, word_1, word_2, word_3}
 
 -- bytes after whole units
@@ -102,17 +105,29 @@ module _ (next kind : ℕ) (key : List ℕ) (number place : ℕ) where
     pub made_size : length_at u at ≡ length key
     made_size = ap (λ (n : ℕ). n % 2 ^ 28) packed ∙ mod-mul-add kind (2 ^ 28) (length key) short
 
-    made_key : key_at u at ≡ key
-    made_key =
+    made_bytes : bytes_of (run u (at + 1) (key_units (length key))) ≡ padded
+    made_bytes =
         let n = key_units (length key) in
         let us : Units = cut_up n padded in
         let long : length us ≡ n = length-cut_up n padded in
         let all : run u (at + 1) n ≡ us = ap (run u (at + 1)) (sym long) ∙ run_of u (at + 1) us (λ j lt. let e : at + 1 + j ≡ at + (1 + j) = omega
         arith in ap u e ∙ stands (1 + j) (omega arith) ∙ made_rest j) in
+        ap bytes_of all ∙ bytes_of-cut_up n padded length-padded
+
+    made_key : key_at u at ≡ key
+    made_key =
         ap (λ (k : ℕ). take k (bytes_of (run u (at + 1) (key_units k)))) made_size
-        ∙ ap (λ (vs : Units). take (length key) (bytes_of vs)) all
-        ∙ ap (take (length key)) (bytes_of-cut_up n padded length-padded)
+        ∙ ap (take (length key)) made_bytes
         ∙ take_at key (padding (length key)) (length key) refl
+
+    made_past : past_key u at ≡ padding (length key)
+    made_past =
+        ap (λ (k : ℕ). drop k (bytes_of (run u (at + 1) (key_units k)))) made_size
+        ∙ ap (drop (length key)) made_bytes
+        ∙ drop_at key (padding (length key)) (length key) refl
+
+    pub made_padded : IsPadded u at
+    made_padded = subst (All (λ (b : ℕ). b ≡ 0)) (sym made_past) (All-replicate (λ (b : ℕ). b ≡ 0) (16 * key_units (length key) - length key) 0 refl)
 
     pub row-made : row_at u at ≡ made_row
     unfolding row_at

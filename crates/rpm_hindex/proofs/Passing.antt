@@ -46,9 +46,9 @@ module _ (B b from at end : ℕ) (file before : Files) (done left : List ℕ) (s
   cost_within first old new so_far cost = omega (arith, cost_here B b at file before old new same cost next_left.2, all_units, so_far)
 
   -- the record that stands there was met
-  module _ (row : Row) (met : Met) (is : IsMet (index_in B before.idx) at row met) where
-    pub met_first : IsMet x at row met
-    met_first = subst (λ (f : Files). IsMet (index_in B f.idx) at row met) same is
+  module _ (row : Row) (met : Met) (is : IsMet (index_in B before.idx) at (same_row row) met) where
+    pub met_first : IsMet x at (same_row row) met
+    met_first = subst (λ (f : Files). IsMet (index_in B f.idx) at (same_row row) met) same is
 
     pub met_path : IsPath x b from (done ++ at ∷ []) met.next
     met_path = path_more x b from at met.next done path (omega (arith, below)) next_left.2 met_first.next
@@ -77,19 +77,19 @@ module _ (B b from at end : ℕ) (file before : Files) (done left : List ℕ) (s
     cost_passed first old mid so_far cost = omega (arith, cost_here B b at file before old mid same cost next_left.2, so_far, sum_by_push units done at)
 
     -- it isn't the row's, or is dropped
-    pub none_passed : (kept : ℕ → Bool) → met.head.at ≡ at → HasNone (unit_at file.idx) kept row done → (met.is_row && kept met.head.at) ≡ false
+    pub none_passed : (kept : ℕ → Bool) → met.head.at ≡ at → HasNone (unit_at file.idx) kept row done → (met.is_wanted && kept met.head.at) ≡ false
         → HasNone (unit_at file.idx) kept row (done ++ at ∷ [])
     none_passed kept here none miss =
         none_more (unit_at file.idx) kept row done at none
-        (λ stays. no_hit (same_row row (row_at (unit_at file.idx) at)) met.is_row (kept met.head.at) met_first.same miss (ap kept here ∙ stays))
+        (λ stays. no_hit (same_row row (row_at (unit_at file.idx) at)) met.is_wanted (kept met.head.at) met_first.same miss (ap kept here ∙ stays))
 
     -- it is the row's and kept, and the dropped ones after it were skipped
     pub spot_met : (kept : ℕ → Bool) (last : Option Head) (to : ℕ) (after : Files) → met.head.at ≡ at
-        → IsLast (unit_at file.idx) (filter kept done) last → (met.is_row && kept met.head.at) ≡ true → after ≡ file
+        → IsLast (unit_at file.idx) (filter kept done) last → (met.is_wanted && kept met.head.at) ≡ true → after ≡ file
         → ((qs : List ℕ) → IsPath (index_in B after.idx) b met.next qs end → SkipsTo (index_in B after.idx) b end kept met.next to)
         → IsSpot x b from end kept row (record { before = last; at = at; behind = to })
     spot_met kept last to after here is_last hit stays skips =
-        let parts = and_parts met.is_row (kept met.head.at) hit in
+        let parts = and_parts met.is_wanted (kept met.head.at) hit in
         record {
           front = done;
           path = path;

@@ -5,8 +5,8 @@ use Rattle.std.proofs.lemmas.Bool.{cases_Bool, eqb-true, cond-true, cond-false}
 use Rattle.rpm_outside.specs.Files.{Units, units_of, unit_at, put}
 use Rattle.rpm_outside.specs.inner.Cuts.{length-cut_up}
 use Rattle.rpm_outside.specs.inner.Puts.{length-put, put_before, put_inside}
-use Rattle.rpm_hindex.specs.declared.planning.Patch.{Patch}
-use Rattle.rpm_hindex.specs.declared.planning.Patches.{Patches}
+use Rattle.rpm_hindex.specs.declared.plan.Patch.{Patch}
+use Rattle.rpm_hindex.specs.declared.plan.Patches.{Patches}
 use Rattle.rpm_hindex.specs.State.{State, Keeps}
 use Rattle.rpm_hindex.specs.Plans.{after_units, after_tail, patch_at, ArePatches}
 

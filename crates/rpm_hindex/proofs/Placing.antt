@@ -12,12 +12,14 @@ use Rattle.std.proofs.lemmas.Bool.{cases_Bool, cases_eq, cond-true, cond-false, 
 use Rattle.rpm_outside.specs.Files.{Units, units_of, unit_at, put}
 use Rattle.rpm_outside.specs.inner.Cuts.{length-cut_up}
 use Rattle.rpm_outside.specs.inner.Puts.{put_before, put_inside, put_after}
-use Rattle.rpm_hindex.specs.declared.planning.Patch.{Patch}
-use Rattle.rpm_hindex.specs.declared.planning.Work.{Work}
-use Rattle.rpm_hindex.specs.declared.planning.Work.TheVariants.{InPlace, Scratch}
+use Rattle.rpm_hindex.specs.declared.plan.Patch.{Patch}
+use Rattle.rpm_hindex.specs.declared.plan.Patches.{Patches}
+use Rattle.rpm_hindex.specs.declared.plan.Work.{Work}
+use Rattle.rpm_hindex.specs.declared.plan.Work.TheVariants.{InPlace, Scratch}
 use Rattle.rpm_hindex.specs.Rows.{Row, times}
 use Rattle.rpm_hindex.specs.Whole.{IsWhole, IsWellFormed}
-use Rattle.rpm_hindex.specs.Plans.{after_units, after_tail, IsPlanFor, IsChanged, LeavesOrder}
+use Rattle.rpm_hindex.specs.Padding.{AddsPadded}
+use Rattle.rpm_hindex.specs.Plans.{after, after_units, after_tail, IsPlanFor, IsChanged, IsPaddedPlan, LeavesOrder}
 use Rattle.rpm_hindex.specs.Sizes.{first_record, is_bucket_count}
 use Rattle.rpm_hindex.specs.State.{is_ordered}
 use Rattle.rpm_hindex.specs.declared.change.Change.{Change}
@@ -25,6 +27,7 @@ use Rattle.rpm_hindex.specs.Words.{word, unit_of_words}
 use Rattle.rpm_hindex.specs.Index.{Index, index_in, bucket_unit, records, rows_of, places_of}
 use Rattle.rpm_hindex.specs.inner.Changes.{patch_of, unit_after, changing, CanGo, IsWorkOf, AddsRows, HasLess, IsStarted, is_kept}
 use Rattle.rpm_hindex.proofs.Extends.{Extends, whole_same, rows_same, has_same, stands_in}
+use Rattle.rpm_hindex.proofs.Padding.{adds_then, adds_same}
 use Rattle.rpm_hindex.proofs.Cutting.{stays_then, stays_same}
 use Rattle.rpm_hindex.proofs.Wholes.{has_chains, places_are, in_all}
 use Rattle.rpm_hindex.proofs.UnitWords.{word_0, word_1, word_2}
@@ -136,6 +139,16 @@ module _ (c : Change) (go : CanGo c) (ordered : IsStrictlySortedBy nat_cmp (keys
   pub placed_heads : (b : ℕ) → b < c.extent.buckets → (index_in c.extent.buckets written).head b ≡ (changing c file).head b
   placed_heads b lt = ap (word (b % 4)) (behind_second (bucket_unit b) (omega arith) ∙ before_tail (bucket_unit b) (omega (arith, lt, go.fours, go.front)))
 
+-- what is written, in the words of the plan
+written_is : (d : Change) (p : Patches) (file : Units) → IsWorkOf d (InPlace p)
+    → put 1 (unit_of_words (d.extent.used + length d.tail.items / 16) d.records d.live 0 ∷ [])
+    (after_tail d.extent.used d.tail.items (after_units (map patch_of d.units.entries) file)) ≡ after (InPlace p) file
+written_is d p file (units, tail, used, second, buckets) =
+    ap (λ (w : List ℕ). put 1 (w ∷ []) (after_tail d.extent.used d.tail.items (after_units (map patch_of d.units.entries) file))) (sym second)
+    ∙ ap (λ (ps : List Patch). put 1 (p.second ∷ []) (after_tail d.extent.used d.tail.items (after_units ps file))) (sym units)
+    ∙ ap (λ (t : Vec ℕ Global). put 1 (p.second ∷ []) (after_tail d.extent.used t.items (after_units p.units.items file))) (sym tail)
+    ∙ ap (λ (n : ℕ). put 1 (p.second ∷ []) (after_tail n p.tail.items (after_units p.units.items file))) (sym used)
+
 -- what is written in place makes the change
 pub place_plan : (c d : Change) (drops adds : List Row) (file : Units) (work : Work) → CanGo d → IsStrictlySortedBy nat_cmp (keys d.units)
     → IsWorkOf d work → AddsRows c d file adds
@@ -163,14 +176,26 @@ place_plan c d drops adds file (InPlace p) go ordered (units, tail, used, second
       whole = well;
       rows = λ r. ap (times r) rows ∙ more.rows' r ∙ ap (λ (n : ℕ). n + times r adds) (less r);
     } in
-    let all : new ≡ put 1 (p.second ∷ []) (after_tail p.used p.tail.items (after_units p.units.items file)) =
-    ap (λ (w : List ℕ). put 1 (w ∷ []) (after_tail d.extent.used d.tail.items (after_units (map patch_of d.units.entries) file))) (sym second)
-    ∙ ap (λ (ps : List Patch). put 1 (p.second ∷ []) (after_tail d.extent.used d.tail.items (after_units ps file))) (sym units)
-    ∙ ap (λ (t : Vec ℕ Global). put 1 (p.second ∷ []) (after_tail d.extent.used t.items (after_units p.units.items file))) (sym tail)
-    ∙ ap (λ (n : ℕ). put 1 (p.second ∷ []) (after_tail n p.tail.items (after_units p.units.items file))) (sym used) in
-    subst (λ (n : ℕ). IsChanged drops adds (records B file) n
-    (put 1 (p.second ∷ []) (after_tail p.used p.tail.items (after_units p.units.items file)))) (sym buckets)
-    (subst (IsChanged drops adds (records B file) B) all changed)
+    subst (λ (n : ℕ). IsChanged drops adds (records B file) n (after (InPlace p) file)) (sym buckets)
+    (subst (IsChanged drops adds (records B file) B) (written_is d p file (units, tail, used, second, buckets)) changed)
+
+-- and the records that it adds are padded
+pub place_padded : (c d : Change) (adds : List Row) (file : Units) (work : Work) → CanGo d → IsStrictlySortedBy nat_cmp (keys d.units)
+    → IsWorkOf d work → AddsRows c d file adds → AddsPadded (index_in d.extent.buckets file) (changing c file) → IsPaddedPlan d.extent.buckets file work
+unfolding IsPaddedPlan
+place_padded c d adds file (Scratch image) go ordered is more first = absurd is
+place_padded c d adds file (InPlace p) go ordered (units, tail, used, second, buckets) more first =
+    let B = d.extent.buckets in
+    let words = unit_of_words (d.extent.used + length d.tail.items / 16) d.records d.live 0 in
+    let new = put 1 (words ∷ []) (after_tail d.extent.used d.tail.items (after_units (map patch_of d.units.entries) file)) in
+    let zero_word : word 0 words ≡ d.extent.used + length d.tail.items / 16 = word_0 (d.extent.used + length d.tail.items / 16) d.records d.live 0
+    (omega (arith, go.room)) in
+    let last = adds_same (changing d file) (index_in B new) (placed d go ordered file words zero_word) (placed_heads d go ordered file words)
+    (places_of (changing d file)) (has_chains (changing d file) more.whole.chains) in
+    let all = adds_then (index_in B file) (changing d file) (index_in B new) (adds_then (index_in B file) (changing c file) (changing d file) first
+    more.padded) last in
+    subst (λ (n : ℕ). AddsPadded (index_in B file) (index_in n (after (InPlace p) file))) (sym buckets)
+    (subst (λ (f : Units). AddsPadded (index_in B file) (index_in B f)) (written_is d p file (units, tail, used, second, buckets)) all)
 
 filter_all : (kept : ℕ → Bool) (qs : List ℕ) → ((q : ℕ) → kept q ≡ true) → filter kept qs ≡ qs
 filter_all kept [] all = refl

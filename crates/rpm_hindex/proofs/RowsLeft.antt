@@ -1,17 +1,23 @@
 -- What is left when a change has dropped its rows, and what that cost.
-use Rattle.std.proofs.Common.{◌≡◌, ℕ, ◌+◌, ◌-◌, ◌≤◌, List, length, true, sym, ap, ◌∙◌, subst, Vec, Global}
+use Rattle.std.proofs.Common.{◌≡◌, ℕ, ◌+◌, ◌-◌, ◌%◌, ◌^◌, ◌≤◌, List, length, true, sym, ap, ◌∙◌, subst, inr, Vec, Global}
+use Rattle.std.specs.List.{Contains}
 use Rattle.std.specs.Ordering.{nat_cmp}
 use Rattle.std.specs.BTreeSet.{contains}
 use Rattle.rpm_outside.specs.Files.{Units}
 use Rattle.rpm_hindex.specs.declared.chain.Extent.{Extent}
 use Rattle.rpm_hindex.specs.declared.change.Change.{Change}
 use Rattle.rpm_hindex.specs.Rows.{Row, times}
-use Rattle.rpm_hindex.specs.Index.{index_in, records, rows_of}
+use Rattle.rpm_hindex.specs.Index.{Index, index_in, records, rows_of, places_of}
+use Rattle.rpm_hindex.specs.Padding.{AddsPadded}
 use Rattle.rpm_hindex.specs.Whole.{IsWellFormed}
 use Rattle.rpm_hindex.specs.Costs.{chains_bytes}
 use Rattle.rpm_hindex.specs.inner.Changes.{IsCut, changing, HasLess, kept_of, is_kept}
 use Rattle.rpm_hindex.specs.inner.Records.{IsOpen}
 use Rattle.rpm_hindex.proofs.Cuts.{rows_cut}
+use Rattle.rpm_hindex.proofs.Cutting.{but}
+use Rattle.rpm_hindex.proofs.Dropping.{filter_in}
+use Rattle.rpm_hindex.proofs.Wholes.{has_chains, in_all, all_in}
+use Rattle.rpm_hindex.proofs.Padding.{past_same}
 use Rattle.rpm_hindex.proofs.Keeping.{kept_all}
 
 -- the rows of the records that a change hasn't dropped
@@ -27,12 +33,25 @@ rows_less B file drops first mid first_is all_kept less whole r =
     subst (λ (n : ℕ). IsWellFormed n file → HasLess drops (rows_kept_by n file first) (rows_kept_by n file mid)) first_is less whole r
     ∙ ap (λ (n : ℕ). n - times r drops) (kept_all (index_in B file) (is_kept (λ p. contains nat_cmp first.dropped p)) r all_kept)
 
+-- the records that it hasn't dropped have the bytes after their keys that they had
+cut_padded : (c : Change) (file : Units) → IsWellFormed c.extent.buckets file → IsCut c file → AddsPadded (index_in c.extent.buckets file) (changing c file)
+cut_padded c file well cut p m =
+    let x : Index = index_in c.extent.buckets file in
+    let y : Index = changing c file in
+    let i = in_all y (places_of y) (has_chains y cut.whole.chains) p m in
+    let left = subst (λ (qs : List ℕ). Contains qs p) (cut.chains i.0 i.1) i.2 in
+    let stood = (filter_in (is_kept (λ q. contains nat_cmp c.dropped q)) (places_of x i.0) p left).0 in
+    let old = all_in x (places_of x) (has_chains x well.chains) p i.0 i.1 stood in
+    let s = cut.stays p old in
+    inr (record { stood = old; row = (but x y p s).row; past = past_same x.unit y.unit p (ap (λ (n : ℕ). n % 2 ^ 28) s.size) s.key })
+
 -- a change that has dropped its rows and added none yet
 pub record HasDropped (B : ℕ) (file : Units) (drops : List Row) (mid : Change) : Type 0 where
   pub buckets : mid.extent.buckets ≡ B
   pub open' : IsOpen mid.extent file
   pub cut : IsCut mid file
   pub rows' : HasLess drops (records B file) (rows_of (changing mid file))
+  pub padded : AddsPadded (index_in B file) (changing mid file)
 
 pub has_dropped : (B : ℕ) (file : Units) (drops : List Row) (first mid : Change) → first.extent.buckets ≡ B → mid.extent ≡ first.extent
     → mid.tail ≡ first.tail → length first.tail.items ≡ 0 → IsOpen first.extent file → IsCut first file
@@ -43,13 +62,15 @@ has_dropped B file drops first mid first_is extent_is tail_is empty opens begin 
     let open_mid = subst (λ (e : Extent). IsOpen e file) (sym extent_is) opens in
     let cut = cuts (subst (λ (n : ℕ). IsWellFormed n file) (sym first_is) whole) empty begin in
     let none = ap (λ (t : Vec ℕ Global). length t.items) tail_is ∙ empty in
+    let well = subst (λ (n : ℕ). IsWellFormed n file) (sym mid_is) whole in
     record {
       buckets = mid_is;
       open' = open_mid;
       cut = cut;
-      rows' = λ r. rows_cut mid file none open_mid (subst (λ (n : ℕ). IsWellFormed n file) (sym mid_is) whole) cut r
+      rows' = λ r. rows_cut mid file none open_mid well cut r
           ∙ ap (λ (n : ℕ). times r (rows_kept_by n file mid)) mid_is
           ∙ less r;
+      padded = subst (λ (n : ℕ). AddsPadded (index_in n file) (changing mid file)) mid_is (cut_padded mid file well cut);
     }
 
 -- what dropping cost, in the words of the value

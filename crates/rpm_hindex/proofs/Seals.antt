@@ -5,10 +5,12 @@ use Rattle.rpm_outside.specs.inner.Cuts.{length-cut_up, unit_at-cut_up}
 use Rattle.rpm_outside.specs.inner.Puts.{length-put, put_before, put_inside, put_after}
 use Rattle.rpm_hindex.specs.Words.{word}
 use Rattle.rpm_hindex.specs.Index.{index_in, records, places_of}
+use Rattle.rpm_hindex.specs.Padding.{AddsPadded}
 use Rattle.rpm_hindex.specs.Whole.{IsWhole, IsWellFormed}
 use Rattle.rpm_hindex.specs.State.{State, Keeps}
 use Rattle.rpm_hindex.proofs.Wholes.{has_chains}
 use Rattle.rpm_hindex.proofs.Extends.{Extends, rows_same, whole_same}
+use Rattle.rpm_hindex.proofs.Padding.{adds_same}
 
 module _ (buckets : ℕ) (old new : Units) (same : (i : ℕ) → 1 ≤ i → unit_at new i ≡ unit_at old i) where
   extends : Extends (index_in buckets old) (index_in buckets new)
@@ -30,6 +32,10 @@ module _ (buckets : ℕ) (old new : Units) (same : (i : ℕ) → 1 ≤ i → uni
 
   pub records_behind : IsWellFormed buckets old → records buckets new ≡ records buckets old
   records_behind whole = rows_same (index_in buckets old) (index_in buckets new) extends heads (places_of (index_in buckets old))
+      (has_chains (index_in buckets old) whole.chains)
+
+  pub padded_behind : IsWellFormed buckets old → AddsPadded (index_in buckets old) (index_in buckets new)
+  padded_behind whole = adds_same (index_in buckets old) (index_in buckets new) extends heads (places_of (index_in buckets old))
       (has_chains (index_in buckets old) whole.chains)
 
 -- a new unit 0

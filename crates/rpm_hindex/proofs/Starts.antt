@@ -6,7 +6,7 @@ use Rattle.std.specs.List.{Contains, filter}
 use Rattle.std.proofs.lemmas.List.{append_assoc, append-nil}
 use Rattle.std.proofs.lemmas.List.Elements.{filter-append, Contains-append_cases}
 use Rattle.std.proofs.lemmas.Bool.{cases_eq, cond-false}
-use Rattle.rpm_hindex.specs.declared.finding.Start.{Start}
+use Rattle.rpm_hindex.specs.declared.row_search.Start.{Start}
 use Rattle.rpm_hindex.specs.declared.heads.Head.{Head}
 use Rattle.rpm_hindex.specs.declared.spots.Spot.{Spot}
 use Rattle.rpm_hindex.specs.Rows.{Row}

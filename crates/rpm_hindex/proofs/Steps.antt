@@ -1,17 +1,18 @@
 -- One record of a chain, as it was read.
 use Rattle.std.proofs.Common.{◌≡◌, ℕ, ◌+◌, ◌*◌, ◌/◌, ◌%◌, ◌^◌, ◌≤◌, List, Bool, true, false, ◌&&◌, cond, eqb, Result, Ok, Err, refl, sym, ap, ◌∙◌, arith, subst, inl, inr}
-use Rattle.std.specs.Prelude.{Option, Some}
+use Rattle.std.specs.Prelude.{Option, Some, None}
 use Rattle.std.specs.Str.{bytes_eq}
 use Rattle.std.proofs.lemmas.Bool.{cases_Bool, and_parts, eqb-true, eq-eqb, and_from}
 use Rattle.rpm_outside.specs.Files.{Files}
 use Rattle.rpm_hindex.specs.declared.faults.FindFault.{FindFault}
 use Rattle.rpm_hindex.specs.declared.faults.FindFault.TheVariants.{BadIndex, DiskFault, NoMemory}
 use Rattle.rpm_hindex.specs.declared.heads.Head.{Head}
+use Rattle.rpm_hindex.specs.declared.hits.Hit.{Hit}
 use Rattle.rpm_hindex.specs.Words.{word}
 use Rattle.rpm_hindex.specs.Sizes.{first_record}
 use Rattle.rpm_hindex.specs.Rows.{Row, same_row}
 use Rattle.rpm_hindex.specs.Index.{row_at, units_at}
-use Rattle.rpm_hindex.specs.Answers.{IsFaultOf, IsOutside, has_key}
+use Rattle.rpm_hindex.specs.Answers.{IsFaultOf, IsOutside, has_key, is_wanted, row_of_hit}
 use Rattle.rpm_hindex.specs.inner.Spots.{IsFront}
 
 pub number_at : (unit : ℕ → List ℕ) (at : ℕ) → (row_at unit at).number ≡ word 2 (unit at)
@@ -38,11 +39,17 @@ and_true true = refl
 and_true false = refl
 
 -- a row with this number and place is the same by its key
-pub same_by_key : (row r : Row) → row.number ≡ r.number → row.place ≡ r.place → has_key row.kind row.key r ≡ same_row row r
+same_by_key : (row r : Row) → row.number ≡ r.number → row.place ≡ r.place → has_key row.kind row.key r ≡ same_row row r
 same_by_key row r n p =
     let both : (eqb row.number r.number && eqb row.place r.place) ≡ true = and_from (eqb row.number r.number) _ (eq-eqb _ _ n) (eq-eqb _ _ p) in
     sym (ap (λ (t : Bool). eqb row.kind r.kind && (bytes_eq row.key r.key && t)) both
     ∙ ap (λ (t : Bool). eqb row.kind r.kind && t) (and_true (bytes_eq row.key r.key)))
+
+-- a row that has this key, and the number and place that are looked for, where only one is
+pub wanted_by_key : (kind : ℕ) (key : List ℕ) (only : Option Hit) (r : Row) → ((hit : Hit) → only ≡ Some hit → (hit.number ≡ r.number) × (hit.place ≡ r.place))
+    → has_key kind key r ≡ is_wanted kind key only r
+wanted_by_key kind key None r same = refl
+wanted_by_key kind key (Some hit) r same = let is = same hit refl in same_by_key (row_of_hit kind key hit) r is.0 is.1
 
 -- a well formed chain has no fault
 pub outside : (said : Result (List ℕ) ℕ) (places : List ℕ) (e : FindFault) → said ≡ Ok places → IsFaultOf said e → IsOutside e

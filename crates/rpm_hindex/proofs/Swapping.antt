@@ -4,7 +4,7 @@ use Rattle.std.proofs.lemmas.List.{ext_get_or}
 use Rattle.std.proofs.lemmas.Bool.{cases_Bool, cases_lt, cond-true, cond-false}
 use Rattle.rpm_outside.specs.Files.{Units, units_of, unit_at, blank, put}
 use Rattle.rpm_outside.specs.inner.Puts.{length-put, put_before, put_inside, put_after}
-use Rattle.rpm_hindex.specs.declared.planning.Patch.{Patch}
+use Rattle.rpm_hindex.specs.declared.plan.Patch.{Patch}
 use Rattle.rpm_hindex.specs.Plans.{after_units, after_tail}
 use Rattle.rpm_hindex.proofs.Patched.{Within}
 

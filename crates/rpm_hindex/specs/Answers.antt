@@ -1,11 +1,11 @@
 -- What the calls answer.
-use Rattle.std.specs.Prelude.{◌≡◌, ℕ, ◌+◌, ◌*◌, ◌<◌, ◌≤◌, ◌⊎◌, List, [], ◌∷◌, length, Bool, ◌&&◌, ◌==◌, Result, Ok, Err, slice_index_or}
+use Rattle.std.specs.Prelude.{◌≡◌, ℕ, ◌+◌, ◌*◌, ◌<◌, ◌≤◌, ◌⊎◌, List, [], ◌∷◌, length, Bool, ◌&&◌, ◌==◌, Option, Some, None, Result, Ok, Err, slice_index_or}
 use Rattle.std.specs.List.{count_by, sum_by}
 use Rattle.std.specs.Str.{bytes_eq}
 use Rattle.rpm_hindex.specs.declared.hits.Hit.{Hit}
 use Rattle.rpm_hindex.specs.declared.faults.FindFault.{FindFault}
 use Rattle.rpm_hindex.specs.declared.faults.FindFault.TheVariants.{BadIndex, DiskFault, NoMemory}
-use Rattle.rpm_hindex.specs.Rows.{Row, times}
+use Rattle.rpm_hindex.specs.Rows.{Row, times, same_row}
 
 -- whether two hits are one
 abbrev pub same_hit : Hit → Hit → Bool
@@ -30,6 +30,11 @@ row_of_hit kind key hit = record { kind = kind; key = key; number = hit.number; 
 -- whether a row has this kind and key
 abbrev pub has_key : ℕ → List ℕ → Row → Bool
 has_key kind key row = (kind == row.kind) && bytes_eq key row.key
+
+-- whether a row is looked for: one of this kind and key, or of them that of one number and place
+abbrev pub is_wanted : ℕ → List ℕ → Option Hit → Row → Bool
+is_wanted kind key None = has_key kind key
+is_wanted kind key (Some hit) = same_row (row_of_hit kind key hit)
 
 -- the numbers and places of the rows of this kind and key, each as often
 abbrev pub AsOften : ℕ → List ℕ → List Row → List Hit → Type 0

@@ -2,6 +2,7 @@ pub mod Words
 pub mod Rows
 pub mod Sizes
 pub mod Index
+pub mod Padding
 pub mod Whole
 pub mod Rewrites
 pub mod Plans

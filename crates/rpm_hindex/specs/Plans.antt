@@ -1,12 +1,13 @@
 -- What a change writes, and what it leaves.
 use Rattle.std.specs.Prelude.{◌≡◌, true, ℕ, ◌+◌, ◌-◌, ◌/◌, ◌%◌, ◌^◌, ◌<◌, ◌≤◌, List, [], ◌∷◌, length, take, if◌then◌else◌, ◌==◌, slice_index_or, max}
 use Rattle.rpm_outside.specs.Files.{Units, units_of, put, blank}
-use Rattle.rpm_hindex.specs.declared.planning.Patch.{Patch}
-use Rattle.rpm_hindex.specs.declared.planning.Patches.{Patches}
-use Rattle.rpm_hindex.specs.declared.planning.Work.{Work}
-use Rattle.rpm_hindex.specs.declared.planning.Work.TheVariants.{InPlace, Scratch}
+use Rattle.rpm_hindex.specs.declared.plan.Patch.{Patch}
+use Rattle.rpm_hindex.specs.declared.plan.Patches.{Patches}
+use Rattle.rpm_hindex.specs.declared.plan.Work.{Work}
+use Rattle.rpm_hindex.specs.declared.plan.Work.TheVariants.{InPlace, Scratch}
 use Rattle.rpm_hindex.specs.Rows.{Row, times}
-use Rattle.rpm_hindex.specs.Index.{records}
+use Rattle.rpm_hindex.specs.Index.{Index, index_in, records}
+use Rattle.rpm_hindex.specs.Padding.{ArePadded, AddsPadded}
 use Rattle.rpm_hindex.specs.Words.{word}
 use Rattle.rpm_hindex.specs.Sizes.{live_of, units_for, bucket_count}
 use Rattle.rpm_hindex.specs.Whole.{IsWellFormed}
@@ -81,6 +82,15 @@ pub record IsChanged (drops adds old : List Row) (buckets : ℕ) (new : Units) :
 -- writing this makes the change of this file, which has so many buckets
 unfoldable pub IsPlanFor : List Row → List Row → ℕ → Units → Work → Type 0
 IsPlanFor drops adds buckets file work = IsChanged drops adds (records buckets file) (buckets_after work) (after work file)
+
+-- the records that a plan writes are padded: in place those that it adds, from scratch all
+abbrev pub WritesPadded : Work → Index → Index → Type 0
+WritesPadded (InPlace p) old new = AddsPadded old new
+WritesPadded (Scratch image) old new = ArePadded new
+
+-- writing this to a file of so many buckets writes padded records
+unfoldable pub IsPaddedPlan : ℕ → Units → Work → Type 0
+IsPaddedPlan buckets file work = WritesPadded work (index_in buckets file) (index_in (buckets_after work) (after work file))
 
 -- what is made from scratch has the size that the rows after the change need
 abbrev pub IsSizedFor : List Row → List Row → List Row → Work → Type 0

@@ -8,21 +8,21 @@ ghost use Rattle.rpm_outside.specs.Causes.{HasCauseAt};
 ghost use Rattle.rpm_hindex.specs.Words.{word};
 ghost use Rattle.rpm_hindex.specs.Rows.{Row, hash_of};
 ghost use Rattle.rpm_hindex.specs.Sizes.{first_record};
-ghost use Rattle.rpm_hindex.specs.Index.{Index, index_in, chain, follow, is_link, is_sound, is_placed, next_at, length_at, units_at, row_at, bucket_unit, records};
+ghost use Rattle.rpm_hindex.specs.Index.{Index, index_in, chain, follow, is_link, is_placed, next_at, length_at, units_at, row_at, bucket_unit, records};
 ghost use Rattle.rpm_hindex.specs.Whole.{IsWellFormed};
 ghost use Rattle.rpm_hindex.specs.State.{State, Keeps, is_in_order, buckets_of};
 ghost use Rattle.rpm_outside.specs.declared.disk.File.TheVariants.{Idx};
 ghost use Rattle.rpm_outside.specs.Looks.{Looks, LooksAt};
 ghost use Rattle.rpm_hindex.specs.inner.Records.{IsOpen};
-ghost use Rattle.rpm_hindex.specs.inner.Spots.{IsNext, IsSeen};
+ghost use Rattle.rpm_hindex.specs.inner.Spots.{IsNext};
 ghost use Rattle.rpm_hindex.specs.Answers.{AsOften, AreHits, FindIs, IsFaultOf, ChainCosts, AddsHit, has_key, IsRising, times_hit};
 
+use crate::bucket::bucket_of;
 use crate::faults::FindFault;
-use crate::hashing::bucket_of;
-use crate::heads::{Ahead, meets_key, read_head};
+use crate::heads::{Met, meet};
 use crate::hits::{Hit, Hits};
 use crate::index::Hindex;
-use crate::reading::read_unit;
+use crate::reads::read_unit;
 use crate::sizes::record_units;
 use crate::words::word;
 use rpm_outside::{Disk, File};
@@ -86,67 +86,18 @@ pub fn read_bucket<D: Disk>(disk: &mut D, extent: Extent, bucket: u32) -> Result
     Ok(Bucket { words, at })
 }
 
-/// A record on the way through a chain, and whether it has the key that is looked for.
-#[derive(Clone, Copy)]
-pub struct Seen {
-    pub next: u32,
-    pub number: u32,
-    pub place: u32,
-    pub has_key: bool,
-}
-
-/// Reads the record at a unit that a link names, and its key into a buffer.
-fn see<D: Disk>(
-    disk: &mut D,
-    extent: Extent,
-    bucket: u32,
-    at: u32,
-    kind: u8,
-    key: &[u8],
-    buffer: &mut Vec<u8>,
-) -> Result<Seen, FindFault>
-    requires few { extent.buckets ≤ 2 ^ 28 }
-    requires some { 0 < extent.buckets }
-    requires open { IsTrue D.tells → IsOpen extent (D.files disk.old).idx }
-    requires some_at { 0 < at }
-    requires within { at < extent.used }
-    requires bucket { hash_of kind key.now % extent.buckets ≡ bucket }
-    ensures falls { IfOk result (λ s. s.next < at) }
-    ensures linked { IfOk result (λ s. IsNext extent.buckets extent.used s.next) }
-    ensures seen { IfOk result (λ s. IsTrue D.tells → IsSeen (index_in extent.buckets (D.files disk.old).idx) bucket at kind key.now s) }
-    ensures fault { IfErr result (λ e. IsTrue D.tells → IsFaultOf (follow (index_in extent.buckets (D.files disk.old).idx) bucket at at) e) }
-    ensures cost { IsTrue D.tells → is_sound (index_in extent.buckets (D.files disk.old).idx) bucket at ≡ true → D.bytes_read disk.new File.Idx
-        ≤ D.bytes_read disk.old File.Idx + 16 * units_at (unit_at (D.files disk.old).idx) at }
-    ensures looks { LooksAt D.tells D.files D.left_since D.moment D.bytes_read D.follows Idx disk.old disk.new }
-    ensures cause { HasCauseAt (result ≡ Err FindFault.DiskFault) (D.faults disk.old) (D.faults disk.new) }
-{
-    let Ahead { next, head } = match read_head(disk, extent, at) {
-        Ok(ahead) => ahead,
-        Err(fault) => return Err(fault),
-    };
-    match meets_key(disk, extent, bucket, head, kind, key, buffer) {
-        Ok(has_key) => Ok(Seen {
-            next,
-            number: head.number,
-            place: head.place,
-            has_key,
-        }),
-        Err(fault) => Err(fault),
-    }
-}
-
 /// Adds the hit of a record, where it has the key.
-fn push_hit(hits: &mut Vec<Hit>, seen: Seen) -> Result<(), FindFault>
-    ensures hits { OnOk result ((kind : ℕ) (key : List ℕ) (row : Row) → seen.has_key ≡ has_key kind key row → row.number ≡ seen.number
-        → row.place ≡ seen.place → AddsHit kind key row hits.old.items hits.new.items) }
+fn push_hit(hits: &mut Vec<Hit>, met: Met) -> Result<(), FindFault>
+    ensures hits { OnOk result ((kind : ℕ) (key : List ℕ) (row : Row) → met.is_wanted ≡ has_key kind key row → row.number ≡ met.head.number
+        → row.place ≡ met.head.place → AddsHit kind key row hits.old.items hits.new.items) }
     ensures memory { IfErr result (λ e. e ≡ FindFault.NoMemory) }
 {
-    if !seen.has_key {
+    if !met.is_wanted {
         return Ok(());
     }
     let hit = Hit {
-        number: seen.number,
-        place: seen.place,
+        number: met.head.number,
+        place: met.head.place,
     };
     let Ok(()) = hits.push(hit) else {
         return Err(FindFault::NoMemory);
@@ -179,14 +130,14 @@ fn collect<D: Disk>(
     let mut buffer = Vec::new(alloc);
     let mut at = from;
     while at != 0 {
-        let seen = match see(disk, extent, bucket, at, kind, key, &mut buffer) {
-            Ok(seen) => seen,
+        let met = match meet(disk, extent, bucket, at, kind, key, None, &mut buffer) {
+            Ok(met) => met,
             Err(fault) => return Err(fault),
         };
-        if let Err(fault) = push_hit(&mut hits, seen) {
+        if let Err(fault) = push_hit(&mut hits, met) {
             return Err(fault);
         }
-        at = seen.next;
+        at = met.next;
     }
     Ok(hits)
 }

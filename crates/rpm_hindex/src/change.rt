@@ -18,12 +18,12 @@ ghost use Rattle.rpm_hindex.specs.Index.{index_in, chain, units_at};
 ghost use Rattle.rpm_hindex.specs.Answers.{IsFaultOf, ChainCosts};
 ghost use Rattle.rpm_hindex.specs.Whole.{IsWellFormed, IsWhole};
 
+use crate::bucket::bucket_of;
 use crate::chain::{Extent, is_link};
 use crate::faults::{FindFault, PrepareFault};
-use crate::finding::{Start, find_row};
-use crate::hashing::bucket_of;
-use crate::making::push_record;
-use crate::patching::{put_unit, unlink, with_word, words_of};
+use crate::patches::{put_unit, unlink, with_word, words_of};
+use crate::records::push_record;
+use crate::row_search::{Start, find_row};
 use crate::rows::{RowRef, Rows};
 use crate::sizes::record_units;
 use crate::spots::Spot;

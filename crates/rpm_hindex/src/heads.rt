@@ -1,21 +1,21 @@
-//! The first unit of a record, and whether the record is of a row.
+//! The first unit of a record, and whether the record is looked for.
 
-ghost use Rattle.std.specs.Prelude.{◌≡◌, ℕ, ◌+◌, ◌*◌, ◌/◌, ◌%◌, ◌^◌, ◌≤◌, ◌<◌, ◌&&◌, IsTrue, true, false, length, IfOk, IfErr, Ok, Err, if◌then◌else◌};
+ghost use Rattle.std.specs.Prelude.{◌≡◌, ℕ, ◌+◌, ◌*◌, ◌/◌, ◌%◌, ◌^◌, ◌≤◌, ◌<◌, ◌⊎◌, IsTrue, true, false, length, IfOk, IfErr, Ok, Err, Some, None, if◌then◌else◌};
 ghost use Rattle.rpm_outside.specs.Files.{unit_at};
 ghost use Rattle.rpm_outside.specs.Causes.{HasCauseAt};
 ghost use Rattle.rpm_outside.specs.Looks.{Looks, LooksAt};
 ghost use Rattle.rpm_outside.specs.declared.disk.File.TheVariants.{Idx};
 ghost use Rattle.rpm_hindex.specs.Rows.{hash_of};
 ghost use Rattle.rpm_hindex.specs.Index.{index_in, follow, is_placed, is_sound, row_at, length_at, units_at};
-ghost use Rattle.rpm_hindex.specs.Answers.{IsFaultOf, has_key};
+ghost use Rattle.rpm_hindex.specs.Answers.{IsFaultOf, has_key, is_wanted};
 ghost use Rattle.rpm_hindex.specs.inner.Records.{IsOpen};
 ghost use Rattle.rpm_hindex.specs.inner.Spots.{IsHead, IsAhead, IsMet, IsNext};
 
+use crate::bucket::bucket_of;
 use crate::chain::{Extent, is_placed};
 use crate::faults::FindFault;
-use crate::hashing::bucket_of;
-use crate::reading::{read_key_into, read_unit};
-use crate::rows::RowRef;
+use crate::hits::Hit;
+use crate::reads::{read_key_into, read_unit};
 use crate::words::word;
 use rpm_outside::Disk;
 
@@ -35,12 +35,12 @@ pub struct Ahead {
     pub head: Head,
 }
 
-/// A record on the way through a chain, and whether it is of the row that is looked for.
+/// A record on the way through a chain, and whether it is looked for.
 #[derive(Clone, Copy)]
 pub struct Met {
     pub next: u32,
     pub head: Head,
-    pub is_row: bool,
+    pub is_wanted: bool,
 }
 
 /// Reads the first unit of the record at a unit that a link names.
@@ -140,21 +140,28 @@ pub fn meets_key<D: Disk>(
     Ok(is_key(kind, key, found_kind, found))
 }
 
-/// Whether a record has the row's number and place.
-fn may_be(head: Head, row: RowRef<'_>) -> bool
-    ensures yes { result ≡ true → (row.entry.number ≡ head.number) × (row.entry.place ≡ head.place) }
-    ensures no { result ≡ false → row.entry.number ≡ head.number → row.entry.place ≡ head.place → ⊥ }
+/// Whether a record has the number and place that are looked for, where only one is.
+fn may_be(head: Head, only: Option<Hit>) -> bool
+    ensures yes { result ≡ true → (hit : Hit) → only ≡ Some hit → (hit.number ≡ head.number) × (hit.place ≡ head.place) }
+    ensures no { result ≡ false → (hit : Hit) × (only ≡ Some hit) × (hit.number ≡ head.number → hit.place ≡ head.place → ⊥) }
 {
-    row.number == head.number && row.place == head.place
+    match only {
+        Some(hit) => hit.number == head.number && hit.place == head.place,
+        None => true,
+    }
 }
 
-/// Reads the record at a unit that a link names, and its key only where the record has the row's number and place.
+/// Reads the record at a unit that a link names, and its key only where the record has the number and place that are looked for. Inlined, so
+/// that the walk for a key makes no such test.
+#[inline(always)]
 pub fn meet<D: Disk>(
     disk: &mut D,
     extent: Extent,
     bucket: u32,
     at: u32,
-    row: RowRef<'_>,
+    kind: u8,
+    key: &[u8],
+    only: Option<Hit>,
     buffer: &mut Vec<u8>,
 ) -> Result<Met, FindFault>
     requires few { extent.buckets ≤ 2 ^ 28 }
@@ -162,13 +169,13 @@ pub fn meet<D: Disk>(
     requires open { IsTrue D.tells → IsOpen extent (D.files disk.old).idx }
     requires some_at { 0 < at }
     requires within { at < extent.used }
-    requires bucket { hash_of row.kind row.key.now % extent.buckets ≡ bucket }
+    requires bucket { hash_of kind key.now % extent.buckets ≡ bucket }
     ensures here { IfOk result (λ m. m.head.at ≡ at) }
     ensures falls { IfOk result (λ m. m.next < at) }
     ensures linked { IfOk result (λ m. IsNext extent.buckets extent.used m.next) }
-    ensures met { IfOk result (λ m. IsTrue D.tells → IsMet (index_in extent.buckets (D.files disk.old).idx) at
-        (record { kind = row.entry.kind; key = row.entry.key.now; number = row.entry.number; place = row.entry.place }) m) }
-    ensures sound { IfOk result (λ m. IsTrue D.tells → m.is_row ≡ true → is_sound (index_in extent.buckets (D.files disk.old).idx) bucket at ≡ true) }
+    ensures met { IfOk result (λ m. IsTrue D.tells → IsMet (index_in extent.buckets (D.files disk.old).idx) at (is_wanted kind key.now only) m) }
+    ensures sound { IfOk result (λ m. IsTrue D.tells → (only ≡ None) ⊎ (m.is_wanted ≡ true)
+        → is_sound (index_in extent.buckets (D.files disk.old).idx) bucket at ≡ true) }
     ensures fault { IfErr result (λ e. IsTrue D.tells → IsFaultOf (follow (index_in extent.buckets (D.files disk.old).idx) bucket at at) e) }
     ensures cost { IsTrue D.tells → is_sound (index_in extent.buckets (D.files disk.old).idx) bucket at ≡ true → D.bytes_read disk.new Idx
         ≤ D.bytes_read disk.old Idx + 16 * units_at (unit_at (D.files disk.old).idx) at }
@@ -179,15 +186,19 @@ pub fn meet<D: Disk>(
         Ok(ahead) => ahead,
         Err(fault) => return Err(fault),
     };
-    if !may_be(head, row) {
+    if !may_be(head, only) {
         return Ok(Met {
             next,
             head,
-            is_row: false,
+            is_wanted: false,
         });
     }
-    match meets_key(disk, extent, bucket, head, row.kind, row.key, buffer) {
-        Ok(is_row) => Ok(Met { next, head, is_row }),
+    match meets_key(disk, extent, bucket, head, kind, key, buffer) {
+        Ok(is_wanted) => Ok(Met {
+            next,
+            head,
+            is_wanted,
+        }),
         Err(fault) => Err(fault),
     }
 }

@@ -7,8 +7,8 @@ ghost use Rattle.rpm_hindex.specs.Rows.{Row};
 ghost use Rattle.rpm_hindex.specs.Sizes.{record_units, first_record, live_of, is_bucket_count};
 ghost use Rattle.rpm_hindex.specs.inner.Drafts.{IsDraft, IsImage};
 
-use crate::hashing::bucket_of;
-use crate::making::push_record;
+use crate::bucket::bucket_of;
+use crate::records::push_record;
 use crate::rows::Rows;
 use crate::words::{push_word, unit_of_words};
 use std::alloc::{AllocError, Global};

@@ -10,7 +10,7 @@ ghost use Rattle.rpm_outside.specs.declared.disk.File.TheVariants.{Idx};
 ghost use Rattle.rpm_outside.specs.Looks.{Looks};
 
 use crate::faults::IndexDiskFault;
-use crate::reading::unit_or_zeros;
+use crate::reads::unit_or_zeros;
 use crate::sizes::{UNITS, is_bucket_count};
 use crate::words::word;
 use rpm_outside::{Disk, File};

@@ -14,11 +14,11 @@ ghost use Rattle.rpm_hindex.specs.inner.Records.{IsOpen};
 ghost use Rattle.rpm_hindex.specs.inner.Changes.{is_kept};
 ghost use Rattle.rpm_hindex.specs.inner.Spots.{IsHead, IsNext};
 
+use crate::bucket::bucket_of;
 use crate::chain::{Extent, read_bucket};
 use crate::faults::FindFault;
-use crate::hashing::bucket_of;
 use crate::heads::{Ahead, Head, read_head};
-use crate::reading::read_key_into;
+use crate::reads::read_key_into;
 use crate::rows::Rows;
 use rpm_outside::Disk;
 use std::alloc::Global;

@@ -7,33 +7,33 @@
 //! a record, or are 0. The bucket of a key is the 32-bit FNV-1a hash of its kind's byte and its bytes, modulo the count of buckets.
 #![tactic(auto)]
 
-mod applying;
+mod apply;
+mod bucket;
 mod chain;
 mod change;
 mod dropped_rows;
 mod faults;
-mod finding;
-mod hashing;
 mod heads;
 mod hits;
 mod image;
 mod index;
 mod kept_rows;
-mod making;
-mod patching;
-mod planning;
-mod preparing;
-mod reading;
-mod rewriting;
+mod patches;
+mod plan;
+mod prepare;
+mod reads;
+mod records;
+mod rewrite;
+mod row_search;
 mod rows;
 mod sizes;
 mod spots;
 mod words;
-mod writing;
+mod writes;
 
 pub use faults::{FindFault, IndexDiskFault, PrepareFault, RewriteFault};
 pub use hits::{Hit, Hits};
 pub use index::Hindex;
-pub use planning::IndexPlan;
+pub use plan::IndexPlan;
 pub use rows::Rows;
 pub use sizes::index_units;

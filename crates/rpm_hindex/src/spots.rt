@@ -16,6 +16,7 @@ ghost use Rattle.rpm_hindex.specs.inner.Spots.{IsNext, IsPath, OnWay, PathCosts,
 use crate::chain::Extent;
 use crate::faults::FindFault;
 use crate::heads::{Head, Met, meet, read_head};
+use crate::hits::Hit;
 use crate::rows::RowRef;
 use rpm_outside::Disk;
 use std::alloc::Global;
@@ -63,11 +64,11 @@ fn skip_dropped<D: Disk>(
     Ok(at)
 }
 
-/// Whether a record is of the row, and isn't dropped.
+/// Whether a record is looked for, and isn't dropped.
 fn is_hit(dropped: &BTreeSet<u32>, met: Met) -> bool
-    ensures { result ≡ (met.is_row && is_kept (λ p. contains nat_cmp dropped.now p) met.head.at) }
+    ensures { result ≡ (met.is_wanted && is_kept (λ p. contains nat_cmp dropped.now p) met.head.at) }
 {
-    met.is_row && !dropped.contains(&met.head.at)
+    met.is_wanted && !dropped.contains(&met.head.at)
 }
 
 /// The last place that is dropped of those below a unit, or 0.
@@ -145,7 +146,20 @@ pub fn find_spot<D: Disk>(
     let mut at = from;
     let mut last = u32::MAX;
     while at > end {
-        let met = match meet(disk, extent, bucket, at, row, &mut buffer) {
+        let only = Some(Hit {
+            number: row.number,
+            place: row.place,
+        });
+        let met = match meet(
+            disk,
+            extent,
+            bucket,
+            at,
+            row.kind,
+            row.key,
+            only,
+            &mut buffer,
+        ) {
             Ok(met) => met,
             Err(fault) => return Err(fault),
         };

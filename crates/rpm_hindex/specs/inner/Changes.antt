@@ -7,9 +7,9 @@ use Rattle.std.specs.List.{filter, Contains, flat_map, range_with_len, sum_by}
 use Rattle.rpm_outside.specs.Files.{Units, units_of, unit_at}
 use Rattle.rpm_hindex.specs.declared.change.Change.{Change}
 use Rattle.rpm_hindex.specs.declared.heads.Head.{Head}
-use Rattle.rpm_hindex.specs.declared.planning.Patch.{Patch}
-use Rattle.rpm_hindex.specs.declared.planning.Work.{Work}
-use Rattle.rpm_hindex.specs.declared.planning.Work.TheVariants.{InPlace, Scratch}
+use Rattle.rpm_hindex.specs.declared.plan.Patch.{Patch}
+use Rattle.rpm_hindex.specs.declared.plan.Work.{Work}
+use Rattle.rpm_hindex.specs.declared.plan.Work.TheVariants.{InPlace, Scratch}
 use Rattle.rpm_hindex.specs.declared.faults.PrepareFault.{PrepareFault}
 use Rattle.rpm_hindex.specs.declared.faults.PrepareFault.TheVariants.{IndexFull, BadIndex, DiskFault, NoMemory}
 use Rattle.rpm_hindex.specs.Words.{word, unit_of_words}
@@ -17,6 +17,7 @@ use Rattle.rpm_hindex.specs.Rows.{Row, times}
 use Rattle.rpm_hindex.specs.Sizes.{first_record, bucket_count, units_for, live_of}
 use Rattle.rpm_hindex.specs.inner.Drafts.{IsImage}
 use Rattle.rpm_hindex.specs.Index.{Index, index_in, chain, is_link, row_at, bucket_unit, all_places, places_of, rows_of, units_at}
+use Rattle.rpm_hindex.specs.Padding.{AddsPadded}
 use Rattle.rpm_hindex.specs.Whole.{IsWhole}
 use Rattle.rpm_hindex.specs.Refusals.{HoldsMore}
 use Rattle.rpm_hindex.specs.declared.faults.FindFault.{FindFault}
@@ -125,10 +126,11 @@ pub record IsStarted (c : Change) (file : Units) : Type 0 where
   pub rows' : rows_of (changing c file) ≡ rows_of (index_in c.extent.buckets file)
   pub cut : IsCut c file
 
--- the index of d is whole, and has these rows more than that of c
+-- the index of d is whole, and has these rows more than that of c, in records that are padded
 pub record AddsRows (c d : Change) (file : Units) (rows : List Row) : Type 0 where
   pub whole : IsWhole d.records d.live (changing d file)
   pub rows' : (row : Row) → times row (rows_of (changing d file)) ≡ times row (rows_of (changing c file)) + times row rows
+  pub padded : AddsPadded (changing c file) (changing d file)
 
 -- ---- what is written of it
 

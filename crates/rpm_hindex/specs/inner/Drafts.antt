@@ -4,7 +4,8 @@ use Rattle.rpm_outside.specs.Files.{Units, units_of, unit_at}
 use Rattle.rpm_hindex.specs.Words.{word}
 use Rattle.rpm_hindex.specs.Rows.{Row, SameRows}
 use Rattle.rpm_hindex.specs.Sizes.{first_record, live_of}
-use Rattle.rpm_hindex.specs.Index.{Index, rows_of, records}
+use Rattle.rpm_hindex.specs.Index.{Index, index_in, rows_of, records}
+use Rattle.rpm_hindex.specs.Padding.{ArePadded}
 use Rattle.rpm_hindex.specs.Whole.{IsWhole, IsWellFormed}
 
 -- the index of these bucket words, whose units begin with unit 1
@@ -22,6 +23,7 @@ pub record IsDraft (rows : List Row) (heads bytes : List ℕ) : Type 0 where
   pub front : first_record (length heads) ≤ 1 + length bytes / 16
   pub whole : IsWhole (length rows) (live_of rows) (draft_index heads bytes)
   pub same : SameRows rows (rows_of (draft_index heads bytes))
+  pub padded : ArePadded (draft_index heads bytes)
 
 -- the file has these units from unit 1 on
 abbrev pub Holds : Units → Units → Type 0
@@ -31,6 +33,7 @@ Holds units file = (k : ℕ) → k < length units → unit_at file (1 + k) ≡ u
 pub record IsMade (rows : List Row) (buckets : ℕ) (file : Units) : Type 0 where
   pub whole : IsWellFormed buckets file
   pub same : SameRows rows (records buckets file)
+  pub padded : ArePadded (index_in buckets file)
 
 -- these bytes are units 1 to the end of an index of these rows
 pub record IsImage (rows : List Row) (buckets : ℕ) (bytes : List ℕ) : Type 0 where

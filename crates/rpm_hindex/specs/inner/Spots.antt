@@ -1,14 +1,12 @@
 -- Where a row's record stands in its chain.
 use Rattle.std.specs.Prelude.{◌≡◌, ℕ, ◌+◌, ◌*◌, ◌<◌, ◌≤◌, ◌⊎◌, List, [], ◌∷◌, ◌++◌, length, Bool, Option, Some, None, true, false, Ok}
 use Rattle.std.specs.List.{filter, Contains, sum_by}
-use Rattle.rpm_hindex.specs.declared.chain.Seen.{Seen}
 use Rattle.rpm_hindex.specs.declared.heads.Head.{Head}
 use Rattle.rpm_hindex.specs.declared.heads.Ahead.{Ahead}
 use Rattle.rpm_hindex.specs.declared.heads.Met.{Met}
 use Rattle.rpm_hindex.specs.declared.spots.Spot.{Spot}
 use Rattle.rpm_hindex.specs.Words.{word}
 use Rattle.rpm_hindex.specs.Rows.{Row, same_row}
-use Rattle.rpm_hindex.specs.Answers.{has_key}
 use Rattle.rpm_hindex.specs.Sizes.{first_record}
 use Rattle.rpm_hindex.specs.Index.{Index, is_link, is_placed, is_sound, chain, next_at, length_at, units_at, row_at}
 
@@ -24,20 +22,12 @@ pub record IsAhead (x : Index) (at : ℕ) (a : Ahead) : Type 0 where
   pub next : a.next ≡ next_at x.unit at
   pub head : IsHead x.unit a.head
 
--- what was read of a record, and whether it is of the row
-pub record IsMet (x : Index) (at : ℕ) (row : Row) (m : Met) : Type 0 where
+-- what was read of a record, and whether it is looked for
+pub record IsMet (x : Index) (at : ℕ) (wanted : Row → Bool) (m : Met) : Type 0 where
   pub next : m.next ≡ next_at x.unit at
   pub head : IsHead x.unit m.head
-  pub long : m.is_row ≡ true → length (row_at x.unit at).key ≡ length_at x.unit at
-  pub same : m.is_row ≡ same_row row (row_at x.unit at)
-
--- what was read of a record of this bucket's chain, and whether it has this kind and key
-pub record IsSeen (x : Index) (bucket at kind : ℕ) (key : List ℕ) (s : Seen) : Type 0 where
-  pub sound : is_sound x bucket at ≡ true
-  pub next : s.next ≡ next_at x.unit at
-  pub same : s.has_key ≡ has_key kind key (row_at x.unit at)
-  pub number : (row_at x.unit at).number ≡ s.number
-  pub «in» : (row_at x.unit at).place ≡ s.place
+  pub long : m.is_wanted ≡ true → length (row_at x.unit at).key ≡ length_at x.unit at
+  pub same : m.is_wanted ≡ wanted (row_at x.unit at)
 
 -- 0, or a unit among the records
 abbrev pub IsNext : ℕ → ℕ → ℕ → Type 0

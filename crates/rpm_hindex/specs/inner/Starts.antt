@@ -1,7 +1,7 @@
 -- Where the next row of a bucket is looked for first.
 use Rattle.std.specs.Prelude.{◌≡◌, ℕ, ◌⊎◌, List, Bool, Option, Some, true, Ok}
 use Rattle.std.specs.List.{filter}
-use Rattle.rpm_hindex.specs.declared.finding.Start.{Start}
+use Rattle.rpm_hindex.specs.declared.row_search.Start.{Start}
 use Rattle.rpm_hindex.specs.Index.{Index, chain}
 use Rattle.rpm_hindex.specs.inner.Spots.{IsPath, IsLast, IsNext, IsFront, IsHeadWithin}
 

@@ -1,16 +1,17 @@
-use Rattle.std.proofs.Common.{◌≡◌, ℕ, ◌+◌, ◌*◌, ◌%◌, ◌≤◌, List, [], ◌∷◌, ◌++◌, map, true, Vec, Global, refl, sym, ap, ◌∙◌, arith, subst}
+use Rattle.std.proofs.Common.{◌≡◌, ℕ, ◌+◌, ◌*◌, ◌%◌, ◌≤◌, List, [], ◌∷◌, ◌++◌, map, true, Vec, Global, refl, sym, ap, ◌∙◌, arith, subst, inl}
 use Rattle.std.proofs.lemmas.List.{map-append}
 use Rattle.std.proofs.lemmas.List.Sums.{sum_by_push}
 use Rattle.rpm_outside.specs.Files.{Files, unit_at}
 use Rattle.rpm_hindex.specs.declared.hits.Hit.{Hit}
+use Rattle.rpm_hindex.specs.Words.{word}
 use Rattle.rpm_hindex.specs.Rows.{Row, hash_of}
 use Rattle.rpm_hindex.specs.Index.{index_in, follow, units_at, row_at, is_sound}
-use Rattle.rpm_hindex.specs.inner.Spots.{IsSeen}
-use Rattle.rpm_hindex.specs.declared.chain.Seen.{Seen}
-use Rattle.rpm_hindex.specs.Answers.{AsOften, AddsHit, IsFaultOf}
+use Rattle.rpm_hindex.specs.inner.Spots.{IsMet}
+use Rattle.rpm_hindex.specs.Answers.{AsOften, AddsHit, IsFaultOf, has_key}
 use Rattle.rpm_outside.specs.declared.disk.File.TheVariants.{Idx}
 use Rattle.rpm_outside.specs.inner.Looking.{looks_at_none, looks_at_then}
 use Rattle.rpm_hindex.proofs.Counts.{often_none, often_more}
+use Rattle.rpm_hindex.proofs.Steps.{moved, number_at, place_at}
 use Rattle.rpm_hindex.proofs.Collects.{one_more, at_fault, at_end, cost_more, cost_all}
 use Rattle.rpm_hindex.proofs.chain.collect.Goals as goal
 
@@ -66,12 +67,6 @@ returns-in-Err-push_hit-clause-cost g c = λ told places e.
     c.bucket_of-bucket.ensures.bucket (c.in-Ok.ensures.cost told) more.0 in
     omega (arith, here, more.1, s.3)
 
--- a record that was read, in the words of the first disk
-seen_here : (B b k at kind : ℕ) (key : List ℕ) (file later : Files) (r : Seen) → later ≡ file → k ≡ b → IsSeen (index_in B later.idx) k at kind key r
-    → IsSeen (index_in B file.idx) b at kind key r
-seen_here B b k at kind key file later r same is here =
-    subst (λ (j : ℕ). IsSeen (index_in B file.idx) j at kind key r) is (subst (λ (f : Files). IsSeen (index_in B f.idx) k at kind key r) same here)
-
 often_here : (unit : ℕ → List ℕ) (kind : ℕ) (key : List ℕ) (done : List ℕ) (at : ℕ) (row : Row) (old new : List Hit) → AsOften kind key
     (map (row_at unit) done) old → row_at unit at ≡ row → AddsHit kind key row old new → AsOften kind key (map (row_at unit) (done ++ at ∷ [])) new
 often_here unit kind key done at row old new often is adds =
@@ -87,20 +82,25 @@ loop-at-preserved g c =
     let file : Files = g.D.Disk.files c.args.disk.now in
     record {
       within = λ some. (c.in-Ok.ensures.linked some).1;
-      looks = looks_at_then _ _ _ _ _ _ Idx g.met.D.Disk.follows_trans c.args.disk.now l.disk c.see.new.disk l.invariant.looks
-          c.see.ensures.looks;
-      faults = omega (arith, l.invariant.faults, c.see.ensures.cause.later);
+      looks = looks_at_then _ _ _ _ _ _ Idx g.met.D.Disk.follows_trans c.args.disk.now l.disk c.meet.new.disk l.invariant.looks
+          c.meet.ensures.looks;
+      faults = omega (arith, l.invariant.faults, c.meet.ensures.cause.later);
       so_far = λ told.
           let same = (l.invariant.looks.untouched told).same in
           let s = l.invariant.so_far told in
-          let r = seen_here B b c.bucket_of-bucket.result l.at c.args.kind c.args.key.now file (g.D.Disk.files l.disk) c.in-Ok.seen same
-          c.bucket_of-bucket.ensures.bucket (c.in-Ok.ensures.seen told) in
+          let unit = unit_at file.idx in
+          let sound = moved (λ (f : Files) (k : ℕ). is_sound (index_in B f.idx) k l.at ≡ true) (g.D.Disk.files l.disk) file c.bucket_of-bucket.result b same
+          c.bucket_of-bucket.ensures.bucket (c.in-Ok.ensures.sound told (inl refl)) in
+          let r = subst (λ (f : Files). IsMet (index_in B f.idx) l.at (has_key c.args.kind c.args.key.now) c.in-Ok.met) same (c.in-Ok.ensures.met told) in
+          let at = c.in-Ok.ensures.here in
           let here = cost_here B b c.bucket_of-bucket.result l.at file (g.D.Disk.files l.disk) _ _ same c.bucket_of-bucket.ensures.bucket
-          (c.in-Ok.ensures.cost told) r.sound in (
+          (c.in-Ok.ensures.cost told) sound in (
             s.0 ++ l.at ∷ [],
             often_here (unit_at file.idx) c.args.kind c.args.key.now s.0 l.at _ l.hits.items c.push_hit.new.hits.items s.1 refl
-                (c.in_default.ensures.hits c.args.kind c.args.key.now (row_at (unit_at file.idx) l.at) r.same r.number r.«in»),
-            one_more (index_in B file.idx) b c.args.from s.0 l.at s.2 c.in-Ok.seen.next (omega (arith, c.loop-at-test.true)) r.sound r.next,
+                (c.in_default.ensures.hits c.args.kind c.args.key.now (row_at unit l.at) r.same
+                (number_at unit l.at ∙ ap (λ (q : ℕ). word 2 (unit q)) (sym at) ∙ r.head.number)
+                (place_at unit l.at ∙ ap (λ (q : ℕ). word 3 (unit q)) (sym at) ∙ r.head.«in»)),
+            one_more (index_in B file.idx) b c.args.from s.0 l.at s.2 c.in-Ok.met.next (omega (arith, c.loop-at-test.true)) sound r.next,
             omega (arith, here, s.3, sum_by_push (units_at (unit_at file.idx)) s.0 l.at),
           );
     }

@@ -11,13 +11,13 @@ is_true : (t : Bool) → not t ≡ false → t ≡ true
 is_true true e = refl
 is_true false e = sym e
 
-pub returns-then-not-seen-clause-hits : goal.returns-then-not-seen-clause-hits
-returns-then-not-seen-clause-hits c = λ kind key row same number place.
-    adds_none kind key row (sym same ∙ is_false c.args.seen.has_key c.if-not-seen.true) c.args.hits.now.items
+pub returns-then-not-met-clause-hits : goal.returns-then-not-met-clause-hits
+returns-then-not-met-clause-hits c = λ kind key row same number place.
+    adds_none kind key row (sym same ∙ is_false c.args.met.is_wanted c.if-not-met.true) c.args.hits.now.items
 
 pub returns-clause-hits : goal.returns-clause-hits
 returns-clause-hits c = λ kind key row same number place.
     let old : List Hit = c.args.hits.now.items in
-    let first = ap (λ (n : ℕ). old ++ (record { number = n; place = c.args.seen.place }) ∷ []) (sym number) in
+    let first = ap (λ (n : ℕ). old ++ (record { number = n; place = c.args.met.head.place }) ∷ []) (sym number) in
     let second = ap (λ (n : ℕ). old ++ (record { number = row.number; place = n }) ∷ []) (sym place) in
-    adds_one kind key row (sym same ∙ is_true c.args.seen.has_key c.if-not-seen.false) old c.push.new.self.items (c.in-Ok.ensures.items ∙ first ∙ second)
+    adds_one kind key row (sym same ∙ is_true c.args.met.is_wanted c.if-not-met.false) old c.push.new.self.items (c.in-Ok.ensures.items ∙ first ∙ second)

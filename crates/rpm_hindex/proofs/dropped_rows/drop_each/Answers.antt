@@ -19,7 +19,7 @@ use Rattle.rpm_hindex.proofs.Gone.{gone_none, gone_before, short_before, times_d
 use Rattle.std.specs.Prelude.{Option, Some, None}
 use Rattle.std.specs.Map.{lookup}
 use Rattle.std.proofs.lemmas.List.{drop_all}
-use Rattle.rpm_hindex.specs.declared.finding.Start.{Start}
+use Rattle.rpm_hindex.specs.declared.row_search.Start.{Start}
 use Rattle.rpm_hindex.specs.inner.Starts.{AreStarts, StandWithin}
 use Rattle.rpm_hindex.proofs.dropped_rows.drop_each.Goals as goal
 

@@ -1,4 +1,4 @@
-use Rattle.std.proofs.Common.{ℕ, ◌<◌, ◌≡◌, ◌∷◌, [], ◌++◌, List, Bool, true, refl, sym, ap, ◌∙◌, arith, subst}
+use Rattle.std.proofs.Common.{ℕ, ◌<◌, ◌≡◌, ◌∷◌, [], ◌++◌, List, Bool, true, refl, sym, ap, ◌∙◌, arith, subst, inr}
 use Rattle.std.specs.List.{sum_by}
 use Rattle.std.proofs.lemmas.Bool.{and_parts}
 use Rattle.std.proofs.lemmas.List.Sums.{sum_by-append}
@@ -99,9 +99,9 @@ returns-then-is_hit-clause-linked g c = (c.in-Ok-skip_dropped.ensures.linked, c.
 pub returns-then-is_hit-clause-sound : goal.returns-then-is_hit-clause-sound
 returns-then-is_hit-clause-sound g c = λ told.
     let l = c.loop-at in
-    let parts = and_parts c.in-Ok.met.is_row _ (sym c.is_hit.ensures ∙ c.if-is_hit.true) in
+    let parts = and_parts c.in-Ok.met.is_wanted _ (sym c.is_hit.ensures ∙ c.if-is_hit.true) in
     subst (λ (f : Files). is_sound (index_in c.args.extent.buckets f.idx) c.args.bucket l.at ≡ true) ((l.invariant.looks.untouched told).same)
-    (c.in-Ok.ensures.sound told parts.0)
+    (c.in-Ok.ensures.sound told (inr parts.0))
 
 pub returns-then-is_hit-clause-found : goal.returns-then-is_hit-clause-found
 returns-then-is_hit-clause-found g c = λ told front path.

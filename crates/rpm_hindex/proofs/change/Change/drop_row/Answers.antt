@@ -11,7 +11,7 @@ use Rattle.rpm_hindex.specs.Index.{Index, index_in, places_of, row_at}
 use Rattle.rpm_hindex.specs.inner.Changes.{is_kept}
 use Rattle.rpm_hindex.specs.inner.Spots.{IsFound, IsLinked, IsWithin, IsSoundSpot}
 use Rattle.rpm_hindex.specs.inner.Starts.{StandsWithin}
-use Rattle.rpm_hindex.specs.declared.finding.Start.{Start}
+use Rattle.rpm_hindex.specs.declared.row_search.Start.{Start}
 use Rattle.rpm_hindex.proofs.Paths.{path_follow}
 use Rattle.rpm_hindex.proofs.Starts.{puts_each, loses, starts_next}
 use Rattle.rpm_hindex.proofs.Chains.{chain_from}

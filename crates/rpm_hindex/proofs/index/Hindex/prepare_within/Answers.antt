@@ -3,15 +3,16 @@ use Rattle.rpm_outside.specs.Files.{Files}
 use Rattle.rpm_hindex.specs.declared.chain.Extent.{Extent}
 use Rattle.rpm_hindex.specs.declared.change.Change.{Change}
 use Rattle.rpm_hindex.specs.Rows.{times}
-use Rattle.rpm_hindex.specs.Index.{records, rows_of}
+use Rattle.rpm_hindex.specs.Index.{index_in, records, rows_of}
+use Rattle.rpm_hindex.specs.Padding.{AddsPadded}
 use Rattle.rpm_hindex.specs.State.{buckets_of}
 use Rattle.rpm_hindex.specs.Whole.{IsWhole}
 use Rattle.rpm_hindex.specs.inner.Changes.{IsHonest, AddsRows, changing, HasLess, IsTooLarge, IsScratchOf}
 use Rattle.rpm_hindex.specs.Refusals.{IsBad, IsFaulty, IsBadFor}
-use Rattle.rpm_hindex.proofs.Gathers.{scratch_plan, large_for, scratch_reach, place_reach, scratch_sized, place_sized, place_zero}
-use Rattle.rpm_hindex.specs.Plans.{IsPlanFor}
+use Rattle.rpm_hindex.proofs.Gathers.{scratch_plan, scratch_padded, large_for, scratch_reach, place_reach, scratch_sized, place_sized, place_zero}
+use Rattle.rpm_hindex.specs.Plans.{IsPlanFor, IsPaddedPlan}
 use Rattle.rpm_hindex.specs.Sizes.{first_record, is_bucket_count}
-use Rattle.rpm_hindex.proofs.Placing.{place_order, place_plan}
+use Rattle.rpm_hindex.proofs.Placing.{place_order, place_plan, place_padded}
 use Rattle.rpm_hindex.proofs.Honest.{faulty_bad, faulty_for, bad_memory}
 use Rattle.rpm_hindex.proofs.Fitting.{plan_fits, changed_least}
 use Rattle.rpm_hindex.proofs.RowsLeft.{rows_kept_by, rows_less, has_dropped, drops_cost}
@@ -73,6 +74,34 @@ returns-clause-makes g c = if_ok c.in_place.result _ _ (λ plan made told whole.
     let plan_is = place_plan mid last drops adds file.idx plan.work go c.in_place.ensures.ordered made (more left.cut.whole) all
     (omega (arith, go.records, go.few)) (omega (arith, go.live, go.room)) in
     subst (λ (n : ℕ). IsPlanFor drops adds n file.idx plan.work) last_is plan_is) c.in_place.ensures.made
+
+pub returns-then-not-has_room-clause-padded : goal.returns-then-not-has_room-clause-padded
+returns-then-not-has_room-clause-padded g c = if_ok c.from_scratch.result _ _ (λ plan made told whole.
+    let file : Files = g.D.Disk.files c.args.disk.now in
+    let new : Change = c.drop_rows.new.change in
+    let at_file = subst (λ (f : Files). IsScratchOf (reverse (rows_kept_by new.extent.buckets f.idx new) ++ c.args.adds.now) plan.work)
+    ((c.drop_rows.ensures.looks.untouched told).same) (made told) in
+    scratch_padded (reverse (rows_kept_by new.extent.buckets file.idx new) ++ c.args.adds.now) (buckets_of c.args.self.now.first) file.idx plan.work
+    at_file) c.from_scratch.ensures.made
+
+pub returns-clause-padded : goal.returns-clause-padded
+returns-clause-padded g c = if_ok c.in_place.result _ _ (λ plan made told whole.
+    let B = buckets_of c.args.self.now.first in
+    let file : Files = g.D.Disk.files c.args.disk.now in
+    let drops = c.args.drops.now in
+    let adds = c.args.adds.now in
+    let first = c.start-change.ensures in
+    let mid : Change = c.drop_rows.new.change in
+    let last : Change = c.add_rows.new.change in
+    let less = rows_less B file.idx drops c.start-change.result mid first.buckets first.dropped (c.in_default.ensures.less told) whole in
+    let left = has_dropped B file.idx drops c.start-change.result mid first.buckets c.in_default.ensures.extent c.in_default.ensures.tail first.tail
+    (first.«open» file.idx (c.requires.keeps told)) (first.whole file.idx (c.requires.keeps told) whole).cut (c.in_default.ensures.cuts told) less whole in
+    let last_is : last.extent.buckets ≡ B = ap (λ (e : Extent). e.buckets) c.in_default-add_rows.ensures.extent ∙ left.buckets in
+    let more = subst (λ (f : Files). IsWhole mid.records mid.live (changing mid f.idx) → AddsRows mid last f.idx adds)
+    ((c.drop_rows.ensures.looks.untouched told).same) (c.in_default-add_rows.ensures.adds told) in
+    subst (λ (n : ℕ). IsPaddedPlan n file.idx plan.work) last_is (place_padded mid last adds file.idx plan.work c.in_default-add_rows.ensures.go
+    c.in_place.ensures.ordered made (more left.cut.whole)
+    (subst (λ (n : ℕ). AddsPadded (index_in n file.idx) (changing mid file.idx)) (sym last_is) left.padded))) c.in_place.ensures.made
 
 pub returns-clause-ordered : goal.returns-clause-ordered
 returns-clause-ordered g c = if_ok c.in_place.result _ _ (λ plan made.

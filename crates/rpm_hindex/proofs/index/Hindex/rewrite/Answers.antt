@@ -1,6 +1,9 @@
 use Rattle.std.proofs.Common.{sym, subst, ap, ◌∙◌, arith, ℕ, List, length, ◌+◌, ◌≤◌, ◌^◌}
 use Rattle.rpm_hindex.specs.Words.{word}
 use Rattle.rpm_hindex.specs.Sizes.{bucket_count, first_record, live_of}
+use Rattle.rpm_outside.specs.Files.{Units}
+use Rattle.rpm_hindex.specs.Index.{index_in}
+use Rattle.rpm_hindex.specs.Padding.{ArePadded}
 use Rattle.rpm_hindex.specs.State.{is_ordered, EndsInZero}
 use Rattle.rpm_hindex.proofs.Drafting.{length-le-live}
 use Rattle.rpm_hindex.proofs.Scratch.{image_ordered, image_size, image_zero}
@@ -24,3 +27,10 @@ returns-clause-size g c =
 pub returns-clause-zero : goal.returns-clause-zero
 returns-clause-zero g c = subst EndsInZero (sym c.in-Ok-replace.ensures.second)
     (image_zero c.args.rows.now (bucket_count (length c.args.rows.now)) c.in-Ok.image.bytes.items c.in-Ok.ensures.made)
+
+pub returns-clause-padded : goal.returns-clause-padded
+returns-clause-padded g c = λ told.
+    let file : Units = (g.D.Disk.files c.replace.new.disk).idx in
+    let pending = c.in-Ok-replace.ensures.pending ∙ c.in-Ok.ensures.buckets in
+    let made = c.in-Ok.ensures.made.made file (c.in-Ok-replace.ensures.held told) in
+    subst (λ (n : ℕ). ArePadded (index_in n file)) (sym pending) made.padded

@@ -9,7 +9,7 @@ use Rattle.rpm_hindex.specs.Images.{SealedOrSame}
 use Rattle.rpm_hindex.specs.State.{State, Keeps, seal_unit, magic, is_current}
 use Rattle.rpm_hindex.proofs.UnitWords.{length-unit, current}
 use Rattle.rpm_hindex.proofs.TornWrites.{torn_seal}
-use Rattle.rpm_hindex.proofs.Seals.{front_kept, front_behind, whole_behind, records_behind, state, same_state}
+use Rattle.rpm_hindex.proofs.Seals.{front_kept, front_behind, whole_behind, records_behind, padded_behind, state, same_state}
 use Rattle.rpm_hindex.proofs.Sealed.{sealed_file}
 use Rattle.rpm_hindex.proofs.index.Hindex.seal.Given.{Over}
 use Rattle.rpm_hindex.proofs.index.Hindex.seal.Goals as goal
@@ -74,6 +74,9 @@ returns-clause-whole g c = λ told whole. whole_behind c.args.self.now.pending _
 
 pub returns-clause-records : goal.returns-clause-records
 returns-clause-records g c = λ told whole. records_behind c.args.self.now.pending _ _ (behind g c told) whole
+
+pub returns-clause-padded : goal.returns-clause-padded
+returns-clause-padded g c = λ told whole. padded_behind c.args.self.now.pending _ _ (behind g c told) whole
 
 pub returns-in_default-clause-whichever : goal.returns-in_default-clause-whichever
 returns-in_default-clause-whichever g c = λ told whole. sealed_file c.args.generation c.args.self.now.pending (g.D.Disk.files c.args.disk.now).idx

@@ -1,0 +1,89 @@
+use Rattle.std.proofs.Common.{◌+◌, ◌*◌, ◌<◌, length, take, ap, ◌∙◌, arith, refl, sym, subst, ◌∷◌, []}
+use Rattle.rpm_hindex.specs.Sizes.{record_units}
+use Rattle.rpm_hindex.specs.Rows.{Row, row_nth}
+use Rattle.rpm_hindex.specs.declared.chain.Extent.{Extent}
+use Rattle.rpm_outside.specs.declared.disk.File.TheVariants.{Idx}
+use Rattle.rpm_outside.specs.inner.Looking.{looks_none, looks_then, looks_more}
+use Rattle.rpm_hindex.proofs.Takes.{live_take, live_none, live_next, next_rows}
+use Rattle.rpm_outside.specs.Files.{Files}
+use Rattle.rpm_hindex.specs.Whole.{IsWhole}
+use Rattle.rpm_hindex.specs.inner.Changes.{AddsRows, IsHonest, changing}
+use Rattle.rpm_hindex.specs.Refusals.{IsFaulty}
+use Rattle.rpm_hindex.proofs.Adding.{rows_none, rows_then}
+use Rattle.rpm_hindex.proofs.plan.add_rows.Goals as goal
+
+pub loop-i-init : goal.loop-i-init
+loop-i-init g c = record {
+  go = c.requires.go;
+  extent = refl;
+  tail = omega (arith, c.requires.none, live_none);
+  records = omega arith;
+  live = omega (arith, live_none);
+  adds = λ told whole. rows_none c.args.change.now (g.D.Disk.files c.args.disk.now).idx whole;
+  honest = λ told is. is;
+  looks = looks_none _ _ _ _ _ _ Idx g.met.D.Disk.follows_refl c.args.disk.now;
+  faults = omega arith;
+}
+
+pub add_row-requires-clause-room : goal.add_row-requires-clause-room
+add_row-requires-clause-room g c =
+    let i = c.loop-i.i in
+    let rows = c.args.rows.now in
+    let lt : i < length rows = omega (arith, c.loop-i-test.true, c.len-i-end.ensures) in
+    let size = ap (λ (r : Row). record_units (length r.key)) c.row_ref.ensures.row in
+    omega (
+      arith,
+      c.requires.room,
+      c.loop-i.invariant.tail,
+      ap (λ (e : Extent). e.used) c.loop-i.invariant.extent,
+      live_next rows i lt,
+      live_take rows (i + 1),
+      size,
+    )
+
+pub loop-i-preserved : goal.loop-i-preserved
+loop-i-preserved g c =
+    let i = c.loop-i.i in
+    let rows = c.args.rows.now in
+    let lt : i < length rows = omega (arith, c.loop-i-test.true, c.len-i-end.ensures) in
+    let size = ap (λ (r : Row). record_units (length r.key)) c.row_ref.ensures.row in
+    record {
+      go = c.in_default.ensures.go;
+      extent = c.in_default.ensures.extent ∙ c.loop-i.invariant.extent;
+      tail = omega (arith, c.in_default.ensures.tail, c.loop-i.invariant.tail, live_next rows i lt, size);
+      records = omega (arith, c.in_default.ensures.records, c.loop-i.invariant.records);
+      live = omega (arith, c.in_default.ensures.live, c.loop-i.invariant.live, live_next rows i lt, size);
+      adds = λ told whole.
+          let file : Files = g.D.Disk.files c.args.disk.now in
+          let more = subst (λ (f : Files). IsWhole c.loop-i.change.records c.loop-i.change.live (changing c.loop-i.change f.idx)
+          → AddsRows c.loop-i.change c.add_row.new.self f.idx (row_nth rows i ∷ [])) ((c.loop-i.invariant.looks.untouched told).same)
+          (subst (λ (r : Row). IsWhole c.loop-i.change.records c.loop-i.change.live (changing c.loop-i.change (g.D.Disk.files c.loop-i.disk).idx)
+          → AddsRows c.loop-i.change c.add_row.new.self (g.D.Disk.files c.loop-i.disk).idx (r ∷ [])) c.row_ref.ensures.row
+          (c.in_default.ensures.adds told)) in
+          subst (AddsRows c.args.change.now c.add_row.new.self file.idx) (sym (next_rows rows i lt)) (rows_then c.args.change.now c.loop-i.change
+          c.add_row.new.self file.idx (take i rows) (row_nth rows i) (c.loop-i.invariant.adds told whole) more);
+      honest = λ told is. subst (λ (f : Files). IsHonest c.loop-i.change f.idx → IsHonest c.add_row.new.self f.idx)
+          ((c.loop-i.invariant.looks.untouched told).same) (c.in_default.ensures.honest told) (c.loop-i.invariant.honest told is);
+      looks = looks_then _ _ _ _ _ _ Idx g.met.D.Disk.follows_trans (16 * i) 16 (16 * (i + 1)) _ _ _ (omega arith) c.loop-i.invariant.looks
+          c.add_row.ensures.looks;
+      faults = omega (arith, c.loop-i.invariant.faults, c.add_row.ensures.cause.later);
+    }
+
+pub returns-in-Err-clause-looks : goal.returns-in-Err-clause-looks
+returns-in-Err-clause-looks g c =
+    let i = c.loop-i.i in
+    let lt : i < length c.args.rows.now = omega (arith, c.loop-i-test.true, c.len-i-end.ensures) in
+    looks_then _ _ _ _ _ _ Idx g.met.D.Disk.follows_trans (16 * i) 16 (16 * length c.args.rows.now) _ _ _ (omega (arith, lt)) c.loop-i.invariant.looks
+    c.add_row.ensures.looks
+
+pub returns-clause-looks : goal.returns-clause-looks
+returns-clause-looks g c =
+    looks_more _ _ _ _ _ _ Idx (16 * c.loop-i.i) (16 * length c.args.rows.now) _ _ (omega (arith, c.loop-i.invariant, c.len-i-end.ensures))
+    c.loop-i.invariant.looks
+
+pub returns-in-Err-clause-bad : goal.returns-in-Err-clause-bad
+returns-in-Err-clause-bad g c = λ told is.
+    let l = c.loop-i in
+    let here = subst (λ (f : Files). IsHonest l.change f.idx → IsFaulty l.change.extent.buckets f.idx c.in-Err.fault)
+    ((l.invariant.looks.untouched told).same) (c.in-Err.ensures.bad told) (l.invariant.honest told is) in
+    subst (λ (e : Extent). IsFaulty e.buckets (g.D.Disk.files c.args.disk.now).idx c.in-Err.fault) l.invariant.extent here

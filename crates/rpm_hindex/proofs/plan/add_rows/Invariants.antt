@@ -1,0 +1,23 @@
+use Rattle.std.proofs.Common.{◌≡◌, ◌+◌, ◌*◌, ◌/◌, ◌≤◌, length, take}
+use Rattle.rpm_hindex.specs.Sizes.{live_of}
+use Rattle.rpm_outside.specs.declared.disk.File.TheVariants.{Idx}
+use Rattle.rpm_outside.specs.Looks.{Looks}
+use Rattle.std.specs.Prelude.{IsTrue}
+use Rattle.rpm_hindex.specs.Whole.{IsWhole}
+use Rattle.rpm_hindex.specs.inner.Changes.{CanGo, AddsRows, IsHonest, changing}
+use Rattle.rpm_hindex.proofs.plan.add_rows.Given as goal
+
+abbrev pub invariant-loop-i : goal.invariant-loop-i
+invariant-loop-i g l = record {
+  go : CanGo l.change;
+  extent : l.change.extent ≡ l.initial.change.extent;
+  tail : length l.change.tail.items / 16 ≡ live_of (take l.i l.rows);
+  records : l.change.records ≡ l.initial.change.records + l.i;
+  live : l.change.live ≡ l.initial.change.live + live_of (take l.i l.rows);
+  adds : IsTrue g.D.Disk.tells → IsWhole l.initial.change.records l.initial.change.live
+      (changing l.initial.change (g.D.Disk.files l.initial.disk).idx) → AddsRows l.initial.change l.change (g.D.Disk.files l.initial.disk).idx
+      (take l.i l.rows);
+  honest : IsTrue g.D.Disk.tells → IsHonest l.initial.change (g.D.Disk.files l.initial.disk).idx → IsHonest l.change (g.D.Disk.files l.initial.disk).idx;
+  looks : Looks g.D.Disk.tells g.D.Disk.files g.D.Disk.left_since g.D.Disk.moment g.D.Disk.bytes_read g.D.Disk.follows Idx (16 * l.i) l.initial.disk l.disk;
+  faults : g.D.Disk.faults l.initial.disk ≤ g.D.Disk.faults l.disk;
+}

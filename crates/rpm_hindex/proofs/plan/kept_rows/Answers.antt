@@ -1,0 +1,38 @@
+use Rattle.std.proofs.Common.{◌≡◌, ℕ, ◌++◌, List, map, arith, subst}
+use Rattle.std.specs.Ordering.{nat_cmp}
+use Rattle.std.specs.BTreeSet.{contains}
+use Rattle.std.specs.List.{filter}
+use Rattle.rpm_outside.specs.Files.{Files, unit_at}
+use Rattle.rpm_outside.specs.declared.disk.File.TheVariants.{Idx}
+use Rattle.rpm_outside.specs.inner.Looking.{looks_at_then}
+use Rattle.rpm_hindex.specs.Index.{index_in, chain, row_at}
+use Rattle.rpm_hindex.specs.Answers.{HitsAre, IsFaultOf}
+use Rattle.rpm_hindex.specs.inner.Changes.{is_kept}
+use Rattle.rpm_hindex.proofs.Gathers.{kept_next}
+use Rattle.rpm_hindex.proofs.Honest.{bad_chain}
+use Rattle.rpm_hindex.proofs.plan.kept_rows.Goals as goal
+
+pub loop-bucket-preserved : goal.loop-bucket-preserved
+loop-bucket-preserved g c =
+    let l = c.loop-bucket in
+    record {
+      so_far = λ told.
+          let B = c.args.extent.buckets in
+          let kept = is_kept (λ p. contains nat_cmp c.args.dropped.now p) in
+          let file : Files = g.D.Disk.files c.args.disk.now in
+          let said = subst (λ (f : Files). HitsAre (λ (places : List ℕ) (done : Unit {0}). c.push_chain.new.rows
+          ≡ l.rows ++ map (row_at (unit_at f.idx)) (filter kept places)) (chain (index_in B f.idx) l.bucket) tt) ((l.invariant.looks.untouched told).same)
+          (c.in_default.ensures.told told) in
+          kept_next (index_in B file.idx) kept l.bucket l.rows c.push_chain.new.rows said (l.invariant.so_far told);
+      looks = looks_at_then _ _ _ _ _ _ Idx g.met.D.Disk.follows_trans _ _ _ l.invariant.looks c.push_chain.ensures.looks;
+      faults = omega (arith, l.invariant.faults, c.push_chain.ensures.cause.later);
+    }
+
+pub returns-in-Err-clause-bad : goal.returns-in-Err-clause-bad
+returns-in-Err-clause-bad g c = λ told.
+    let l = c.loop-bucket in
+    let B = c.args.extent.buckets in
+    let file : Files = g.D.Disk.files c.args.disk.now in
+    bad_chain B file.idx c.prepare_fault.result l.bucket (omega (arith, c.loop-bucket-test.true))
+    (c.prepare_fault.ensures.fault _ (subst (λ (f : Files). IsFaultOf (chain (index_in B f.idx) l.bucket) c.in-Err.fault)
+    ((l.invariant.looks.untouched told).same) (c.in-Err.ensures.told told)))

@@ -1,0 +1,99 @@
+use Rattle.std.proofs.Common.{ℕ, List, [], Bool, refl, sym, ap, arith, subst}
+use Rattle.std.specs.Prelude.{Option}
+use Rattle.std.specs.List.{sum_by}
+use Rattle.std.specs.Ordering.{nat_cmp}
+use Rattle.std.specs.BTreeSet.{contains}
+use Rattle.std.proofs.lemmas.List.Sums.{sum_by-append}
+use Rattle.rpm_outside.specs.Files.{Files}
+use Rattle.rpm_outside.specs.declared.disk.File.TheVariants.{Idx}
+use Rattle.rpm_hindex.specs.declared.heads.Head.{Head}
+use Rattle.rpm_hindex.specs.declared.spots.Spot.{Spot}
+use Rattle.rpm_hindex.specs.Rows.{Row}
+use Rattle.rpm_hindex.specs.Index.{Index, index_in, units_at}
+use Rattle.rpm_hindex.specs.Answers.{IsOutside}
+use Rattle.rpm_hindex.specs.inner.Changes.{is_kept}
+use Rattle.rpm_hindex.specs.inner.Spots.{IsSpot, IsFoundFrom, IsPath, OnWay, PathCosts}
+use Rattle.rpm_hindex.proofs.Results.{if_ok, if_err}
+use Rattle.rpm_hindex.proofs.Starts.{way_behind, found_behind, found_or_missing}
+use Rattle.rpm_hindex.proofs.row_search.find_around.Goals as goal
+
+pub returns-in-Err-clause-fault : goal.returns-in-Err-clause-fault
+returns-in-Err-clause-fault g c = λ told places path.
+    let file : Files = g.D.Disk.files c.args.disk.now in
+    let x : Index = index_in c.args.extent.buckets file.idx in
+    let kept : ℕ → Bool = is_kept (λ p. contains nat_cmp c.args.dropped.now p) in
+    let row : Row = record { kind = c.args.row.kind; key = c.args.row.key.now; number = c.args.row.number; place = c.args.row.place } in
+    let st = c.requires.start told places path in
+    let way = way_behind x c.args.bucket c.args.first kept row c.args.start st places path in
+    c.in-Err.ensures.fault told way.0 [] way.1 refl
+
+pub returns-in-Err-clause-cost : goal.returns-in-Err-clause-cost
+returns-in-Err-clause-cost g c = λ told places path.
+    let file : Files = g.D.Disk.files c.args.disk.now in
+    let x : Index = index_in c.args.extent.buckets file.idx in
+    let kept : ℕ → Bool = is_kept (λ p. contains nat_cmp c.args.dropped.now p) in
+    let row : Row = record { kind = c.args.row.kind; key = c.args.row.key.now; number = c.args.row.number; place = c.args.row.place } in
+    let st = c.requires.start told places path in
+    let way = way_behind x c.args.bucket c.args.first kept row c.args.start st places path in
+    omega (arith, c.in-Err.ensures.cost told way.0 way.1, ap (sum_by (units_at x.unit)) way.2, sum_by-append (units_at x.unit) st.front way.0)
+
+pub returns-in-Some-clause-cost : goal.returns-in-Some-clause-cost
+returns-in-Some-clause-cost g c = λ told places path.
+    let file : Files = g.D.Disk.files c.args.disk.now in
+    let x : Index = index_in c.args.extent.buckets file.idx in
+    let kept : ℕ → Bool = is_kept (λ p. contains nat_cmp c.args.dropped.now p) in
+    let row : Row = record { kind = c.args.row.kind; key = c.args.row.key.now; number = c.args.row.number; place = c.args.row.place } in
+    let st = c.requires.start told places path in
+    let way = way_behind x c.args.bucket c.args.first kept row c.args.start st places path in
+    omega (arith, c.in-Ok.ensures.cost told way.0 way.1, ap (sum_by (units_at x.unit)) way.2, sum_by-append (units_at x.unit) st.front way.0)
+
+pub returns-in-Some-clause-found : goal.returns-in-Some-clause-found
+returns-in-Some-clause-found g c = λ told places path.
+    let file : Files = g.D.Disk.files c.args.disk.now in
+    let x : Index = index_in c.args.extent.buckets file.idx in
+    let kept : ℕ → Bool = is_kept (λ p. contains nat_cmp c.args.dropped.now p) in
+    let row : Row = record { kind = c.args.row.kind; key = c.args.row.key.now; number = c.args.row.number; place = c.args.row.place } in
+    let st = c.requires.start told places path in
+    let way = way_behind x c.args.bucket c.args.first kept row c.args.start st places path in
+    let s : Spot = c.in-Some.spot in
+    let is = subst (λ (o : Option Spot). IsFoundFrom x c.args.bucket c.args.start.at 0 kept row o) c.in-Some.is (c.in-Ok.ensures.found told way.0 way.1) in
+    subst (λ (o : Option Head). IsSpot x c.args.bucket c.args.first 0 kept row (record { before = o; at = s.at; behind = s.behind })) (sym c.or.ensures)
+    (found_behind x c.args.bucket c.args.first kept row c.args.start st s is)
+
+pub returns-in-None-clause-found : goal.returns-in-None-clause-found
+returns-in-None-clause-found g c = if_ok c.find_spot-in-None.result _ _ (λ found said told places path.
+    let file : Files = g.D.Disk.files c.args.disk.now in
+    let x : Index = index_in c.args.extent.buckets file.idx in
+    let kept : ℕ → Bool = is_kept (λ p. contains nat_cmp c.args.dropped.now p) in
+    let row : Row = record { kind = c.args.row.kind; key = c.args.row.key.now; number = c.args.row.number; place = c.args.row.place } in
+    let st = c.requires.start told places path in
+    let way = way_behind x c.args.bucket c.args.first kept row c.args.start st places path in
+    let behind = subst (λ (o : Option Spot). IsFoundFrom x c.args.bucket c.args.start.at 0 kept row o) c.in-None.is (c.in-Ok.ensures.found told way.0 way.1) in
+    let here = subst (λ (f : Files). (front : List ℕ) → IsPath (index_in c.args.extent.buckets f.idx) c.args.bucket c.args.first front c.args.start.at
+    → IsFoundFrom (index_in c.args.extent.buckets f.idx) c.args.bucket c.args.first c.args.start.at kept row found)
+    ((c.in-Ok.ensures.looks.untouched told).same) (said told) in
+    found_or_missing x c.args.bucket c.args.first kept row c.args.start st behind found (here st.front st.path)) c.find_spot-in-None.ensures.found
+
+pub returns-in-None-clause-fault : goal.returns-in-None-clause-fault
+returns-in-None-clause-fault g c = if_err c.find_spot-in-None.result _ _ (λ e said told places path.
+    let file : Files = g.D.Disk.files c.args.disk.now in
+    let x : Index = index_in c.args.extent.buckets file.idx in
+    let kept : ℕ → Bool = is_kept (λ p. contains nat_cmp c.args.dropped.now p) in
+    let row : Row = record { kind = c.args.row.kind; key = c.args.row.key.now; number = c.args.row.number; place = c.args.row.place } in
+    let st = c.requires.start told places path in
+    let way = way_behind x c.args.bucket c.args.first kept row c.args.start st places path in
+    subst (λ (f : Files). OnWay (index_in c.args.extent.buckets f.idx) c.args.bucket c.args.first c.args.start.at (IsOutside e))
+    ((c.in-Ok.ensures.looks.untouched told).same) (said told) st.front way.0 st.path way.1) c.find_spot-in-None.ensures.fault
+
+pub returns-in-None-clause-cost : goal.returns-in-None-clause-cost
+returns-in-None-clause-cost g c = λ told places path.
+    let file : Files = g.D.Disk.files c.args.disk.now in
+    let x : Index = index_in c.args.extent.buckets file.idx in
+    let kept : ℕ → Bool = is_kept (λ p. contains nat_cmp c.args.dropped.now p) in
+    let row : Row = record { kind = c.args.row.kind; key = c.args.row.key.now; number = c.args.row.number; place = c.args.row.place } in
+    let st = c.requires.start told places path in
+    let way = way_behind x c.args.bucket c.args.first kept row c.args.start st places path in
+    let more = subst (λ (f : Files). PathCosts (index_in c.args.extent.buckets f.idx) c.args.bucket c.args.first c.args.start.at
+    (g.D.Disk.bytes_read c.find_spot.new.disk Idx) (g.D.Disk.bytes_read c.find_spot-in-None.new.disk Idx))
+    ((c.in-Ok.ensures.looks.untouched told).same) (c.find_spot-in-None.ensures.cost told) st.front st.path in
+    omega (arith, more, c.in-Ok.ensures.cost told way.0 way.1, ap (sum_by (units_at x.unit)) way.2, sum_by-append (units_at x.unit) st.front way.0)

@@ -1,0 +1,229 @@
+//! What a change of the index will write.
+
+ghost use Rattle.std.specs.Prelude.{◌≡◌, ℕ, ◌+◌, ◌*◌, ◌/◌, ◌%◌, ◌^◌, ◌≤◌, ◌<◌, IsTrue, true, length, map, reverse, ◌++◌, OnOk, IfOk, IfErr, Err};
+ghost use Rattle.std.specs.Ordering.{nat_cmp};
+ghost use Rattle.std.specs.BTreeMap.{keys};
+ghost use Rattle.std.specs.BTreeSet.{contains};
+ghost use Rattle.std.specs.List.Sorted.{IsStrictlySortedBy};
+ghost use Rattle.rpm_outside.specs.Causes.{HasCauseAt};
+ghost use Rattle.rpm_outside.specs.declared.disk.File.TheVariants.{Idx};
+ghost use Rattle.rpm_outside.specs.Looks.{Looks, LooksAt};
+ghost use Rattle.rpm_hindex.specs.inner.Records.{IsOpen};
+ghost use Rattle.rpm_hindex.specs.Sizes.{first_record, live_of};
+ghost use Rattle.rpm_hindex.specs.Plans.{LeavesOrder, CanWrite, second_after};
+ghost use Rattle.rpm_hindex.specs.State.{EndsInZero};
+ghost use Rattle.rpm_hindex.specs.inner.Changes.{CanGo, AddsRows, IsHonest, changing, IsOther, IsTooLarge, IsWorkOf, IsScratchOf, kept_of, is_kept, patch_of};
+ghost use Rattle.rpm_hindex.specs.Refusals.{IsFaulty};
+ghost use Rattle.rpm_hindex.specs.Index.{index_in};
+ghost use Rattle.rpm_hindex.specs.Whole.{IsWhole};
+
+use crate::chain::Extent;
+use crate::change::{Change, prepare_fault, row_ref};
+use crate::faults::{PrepareFault, RewriteFault};
+use crate::image::Image;
+use crate::kept_rows::push_chain;
+use crate::rewrite::image_of;
+use crate::rows::Rows;
+use crate::words::unit_of_words;
+use rpm_outside::Disk;
+use std::alloc::{AllocError, Global};
+use std::collections::{BTreeMap, BTreeSet};
+
+/// A unit that changes.
+#[derive(Clone, Copy)]
+pub struct Patch {
+    pub unit: u32,
+    pub words: [u8; 16],
+}
+
+/// Units that change, by rising place, and the records after all others.
+#[derive(Drop)]
+pub struct Patches {
+    pub units: Vec<Patch>,
+    pub tail: Vec<u8>,
+    pub used: u32,
+    pub second: [u8; 16],
+    pub buckets: u32,
+}
+
+/// How the change is written.
+#[derive(Drop)]
+pub enum Work {
+    InPlace(Patches),
+    Scratch(Image),
+}
+
+/// A change of the index, with all memory that it needs.
+#[derive(Drop)]
+pub struct IndexPlan {
+    pub work: Work,
+}
+
+/// Adds a record of each of these rows.
+pub fn add_rows<D: Disk>(disk: &mut D, change: &mut Change, rows: &Rows) -> Result<(), PrepareFault>
+    requires go { CanGo change.old }
+    requires none { length change.old.tail.items ≡ 0 }
+    requires count { change.old.records + length rows.now ≤ 2 * change.old.extent.buckets }
+    requires room { change.old.extent.used + live_of rows.now ≤ 2 ^ 28 }
+    requires open { IsTrue D.tells → IsOpen change.old.extent (D.files disk.old).idx }
+    ensures go { OnOk result (CanGo change.new) }
+    ensures other { IfErr result (λ e. IsOther e) }
+    ensures extent { OnOk result (change.new.extent ≡ change.old.extent) }
+    ensures tail { OnOk result (length change.new.tail.items / 16 ≡ live_of rows.now) }
+    ensures live { OnOk result (change.new.live ≡ change.old.live + live_of rows.now) }
+    ensures adds { OnOk result (IsTrue D.tells → IsWhole change.old.records change.old.live (changing change.old (D.files disk.old).idx)
+        → AddsRows change.old change.new (D.files disk.old).idx rows.now) }
+    ensures honest { OnOk result (IsTrue D.tells → IsHonest change.old (D.files disk.old).idx → IsHonest change.new (D.files disk.old).idx) }
+    ensures bad { IfErr result (λ e. IsTrue D.tells → IsHonest change.old (D.files disk.old).idx → IsFaulty change.old.extent.buckets (D.files disk.old).idx e) }
+    ensures looks { Looks D.tells D.files D.left_since D.moment D.bytes_read D.follows Idx (16 * length rows.now) disk.old disk.new }
+    ensures cause { HasCauseAt (result ≡ Err PrepareFault.DiskFault) (D.faults disk.old) (D.faults disk.new) }
+{
+    for i in 0..rows.len() {
+        if let Err(fault) = change.add_row(disk, row_ref(rows, i)) {
+            return Err(fault);
+        }
+    }
+    Ok(())
+}
+
+/// Whether the chains can take these rows more, with at most so many units, so that no new index is due.
+pub fn has_room(change: &Change, adds: &Rows, limit: u64) -> bool
+    requires limit { limit ≤ 2 ^ 28 }
+    requires go { CanGo change.now }
+    requires none { length change.now.tail.items ≡ 0 }
+    ensures least { change.now.records + length adds.now ≤ 2 * change.now.extent.buckets → change.now.extent.used + live_of adds.now ≤ limit
+        → change.now.extent.used + live_of adds.now ≤ first_record change.now.extent.buckets + 2 * (change.now.live + live_of adds.now) → result ≡ true }
+    ensures count { result ≡ true → change.now.records + length adds.now ≤ 2 * change.now.extent.buckets }
+    ensures room { result ≡ true → change.now.extent.used + live_of adds.now ≤ limit }
+    ensures half { result ≡ true → change.now.extent.used ≤ first_record change.now.extent.buckets + 2 * change.now.live + live_of adds.now }
+{
+    let more = adds.live();
+    let records = change.records as u64 + adds.len() as u64;
+    let used = change.extent.used as u64 + more;
+    let live = change.live as u64 + more;
+    let first = 2 + change.extent.buckets as u64 / 4;
+    records <= 2 * change.extent.buckets as u64 && used <= limit && used - first - live <= live
+}
+
+/// The pairs of a map, by rising key.
+fn collected(
+    alloc: Global,
+    units: BTreeMap<u32, [u8; 16]>,
+) -> Result<Vec<(u32, [u8; 16])>, AllocError>
+    ensures { IfOk result (λ v. v.items ≡ units.entries) }
+{
+    units.into_iter().collect(alloc)
+}
+
+/// The units that change, in order.
+fn patches_of(alloc: Global, units: BTreeMap<u32, [u8; 16]>) -> Result<Vec<Patch>, AllocError>
+    ensures units { IfOk result (λ v. v.items ≡ map patch_of units.entries) }
+    ensures ordered { IsStrictlySortedBy nat_cmp (keys units) }
+{
+    let _ = units.len();
+    let pairs = collected(alloc, units)?;
+    let mut patches = Vec::with_capacity(alloc, pairs.len())?;
+    for k in 0..pairs.len() {
+        let (unit, words) = pairs[k];
+        patches.push(Patch { unit, words })?;
+    }
+    Ok(patches)
+}
+
+/// What is written in place.
+pub fn in_place(alloc: Global, change: Change) -> Result<IndexPlan, PrepareFault>
+    requires go { CanGo change }
+    ensures made { IfOk result (λ plan. IsWorkOf change plan.work) }
+    ensures ordered { IsStrictlySortedBy nat_cmp (keys change.units) }
+    ensures can { IfOk result (λ plan. (units : ℕ) → change.extent.used ≤ units → CanWrite units plan.work) }
+    ensures memory { IfErr result (λ e. e ≡ PrepareFault.NoMemory) }
+{
+    let used = change.used();
+    let second = unit_of_words(used, change.records, change.live, 0);
+    let Ok(units) = patches_of(alloc, change.units) else {
+        return Err(PrepareFault::NoMemory);
+    };
+    Ok(IndexPlan {
+        work: Work::InPlace(Patches {
+            units,
+            tail: change.tail,
+            used: change.extent.used,
+            second,
+            buckets: change.extent.buckets,
+        }),
+    })
+}
+
+/// Adds all rows that the index keeps.
+fn kept_rows<D: Disk>(
+    alloc: Global,
+    disk: &mut D,
+    extent: Extent,
+    dropped: &BTreeSet<u32>,
+) -> Result<Rows, PrepareFault>
+    requires few { extent.buckets ≤ 2 ^ 28 }
+    requires open { IsTrue D.tells → IsOpen extent (D.files disk.old).idx }
+    ensures other { IfErr result (λ e. IsOther e) }
+    ensures rows { IfOk result (λ rows. IsTrue D.tells → rows ≡ kept_of (index_in extent.buckets (D.files disk.old).idx)
+        (is_kept (λ p. contains nat_cmp dropped.now p))) }
+    ensures bad { IfErr result (λ e. IsTrue D.tells → IsFaulty extent.buckets (D.files disk.old).idx e) }
+    ensures looks { LooksAt D.tells D.files D.left_since D.moment D.bytes_read D.follows Idx disk.old disk.new }
+    ensures cause { HasCauseAt (result ≡ Err PrepareFault.DiskFault) (D.faults disk.old) (D.faults disk.new) }
+{
+    let mut rows = Rows::new(alloc);
+    let mut buffer = Vec::new(alloc);
+    for bucket in 0..extent.buckets {
+        if let Err(fault) = push_chain(disk, extent, bucket, dropped, &mut rows, &mut buffer) {
+            return Err(prepare_fault(fault));
+        }
+    }
+    Ok(rows)
+}
+
+/// Adds these rows to others.
+fn append_rows(rows: &mut Rows, others: &Rows) -> Result<(), AllocError>
+    ensures { OnOk result (rows.new ≡ rows.old ++ others.now) }
+{
+    for i in 0..others.len() {
+        let head = others.head(i);
+        rows.add(head.kind, others.key(i), head.number, head.place)?;
+    }
+    Ok(())
+}
+
+/// What is written from scratch. The kept rows are added from the last to the first, so that those of a chain stand in it as they did.
+pub fn from_scratch<D: Disk>(
+    alloc: Global,
+    disk: &mut D,
+    change: &Change,
+    adds: &Rows,
+) -> Result<IndexPlan, PrepareFault>
+    requires few { change.now.extent.buckets ≤ 2 ^ 28 }
+    requires open { IsTrue D.tells → IsOpen change.now.extent (D.files disk.old).idx }
+    ensures can { IfOk result (λ plan. (units : ℕ) → CanWrite units plan.work) }
+    ensures ordered { IfOk result (λ plan. LeavesOrder plan.work) }
+    ensures zero { IfOk result (λ plan. EndsInZero (second_after plan.work)) }
+    ensures full { IfErr result (λ e. IsTrue D.tells → IsTooLarge (reverse (kept_of (index_in change.now.extent.buckets
+        (D.files disk.old).idx) (is_kept (λ p. contains nat_cmp change.now.dropped p))) ++ adds.now) e) }
+    ensures made { IfOk result (λ plan. IsTrue D.tells → IsScratchOf (reverse (kept_of (index_in change.now.extent.buckets
+        (D.files disk.old).idx) (is_kept (λ p. contains nat_cmp change.now.dropped p))) ++ adds.now) plan.work) }
+    ensures bad { IfErr result (λ e. IsTrue D.tells → IsFaulty change.now.extent.buckets (D.files disk.old).idx e) }
+    ensures looks { LooksAt D.tells D.files D.left_since D.moment D.bytes_read D.follows Idx disk.old disk.new }
+    ensures cause { HasCauseAt (result ≡ Err PrepareFault.DiskFault) (D.faults disk.old) (D.faults disk.new) }
+{
+    let mut rows = match kept_rows(alloc, disk, change.extent, &change.dropped) {
+        Ok(rows) => rows,
+        Err(fault) => return Err(fault),
+    };
+    rows.reverse();
+    let Ok(()) = append_rows(&mut rows, adds) else {
+        return Err(PrepareFault::NoMemory);
+    };
+    match image_of(alloc, &rows) {
+        Ok(image) => Ok(IndexPlan {
+            work: Work::Scratch(image),
+        }),
+        Err(RewriteFault::IndexFull { needed }) => Err(PrepareFault::IndexFull { needed }),
+        Err(_) => Err(PrepareFault::NoMemory),
+    }
+}

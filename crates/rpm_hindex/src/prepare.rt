@@ -1,0 +1,153 @@
+//! Working out a change of the index.
+
+ghost use Rattle.std.specs.Prelude.{◌≡◌, ℕ, ◌+◌, ◌*◌, ◌/◌, ◌%◌, ◌^◌, ◌≤◌, ◌<◌, IsTrue, true, length, map, ◌++◌, OnOk, IfOk, IfErr, Err};
+ghost use Rattle.std.specs.Ordering.{nat_cmp};
+ghost use Rattle.std.specs.BTreeSet.{contains};
+ghost use Rattle.rpm_outside.specs.Files.{Units};
+ghost use Rattle.rpm_outside.specs.Causes.{HasCauseAt};
+ghost use Rattle.rpm_hindex.specs.Sizes.{is_bucket_count};
+ghost use Rattle.rpm_outside.specs.declared.disk.File.TheVariants.{Idx};
+ghost use Rattle.rpm_outside.specs.Looks.{LooksAt};
+ghost use Rattle.rpm_hindex.specs.inner.Records.{IsOpen};
+ghost use Rattle.rpm_hindex.specs.State.{Keeps, EndsInZero, is_in_order, buckets_of};
+ghost use Rattle.rpm_hindex.specs.Plans.{LeavesOrder, CanWrite, IsPlanFor, IsPaddedPlan, IsSizedFor, ReachesFor, second_after};
+ghost use Rattle.rpm_hindex.specs.inner.Changes.{CanGo, IsStarted, IsHonest, IsFresh, is_kept};
+ghost use Rattle.rpm_hindex.specs.Refusals.{IsBad, IsBadFor, IsTooLargeFor, HasRoomFor};
+ghost use Rattle.rpm_hindex.specs.Index.{index_in, records};
+ghost use Rattle.rpm_hindex.specs.Costs.{chains_bytes, StaysWithin, StaysInPlace};
+ghost use Rattle.rpm_hindex.specs.Whole.{IsWellFormed};
+
+use crate::change::Change;
+use crate::dropped_rows::drop_rows;
+use crate::faults::PrepareFault;
+use crate::index::Hindex;
+use crate::plan::{IndexPlan, add_rows, from_scratch, has_room, in_place};
+use crate::rows::Rows;
+use crate::sizes::UNITS;
+use crate::words::word;
+use rpm_outside::Disk;
+use std::alloc::Global;
+
+impl Hindex {
+    /// No change yet.
+    fn start(&self, alloc: Global) -> Change
+        requires order { is_in_order self.now ≡ true }
+        ensures go { CanGo result }
+        ensures tail { length result.tail.items ≡ 0 }
+        ensures count { is_bucket_count result.extent.buckets ≡ true }
+        ensures fits { result.extent.used ≤ self.now.units }
+        ensures buckets { result.extent.buckets ≡ buckets_of self.now.first }
+        ensures dropped { (p : ℕ) → is_kept (λ q. contains nat_cmp result.dropped q) p ≡ true }
+        ensures whole { (file : Units) → Keeps file self.now → IsWellFormed (buckets_of self.now.first) file → IsStarted result file }
+        ensures honest { (file : Units) → Keeps file self.now → IsHonest result file }
+        ensures fresh { (file : Units) → Keeps file self.now → IsFresh result file }
+        ensures open { (file : Units) → Keeps file self.now → IsOpen result.extent file }
+    {
+        let records = word(&self.second, 1);
+        let live = word(&self.second, 2);
+        Change::new(alloc, self.extent(), records, live)
+    }
+
+    /// Works out a change of the index, as `prepare` does, which is made in place only where so many units are enough.
+    pub(crate) fn prepare_within<D: Disk>(
+        &self,
+        alloc: Global,
+        disk: &mut D,
+        drops: &Rows,
+        adds: &Rows,
+        limit: u64,
+    ) -> Result<IndexPlan, PrepareFault>
+        requires limit { limit ≤ 2 ^ 28 }
+        requires order { is_in_order self.now ≡ true }
+        requires keeps { IsTrue D.tells → Keeps (D.files disk.old).idx self.now }
+        ensures can { IfOk result (λ plan. CanWrite self.now.units plan.work) }
+        ensures ordered { IfOk result (λ plan. LeavesOrder plan.work) }
+        ensures zero { IfOk result (λ plan. EndsInZero (second_after plan.work)) }
+        ensures full { IfErr result (λ e. IsTrue D.tells → IsWellFormed (buckets_of self.now.first) (D.files disk.old).idx → IsTooLargeFor drops.now
+            adds.now (records (buckets_of self.now.first) (D.files disk.old).idx) e) }
+        ensures room { IfOk result (λ plan. IsTrue D.tells → IsWellFormed (buckets_of self.now.first) (D.files disk.old).idx → HasRoomFor drops.now
+            adds.now (records (buckets_of self.now.first) (D.files disk.old).idx)) }
+        ensures reach { IfOk result (λ plan. IsTrue D.tells → IsWellFormed (buckets_of self.now.first) (D.files disk.old).idx → ReachesFor drops.now
+            adds.now (records (buckets_of self.now.first) (D.files disk.old).idx) self.now.units plan.work) }
+        ensures size { IfOk result (λ plan. IsTrue D.tells → IsWellFormed (buckets_of self.now.first) (D.files disk.old).idx → IsSizedFor drops.now
+            adds.now (records (buckets_of self.now.first) (D.files disk.old).idx) plan.work) }
+        ensures bad { IfErr result (λ e. IsTrue D.tells → IsBad (buckets_of self.now.first) (D.files disk.old).idx e) }
+        ensures counts { IfErr result (λ e. IsTrue D.tells → IsBadFor drops.now (buckets_of self.now.first) (D.files disk.old).idx e) }
+        ensures makes { IfOk result (λ plan. IsTrue D.tells → IsWellFormed (buckets_of self.now.first) (D.files disk.old).idx → IsPlanFor drops.now
+            adds.now (buckets_of self.now.first) (D.files disk.old).idx plan.work) }
+        ensures padded { IfOk result (λ plan. IsTrue D.tells → IsWellFormed (buckets_of self.now.first) (D.files disk.old).idx → IsPaddedPlan
+            (buckets_of self.now.first) (D.files disk.old).idx plan.work) }
+        ensures cost { IsTrue D.tells → IsWellFormed (buckets_of self.now.first) (D.files disk.old).idx → StaysWithin limit drops.now adds.now
+            (buckets_of self.now.first) (D.files disk.old).idx → D.bytes_read disk.new Idx ≤ D.bytes_read disk.old Idx + chains_bytes
+            (index_in (buckets_of self.now.first) (D.files disk.old).idx) drops.now + 16 * length adds.now }
+        ensures looks { LooksAt D.tells D.files D.left_since D.moment D.bytes_read D.follows Idx disk.old disk.new }
+        ensures cause { HasCauseAt (result ≡ Err PrepareFault.DiskFault) (D.faults disk.old) (D.faults disk.new) }
+    {
+        let mut change = self.start(alloc);
+        if let Err(fault) = drop_rows(alloc, disk, &mut change, drops) {
+            return Err(fault);
+        }
+        if !has_room(&change, adds, limit) {
+            return from_scratch(alloc, disk, &change, adds);
+        }
+        if let Err(fault) = add_rows(disk, &mut change, adds) {
+            return Err(fault);
+        }
+        in_place(alloc, change)
+    }
+
+    /// Works out a change of the index: drops a record of each of these rows, where there is one, and then adds records. Writes nothing,
+    /// and takes all memory that the change needs.
+    ///
+    /// Drops the last row first, and looks for each after the one of its bucket that was dropped before it; only where it isn't there, from
+    /// the front of the chain as far as that one. So the rows of a package, which stand in their chains in the other order than it added
+    /// them, are found in one pass: those of one bucket cost the records from its front to the last of them once, and not for each row.
+    ///
+    /// Reads of each dropped row's bucket 16 bytes, of the records on the way to the row's own 16 bytes each and the keys of those that
+    /// have the row's number and place, and 16 bytes for each added row; and all chains, where the index must be made from scratch:
+    /// where it would have more than two records a bucket, more than 268435456 units, or more units without records than with. A fault of
+    /// a chain after the row's record, or in a key that isn't read, isn't met, unless all chains are read. Where one is met, that chain
+    /// is read anew from its front.
+    ///
+    /// # Errors
+    ///
+    /// - `BadIndex` only where `unit` is the first fault of a bucket's chain, or is 1, where unit 1 counts less than the chains hold, and less
+    ///   than the change drops.
+    /// - `IndexFull` where the rows after the change, made from scratch, need more than 268435456 units, and only there: `needed` of them.
+    /// - `DiskFault` only where the disk's count of faults rose.
+    /// - `NoMemory` where the change finds no memory.
+    pub fn prepare<D: Disk>(
+        &self,
+        alloc: Global,
+        disk: &mut D,
+        drops: &Rows,
+        adds: &Rows,
+    ) -> Result<IndexPlan, PrepareFault>
+        requires order { is_in_order self.now ≡ true }
+        requires keeps { IsTrue D.tells → Keeps (D.files disk.old).idx self.now }
+        ensures can { IfOk result (λ plan. CanWrite self.now.units plan.work) }
+        ensures ordered { IfOk result (λ plan. LeavesOrder plan.work) }
+        ensures zero { IfOk result (λ plan. EndsInZero (second_after plan.work)) }
+        ensures full { IfErr result (λ e. IsTrue D.tells → IsWellFormed (buckets_of self.now.first) (D.files disk.old).idx → IsTooLargeFor drops.now
+            adds.now (records (buckets_of self.now.first) (D.files disk.old).idx) e) }
+        ensures room { IfOk result (λ plan. IsTrue D.tells → IsWellFormed (buckets_of self.now.first) (D.files disk.old).idx → HasRoomFor drops.now
+            adds.now (records (buckets_of self.now.first) (D.files disk.old).idx)) }
+        ensures reach { IfOk result (λ plan. IsTrue D.tells → IsWellFormed (buckets_of self.now.first) (D.files disk.old).idx → ReachesFor drops.now
+            adds.now (records (buckets_of self.now.first) (D.files disk.old).idx) self.now.units plan.work) }
+        ensures size { IfOk result (λ plan. IsTrue D.tells → IsWellFormed (buckets_of self.now.first) (D.files disk.old).idx → IsSizedFor drops.now
+            adds.now (records (buckets_of self.now.first) (D.files disk.old).idx) plan.work) }
+        ensures bad { IfErr result (λ e. IsTrue D.tells → IsBad (buckets_of self.now.first) (D.files disk.old).idx e) }
+        ensures counts { IfErr result (λ e. IsTrue D.tells → IsBadFor drops.now (buckets_of self.now.first) (D.files disk.old).idx e) }
+        ensures makes { IfOk result (λ plan. IsTrue D.tells → IsWellFormed (buckets_of self.now.first) (D.files disk.old).idx → IsPlanFor drops.now
+            adds.now (buckets_of self.now.first) (D.files disk.old).idx plan.work) }
+        ensures padded { IfOk result (λ plan. IsTrue D.tells → IsWellFormed (buckets_of self.now.first) (D.files disk.old).idx → IsPaddedPlan
+            (buckets_of self.now.first) (D.files disk.old).idx plan.work) }
+        ensures cost { IsTrue D.tells → IsWellFormed (buckets_of self.now.first) (D.files disk.old).idx → StaysInPlace drops.now adds.now
+            (buckets_of self.now.first) (D.files disk.old).idx → D.bytes_read disk.new Idx ≤ D.bytes_read disk.old Idx + chains_bytes
+            (index_in (buckets_of self.now.first) (D.files disk.old).idx) drops.now + 16 * length adds.now }
+        ensures looks { LooksAt D.tells D.files D.left_since D.moment D.bytes_read D.follows Idx disk.old disk.new }
+        ensures cause { HasCauseAt (result ≡ Err PrepareFault.DiskFault) (D.faults disk.old) (D.faults disk.new) }
+    {
+        self.prepare_within(alloc, disk, drops, adds, UNITS)
+    }
+}
