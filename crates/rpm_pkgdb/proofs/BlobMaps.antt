@@ -18,7 +18,7 @@ use Rattle.rpm_pkgdb.proofs.Facts.{number_facts}
 use Rattle.rpm_pkgdb.specs.Undamaged.{AreSound, IsPlaced}
 use Rattle.rpm_pkgdb.specs.Quiet.{SameBlocks}
 use Rattle.rpm_pkgdb.proofs.ClearLaws.{set_other, set_here}
-use Rattle.rpm_pkgdb.proofs.Places.{Search, Here, Nowhere, search_for, with_at, with_set_other, one_place}
+use Rattle.rpm_pkgdb.proofs.Places.{Search, Here, Nowhere, search_for, with_at, with_set_other, freed_absent}
 
 -- units of a range that lies in both files
 pub same_part : (a b : Units) (at n : ℕ) → at + n ≤ length a → at + n ≤ length b → ((i : ℕ) → at ≤ i → i < at + n → unit_at b i ≡ unit_at a i)
@@ -123,23 +123,8 @@ module _ (a b : Units) (pages : ℕ) (st ut : Store) (k n : ℕ) (has : has_numb
           ap (λ (l : List Slot). slot_at l j) is ∙ set_other pages (length a) st.slots sound_a k below free j differs in
           blocks j i (ap is_used stays ∙ used) (subst (λ (t : Slot). t.offset ≤ i) (sym stays) from) (subst (λ (t : Slot). i < end_of t) (sym stays) to)
 
-      empty : (x : Search n ut.slots) → slot_with n ut.slots ≡ None
-      empty (Nowhere none at_none) = at_none
-      empty (Here j lt has_j at_j) = absurd (elim (cases_eq j k) [
-        | inl here ↦
-            (let stays : slot_at ut.slots j ≡ free = ap (slot_at ut.slots) here ∙ ap (λ (l : List Slot). slot_at l k) is
-            ∙ set_here pages (length a) st.slots sound_a k below free in
-            let e : has_number n (slot_at ut.slots j) ≡ has_number n free = ap (has_number n) stays in
-            let f : has_number n free ≡ false = free_number n in
-            cc)
-        | inr differs ↦
-            (let stays : slot_at ut.slots j ≡ slot_at st.slots j = ap (λ (l : List Slot). slot_at l j) is
-            ∙ set_other pages (length a) st.slots sound_a k below free j differs in
-            differs (one_place pages (length a) st.slots sound_a n j k (ap (has_number n) (sym stays) ∙ has_j) has))
-      ])
-
       gone : (m : ℕ) → m ≡ n → finite.get (blobs b ut) m ≡ None
-      gone m here = ap (finite.get (blobs b ut)) here ∙ get-blobs b ut n ∙ (let e = empty (search_for n ut.slots) in rw e refl)
+      gone m here = ap (finite.get (blobs b ut)) here ∙ get-blobs b ut n ∙ (let e : slot_with n ut.slots ≡ None = ap (slot_with n) is ∙ freed_absent pages (length a) st.slots sound_a n k has in rw e refl)
 
 module _ (a b : Units) (pages : ℕ) (st ut : Store) (k n : ℕ) (s : Slot) (below : k < length st.slots) (sound_a : AreSound pages (length a) st.slots)
     (sound_b : AreSound pages (length b) ut.slots) where

@@ -4,7 +4,7 @@ use Rattle.std.proofs.lemmas.Bool.{cases_eq, cases_lt, cases_Bool}
 use Rattle.rpm_outside.specs.Files.{Units, unit_at, blank, put}
 use Rattle.rpm_outside.specs.inner.Puts.{put_before, put_after}
 use Rattle.rpm_pkgdb.specs.declared.slot.Slot.{Slot}
-use Rattle.rpm_pkgdb.specs.declared.moving.Move.{Move}
+use Rattle.rpm_pkgdb.specs.declared.moved_blocks.Move.{Move}
 use Rattle.rpm_pkgdb.specs.Slots.{slot_at, is_used, end_of, free}
 use Rattle.rpm_pkgdb.specs.Freed.{HasBlock, AreFreed, KeepsBlank}
 use Rattle.rpm_pkgdb.specs.Growing.{moved}

@@ -10,7 +10,7 @@ use Rattle.rpm_pkgdb.specs.declared.slot.Slot.{Slot}
 use Rattle.rpm_pkgdb.specs.Words.{word}
 use Rattle.rpm_pkgdb.proofs.Facts.{cases_Bool, number_facts}
 use Rattle.rpm_pkgdb.specs.Slots.{slot_at, slot_with, is_used, end_of, has_number, free}
-use Rattle.rpm_pkgdb.specs.Store.{Store, Keeps, in_file}
+use Rattle.rpm_pkgdb.specs.Store.{Store, Keeps}
 use Rattle.rpm_pkgdb.specs.Blobs.{blobs}
 use Rattle.rpm_pkgdb.proofs.BlobMaps.{same_get}
 use Rattle.rpm_pkgdb.specs.Undamaged.{AreApart, AreSound, IsSlotUnit, IsHeadUnit, IsMade, IsPlaced}
@@ -19,10 +19,9 @@ use Rattle.rpm_pkgdb.proofs.Pairwise.{used_below}
 use Rattle.rpm_pkgdb.specs.Stays.{SameOutside}
 use Rattle.rpm_pkgdb.specs.inner.Clear.{IsClear}
 use Rattle.rpm_pkgdb.proofs.ClearLaws.{torn_one, put_here, put_elsewhere, put_length, outside_made, outside_blocks}
-use Rattle.rpm_pkgdb.specs.Quiet.{StandsAs, StandsFor, BeforeOrAfter}
+use Rattle.rpm_pkgdb.specs.Quiet.{StandsAs, BeforeOrAfter}
 use Rattle.rpm_pkgdb.specs.inner.Grows.{with_page, CanGrow, HasFreePage}
 use Rattle.rpm_pkgdb.proofs.Erases.{blocks_then}
-use Rattle.rpm_pkgdb.proofs.ErasesTo.{stands_for, unfolded}
 
 -- ---- free slots after others
 
@@ -161,13 +160,3 @@ module _ (st : Store) (can : CanGrow st) where
       let u = (number_facts n (slot_at st.slots k) has).used in
       let stays = at_front st.slots k (used_below st.slots k u) in
       stands.blocks k i (ap is_used stays ∙ u) (subst (λ (t : Slot). t.offset ≤ i) (sym stays) low) (subst (λ (t : Slot). i < end_of t) (sym stays) high)))
-
-  pub grows_to : (file image : Units) → Keeps file st → BeforeOrAfter st after file image → StandsFor st.generation st.field (blobs file st) image
-  grows_to file image keeps (inl before) = stands_for st file image can.made keeps before
-  grows_to file image keeps (inr later) = record {
-    value = in_file after;
-    undamaged = later.keeps;
-    generation_is = refl;
-    field_is = refl;
-    blobs_are = unfolded image after ∙ grown_map file image keeps later;
-  }

@@ -1,20 +1,14 @@
 -- One move of several.
 use Rattle.std.proofs.Common.{◌≡◌, ℕ, ◌+◌, ◌<◌, ◌≤◌, List, length, take, Some, ap, ◌∙◌, subst, arith, ◌*◌}
-use Rattle.rpm_outside.specs.Files.{Units}
 use Rattle.rpm_pkgdb.specs.declared.slot.Slot.{Slot}
-use Rattle.rpm_pkgdb.specs.declared.moving.Move.{Move}
+use Rattle.rpm_pkgdb.specs.declared.moved_blocks.Move.{Move}
 use Rattle.rpm_pkgdb.specs.Slots.{slot_at}
 use Rattle.rpm_pkgdb.specs.Store.{Store}
-use Rattle.rpm_pkgdb.specs.Quiet.{StandsFor, BlobMap}
 use Rattle.rpm_pkgdb.specs.inner.Settings.{CanMove, with_slot}
 use Rattle.rpm_pkgdb.specs.Growing.{moved, moving_cost}
 use Rattle.std.proofs.lemmas.List.Sums.{sum_by_more, sum_by-take-le}
 use Rattle.rpm_pkgdb.specs.inner.MoveLists.{AreMovesOf, with_moves, move_at, no_move}
 use Rattle.rpm_pkgdb.proofs.MoveListLaws.{Keep, next_can, next_of, after_more, keep_all, unmoved}
-
-pub stands_for_same : (g f g' f' : ℕ) (B B' : BlobMap) (image : Units) → g ≡ g' → f ≡ f' → B ≡ B' → StandsFor g f B image → StandsFor g' f' B' image
-stands_for_same g f g' f' B B' image e_g e_f e_B s =
-    record { value = s.value; undamaged = s.undamaged; generation_is = s.generation_is ∙ e_g; field_is = s.field_is ∙ e_f; blobs_are = s.blobs_are ∙ e_B }
 
 abbrev pub old_slot : List Slot → Move → Slot
 old_slot slots m = slot_at slots m.place

@@ -11,7 +11,7 @@ use Rattle.rpm_outside.specs.Crash.{Torn}
 use Rattle.rpm_pkgdb.specs.declared.slot.Slot.{Slot}
 use Rattle.rpm_pkgdb.specs.Slots.{slot_at, slot_with, is_used, end_of, has_number}
 use Rattle.rpm_pkgdb.proofs.Facts.{has_it_from}
-use Rattle.rpm_pkgdb.specs.Store.{Store, Keeps, in_file}
+use Rattle.rpm_pkgdb.specs.Store.{Store, Keeps}
 use Rattle.rpm_pkgdb.specs.Blobs.{Frame, frame_of, is_framed, blocks_at, blob_in, blobs}
 use Rattle.rpm_pkgdb.specs.BlobLaws.{get-blobs}
 use Rattle.rpm_pkgdb.proofs.BlobMaps.{other_get, other_number}
@@ -22,8 +22,7 @@ use Rattle.rpm_pkgdb.specs.Stays.{SameOutside}
 use Rattle.rpm_pkgdb.specs.inner.Clear.{Holds}
 use Rattle.rpm_pkgdb.proofs.ClearLaws.{set_here}
 use Rattle.rpm_pkgdb.proofs.FramingLaws.{held_part}
-use Rattle.rpm_pkgdb.specs.Quiet.{StandsAs, StandsFor}
-use Rattle.rpm_pkgdb.proofs.ErasesTo.{stands_for, unfolded}
+use Rattle.rpm_pkgdb.specs.Quiet.{StandsAs}
 use Rattle.rpm_pkgdb.specs.inner.Settings.{CanSet, with_slot, StandsSet, CanMove, blocks_of, WhileMoved}
 use Rattle.rpm_pkgdb.specs.Growing.{moved}
 use Rattle.rpm_pkgdb.proofs.SettingLaws.{aside_stands, set_stands, while_set, set_aside, old_clear, set_alike}
@@ -147,17 +146,6 @@ module _ (st : Store) (place : ℕ) (old : Slot) (to : ℕ) (can : CanMove st pl
           ∙ ap (λ (f : Option Frame). Some (option_map blob_in f)) (same_moved image holds)
           ∙ sym (ap (finite.get (blobs F0 st)) same ∙ get-blobs F0 st old.number
           ∙ ap (option_map (λ t. option_map blob_in (frame_of old.number t F0))) old_with)
-
-  -- an image of the move has the blobs of the file
-  pub moves_to : (image : Units) → WhileMoved st place old to F0 image → StandsFor st.generation st.field (blobs F0 st) image
-  moves_to image (inl before) = stands_for st F0 image can.slot.made keeps before
-  moves_to image (inr after) = record {
-    value = in_file (with_slot place s st);
-    undamaged = after.keeps;
-    generation_is = refl;
-    field_is = refl;
-    blobs_are = unfolded image (with_slot place s st) ∙ moved_map image after;
-  }
 
   pub moved_alike : (a b : Units) → StandsSet st place s us F0 a → StandsSet st place s us F0 b → StandsAs (with_slot place s st) a b
   moved_alike a b in_a in_b = set_alike st place s move_set us length-us F0 a b in_a in_b

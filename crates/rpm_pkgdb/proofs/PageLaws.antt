@@ -8,8 +8,8 @@ use Rattle.rpm_blocks.specs.declared.Range.{Range}
 use Rattle.rpm_blocks.specs.Blocks.{range, with_range, without}
 use Rattle.rpm_blocks.specs.Laws.{with_range_here, with_range_keeps, with_range_only, without_keeps, without_only}
 use Rattle.rpm_pkgdb.specs.declared.slot.Slot.{Slot}
-use Rattle.rpm_pkgdb.specs.declared.moving.Move.{Move}
-use Rattle.rpm_pkgdb.specs.declared.page.Page.{Page}
+use Rattle.rpm_pkgdb.specs.declared.moved_blocks.Move.{Move}
+use Rattle.rpm_pkgdb.specs.declared.page_plan.Page.{Page}
 use Rattle.rpm_pkgdb.specs.Slots.{slot_at, is_used, free}
 use Rattle.rpm_pkgdb.specs.Store.{Store}
 use Rattle.rpm_pkgdb.specs.Plans.{IsLeast, FitsNowhere}

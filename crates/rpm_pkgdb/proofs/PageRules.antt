@@ -6,7 +6,7 @@ use Rattle.std.proofs.lemmas.Bool.{cases_lt}
 use Rattle.std.proofs.lemmas.Bool.Decides.{nat_tests}
 use Rattle.std.proofs.lemmas.List.Sums.{position_or_len_is, fails_before_first}
 use Rattle.rpm_pkgdb.specs.declared.slot.Slot.{Slot}
-use Rattle.rpm_pkgdb.specs.declared.moving.Move.{Move}
+use Rattle.rpm_pkgdb.specs.declared.moved_blocks.Move.{Move}
 use Rattle.rpm_pkgdb.specs.Slots.{slot_at, is_used, has_number, free}
 use Rattle.rpm_pkgdb.specs.Store.{Store}
 use Rattle.rpm_pkgdb.specs.Undamaged.{AreSound}

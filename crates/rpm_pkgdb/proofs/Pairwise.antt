@@ -74,7 +74,7 @@ own_none pages units unit magic placed = elim (cases_Bool (is_used (slot_of unit
   | inr unused ↦ rw (magic, unused) refl
 ]
 
-shared_none : (slots : List Slot) (s : Slot) → (is_used s ≡ true → (j : ℕ) → j < length slots → is_used (slot_at slots j) ≡ true
+pub shared_none : (slots : List Slot) (s : Slot) → (is_used s ≡ true → (j : ℕ) → j < length slots → is_used (slot_at slots j) ≡ true
     → AreApart (slot_at slots j) s) → (is_used s ≡ true → 0 < s.count) → shared_reason slots s ≡ None
 unfolding shared_reason
 shared_none slots s apart some = elim (cases_Bool (is_used s)) [

@@ -70,6 +70,25 @@ module _ (pages units : ℕ) (slots : List Slot) (sound : AreSound pages units s
     | Nowhere none is ↦ absurd (let used = number_facts n (slot_at slots k) has in let e = none k (used_below slots k used.used) in cc)
   ]
 
+  -- the slot of a number is set free, and then none has it
+  pub freed_absent : (n k : ℕ) → has_number n (slot_at slots k) ≡ true → slot_with n (set slots k free) ≡ None
+  freed_absent n k has = absent (search_for n (set slots k free))
+    where
+      below : k < length slots
+      below = used_below slots k (number_facts n (slot_at slots k) has).used
+
+      absent : Search n (set slots k free) → slot_with n (set slots k free) ≡ None
+      absent (Nowhere none is) = is
+      absent (Here j lt has_j is) = absurd (elim (cases_eq j k) [
+        | inl here ↦
+            (let stays : slot_at (set slots k free) j ≡ free =
+            ap (slot_at (set slots k free)) here ∙ set_here pages units slots sound k below free in
+            let e : has_number n (slot_at (set slots k free) j) ≡ has_number n free = ap (has_number n) stays in
+            cc)
+        | inr differs ↦
+            differs (one_place n j k (ap (has_number n) (sym (set_other pages units slots sound k below free j differs)) ∙ has_j) has)
+      ])
+
   -- the slot of a number is set free at its place
   pub freed_is_set : (n k : ℕ) → has_number n (slot_at slots k) ≡ true → freed n slots ≡ set slots k free
   unfolding freed

@@ -1,7 +1,7 @@
 -- Plans with and without a slot page.
 use Rattle.std.proofs.Common.{◌≡◌, ℕ, ◌+◌, ◌*◌, ◌/◌, ◌<◌, ◌≤◌, List, length, true, false, Bool, Some, None, refl, sym, ap, ◌∙◌, subst, arith}
 use Rattle.rpm_pkgdb.specs.declared.slot.Slot.{Slot}
-use Rattle.rpm_pkgdb.specs.declared.page.Page.{Page}
+use Rattle.rpm_pkgdb.specs.declared.page_plan.Page.{Page}
 use Rattle.rpm_pkgdb.specs.Slots.{slot_at, is_used, has_number, IsPackageNumber}
 use Rattle.rpm_pkgdb.specs.Pairs.{Pairs}
 use Rattle.rpm_pkgdb.specs.Store.{Store, next_number}

@@ -6,7 +6,7 @@ use Rattle.std.proofs.lemmas.Bool.Decides.{nat_tests}
 use Rattle.std.proofs.lemmas.List.{length-replicate}
 use Rattle.rpm_blocks.specs.declared.Range.{Range}
 use Rattle.rpm_pkgdb.specs.declared.slot.Slot.{Slot}
-use Rattle.rpm_pkgdb.specs.declared.moving.Move.{Move}
+use Rattle.rpm_pkgdb.specs.declared.moved_blocks.Move.{Move}
 use Rattle.rpm_pkgdb.specs.Slots.{slot_at, is_used, greatest_number, free, IsPackageNumber}
 use Rattle.rpm_pkgdb.specs.Pairs.{Pairs, find_in}
 use Rattle.rpm_pkgdb.specs.Store.{Store, next_number}

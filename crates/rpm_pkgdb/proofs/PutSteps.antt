@@ -3,7 +3,7 @@ use Rattle.std.proofs.Common.{◌≡◌, ◌≢◌, ◌⊎◌, inl, inr, set, �
 use Rattle.std.specs.FinMap as finite
 use Rattle.rpm_outside.specs.Files.{Units, unit_at, blank}
 use Rattle.rpm_pkgdb.specs.declared.slot.Slot.{Slot}
-use Rattle.rpm_pkgdb.specs.declared.moving.Move.{Move}
+use Rattle.rpm_pkgdb.specs.declared.moved_blocks.Move.{Move}
 use Rattle.rpm_pkgdb.specs.declared.plan.Plan.{Plan}
 use Rattle.rpm_pkgdb.specs.Slots.{slot_at, is_used, end_of, has_number, free}
 use Rattle.rpm_pkgdb.specs.Pairs.{Pairs}

@@ -85,7 +85,7 @@ module _ (st : Store) (target : Target) (g : ℕ) (old : Slot) (blob : List ℕ)
   abbrev after : Store
   after = with_blob target st
 
-  us_count : length us ≡ s.count
+  pub us_count : length us ≡ s.count
   us_count = count-framed target.number g blob ∙ sym (ap blocks_for can.length_is)
 
   can_set : (file : Units) → Keeps file st → (next : Option ℕ) → CanSet (with_next next st) k s

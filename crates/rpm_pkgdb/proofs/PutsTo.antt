@@ -31,7 +31,7 @@ module _ (st : Store) (target : Target) (g : ℕ) (old : Slot) (blob : List ℕ)
   abbrev mid_value : Store
   mid_value = with_next (next_field target) st
 
-  used_new : is_used s ≡ true
+  pub used_new : is_used s ≡ true
   used_new = (let low : target.start ≢ 0 = omega (arith, can.made, can.target_is.start.from_on) in grind (arith, nat_tests))
 
   -- the slot was free, or had the number

@@ -1,9 +1,10 @@
--- What a change leaves: the units outside a range, and the blocks of the other packages, the same bytes wherever they stand.
-use Rattle.std.specs.Prelude.{◌≡◌, ◌≢◌, ℕ, ◌+◌, ◌<◌, ◌≤◌, max, length, take, drop, Option}
+-- What a change or a crash leaves: the units outside a range, and the packages' blocks, the same
+-- bytes wherever they stand.
+use Rattle.std.specs.Prelude.{◌≡◌, ◌≢◌, ℕ, ◌+◌, ◌<◌, ◌≤◌, ◌⊎◌, max, length, take, drop, Option, Ok}
 use Rattle.std.specs.Option.{option_map}
 use Rattle.rpm_outside.specs.Files.{Units, unit_at}
 use Rattle.rpm_pkgdb.specs.Slots.{slot_with}
-use Rattle.rpm_pkgdb.specs.Store.{Store}
+use Rattle.rpm_pkgdb.specs.Store.{Store, store}
 
 -- the units outside a range are as before; the file didn't get shorter, and ends where it did or by the end of the range
 pub record SameOutside (at n : ℕ) (old new : Units) : Type 0 where
@@ -23,3 +24,11 @@ AllStay old before new after = (n : ℕ) → blocks_with n new after ≡ blocks_
 -- and each package's but this one's
 abbrev pub OthersStay : ℕ → Store → Units → Store → Units → Type 0
 OthersStay n old before new after = (m : ℕ) → m ≢ n → blocks_with m new after ≡ blocks_with m old before
+
+-- an image says a store in which each package's blocks have the bytes from before, but this one's
+-- may be the new ones
+pub record StaysBut (n : ℕ) (new : Option Units) (old : Store) (before image : Units) : Type 0 where
+  pub said : Store
+  pub undamaged : store image ≡ Ok said
+  pub others : OthersStay n old before said image
+  pub own : (blocks_with n said image ≡ new) ⊎ (blocks_with n said image ≡ blocks_with n old before)

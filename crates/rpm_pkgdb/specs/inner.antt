@@ -1,7 +1,10 @@
 -- Invariants and steps of the crate's own calls: nothing that a reader of its public calls must believe.
 pub mod Keys
+pub mod Rising
 pub mod Maps
 pub mod Tables
+pub mod Meetings
+pub mod Reading
 pub mod Runs
 pub mod Ranges
 pub mod Keeping
@@ -14,3 +17,4 @@ pub mod Ready
 pub mod Pages
 pub mod Weights
 pub mod Within
+pub mod Still

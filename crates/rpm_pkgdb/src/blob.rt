@@ -12,7 +12,7 @@ ghost use Rattle.rpm_pkgdb.specs.Checksums.{checksum_holds};
 ghost use Rattle.rpm_pkgdb.specs.Answers.{frame_in, IsFrame, IsOutside};
 
 use crate::checksum::sums;
-use crate::reading::{read_unit, read_units};
+use crate::reads::{read_unit, read_units};
 use crate::slot::Slot;
 use crate::words::word;
 use rpm_outside::Disk;

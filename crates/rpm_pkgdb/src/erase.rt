@@ -1,6 +1,6 @@
 //! Erasing a package.
 
-ghost use Rattle.std.specs.Prelude.{◌≡◌, ℕ, ◌≤◌, length, IsTrue, IsSome, false, OnOk, OnErr};
+ghost use Rattle.std.specs.Prelude.{◌≡◌, ℕ, ◌≤◌, length, IsTrue, IsSome, None, false, OnOk, OnErr};
 ghost use Rattle.std.specs.FinMap as finite;
 ghost use Rattle.rpm_outside.specs.declared.disk.File.TheVariants.{Pkg};
 ghost use Rattle.rpm_outside.specs.Files.{Files};
@@ -11,10 +11,10 @@ ghost use Rattle.rpm_pkgdb.specs.Store.{Keeps};
 ghost use Rattle.rpm_pkgdb.specs.Blobs.{blobs};
 ghost use Rattle.rpm_outside.specs.Changes.{Changes, Stops};
 ghost use Rattle.rpm_pkgdb.specs.Quiet.{IsQuiet, StandsFor, Anything};
-ghost use Rattle.rpm_pkgdb.specs.Stays.{OthersStay};
+ghost use Rattle.rpm_pkgdb.specs.Stays.{OthersStay, StaysBut};
 ghost use Rattle.rpm_pkgdb.specs.Written.{stopped, erased, AreZeros, ErasesTo};
 
-use crate::erasing::{FREE, free_slot};
+use crate::freed_slot::{FREE, free_slot};
 use crate::store::{DiskFault, PkgDb};
 use crate::used::forget;
 use rpm_outside::Disk;
@@ -25,7 +25,7 @@ impl PkgDb {
     /// Its slot is set free, and once that is durable its blocks become zeros. Writes one unit and the blocks, a page at a time, and
     /// syncs once; reads nothing and takes no memory. The pairs of greater numbers move in memory.
     ///
-    /// A crash at any moment leaves the packages from before, or those without this one.
+    /// A crash at any moment leaves the packages from before, or those without this one, each with its blocks byte for byte.
     ///
     /// # Errors
     ///
@@ -42,6 +42,8 @@ impl PkgDb {
         ensures zeros { OnOk result (IsTrue D.tells → AreZeros (slot_with n self.old.slots) (D.files disk.new).pkg) }
         ensures images { IsTrue D.tells → IsQuiet self.old (D.files disk.old) (D.left_since disk.old (D.moment disk.old)) → LeavesOnly D.moment
             D.left_since disk.old disk.new (Stops Pkg (ErasesTo self.old n (D.files disk.old).pkg) (D.left_since disk.old (D.moment disk.old))) }
+        ensures left { IsTrue D.tells → IsQuiet self.old (D.files disk.old) (D.left_since disk.old (D.moment disk.old)) → LeavesOnly D.moment
+            D.left_since disk.old disk.new (Stops Pkg (StaysBut n None self.old (D.files disk.old).pkg) (D.left_since disk.old (D.moment disk.old))) }
         ensures quiet { OnOk result (IsTrue D.tells → IsQuiet self.new (D.files disk.new) (D.left_since disk.new (D.moment disk.new))) }
         ensures stands { OnOk result (IsTrue D.tells → (image : Files) → D.left_since disk.new (D.moment disk.new) image → StandsFor
             self.new.generation self.new.field (blobs (D.files disk.new).pkg self.new) image.pkg) }

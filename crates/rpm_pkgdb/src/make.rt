@@ -16,12 +16,12 @@ ghost use Rattle.rpm_pkgdb.specs.Quiet.{IsQuiet, Anything, IsFirstPage};
 ghost use Rattle.rpm_pkgdb.specs.Framing.{next_unit};
 ghost use Rattle.rpm_pkgdb.specs.Written.{stopped, made_new, MakesTo};
 
-use crate::erasing::FREE;
-use crate::pages::write_free_slots;
+use crate::free_slots::write_free_slots;
+use crate::freed_slot::FREE;
 use crate::slot::Slot;
 use crate::store::{DiskFault, PkgDb};
 use crate::units::{head_unit, next_unit};
-use crate::writing::{settle, write_one, write_units};
+use crate::writes::{settle, write_one, write_units};
 use rpm_outside::{Disk, Failed};
 
 /// Writes the next number 1 and free slots, and settles them.

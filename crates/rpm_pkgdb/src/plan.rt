@@ -11,7 +11,7 @@ ghost use Rattle.rpm_pkgdb.specs.Blobs.{blocks_for};
 ghost use Rattle.rpm_pkgdb.specs.inner.Puts.{IsTargetFor};
 ghost use Rattle.rpm_pkgdb.specs.inner.Keeping.{AreUsedTo};
 
-use crate::page::Page;
+use crate::page_plan::Page;
 use crate::slot::Slot;
 use crate::store::PkgDb;
 use crate::used::make_room;

@@ -20,15 +20,15 @@ ghost use Rattle.rpm_pkgdb.specs.Planned.{IsPlan, HoldsPage, moves_of};
 ghost use Rattle.rpm_pkgdb.specs.Placing.{put_in, replaced_by};
 ghost use Rattle.rpm_pkgdb.specs.Freed.{AreFreed};
 ghost use Rattle.rpm_pkgdb.specs.Reaches.{ReachesTo};
-ghost use Rattle.rpm_pkgdb.specs.Stays.{OthersStay};
+ghost use Rattle.rpm_pkgdb.specs.Stays.{OthersStay, StaysBut};
 ghost use Rattle.rpm_pkgdb.specs.Written.{with_blob, with_plan, PutsTo, stopped, with_spare, AreZeros};
 ghost use Rattle.rpm_pkgdb.specs.inner.MoveLists.{CanGrowBy};
 
-use crate::erasing::FREE;
+use crate::freed_slot::FREE;
+use crate::new_blob::put_blob;
 use crate::numbers::Numbers;
-use crate::page::Page;
+use crate::page_plan::Page;
 use crate::plan::{Plan, Target};
-use crate::putting::put_blob;
 use crate::slot::Slot;
 use crate::store::{DiskFault, PkgDb};
 use crate::used::{forget_slot, remember};
@@ -113,6 +113,9 @@ impl PkgDb {
         ensures images { IsTrue D.tells → IsQuiet self.now (D.files disk.old) (D.left_since disk.old (D.moment disk.old)) → LeavesOnly D.moment
             D.left_since disk.old disk.new (Stops Pkg (PutsTo self.now plan.now.target blob.now (D.files disk.old).pkg)
             (D.left_since disk.old (D.moment disk.old))) }
+        ensures left { IsTrue D.tells → IsQuiet self.now (D.files disk.old) (D.left_since disk.old (D.moment disk.old)) → LeavesOnly D.moment
+            D.left_since disk.old disk.new (Stops Pkg (StaysBut plan.now.target.number (Some (units_of (framed plan.now.target.number
+            self.now.generation blob.now))) self.now (D.files disk.old).pkg) (D.left_since disk.old (D.moment disk.old))) }
         ensures quiet { OnOk result (IsTrue D.tells → IsQuiet (with_plan plan.now self.now) (D.files disk.new) (D.left_since disk.new (D.moment disk.new))) }
         ensures reach { OnOk result (IsTrue D.tells → ReachesTo (with_plan plan.now self.now) (D.files disk.old).pkg (D.files disk.new).pkg) }
         ensures changes { Changes D.tells D.files D.left_since D.moment D.bytes_read D.follows Pkg Anything
@@ -158,7 +161,8 @@ impl PkgDb {
     /// once, nothing else is read, and no memory is taken. In memory the ranges after the new one move, which is none where it is the
     /// last.
     ///
-    /// A crash at any moment leaves the packages from before, or those with this one.
+    /// A crash at any moment leaves the packages from before, or those with this one, each with its blocks byte for byte: blocks that
+    /// move are copies before a slot names them.
     ///
     /// # Errors
     ///
@@ -187,6 +191,9 @@ impl PkgDb {
         ensures images { IsTrue D.tells → IsQuiet self.old (D.files disk.old) (D.left_since disk.old (D.moment disk.old)) → LeavesOnly D.moment
             D.left_since disk.old disk.new (Stops Pkg (PutsTo self.old plan.target blob.now (D.files disk.old).pkg)
             (D.left_since disk.old (D.moment disk.old))) }
+        ensures left { IsTrue D.tells → IsQuiet self.old (D.files disk.old) (D.left_since disk.old (D.moment disk.old)) → LeavesOnly D.moment
+            D.left_since disk.old disk.new (Stops Pkg (StaysBut plan.target.number (Some (units_of (framed plan.target.number
+            self.old.generation blob.now))) self.old (D.files disk.old).pkg) (D.left_since disk.old (D.moment disk.old))) }
         ensures quiet { OnOk result (IsTrue D.tells → IsQuiet self.new (D.files disk.new) (D.left_since disk.new (D.moment disk.new))) }
         ensures stands { OnOk result (IsTrue D.tells → (image : Files) → D.left_since disk.new (D.moment disk.new) image → StandsFor
             self.new.generation self.new.field (blobs (D.files disk.new).pkg self.new) image.pkg) }

@@ -14,7 +14,7 @@ ghost use Rattle.rpm_pkgdb.specs.Written.{stopped, with_generation, RaisesTo};
 
 use crate::store::{DiskFault, PkgDb};
 use crate::units::head_unit;
-use crate::writing::write_one;
+use crate::writes::write_one;
 use rpm_outside::Disk;
 
 impl PkgDb {

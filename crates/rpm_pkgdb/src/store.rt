@@ -1,27 +1,22 @@
 //! The store in Packages.db.
 
-ghost use Rattle.std.specs.Prelude.{◌≡◌, ℕ, ◌+◌, ◌-◌, ◌*◌, ◌/◌, ◌^◌, ◌≤◌, ◌<◌, ◌==◌, [], IsTrue, length, max, not, None, Some, Ok, Err, ◌↔◌, OnOk, IfOk, IfErr, IsSome, is_some};
-ghost use Rattle.std.specs.List.{list_any};
-ghost use Rattle.rpm_outside.specs.Files.{Files, Units, unit_at};
+ghost use Rattle.std.specs.Prelude.{◌≡◌, ◌+◌, ◌-◌, ◌*◌, ◌/◌, ◌^◌, ◌≤◌, ◌<◌, ◌==◌, IsTrue, length, max, None, Some, Ok, Err, IfOk, IfErr, IsSome, is_some};
+ghost use Rattle.rpm_outside.specs.Files.{unit_at};
 ghost use Rattle.rpm_outside.specs.Causes.{HasCauseAt};
 ghost use Rattle.rpm_outside.specs.declared.disk.File.TheVariants.{Pkg};
 ghost use Rattle.rpm_outside.specs.Looks.{Looks};
-ghost use Rattle.std.specs.FinMap as finite;
 ghost use Rattle.rpm_pkgdb.specs.Words.{word};
-ghost use Rattle.rpm_pkgdb.specs.Slots.{slot_with, has_number, end_of, IsPackageNumber};
+ghost use Rattle.rpm_pkgdb.specs.Slots.{slot_with, end_of, IsPackageNumber};
 ghost use Rattle.rpm_pkgdb.specs.Quiet.{HasSlot, with_free};
 ghost use Rattle.rpm_pkgdb.specs.Written.{erased};
 ghost use Rattle.rpm_pkgdb.specs.Damages.{head_reason};
 ghost use Rattle.rpm_pkgdb.specs.Store.{store, store_of, in_file, Keeps, blank_store, next_number, OpenIs};
 ghost use Rattle.rpm_pkgdb.specs.Pairs.{IsNext};
-ghost use Rattle.rpm_pkgdb.specs.Blobs.{frames, blobs};
-ghost use Rattle.rpm_pkgdb.specs.Checksums.{checksums_hold};
-ghost use Rattle.rpm_pkgdb.specs.Costs.{cost, opening_cost};
-ghost use Rattle.rpm_pkgdb.specs.Answers.{AnswerIs, frame_in, given, given_blob, given_check};
+ghost use Rattle.rpm_pkgdb.specs.Blobs.{blobs};
+ghost use Rattle.rpm_pkgdb.specs.Costs.{opening_cost};
 
-use crate::blob::{Blocks, Checked, GetFault, read_blocks};
 use crate::numbers::Numbers;
-use crate::reading::read_unit;
+use crate::reads::read_unit;
 use crate::slot::{BLOCKS, MAGIC, OpenFault, Reason, Slot, damage_at};
 use crate::table::read_table;
 use crate::words::{is_zeros, word};
@@ -117,14 +112,14 @@ impl PkgDb {
     ///
     /// A file without units, or whose unit 0 is all zeros, is blank: a store of no pages and no packages, whose next number is 1.
     ///
-    /// Reads 4096 bytes a page, each byte once, and at most unit 0 where the file is blank or its head is damaged. All slots are read
-    /// before the first damage is looked for, and room for them is taken first: 20 bytes a slot for as long as the value lives, and
-    /// while opening 28 more.
+    /// Reads 4096 bytes a page, each byte once, in pieces of 16 KiB up to the first slot that is damaged by itself; and at most unit 0
+    /// where the file is blank or its head is damaged. Room for the slots is taken first: 20 bytes a slot for as long as the value
+    /// lives, and while opening at most 12 more.
     ///
-    /// Each used slot is compared with the next by number and by first block, which shows that no two of them meet: as they stand, where
-    /// they rise, as additions leave them, and else once they are put in order. This takes n log n whatever stands in them, and is linear
-    /// where they rise in a few runs, as slot pages leave them, which move the first packages after the others. Where that doesn't show it,
-    /// two ordered maps find the first damage, which takes about ten times as long.
+    /// Each used slot is compared with the next by number and by first block, which shows that no two of them meet: as they are read, where
+    /// they rise, as additions leave them, and else once they are put in order, by what doesn't rise alone. This takes n log n whatever
+    /// stands in them, and is linear where they rise in a few runs, as slot pages leave them, which move the first packages after the
+    /// others. Where that doesn't show it, two ordered maps find the first damage, which takes about ten times as long.
     ///
     /// No package has the number 0.
     ///
@@ -235,7 +230,7 @@ impl PkgDb {
     }
 
     /// The slot of a number.
-    fn slot_of(&self, n: u32) -> Option<Slot>
+    pub(crate) fn slot_of(&self, n: u32) -> Option<Slot>
         ensures { result ≡ slot_with n self.now.slots }
     {
         match self.numbers.place_of(n) {
@@ -278,118 +273,5 @@ impl PkgDb {
         ensures { IsNext (λ m. slot_with m self.now.slots) n result }
     {
         self.numbers.above(n)
-    }
-}
-
-impl PkgDb {
-    /// Reads the blocks of a number, into a vector whose room is used again.
-    fn blocks<D: Disk>(&self, disk: &mut D, n: u32, room: Vec<u8>) -> Result<Blocks, GetFault>
-        requires keeps { IsTrue D.tells → Keeps (D.files disk.old).pkg self.now }
-        ensures long { IfOk result (λ b. 12 ≤ length b.rest.items) }
-        ensures kept { IsTrue D.tells → Keeps (D.files disk.new).pkg self.now }
-        ensures told { IsTrue D.tells → AnswerIs frame_in (frames (D.files disk.old).pkg self.now n) result }
-        ensures absent { (result ≡ Err GetFault.NoSuch) ↔ (slot_with n self.now.slots ≡ None) }
-        ensures looks { Looks D.tells D.files D.left_since D.moment D.bytes_read D.follows Pkg (cost n self.now) disk.old disk.new }
-        ensures cause { HasCauseAt (result ≡ Err GetFault.DiskFault) (D.faults disk.old) (D.faults disk.new) }
-    {
-        match self.slot_of(n) {
-            None => Err(GetFault::NoSuch),
-            Some(slot) => read_blocks(disk, n, slot, room),
-        }
-    }
-
-    /// The blob of a number.
-    ///
-    /// Reads the number's own blocks, each once: its first alone where the head is wrong. The bytes that are answered are those that
-    /// were read, without a copy.
-    ///
-    /// # Errors
-    ///
-    /// - `NoSuch` exactly where no slot has the number. Nothing is read then.
-    /// - `Bad` exactly where the framing of its blob is broken.
-    /// - `DiskFault` only where the disk's count of faults rose.
-    /// - `NoMemory` where the blob finds no memory.
-    pub fn get<D: Disk>(&self, alloc: Global, disk: &mut D, n: u32) -> Result<Vec<u8>, GetFault>
-        requires keeps { IsTrue D.tells → Keeps (D.files disk.old).pkg self.now }
-        ensures kept { IsTrue D.tells → Keeps (D.files disk.new).pkg self.now }
-        ensures told { IsTrue D.tells → AnswerIs given (finite.get (blobs (D.files disk.old).pkg self.now) n) result }
-        ensures absent { (result ≡ Err GetFault.NoSuch) ↔ (slot_with n self.now.slots ≡ None) }
-        ensures looks { Looks D.tells D.files D.left_since D.moment D.bytes_read D.follows Pkg (cost n self.now) disk.old disk.new }
-        ensures cause { HasCauseAt (result ≡ Err GetFault.DiskFault) (D.faults disk.old) (D.faults disk.new) }
-    {
-        self.get_in(disk, n, Vec::new(alloc))
-    }
-
-    /// The blob of a number, as `get` gives it, in a vector of the caller's, whatever it holds. One that held a blob before has its room
-    /// already, and what of it is written over needn't be zeroed first.
-    ///
-    /// # Errors
-    ///
-    /// Those of `get`, with the same causes.
-    pub fn get_in<D: Disk>(&self, disk: &mut D, n: u32, room: Vec<u8>) -> Result<Vec<u8>, GetFault>
-        requires keeps { IsTrue D.tells → Keeps (D.files disk.old).pkg self.now }
-        ensures kept { IsTrue D.tells → Keeps (D.files disk.new).pkg self.now }
-        ensures told { IsTrue D.tells → AnswerIs given (finite.get (blobs (D.files disk.old).pkg self.now) n) result }
-        ensures absent { (result ≡ Err GetFault.NoSuch) ↔ (slot_with n self.now.slots ≡ None) }
-        ensures looks { Looks D.tells D.files D.left_since D.moment D.bytes_read D.follows Pkg (cost n self.now) disk.old disk.new }
-        ensures cause { HasCauseAt (result ≡ Err GetFault.DiskFault) (D.faults disk.old) (D.faults disk.new) }
-    {
-        match self.blocks(disk, n, room) {
-            Err(fault) => Err(fault),
-            Ok(blocks) => Ok(blocks.into_blob()),
-        }
-    }
-
-    /// Whether the checksum in the tail of a number's blob is the Adler-32 of its head, bytes and padding.
-    ///
-    /// Reads the number's own blocks, each once, and takes memory for them.
-    ///
-    /// # Errors
-    ///
-    /// Those of `get`, with the same causes.
-    pub fn checksum_holds<D: Disk>(
-        &self,
-        alloc: Global,
-        disk: &mut D,
-        n: u32,
-    ) -> Result<bool, GetFault>
-        requires keeps { IsTrue D.tells → Keeps (D.files disk.old).pkg self.now }
-        ensures kept { IsTrue D.tells → Keeps (D.files disk.new).pkg self.now }
-        ensures told { IsTrue D.tells → AnswerIs (λ holds. holds) (checksums_hold (D.files disk.old).pkg self.now n) result }
-        ensures absent { (result ≡ Err GetFault.NoSuch) ↔ (slot_with n self.now.slots ≡ None) }
-        ensures looks { Looks D.tells D.files D.left_since D.moment D.bytes_read D.follows Pkg (cost n self.now) disk.old disk.new }
-        ensures cause { HasCauseAt (result ≡ Err GetFault.DiskFault) (D.faults disk.old) (D.faults disk.new) }
-    {
-        match self.blocks(disk, n, Vec::new(alloc)) {
-            Err(fault) => Err(fault),
-            Ok(blocks) => Ok(blocks.checksum_holds()),
-        }
-    }
-
-    /// The blob of a number, and whether the checksum in its tail is right.
-    ///
-    /// Reads the number's own blocks, each once, as `get` does, and takes memory for them alone.
-    ///
-    /// # Errors
-    ///
-    /// Those of `get`, with the same causes. A wrong checksum is no error.
-    pub fn read_checked<D: Disk>(
-        &self,
-        alloc: Global,
-        disk: &mut D,
-        n: u32,
-    ) -> Result<Checked, GetFault>
-        requires keeps { IsTrue D.tells → Keeps (D.files disk.old).pkg self.now }
-        ensures kept { IsTrue D.tells → Keeps (D.files disk.new).pkg self.now }
-        ensures blob { IsTrue D.tells → AnswerIs given_blob (finite.get (blobs (D.files disk.old).pkg self.now) n) result }
-        ensures holds { IsTrue D.tells → AnswerIs given_check (checksums_hold (D.files disk.old).pkg self.now n) result }
-        ensures absent { (result ≡ Err GetFault.NoSuch) ↔ (slot_with n self.now.slots ≡ None) }
-        ensures looks { Looks D.tells D.files D.left_since D.moment D.bytes_read D.follows Pkg (cost n self.now) disk.old disk.new }
-        ensures cause { HasCauseAt (result ≡ Err GetFault.DiskFault) (D.faults disk.old) (D.faults disk.new) }
-    {
-        match self.blocks(disk, n, Vec::new(alloc)) {
-            Err(fault) => Err(fault),
-            Ok(blocks) => Ok(blocks.into_checked()),
-        }
     }
 }

@@ -1,7 +1,7 @@
 //! The slots of the pages, each read once.
 
-ghost use Rattle.std.specs.Prelude.{◌≡◌, ℕ, ◌-◌, ◌*◌, ◌/◌, ◌^◌, ◌≤◌, IsTrue, length, drop, take, None, Err, IfOk, IfErr, IfSome, OnOk};
-ghost use Rattle.rpm_outside.specs.Files.{Files, Units, units_of};
+ghost use Rattle.std.specs.Prelude.{◌≡◌, ℕ, ◌-◌, ◌*◌, ◌^◌, ◌≤◌, [], IsTrue, true, length, None, Err, IfOk, IfErr, OnOk};
+ghost use Rattle.rpm_outside.specs.Files.{Files};
 ghost use Rattle.rpm_outside.specs.Causes.{HasCauseAt};
 ghost use Rattle.rpm_outside.specs.declared.disk.File.TheVariants.{Pkg};
 ghost use Rattle.rpm_outside.specs.Looks.{Looks};
@@ -11,15 +11,20 @@ ghost use Rattle.rpm_pkgdb.specs.Store.{Says, SaysHere};
 ghost use Rattle.rpm_pkgdb.specs.inner.Maps.{HasPlaces};
 ghost use Rattle.rpm_pkgdb.specs.Pairs.{find_in};
 ghost use Rattle.rpm_pkgdb.specs.Undamaged.{AreSound};
-ghost use Rattle.rpm_pkgdb.specs.inner.Tables.{AreOwn, AreNumbered, IsTable, IsOutside};
+ghost use Rattle.rpm_pkgdb.specs.inner.Keys.{ArePairs, AreRising, AreRisingTo};
+ghost use Rattle.rpm_pkgdb.specs.inner.Meetings.{meeting};
+ghost use Rattle.rpm_pkgdb.specs.inner.Reading.{IsRead, fault_of};
+ghost use Rattle.rpm_pkgdb.specs.inner.Rising.{IsInOrder};
+ghost use Rattle.rpm_pkgdb.specs.inner.Tables.{AreBounded, AreNumbered, IsOutside};
 
-use crate::keys::numbers_if_apart;
+use crate::keys::{Order, numbers_if_apart};
 use crate::numbers::Numbers;
 use crate::opening::Opening;
-use crate::reading::{add_units, read_units, unit_in};
-use crate::slot::{OpenFault, Slot, own_reason, slot_of};
+use crate::reading::{Reading, read_pieces};
+use crate::rising::Rising;
+use crate::slot::{OpenFault, Slot, damage_at};
 use rpm_outside::Disk;
-use std::alloc::{AllocError, Global};
+use std::alloc::Global;
 
 /// All slots, none of them damaged, and where the slot of each number is.
 #[derive(Drop)]
@@ -28,101 +33,128 @@ pub struct Table {
     pub numbers: Numbers,
 }
 
-/// The slots in these bytes, if each is right by itself.
-fn own_slots(
-    alloc: Global,
-    pages: u32,
-    units: u64,
-    bytes: &[u8],
-) -> Result<Option<Vec<Slot>>, AllocError>
-    requires pages { 256 * pages ≤ 2 ^ 28 }
-    ensures slots { IfOk result (λ found. IfSome found (λ slots. slots.items ≡ slots_in (units_of bytes.now))) }
-    ensures own { IfOk result (λ found. IfSome found (λ _slots. AreOwn pages units (units_of bytes.now) (length bytes.now / 16))) }
-    ensures numbered { IfOk result (λ found. IfSome found (λ slots. AreNumbered slots.items)) }
-{
-    let mut slots = Vec::with_capacity(alloc, bytes.len() / 16)?;
-    for k in 0..bytes.len() / 16 {
-        let unit = unit_in(bytes, k);
-        if own_reason(pages, units, unit).is_some() {
-            return Ok(None);
-        }
-        slots.push_reserved(slot_of(unit));
-    }
-    Ok(Some(slots))
-}
-
-/// The table in these bytes, if each slot is right by itself and the order of the slots' keys shows that none meets another.
-fn quick_table(
-    alloc: Global,
-    pages: u32,
-    units: u64,
-    bytes: &[u8],
-) -> Result<Option<Table>, AllocError>
-    requires pages { 256 * pages ≤ 2 ^ 28 }
-    requires room { length bytes.now / 16 ≤ 2 ^ 28 }
-    ensures { IfOk result (λ found. IfSome found (λ table. IsTable pages units (units_of bytes.now) table.slots.items table.numbers.pairs)) }
-{
-    let Some(slots) = own_slots(alloc, pages, units, bytes)? else {
-        return Ok(None);
-    };
-    match numbers_if_apart(alloc, &slots)? {
-        None => Ok(None),
-        Some(numbers) => Ok(Some(Table { slots, numbers })),
-    }
-}
-
-/// The table in these bytes, or its first damage: slot by slot, each beside the earlier ones.
-fn exact_table(alloc: Global, pages: u32, units: u64, bytes: &[u8]) -> Result<Table, OpenFault>
-    requires pages { 256 * pages ≤ 2 ^ 28 }
-    requires room { length bytes.now / 16 ≤ 2 ^ 28 }
-    ensures table { IfOk result (λ table. IsTable pages units (units_of bytes.now) table.slots.items table.numbers.pairs) }
-    ensures says { IfErr result (λ e. SaysHere e (table_fault pages units (units_of bytes.now))) }
+/// The numbers of slots with their places, or the first slot that meets an earlier one: each beside the earlier ones.
+fn exact_numbers(alloc: Global, slots: &[Slot]) -> Result<Numbers, OpenFault>
+    requires few { length slots.now ≤ 2 ^ 28 }
+    requires bounded { AreBounded slots.now }
+    requires numbered { AreNumbered slots.now }
+    ensures places { IfOk result (λ numbers. HasPlaces (find_in numbers.pairs) slots.now) }
+    ensures sound { OnOk result (meeting [] slots.now ≡ None) }
+    ensures says { IfErr result (λ e. SaysHere e (meeting [] slots.now)) }
 {
     let mut opening = Opening::new(alloc);
-    if let Err(fault) = add_units(&mut opening, pages, units, bytes) {
-        return Err(fault);
+    for k in 0..slots.len() {
+        if let Err(fault) = opening.add(slots[k]) {
+            return Err(fault);
+        }
     }
-    let Ok(numbers) = Numbers::from_map(alloc, opening.numbers) else {
-        return Err(OpenFault::NoMemory);
-    };
-    Ok(Table {
-        slots: opening.slots,
-        numbers,
-    })
-}
-
-/// The table in these bytes, or its first damage.
-pub fn table_in(alloc: Global, pages: u32, units: u64, bytes: &[u8]) -> Result<Table, OpenFault>
-    requires pages { 256 * pages ≤ 2 ^ 28 }
-    requires room { length bytes.now / 16 ≤ 2 ^ 28 }
-    ensures table { IfOk result (λ table. IsTable pages units (units_of bytes.now) table.slots.items table.numbers.pairs) }
-    ensures says { IfErr result (λ e. SaysHere e (table_fault pages units (units_of bytes.now))) }
-{
-    match quick_table(alloc, pages, units, bytes) {
+    match Numbers::from_map(alloc, opening.numbers) {
+        Ok(numbers) => Ok(numbers),
         Err(_) => Err(OpenFault::NoMemory),
-        Ok(Some(table)) => Ok(table),
-        Ok(None) => exact_table(alloc, pages, units, bytes),
     }
 }
 
-/// Reads the bytes of all slots.
-fn read_bytes<D: Disk>(alloc: Global, disk: &mut D, pages: u32) -> Result<Vec<u8>, OpenFault>
+/// The numbers of slots with their places, or the first slot that shares its number or a block with an earlier one.
+fn numbers_of(
+    alloc: Global,
+    slots: &[Slot],
+    pairs: Vec<(u32, u32)>,
+    numbers_rise: bool,
+    blocks_rise: bool,
+) -> Result<Numbers, OpenFault>
+    requires few { length slots.now ≤ 2 ^ 28 }
+    requires bounded { AreBounded slots.now }
+    requires numbered { AreNumbered slots.now }
+    requires pairs { ArePairs Order.Number slots.now (length slots.now) pairs.items }
+    requires numbers { numbers_rise ≡ true → (end : ℕ) × AreRising Order.Number slots.now pairs.items (length pairs.items) end }
+    requires blocks { blocks_rise ≡ true → (end : ℕ) × AreRisingTo slots.now (length slots.now) end }
+    ensures places { IfOk result (λ numbers. HasPlaces (find_in numbers.pairs) slots.now) }
+    ensures sound { OnOk result (meeting [] slots.now ≡ None) }
+    ensures says { IfErr result (λ e. SaysHere e (meeting [] slots.now)) }
+{
+    match numbers_if_apart(alloc, slots, pairs, numbers_rise, blocks_rise) {
+        Err(_) => Err(OpenFault::NoMemory),
+        Ok(Some(numbers)) => Ok(numbers),
+        Ok(None) => exact_numbers(alloc, slots),
+    }
+}
+
+/// The table of slots that are right by themselves, or the first that meets an earlier one.
+fn table_of(alloc: Global, rising: Rising) -> Result<Table, OpenFault>
+    requires few { length rising.slots.items ≤ 2 ^ 28 }
+    requires bounded { AreBounded rising.slots.items }
+    requires numbered { AreNumbered rising.slots.items }
+    requires order { IsInOrder rising }
+    ensures slots { IfOk result (λ t. t.slots.items ≡ rising.slots.items) }
+    ensures places { IfOk result (λ t. HasPlaces (find_in t.numbers.pairs) t.slots.items) }
+    ensures numbered { IfOk result (λ t. AreNumbered t.slots.items) }
+    ensures sound { OnOk result (meeting [] rising.slots.items ≡ None) }
+    ensures says { IfErr result (λ e. SaysHere e (meeting [] rising.slots.items)) }
+{
+    let Rising {
+        slots,
+        pairs,
+        numbers_rise,
+        blocks_rise,
+        number: _,
+        block: _,
+    } = rising;
+    match numbers_of(alloc, &slots, pairs, numbers_rise, blocks_rise) {
+        Ok(numbers) => Ok(Table { slots, numbers }),
+        Err(fault) => Err(fault),
+    }
+}
+
+/// The table of slots that were read, or its first damage.
+fn table_read(alloc: Global, reading: Reading) -> Result<Table, OpenFault>
+    requires few { length reading.rising.slots.items ≤ 2 ^ 28 }
+    requires bounded { AreBounded reading.rising.slots.items }
+    requires numbered { AreNumbered reading.rising.slots.items }
+    requires order { IsInOrder reading.rising }
+    ensures slots { IfOk result (λ t. t.slots.items ≡ reading.rising.slots.items) }
+    ensures places { IfOk result (λ t. HasPlaces (find_in t.numbers.pairs) t.slots.items) }
+    ensures numbered { IfOk result (λ t. AreNumbered t.slots.items) }
+    ensures sound { OnOk result (fault_of reading ≡ None) }
+    ensures all { OnOk result (reading.reason ≡ None) }
+    ensures says { IfErr result (λ e. SaysHere e (fault_of reading)) }
+{
+    let reason = reading.reason;
+    let table = match table_of(alloc, reading.rising) {
+        Ok(table) => table,
+        Err(fault) => return Err(fault),
+    };
+    match reason {
+        Some(reason) => {
+            let place = 2 + table.slots.len() as u64;
+            Err(OpenFault::Damaged(damage_at(place, reason)))
+        }
+        None => Ok(table),
+    }
+}
+
+/// Reads the slots before the first that isn't right by itself.
+fn read_slots<D: Disk>(
+    alloc: Global,
+    disk: &mut D,
+    pages: u32,
+    units: u64,
+) -> Result<Reading, OpenFault>
     requires some { 1 ≤ pages }
     requires pages { 256 * pages ≤ 2 ^ 28 }
     requires within { IsTrue D.tells → 256 * pages ≤ length (D.files disk.old).pkg }
-    ensures long { IfOk result (λ bytes. length bytes.items ≡ 16 * (256 * pages - 2)) }
-    ensures units { IfOk result (λ bytes. IsTrue D.tells → units_of bytes.items ≡ table pages (D.files disk.old).pkg) }
+    ensures read { IfOk result (λ r. IsRead (IsTrue D.tells) pages units (table pages (D.files disk.old).pkg) (256 * pages - 2) r) }
+    ensures order { IfOk result (λ r. IsInOrder r.rising) }
     ensures outside { IfErr result (λ e. IsOutside e) }
     ensures looks { Looks D.tells D.files D.left_since D.moment D.bytes_read D.follows Pkg (16 * (256 * pages - 2)) disk.old disk.new }
     ensures cause { HasCauseAt (result ≡ Err OpenFault.DiskFault) (D.faults disk.old) (D.faults disk.new) }
 {
-    let Ok(mut bytes) = (vec![in alloc; 0u8; 16 * (256 * pages - 2) as usize]) else {
+    let Ok(rising) = Rising::with_capacity(alloc, (256 * pages - 2) as usize) else {
         return Err(OpenFault::NoMemory);
     };
-    let Ok(()) = read_units(disk, 2, &mut bytes) else {
-        return Err(OpenFault::DiskFault);
-    };
-    Ok(bytes)
+    match read_pieces(disk, rising, pages, units) {
+        Ok(reading) => Ok(reading),
+        Err(_) => Err(OpenFault::DiskFault),
+    }
 }
 
 /// Reads all slots.
@@ -145,9 +177,8 @@ pub fn read_table<D: Disk>(
     ensures looks { Looks D.tells D.files D.left_since D.moment D.bytes_read D.follows Pkg (16 * (256 * pages - 2)) disk.old disk.new }
     ensures cause { HasCauseAt (result ≡ Err OpenFault.DiskFault) (D.faults disk.old) (D.faults disk.new) }
 {
-    let bytes = match read_bytes(alloc, disk, pages) {
-        Ok(bytes) => bytes,
-        Err(fault) => return Err(fault),
-    };
-    table_in(alloc, pages, units, &bytes)
+    match read_slots(alloc, disk, pages, units) {
+        Ok(reading) => table_read(alloc, reading),
+        Err(fault) => Err(fault),
+    }
 }

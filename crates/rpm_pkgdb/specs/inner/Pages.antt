@@ -1,7 +1,7 @@
 -- A slot page that is planned.
 use Rattle.std.specs.Prelude.{◌≡◌, ℕ, ◌^◌, ◌<◌, ◌≤◌, List, length, true, Option, Some, None, Contains, slice_index_or}
 use Rattle.rpm_pkgdb.specs.declared.slot.Slot.{Slot}
-use Rattle.rpm_pkgdb.specs.declared.page.Page.{Page}
+use Rattle.rpm_pkgdb.specs.declared.page_plan.Page.{Page}
 use Rattle.rpm_pkgdb.specs.Slots.{slot_at, is_used}
 use Rattle.rpm_pkgdb.specs.Undamaged.{AreSound}
 use Rattle.rpm_pkgdb.specs.Growing.{after_moves, AreMoves, AreBehind}

@@ -18,14 +18,14 @@ pub same_map : {X : Type 0} (f g : ℕ → X) → ((k : ℕ) → f k ≡ g k) �
 same_map f g same [] = refl
 same_map f g same (k ∷ ks) = ap (λ x. x ∷ map f ks) (same k) ∙ ap (λ xs. g k ∷ xs) (same_map f g same ks)
 
+pub option_or-assoc : {X : Type 0} (a b c : Option X) → option_or (option_or a b) c ≡ option_or a (option_or b c)
+option_or-assoc None b c = refl
+option_or-assoc (Some x) b c = refl
+
 module _ (pages units : ℕ) where
   abbrev pub run : List Slot → Units → Option Damage
   run earlier [] = None
   run earlier (u ∷ us) = option_or (slot_fault pages units earlier u) (run (earlier ++ slot_of u ∷ []) us)
-
-  option_or-assoc : {X : Type 0} (a b c : Option X) → option_or (option_or a b) c ≡ option_or a (option_or b c)
-  option_or-assoc None b c = refl
-  option_or-assoc (Some x) b c = refl
 
   pub run-append : (earlier : List Slot) (us vs : Units) → run earlier (us ++ vs) ≡ option_or (run earlier us) (run (earlier ++ slots_in us) vs)
   unfolding slots_in

@@ -1,25 +1,65 @@
-use Rattle.std.proofs.Common.{◌≡◌, ◌-◌, ◌*◌, ◌/◌, ◌^◌, length, ap, ◌∙◌, arith}
-use Rattle.rpm_outside.specs.Files.{units_of}
-use Rattle.rpm_outside.specs.inner.Cuts.{length-cut_up}
+use Rattle.std.proofs.Common.{◌≡◌, ℕ, ◌-◌, ◌*◌, ◌^◌, IsTrue, length, None, sym, ap, ◌∙◌, subst, arith}
+use Rattle.rpm_pkgdb.specs.declared.slot.OpenFault.{OpenFault}
 use Rattle.rpm_pkgdb.specs.declared.table.Table.{Table}
+use Rattle.rpm_pkgdb.specs.Slots.{slots_in}
+use Rattle.rpm_pkgdb.specs.Damages.{table, table_fault}
+use Rattle.rpm_pkgdb.specs.Store.{Says, SaysHere}
 use Rattle.rpm_pkgdb.specs.Undamaged.{AreSound}
-use Rattle.rpm_pkgdb.specs.inner.Tables.{IsTable}
-use Rattle.rpm_pkgdb.proofs.Steps.{length-slots_in}
-use Rattle.rpm_pkgdb.proofs.TableLaws.{ok_gives, none_limit}
+use Rattle.rpm_pkgdb.specs.inner.Reading.{IsRead, fault_of}
+use Rattle.rpm_pkgdb.proofs.ReadingLaws.{table_count, read_bounded, read_count, read_few, read_fault, read_placed, read_whole, no_meeting, says_whole, ok_with, on_ok, err_gives}
 use Rattle.rpm_pkgdb.proofs.table.read_table.Goals as goal
 
-pub returns-clause-count : goal.returns-clause-count
-returns-clause-count g c =
-    let bytes = c.deref.result.now in
-    let long : length (units_of bytes) ≡ 256 * c.args.pages - 2 =
-    omega (arith, length-cut_up (length bytes / 16) bytes, ap length c.deref.ensures.value, c.in-Ok.ensures.long) in
-    ok_gives (λ (t : Table). IsTable c.args.pages c.args.units (units_of bytes) t.slots.items t.numbers.pairs)
-    (λ (t : Table). length t.slots.items ≡ 256 * c.args.pages - 2) c.table_in.result
-    (λ t is. ap length is.slots_are ∙ length-slots_in (units_of bytes) ∙ long) c.table_in.ensures.table
+pub table_read-requires-clause-bounded : goal.table_read-requires-clause-bounded
+table_read-requires-clause-bounded g c = read_bounded _ _ _ _ _ c.in-Ok.ensures.read.slots
 
-pub returns-clause-placed : goal.returns-clause-placed
-returns-clause-placed g c =
-    let bytes = c.deref.result.now in
-    ok_gives (λ (t : Table). IsTable c.args.pages c.args.units (units_of bytes) t.slots.items t.numbers.pairs)
-    (λ (t : Table). AreSound c.args.pages (2 ^ 28) t.slots.items) c.table_in.result
-    (λ t is. none_limit c.args.pages c.args.units (units_of bytes) t.slots.items is.slots_are is.sound) c.table_in.ensures.table
+pub table_read-requires-clause-numbered : goal.table_read-requires-clause-numbered
+table_read-requires-clause-numbered g c = c.in-Ok.ensures.read.slots.numbered
+
+pub table_read-requires-clause-few : goal.table_read-requires-clause-few
+table_read-requires-clause-few g c = omega (arith, read_few _ _ _ _ _ c.in-Ok.reading c.in-Ok.ensures.read, c.requires.pages)
+
+pub returns-in-Ok-clause-count : goal.returns-in-Ok-clause-count
+returns-in-Ok-clause-count g c =
+    let r = c.in-Ok.reading in
+    ok_with (λ (t : Table). t.slots.items ≡ r.rising.slots.items) (λ (t : Table). length t.slots.items ≡ 256 * c.args.pages - 2) (r.reason ≡ None) c.table_read.result
+    (λ t same none. ap length same ∙ read_count _ _ _ _ _ r c.in-Ok.ensures.read none) c.table_read.ensures.slots c.table_read.ensures.all
+
+pub returns-in-Ok-clause-placed : goal.returns-in-Ok-clause-placed
+returns-in-Ok-clause-placed g c =
+    let r = c.in-Ok.reading in
+    ok_with (λ (t : Table). t.slots.items ≡ r.rising.slots.items) (λ (t : Table). AreSound c.args.pages (2 ^ 28) t.slots.items) (fault_of r ≡ None) c.table_read.result
+    (λ t same none. subst (AreSound c.args.pages (2 ^ 28)) (sym same)
+    (read_placed _ c.args.pages _ _ r.rising.slots.items c.in-Ok.ensures.read.slots (no_meeting r none))) c.table_read.ensures.slots c.table_read.ensures.sound
+
+pub returns-in-Ok-clause-slots : goal.returns-in-Ok-clause-slots
+returns-in-Ok-clause-slots g c =
+    let r = c.in-Ok.reading in
+    let pages = c.args.pages in
+    let file = (g.D.Disk.files c.args.disk.now).pkg in
+    let is = c.in-Ok.ensures.read in
+    ok_with (λ (t : Table). t.slots.items ≡ r.rising.slots.items) (λ (t : Table). IsTrue g.D.Disk.tells → t.slots.items ≡ slots_in (table pages file)) (r.reason ≡ None)
+    c.table_read.result (λ t same none told.
+    let long : length r.rising.slots.items ≡ length (table pages file) =
+    read_count _ _ _ _ _ r is none ∙ sym (table_count pages file (c.requires.within told)) in
+    same ∙ is.slots.slots_are ∙ ap slots_in (read_whole _ _ _ _ _ is.slots told long)) c.table_read.ensures.slots c.table_read.ensures.all
+
+pub returns-in-Ok-clause-sound : goal.returns-in-Ok-clause-sound
+returns-in-Ok-clause-sound g c =
+    let r = c.in-Ok.reading in
+    let Told = IsTrue g.D.Disk.tells in
+    let pages = c.args.pages in
+    let file = (g.D.Disk.files c.args.disk.now).pkg in
+    on_ok (fault_of r ≡ None) (Told → table_fault pages c.args.units (table pages file) ≡ None) c.table_read.result (λ none told.
+    read_fault Told pages c.args.units (table pages file) r (subst (λ (n : ℕ). IsRead Told pages c.args.units (table pages file) n r)
+    (sym (table_count pages file (c.requires.within told))) c.in-Ok.ensures.read) told ∙ none) c.table_read.ensures.sound
+
+pub returns-in-Ok-clause-says : goal.returns-in-Ok-clause-says
+returns-in-Ok-clause-says g c =
+    let r = c.in-Ok.reading in
+    let Told = IsTrue g.D.Disk.tells in
+    let pages = c.args.pages in
+    let file = (g.D.Disk.files c.args.disk.now).pkg in
+    err_gives (λ (e : OpenFault). SaysHere e (fault_of r)) (λ (e : OpenFault). Told → Says e (table_fault pages c.args.units (table pages file)))
+    c.table_read.result (λ e says. says_whole Told (fault_of r) (table_fault pages c.args.units (table pages file)) e (λ told.
+    read_fault Told pages c.args.units (table pages file) r (subst (λ (n : ℕ). IsRead Told pages c.args.units (table pages file) n r)
+    (sym (table_count pages file (c.requires.within told))) c.in-Ok.ensures.read) told) says) c.table_read.ensures.says

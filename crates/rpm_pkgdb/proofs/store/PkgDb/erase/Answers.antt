@@ -1,4 +1,4 @@
-use Rattle.std.proofs.Common.{◌≡◌, length, Some, sym, ap, subst, ◌∙◌, arith}
+use Rattle.std.proofs.Common.{◌≡◌, length, Some, None, sym, ap, subst, ◌∙◌, arith}
 use Rattle.rpm_pkgdb.specs.declared.slot.Slot.{Slot}
 use Rattle.rpm_pkgdb.specs.Slots.{is_used}
 use Rattle.rpm_pkgdb.specs.Pairs.{find_in}
@@ -10,9 +10,10 @@ use Rattle.rpm_pkgdb.proofs.RangeLaws.{freed_used}
 use Rattle.rpm_pkgdb.specs.inner.Ranges.{Forgets}
 use Rattle.rpm_pkgdb.specs.Quiet.{HasSlot, IsQuiet, StandsFor, BeforeOrAfter, with_free}
 use Rattle.rpm_pkgdb.proofs.ErasesTo.{erases_to, freed_map, stands_for}
-use Rattle.rpm_pkgdb.specs.Stays.{OthersStay}
+use Rattle.rpm_pkgdb.specs.Stays.{OthersStay, StaysBut}
 use Rattle.rpm_pkgdb.specs.Written.{ErasesTo}
 use Rattle.rpm_pkgdb.proofs.StayLaws.{freed_stay}
+use Rattle.rpm_pkgdb.proofs.LeftLaws.{erases_but}
 use Rattle.rpm_pkgdb.specs.Undamaged.{IsPlaced}
 use Rattle.rpm_pkgdb.proofs.Made.{made}
 use Rattle.rpm_pkgdb.proofs.Held.{found_at_slot, freed_kept, freed_taken}
@@ -37,6 +38,26 @@ returns-clause-images g c = λ told quiet.
     let F0 = (D.files c.args.disk.now).pkg in
     stops_weaker D.moment D.left_since (BeforeOrAfter st (with_free k st) F0) (ErasesTo st c.args.n F0) c.args.disk.now c.free_slot.new.disk
     (erases_to st k c.args.n c.slot_place-place.result.1 slot.slot slot.number F0 (c.requires.keeps told)) (c.free_slot.ensures.images told st slot.slot quiet)
+
+pub returns-in_default-clause-left : goal.returns-in_default-clause-left
+returns-in_default-clause-left g c = λ told quiet.
+    let D = g.D.Disk in
+    let st = c.args.self.now in
+    let k = c.slot_place-place.result.0 in
+    let slot = c.slot_place-place.ensures in
+    let F0 = (D.files c.args.disk.now).pkg in
+    stops_weaker D.moment D.left_since (BeforeOrAfter st (with_free k st) F0) (StaysBut c.args.n None st F0) c.args.disk.now c.free_slot.new.disk
+    (erases_but st k c.args.n c.slot_place-place.result.1 slot.slot slot.number F0 (c.requires.keeps told)) (c.free_slot.ensures.images told st slot.slot quiet)
+
+pub returns-clause-left : goal.returns-clause-left
+returns-clause-left g c = λ told quiet.
+    let D = g.D.Disk in
+    let st = c.args.self.now in
+    let k = c.slot_place-place.result.0 in
+    let slot = c.slot_place-place.ensures in
+    let F0 = (D.files c.args.disk.now).pkg in
+    stops_weaker D.moment D.left_since (BeforeOrAfter st (with_free k st) F0) (StaysBut c.args.n None st F0) c.args.disk.now c.free_slot.new.disk
+    (erases_but st k c.args.n c.slot_place-place.result.1 slot.slot slot.number F0 (c.requires.keeps told)) (c.free_slot.ensures.images told st slot.slot quiet)
 
 pub invariant_of-self-2 : goal.invariant_of-self-2
 invariant_of-self-2 g c =

@@ -2,7 +2,7 @@ use Rattle.rpm_outside.specs.declared.disk.File.TheVariants.{Pkg}
 use Rattle.std.proofs.Common.{◌≡◌, ◌*◌, ℕ, List, Option, Some, OnOk, refl, sym, ap, ◌∙◌, subst, IsTrue}
 use Rattle.rpm_outside.specs.Changes.{Stops, Changes}
 use Rattle.rpm_outside.specs.inner.Moments.{started}
-use Rattle.rpm_pkgdb.specs.declared.moving.Move.{Move}
+use Rattle.rpm_pkgdb.specs.declared.moved_blocks.Move.{Move}
 use Rattle.rpm_pkgdb.specs.Store.{Keeps}
 use Rattle.rpm_pkgdb.specs.Blobs.{blobs}
 use Rattle.rpm_pkgdb.specs.Growing.{grown, moving_cost}
@@ -11,10 +11,11 @@ use Rattle.rpm_pkgdb.specs.Stays.{AllStay}
 use Rattle.rpm_pkgdb.specs.Planned.{moves_of}
 use Rattle.rpm_pkgdb.specs.inner.MoveLists.{CanGrowBy}
 use Rattle.rpm_pkgdb.specs.inner.Within.{EndsBy, IsWithin}
-use Rattle.rpm_pkgdb.specs.declared.page.Page.{Page}
-use Rattle.rpm_pkgdb.specs.Quiet.{IsQuiet, Anything, StandsFor}
+use Rattle.rpm_pkgdb.specs.declared.page_plan.Page.{Page}
+use Rattle.rpm_pkgdb.specs.Quiet.{IsQuiet, Anything}
+use Rattle.rpm_pkgdb.specs.inner.Still.{StandsStill}
 use Rattle.rpm_pkgdb.proofs.Changing.{copies_none}
-use Rattle.rpm_pkgdb.proofs.ErasesTo.{stands_for}
+use Rattle.rpm_pkgdb.proofs.LeftLaws.{stands_still}
 use Rattle.rpm_pkgdb.proofs.store.PkgDb.grow.Goals as goal
 
 pub returns-in-None-clause-images : goal.returns-in-None-clause-images
@@ -22,12 +23,12 @@ returns-in-None-clause-images g c = λ told quiet.
     let D = g.D.Disk in
     let v = c.args.self.now in
     let d = c.args.disk.now in
-    let P = StandsFor v.generation v.field (blobs (D.files d).pkg v) in
+    let P = StandsStill v (D.files d).pkg in
     started D.moment D.left_since d (Stops Pkg P (D.left_since d (D.moment d)))
     (λ image here. record {
       from = image;
       was = here;
-      pkg = stands_for v (D.files d).pkg image.pkg c.requires.made (c.requires.keeps told) (quiet image here);
+      pkg = stands_still v (D.files d).pkg image.pkg c.requires.made (c.requires.keeps told) (quiet image here);
       idx = refl;
       log = refl;
     })

@@ -2,19 +2,19 @@ use Rattle.std.proofs.Common.{◌≡◌, ℕ, ◌+◌, ◌*◌, ◌≤◌, List,
 use Rattle.rpm_pkgdb.specs.declared.slot.Slot.{Slot}
 use Rattle.rpm_pkgdb.specs.Slots.{slot_at, end_of}
 use Rattle.rpm_pkgdb.specs.Store.{Store, Keeps}
-use Rattle.rpm_pkgdb.specs.Blobs.{blobs}
 use Rattle.rpm_pkgdb.specs.Growing.{moving_cost, next_end}
 use Rattle.rpm_pkgdb.specs.Freed.{KeepsBlank}
 use Rattle.rpm_pkgdb.proofs.FreedLaws.{freed_page}
-use Rattle.rpm_pkgdb.specs.Quiet.{IsQuiet, Anything, StandsAs, StandsFor, BeforeOrAfter}
+use Rattle.rpm_pkgdb.specs.Quiet.{IsQuiet, Anything, StandsAs, BeforeOrAfter}
+use Rattle.rpm_pkgdb.specs.inner.Still.{StandsStill}
 use Rattle.rpm_pkgdb.specs.inner.Keeping.{IsKept}
 use Rattle.rpm_pkgdb.specs.inner.Settings.{NoShorter}
 use Rattle.rpm_pkgdb.specs.inner.Grows.{CanGrow, with_page}
 use Rattle.rpm_pkgdb.specs.inner.MoveLists.{IsMovable, move_at, with_moves}
 use Rattle.rpm_pkgdb.proofs.Changing.{map_ok, copies_then, copies_weaker, copies_stops_then, stops_weaker}
-use Rattle.rpm_pkgdb.proofs.GrowLaws.{grown_map, grows_to}
+use Rattle.rpm_pkgdb.proofs.GrowLaws.{grown_map}
 use Rattle.rpm_pkgdb.proofs.GrowSteps.{movable, moved_within}
-use Rattle.rpm_pkgdb.proofs.MoveSteps.{stands_for_same}
+use Rattle.rpm_pkgdb.proofs.LeftLaws.{still_then, grows_to}
 use Rattle.rpm_pkgdb.proofs.PlannedLaws.{can_grow}
 use Rattle.rpm_pkgdb.specs.inner.Within.{EndsBy, MovesWithin}
 use Rattle.rpm_pkgdb.proofs.Reaching.{moves_within}
@@ -141,14 +141,14 @@ returns-clause-images g c = λ told quiet.
     let d = c.args.disk.now in
     let F0 = (D.files d).pkg in
     let F1 = (D.files c.move_all.new.disk).pkg in
-    let P = StandsFor v.generation v.field (blobs F0 v) in
+    let P = StandsStill v F0 in
     let keeps = c.in_ok-move_all.ensures.keeps told v c.requires.made same c.requires.can.are (c.requires.keeps told) in
     let same_blobs = c.in_ok-move_all.ensures.blobs told v c.requires.made same c.requires.can.are (c.requires.keeps told) in
     copies_stops_then _ _ _ _ _ _ told NoShorter P (moving_cost c.deref.result.now (Some moves)) d c.move_all.new.disk c.add_page.new.disk
     c.move_all.ensures.copies (c.move_all.ensures.images told v c.requires.made same c.requires.can.are quiet)
     (stops_weaker D.moment D.left_since (BeforeOrAfter mid (with_page mid) F1) P c.move_all.new.disk c.add_page.new.disk
-    (λ image w. stands_for_same mid.generation mid.field v.generation v.field (blobs F1 mid) (blobs F0 v) image refl refl same_blobs
-    (grows_to mid can F1 image keeps w))
+    (λ image w. still_then v mid F0 F1 image refl refl same_blobs
+    (c.in_ok-move_all.ensures.others told v c.requires.made same c.requires.can.are (c.requires.keeps told)) (grows_to mid can F1 keeps image w))
     (c.add_page.ensures.images told mid can (ap (λ (x : Store). x.generation) c.self.view_is) (ap (λ (x : Store). x.pages) c.self.view_is)
     (c.in_ok-move_all.ensures.quiet told v c.requires.made same c.requires.can.are quiet)))
 

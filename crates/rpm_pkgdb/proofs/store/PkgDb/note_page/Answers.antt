@@ -1,5 +1,5 @@
 use Rattle.std.proofs.Common.{◌≡◌, ◌+◌, ◌≤◌, Option, Some, sym, subst, arith}
-use Rattle.rpm_pkgdb.specs.declared.page.Page.{Page}
+use Rattle.rpm_pkgdb.specs.declared.page_plan.Page.{Page}
 use Rattle.rpm_pkgdb.specs.Store.{Store}
 use Rattle.rpm_pkgdb.specs.Growing.{CanAdd}
 use Rattle.rpm_pkgdb.specs.Planned.{moves_of, HoldsPage}

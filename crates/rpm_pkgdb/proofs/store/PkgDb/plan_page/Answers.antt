@@ -1,7 +1,7 @@
 use Rattle.std.proofs.Common.{◌≡◌, ◌+◌, ◌^◌, ◌≤◌, ◌++◌, List, arith, Some, refl, sym, ap, ◌∙◌, subst, replicate}
 use Rattle.rpm_pkgdb.specs.declared.slot.Slot.{Slot}
-use Rattle.rpm_pkgdb.specs.declared.moving.Move.{Move}
-use Rattle.rpm_pkgdb.specs.declared.page.Page.{Page}
+use Rattle.rpm_pkgdb.specs.declared.moved_blocks.Move.{Move}
+use Rattle.rpm_pkgdb.specs.declared.page_plan.Page.{Page}
 use Rattle.rpm_pkgdb.specs.Slots.{free}
 use Rattle.rpm_pkgdb.specs.Pairs.{Pairs}
 use Rattle.rpm_pkgdb.specs.Store.{Store}

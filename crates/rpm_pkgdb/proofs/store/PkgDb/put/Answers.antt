@@ -10,15 +10,14 @@ use Rattle.rpm_pkgdb.specs.Written.{with_blob, with_plan, with_spare}
 use Rattle.rpm_pkgdb.specs.Freed.{AreFreed}
 use Rattle.rpm_pkgdb.specs.Reaches.{ReachesTo}
 use Rattle.rpm_pkgdb.specs.Stays.{OthersStay}
-use Rattle.rpm_pkgdb.specs.declared.moving.Move.{Move}
+use Rattle.rpm_pkgdb.specs.declared.moved_blocks.Move.{Move}
 use Rattle.rpm_pkgdb.specs.Growing.{pages_after}
 use Rattle.rpm_pkgdb.specs.Planned.{moves_of}
 use Rattle.std.specs.Option.{option_map}
 use Rattle.rpm_pkgdb.specs.Placing.{Placement, put_in, replaced_by, with_placed}
 use Rattle.rpm_pkgdb.specs.inner.Keeping.{IsKept}
 use Rattle.rpm_pkgdb.proofs.PlacedRules.{own_placed}
-use Rattle.rpm_pkgdb.proofs.ErasesTo.{stands_for}
-use Rattle.rpm_pkgdb.proofs.MoveSteps.{stands_for_same}
+use Rattle.rpm_pkgdb.proofs.ErasesTo.{stands_for, stands_for_same}
 use Rattle.rpm_pkgdb.proofs.store.PkgDb.put.Goals as goal
 
 same_slots : (file : Units) (a b : Store) → b.slots ≡ a.slots → blobs file b ≡ blobs file a

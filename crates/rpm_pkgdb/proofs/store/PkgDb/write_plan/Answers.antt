@@ -1,13 +1,15 @@
 use Rattle.std.proofs.Common.{◌≡◌, inl, ℕ, ◌<◌, ◌≤◌, ◌+◌, length, max, Bool, if◌then◌else◌, Option, Some, None, IfSome, IsTrue, sym, ap, ◌∙◌, subst, arith}
 use Rattle.std.specs.FinMap as finite
-use Rattle.rpm_outside.specs.Files.{units_of, unit_at, blank}
+use Rattle.rpm_outside.specs.Files.{Units, units_of, unit_at, blank}
 use Rattle.rpm_pkgdb.specs.Slots.{end_of, free}
 use Rattle.rpm_pkgdb.specs.Store.{Store, Keeps}
-use Rattle.rpm_pkgdb.specs.Blobs.{blobs, blocks_for}
+use Rattle.rpm_pkgdb.specs.Blobs.{blocks_for}
 use Rattle.rpm_pkgdb.specs.Framing.{framed, next_unit}
 use Rattle.rpm_pkgdb.specs.Growing.{moving_cost}
 use Rattle.rpm_pkgdb.specs.Planned.{moves_of}
-use Rattle.rpm_pkgdb.specs.Quiet.{BlobMap, IsQuiet, Anything, StandsFor}
+use Rattle.rpm_pkgdb.specs.Quiet.{BlobMap, IsQuiet, Anything}
+use Rattle.rpm_pkgdb.specs.Stays.{StaysBut}
+use Rattle.rpm_pkgdb.specs.inner.Still.{StandsStill}
 use Rattle.rpm_pkgdb.specs.Written.{PutsTo, next_field, with_blob, with_plan}
 use Rattle.rpm_pkgdb.specs.Reaches.{store_end}
 use Rattle.rpm_pkgdb.specs.inner.Within.{EndsBy}
@@ -22,6 +24,7 @@ use Rattle.rpm_pkgdb.specs.Freed.{KeepsBlank}
 use Rattle.rpm_pkgdb.proofs.Reaching.{end_within, old_ends, place_ends, grown_within, target_ends}
 use Rattle.rpm_pkgdb.proofs.PutsTo.{puts_to, put_map}
 use Rattle.rpm_pkgdb.proofs.StayLaws.{put_stay}
+use Rattle.rpm_pkgdb.proofs.LeftLaws.{still_but, puts_but}
 use Rattle.rpm_pkgdb.proofs.store.PkgDb.write_plan.Goals as goal
 
 pub grow-requires-clause-can : goal.grow-requires-clause-can
@@ -45,8 +48,8 @@ returns-in_err-grow-clause-images g c = λ told quiet.
     let D = g.D.Disk in
     let v = c.args.self.now in
     let F0 = (D.files c.args.disk.now).pkg in
-    stops_weaker D.moment D.left_since (StandsFor v.generation v.field (blobs F0 v)) (PutsTo v c.args.plan.now.target c.args.blob.now F0) c.args.disk.now
-    c.grow.new.disk (λ image s. inl s) (c.grow.ensures.images told quiet)
+    stops_weaker D.moment D.left_since (StandsStill v F0) (PutsTo v c.args.plan.now.target c.args.blob.now F0) c.args.disk.now
+    c.grow.new.disk (λ image s. inl s.stands) (c.grow.ensures.images told quiet)
 
 pub returns-clause-images : goal.returns-clause-images
 returns-clause-images g c = λ told quiet.
@@ -65,10 +68,45 @@ returns-clause-images g c = λ told quiet.
     let P = PutsTo v plan.target blob F0 in
     let keeps = c.in_ok-grow.ensures.kept told in
     copies_stops_then _ _ _ _ _ _ told Anything P (moving_cost v.slots (moves_of plan.page)) d c.grow.new.disk c.put_blob.new.disk c.grow.ensures.changes
-    (stops_weaker D.moment D.left_since (StandsFor v.generation v.field (blobs F0 v)) P d c.grow.new.disk (λ image s. inl s) (c.grow.ensures.images told quiet))
+    (stops_weaker D.moment D.left_since (StandsStill v F0) P d c.grow.new.disk (λ image s. inl s.stands) (c.grow.ensures.images told quiet))
     (stops_weaker D.moment D.left_since (WhilePut mid plan.target gen blob F1) P c.grow.new.disk c.put_blob.new.disk
     (λ image w. puts_from v plan is c.requires.made blob c.requires.length F0 F1 image (c.in_ok-grow.ensures.blobs told)
     (puts_to mid plan.target gen c.args.old blob can F1 image keeps w))
+    (c.put_blob.ensures.images told mid can (c.in_ok-grow.ensures.quiet told quiet)))
+
+pub returns-in_err-grow-clause-left : goal.returns-in_err-grow-clause-left
+returns-in_err-grow-clause-left g c = λ told quiet.
+    let D = g.D.Disk in
+    let v = c.args.self.now in
+    let n = c.args.plan.now.target.number in
+    let these : Option Units = Some (units_of (framed n v.generation c.args.blob.now)) in
+    let F0 = (D.files c.args.disk.now).pkg in
+    stops_weaker D.moment D.left_since (StandsStill v F0) (StaysBut n these v F0) c.args.disk.now c.grow.new.disk (still_but n these v F0)
+    (c.grow.ensures.images told quiet)
+
+pub returns-clause-left : goal.returns-clause-left
+returns-clause-left g c = λ told quiet.
+    let D = g.D.Disk in
+    let v = c.args.self.now in
+    let plan = c.args.plan.now in
+    let n = plan.target.number in
+    let blob = c.args.blob.now in
+    let gen = c.self.inside.generation in
+    let gen_is : gen ≡ v.generation = ap (λ (x : Store). x.generation) c.self.view_is in
+    let is = c.requires.plan in
+    let can = can_put v plan is c.requires.made blob c.requires.length gen gen_is (omega arith) c.args.old c.requires.new c.requires.held in
+    let d = c.args.disk.now in
+    let F0 = (D.files d).pkg in
+    let F1 = (D.files c.grow.new.disk).pkg in
+    let mid = after v plan is c.requires.made in
+    let these : Option Units = Some (units_of (framed n v.generation blob)) in
+    let P = StaysBut n these v F0 in
+    let keeps = c.in_ok-grow.ensures.kept told in
+    copies_stops_then _ _ _ _ _ _ told Anything P (moving_cost v.slots (moves_of plan.page)) d c.grow.new.disk c.put_blob.new.disk c.grow.ensures.changes
+    (stops_weaker D.moment D.left_since (StandsStill v F0) P d c.grow.new.disk (still_but n these v F0) (c.grow.ensures.images told quiet))
+    (stops_weaker D.moment D.left_since (WhilePut mid plan.target gen blob F1) P c.grow.new.disk c.put_blob.new.disk
+    (λ image w. subst (λ (g : ℕ). StaysBut n (Some (units_of (framed n g blob))) v F0 image) gen_is
+    (puts_but v F0 mid plan.target gen c.args.old blob can F1 keeps (c.in_ok-grow.ensures.others told) image w))
     (c.put_blob.ensures.images told mid can (c.in_ok-grow.ensures.quiet told quiet)))
 
 pub returns-clause-changes : goal.returns-clause-changes

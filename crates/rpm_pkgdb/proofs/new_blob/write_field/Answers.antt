@@ -1,0 +1,29 @@
+use Rattle.std.proofs.Common.{◌≡◌, ℕ, [], ◌∷◌, Option, IfSome, IsTrue, inr, sym, ap, ◌∙◌, subst, arith}
+use Rattle.rpm_outside.specs.Files.{Units, units_of, unit_at, put}
+use Rattle.rpm_outside.specs.Crash.{Torn}
+use Rattle.rpm_outside.specs.inner.Cuts.{cut_up_one}
+use Rattle.rpm_pkgdb.proofs.Changing.{map_ok, changes_weaker}
+use Rattle.rpm_pkgdb.specs.Framing.{next_unit}
+use Rattle.rpm_pkgdb.specs.inner.Puts.{FieldTorn}
+use Rattle.rpm_pkgdb.proofs.ClearLaws.{put_here}
+use Rattle.rpm_pkgdb.proofs.new_blob.write_field.Goals as goal
+
+pub returns-in-Some-clause-changes : goal.returns-in-Some-clause-changes
+returns-in-Some-clause-changes g c =
+    let unit = c.next_unit.result in
+    let e : units_of unit ≡ unit ∷ [] = cut_up_one unit (omega arith) in
+    changes_weaker _ _ _ _ _ _ (Torn 1 (units_of unit)) (FieldTorn c.args.next) c.args.disk.now c.write_units.new.disk
+    (λ x y torn. subst (λ (o : Option ℕ). FieldTorn o x y) (sym c.in-Some.is)
+    (inr (unit, c.next_unit.ensures.word, subst (λ (us : Units). Torn 1 us x y) e torn))) c.write_units.ensures.changes
+
+pub returns-in-Some-clause-bytes : goal.returns-in-Some-clause-bytes
+returns-in-Some-clause-bytes g c =
+    let D = g.D.Disk in
+    let unit = c.next_unit.result in
+    let e : units_of unit ≡ unit ∷ [] = cut_up_one unit (omega arith) in
+    let old = (D.files c.args.disk.now).pkg in
+    let new = (D.files c.write_units.new.disk).pkg in
+    map_ok c.write_units.result (λ (written : IsTrue D.tells → new ≡ put 1 (units_of unit) old) told.
+    subst (λ (o : Option ℕ). IfSome o (λ n. unit_at new 1 ≡ next_unit n)) (sym c.in-Some.is)
+    (ap (λ (u : Units). unit_at u 1) (written told) ∙ ap (λ (us : Units). unit_at (put 1 us old) 1) e ∙ put_here 1 unit old
+    ∙ c.next_unit.ensures.bytes)) c.write_units.ensures.written

@@ -1,5 +1,0 @@
-use Rattle.rpm_pkgdb.specs.inner.Pages.{IsFirstSoFar}
-use Rattle.rpm_pkgdb.proofs.page.first_before.Given as goal
-
-abbrev pub invariant-loop-i : goal.invariant-loop-i
-invariant-loop-i l = IsFirstSoFar l.slots l.places l.end l.i l.first l.least

@@ -1,5 +1,0 @@
-use Rattle.rpm_pkgdb.specs.inner.Pages.{HasPlacesSoFar}
-use Rattle.rpm_pkgdb.proofs.page.places_before.Given as goal
-
-abbrev pub invariant-loop-k : goal.invariant-loop-k
-invariant-loop-k l = HasPlacesSoFar l.slots l.end l.k l.places.items

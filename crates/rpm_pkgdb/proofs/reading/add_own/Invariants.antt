@@ -1,0 +1,15 @@
+use Rattle.std.proofs.Common.{◌≡◌, ℕ, ◌++◌, take}
+use Rattle.rpm_outside.specs.Files.{units_of}
+use Rattle.rpm_pkgdb.specs.Slots.{slots_in}
+use Rattle.rpm_pkgdb.specs.inner.Rising.{IsInOrder, HasRoom}
+use Rattle.rpm_pkgdb.specs.inner.Tables.{AreOwn, AreNumbered}
+use Rattle.rpm_pkgdb.proofs.reading.add_own.Given as goal
+
+abbrev pub invariant-loop-k : goal.invariant-loop-k
+invariant-loop-k l = record {
+  slots : l.rising.slots.items ≡ l.initial.rising.slots.items ++ slots_in (take l.k (units_of l.bytes));
+  own : AreOwn l.pages l.units (units_of l.bytes) l.k;
+  order : IsInOrder l.rising;
+  numbered : AreNumbered l.rising.slots.items;
+  room : (n : ℕ) → HasRoom n l.initial.rising → HasRoom n l.rising;
+}

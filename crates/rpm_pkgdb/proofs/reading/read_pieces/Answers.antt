@@ -1,0 +1,41 @@
+use Rattle.std.proofs.Common.{◌≡◌, ◌*◌, ◌-◌, IsTrue, length, take, None, refl, ap, arith}
+use Rattle.std.proofs.lemmas.List.{length-take}
+use Rattle.rpm_outside.specs.declared.disk.File.TheVariants.{Pkg}
+use Rattle.rpm_outside.specs.Files.{Files}
+use Rattle.rpm_outside.specs.inner.Looking.{looks_more, looks_none, looks_then}
+use Rattle.rpm_pkgdb.specs.Damages.{table}
+use Rattle.rpm_pkgdb.proofs.ReadingLaws.{nothing_read, read_of, read_count}
+use Rattle.rpm_pkgdb.proofs.TableLaws.{none_of}
+use Rattle.rpm_pkgdb.proofs.reading.read_pieces.Goals as goal
+
+pub loop-k-init : goal.loop-k-init
+loop-k-init g c = record {
+  read = nothing_read _ _ _ _ _ c.requires.empty;
+  count = omega (arith, ap length c.requires.empty);
+  order = c.requires.order;
+  room = c.requires.room;
+  looks = looks_more _ _ _ _ _ _ Pkg 0 _ _ _ (omega arith) (looks_none _ _ _ _ _ _ Pkg g.met.D.Disk.follows_refl c.args.disk.now);
+  faults = omega arith;
+}
+
+pub loop-k-preserved : goal.loop-k-preserved
+loop-k-preserved g c =
+    let was = c.loop-k.invariant in
+    let done = c.in_ok-reading.ensures in
+    let pages = c.args.pages in
+    let none : c.in_ok-reading.reading.reason ≡ None = none_of _ _ _ refl c.is_some.ensures c.if-is_some.false in
+    let all = read_count _ _ _ _ _ c.in_ok-reading.reading done.read none in
+    let buffer = c.loop-k.buffer in
+    let more = c.min-more.result in
+    let part : length (take (16 * more) buffer) ≡ 16 * more = omega (arith, length-take (16 * more) buffer, c.min-more.ensures) in
+    record {
+      read = read_of (IsTrue g.D.Disk.tells) pages c.args.units (table pages (g.D.Disk.files c.loop-k.disk).pkg)
+          (table pages (g.D.Disk.files c.args.disk.now).pkg) c.in_ok-reading.reading.rising.slots.items
+          (λ told. ap (λ (f : Files). table pages f.pkg) (was.looks.untouched told).same) done.read.slots;
+      count = omega (arith, was.count, all, part, c.min-more.ensures, c.loop-k-test.true);
+      order = done.order;
+      room = done.room (256 * pages - 2) was.room;
+      looks = looks_then _ _ _ _ _ _ Pkg g.met.D.Disk.follows_trans (16 * length c.loop-k.rising.slots.items) (length (take (16 * more) buffer)) _
+          c.args.disk.now c.loop-k.disk c.read_piece.new.disk (omega (arith, all, part)) was.looks done.looks;
+      faults = omega (arith, was.faults, done.cause.later);
+    }

@@ -1,0 +1,15 @@
+-- The first of some slots that shares its number or a block with an earlier one.
+use Rattle.std.specs.Prelude.{◌+◌, List, [], ◌∷◌, ◌++◌, length, Option, None}
+use Rattle.std.specs.Option.{option_map, option_or}
+use Rattle.rpm_pkgdb.specs.declared.slot.Slot.{Slot}
+use Rattle.rpm_pkgdb.specs.declared.slot.Damage.{Damage}
+use Rattle.rpm_pkgdb.specs.Damages.{damage_at, shared_reason}
+
+-- a slot after these earlier ones
+abbrev pub shared_fault : List Slot → Slot → Option Damage
+shared_fault earlier s = option_map (damage_at (2 + length earlier)) (shared_reason earlier s)
+
+-- the first fault of slots after these earlier ones
+abbrev pub meeting : List Slot → List Slot → Option Damage
+meeting earlier [] = None
+meeting earlier (s ∷ ss) = option_or (shared_fault earlier s) (meeting (earlier ++ s ∷ []) ss)

@@ -1,0 +1,31 @@
+//! Pages of free slots.
+
+ghost use Rattle.std.specs.Prelude.{◌≡◌, ℕ, ◌+◌, ◌*◌, ◌^◌, ◌≤◌, ◌<◌, IsTrue, length, OnOk};
+ghost use Rattle.rpm_outside.specs.declared.disk.File.TheVariants.{Pkg};
+ghost use Rattle.rpm_outside.specs.Files.{Files, unit_at};
+ghost use Rattle.rpm_outside.specs.Causes.{HasCause};
+ghost use Rattle.rpm_pkgdb.specs.Slots.{free};
+ghost use Rattle.rpm_outside.specs.Changes.{Changes};
+ghost use Rattle.rpm_pkgdb.specs.Stays.{SameOutside};
+ghost use Rattle.rpm_pkgdb.specs.Undamaged.{IsSlotUnit};
+
+use crate::freed_slot::FREE;
+use crate::units::slot_unit;
+use crate::writes::write_units;
+use rpm_outside::{Disk, Failed, copy_units};
+
+/// Writes free slots in one write, at most a page of them.
+pub fn write_free_slots<D: Disk>(disk: &mut D, at: u32, count: u32) -> Result<(), Failed>
+    requires some { 1 ≤ count }
+    requires few { count ≤ 256 }
+    requires room { at + count ≤ 2 ^ 28 }
+    ensures slots { OnOk result (IsTrue D.tells → (i : ℕ) → at ≤ i → i < at + count → IsSlotUnit (unit_at (D.files disk.new).pkg i) free) }
+    ensures long { OnOk result (IsTrue D.tells → at + count ≤ length (D.files disk.new).pkg) }
+    ensures changes { Changes D.tells D.files D.left_since D.moment D.bytes_read D.follows Pkg (SameOutside at count) 0 disk.old disk.new }
+    ensures cause { HasCause (D.faults disk.old) (D.faults disk.new) result }
+{
+    let units = [slot_unit(FREE); 256];
+    let mut page = [0u8; 4096];
+    copy_units(&units, &mut page);
+    write_units(disk, at as u64, &page[..16 * count as usize])
+}
