@@ -1,7 +1,9 @@
 //! Why a package file or a header list isn't read.
 
+ghost use Rattle.std.specs.Prelude.{◌≡◌};
+ghost use Rattle.rpm_file.specs.declared.fault.FileFault.TheVariants.{Main};
+
 use rpm_header::HeaderFault;
-use rpm_outside::Failed;
 use thiserror::Error;
 
 /// Why a package file isn't read. The faults of its bytes are looked for from the front.
@@ -16,12 +18,12 @@ pub enum FileFault {
     /// The magic of a header doesn't stand where one begins.
     #[error("bad header magic")]
     BadMagic,
-    /// The first fault of the signature header.
+    /// The first fault of the signature header. It is named where it is found, since a fault by itself is one of the main header.
     #[error("signature header: {0}")]
     Signature(HeaderFault),
-    /// The first fault of the main header. A fault by itself is this one.
+    /// The first fault of the main header.
     #[error("header: {0}")]
-    Main(#[from] HeaderFault),
+    Main(HeaderFault),
     /// The main header with the entries that join it would pass a limit of a header.
     #[error("header too large")]
     TooLarge,
@@ -31,6 +33,15 @@ pub enum FileFault {
     /// No memory was found.
     #[error("out of memory")]
     NoMemory,
+}
+
+/// A fault of a header is one of the main header.
+impl From<HeaderFault> for FileFault {
+    ghost from_gives = { λ fault e. e ≡ Main fault };
+
+    fn from(fault: HeaderFault) -> FileFault {
+        FileFault::Main(fault)
+    }
 }
 
 /// Why the next header of a list isn't read. The faults of its bytes are looked for from the front.

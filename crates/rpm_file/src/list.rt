@@ -114,10 +114,11 @@ pub fn read_header<S: Shelf>(shelf: &mut S, room: &mut Vec<u8>) -> Result<Option
     ensures cause { HasCauseAt (result ≡ Err ListFault.ReadFault) (S.faults shelf.old) (S.faults shelf.new) }
 {
     let mut intro = [0u8; 16];
-    match take_intro(shelf, &mut intro) {
-        Ok(true) => read_behind(shelf, room, &intro),
-        Ok(false) => Ok(None),
-        Err(fault) => Err(fault),
+    let begins = take_intro(shelf, &mut intro)?;
+    if begins {
+        read_behind(shelf, room, &intro)
+    } else {
+        Ok(None)
     }
 }
 
@@ -132,12 +133,9 @@ pub fn next_header<S: Shelf>(alloc: Global, shelf: &mut S) -> Result<Option<Vec<
     ensures cause { HasCauseAt (result ≡ Err ListFault.ReadFault) (S.faults shelf.old) (S.faults shelf.new) }
 {
     let mut blob = Vec::new(alloc);
-    match read_header(shelf, &mut blob) {
-        Ok(Some(size)) => {
-            blob.truncate(size);
-            Ok(Some(blob))
-        }
-        Ok(None) => Ok(None),
-        Err(fault) => Err(fault),
-    }
+    let Some(size) = read_header(shelf, &mut blob)? else {
+        return Ok(None);
+    };
+    blob.truncate(size);
+    Ok(Some(blob))
 }

@@ -149,10 +149,8 @@ fn read_main<S: Shelf>(
 {
     skip_padding(shelf, signature.blob())?;
     let blob = read_part(alloc, shelf, HeaderKind::Main)?;
-    match View::parse(&blob) {
-        Ok(main) => joined(alloc, signature, &main),
-        Err(fault) => Err(FileFault::Main(fault)),
-    }
+    let main = View::parse(&blob)?;
+    joined(alloc, signature, &main)
 }
 
 fn joined(alloc: Global, signature: &View<'_>, main: &View<'_>) -> Result<Package, FileFault>
@@ -181,8 +179,6 @@ pub fn read_package<S: Shelf>(alloc: Global, shelf: &mut S) -> Result<Package, F
 {
     skip_lead(shelf)?;
     let blob = read_part(alloc, shelf, HeaderKind::Signature)?;
-    match View::parse(&blob) {
-        Ok(signature) => read_main(alloc, shelf, &signature),
-        Err(fault) => Err(FileFault::Signature(fault)),
-    }
+    let signature = View::parse(&blob).map_err(FileFault::Signature)?;
+    read_main(alloc, shelf, &signature)
 }

@@ -31,38 +31,39 @@ pub returns-in_err-blob-clause-browses : goal.returns-in_err-blob-clause-browses
 returns-in_err-blob-clause-browses g c = browses_then g.S.Shelf.tells g.S.Shelf.paths g.S.Shelf.rest g.S.Shelf.absences g.S.Shelf.faults
     c.args.shelf.now c.skip_padding.new.shelf c.read_part.new.shelf c.skip_padding.ensures.browses c.read_part.ensures.browses
 
-pub returns-in-Ok-clause-answers : goal.returns-in-Ok-clause-answers
-returns-in-Ok-clause-answers g c = λ told.
+pub returns-in_err-main-clause-answers : goal.returns-in_err-main-clause-answers
+returns-in_err-main-clause-answers g c = λ told.
+    let s = c.args.signature.now in
+    let bytes = left (g.S.Shelf.rest c.args.shelf.now) in
+    let mid = left (g.S.Shelf.rest c.skip_padding.new.shelf) in
+    let rest = left (g.S.Shelf.rest c.read_part.new.shelf) in
+    let p = err_from_is_err_and c.from_residual-in_err-main.result c.from_residual-in_err-main.ensures.1 in
+    let skipped = rw c.blob.ensures.value at c.in_ok-skip_padding.ensures.answers told in
+    rw (p.1, p.2) (main_bad s bytes mid c.in_ok-blob.blob.items rest skipped (c.in_ok-blob.ensures.answers told) c.in_err-main.field-0.0
+    (c.in_err-main.ensures.value ∙ ap header c.deref.ensures.value))
+
+pub returns-in_err-main-clause-browses : goal.returns-in_err-main-clause-browses
+returns-in_err-main-clause-browses g c = browses_then g.S.Shelf.tells g.S.Shelf.paths g.S.Shelf.rest g.S.Shelf.absences g.S.Shelf.faults
+    c.args.shelf.now c.skip_padding.new.shelf c.read_part.new.shelf c.skip_padding.ensures.browses c.read_part.ensures.browses
+
+pub returns-clause-answers : goal.returns-clause-answers
+returns-clause-answers g c = λ told.
     let s = c.args.signature.now in
     let old = g.S.Shelf.rest c.args.shelf.now in
     let mid = g.S.Shelf.rest c.skip_padding.new.shelf in
     let new = g.S.Shelf.rest c.read_part.new.shelf in
     let skipped = rw c.blob.ensures.value at c.in_ok-skip_padding.ensures.answers told in
     let front = c.in_ok-blob.ensures.answers told in
-    let whole = main_good s (left old) (left mid) c.in_ok-blob.blob.items (left new) skipped front c.in-Ok.main (c.in-Ok.ensures.value
+    let whole = main_good s (left old) (left mid) c.in_ok-blob.blob.items (left new) skipped front c.in_ok-main.main (c.in_ok-main.ensures.value
     ∙ ap header c.deref.ensures.value) in
-    made_answers (behind_signature s) (merged s.entries c.in-Ok.main) old new c.joined.result whole c.joined.ensures
-
-pub returns-in-Ok-clause-browses : goal.returns-in-Ok-clause-browses
-returns-in-Ok-clause-browses g c = browses_then g.S.Shelf.tells g.S.Shelf.paths g.S.Shelf.rest g.S.Shelf.absences g.S.Shelf.faults c.args.shelf.now
-    c.skip_padding.new.shelf c.read_part.new.shelf c.skip_padding.ensures.browses c.read_part.ensures.browses
-
-pub returns-in-Ok-clause-cause : goal.returns-in-Ok-clause-cause
-returns-in-Ok-clause-cause g c = record {
-  later = omega (arith, c.skip_padding.ensures.cause.later, c.read_part.ensures.cause.later);
-  rose = λ e. absurd (made_reads (merged c.args.signature.now.entries c.in-Ok.main) c.joined.result c.joined.ensures e);
-}
-
-pub returns-clause-answers : goal.returns-clause-answers
-returns-clause-answers g c = λ told.
-    let s = c.args.signature.now in
-    let bytes = left (g.S.Shelf.rest c.args.shelf.now) in
-    let mid = left (g.S.Shelf.rest c.skip_padding.new.shelf) in
-    let rest = left (g.S.Shelf.rest c.read_part.new.shelf) in
-    let skipped = rw c.blob.ensures.value at c.in_ok-skip_padding.ensures.answers told in
-    main_bad s bytes mid c.in_ok-blob.blob.items rest skipped (c.in_ok-blob.ensures.answers told) c.in-Err.fault (c.in-Err.ensures.value
-    ∙ ap header c.deref.ensures.value)
+    made_answers (behind_signature s) (merged s.entries c.in_ok-main.main) old new c.joined.result whole c.joined.ensures
 
 pub returns-clause-browses : goal.returns-clause-browses
 returns-clause-browses g c = browses_then g.S.Shelf.tells g.S.Shelf.paths g.S.Shelf.rest g.S.Shelf.absences g.S.Shelf.faults c.args.shelf.now
     c.skip_padding.new.shelf c.read_part.new.shelf c.skip_padding.ensures.browses c.read_part.ensures.browses
+
+pub returns-clause-cause : goal.returns-clause-cause
+returns-clause-cause g c = record {
+  later = omega (arith, c.skip_padding.ensures.cause.later, c.read_part.ensures.cause.later);
+  rose = λ e. absurd (made_reads (merged c.args.signature.now.entries c.in_ok-main.main) c.joined.result c.joined.ensures e);
+}

@@ -1,12 +1,30 @@
-use Rattle.std.proofs.Common.{ap, ◌∙◌}
+use Rattle.std.proofs.Common.{◌≡◌, Result, Ok, Err, ap, ◌∙◌, refl, sym}
+use Rattle.std.specs.Result.{MatchResult, IsErrAnd}
 use Rattle.std.proofs.lemmas.Result.{err_from_is_err_and}
-use Rattle.rpm_header.specs.Header.{header}
+use Rattle.rpm_header.specs.Header.{Header, header}
+use Rattle.rpm_header.specs.declared.form.HeaderFault.{HeaderFault}
+use Rattle.rpm_file.specs.declared.fault.FileFault.{FileFault}
+use Rattle.rpm_file.specs.declared.fault.FileFault.TheVariants.{Signature}
 use Rattle.rpm_file.specs.declared.fault.HeaderKind.TheVariants as part
 use Rattle.rpm_outside.specs.Browses.{left}
 use Rattle.rpm_outside.specs.inner.Browsing.{browses_then}
 use Rattle.rpm_file.specs.Package.{behind_lead, package_header, headed}
 use Rattle.rpm_file.proofs.Joined.{passed, lead_fault, signature_fault, signature_bad, signature_good, whole_answers}
 use Rattle.rpm_file.proofs.package.read_package.Goals as goal
+
+-- what was parsed, before its fault was named
+abbrev Named : Result Header HeaderFault → Result Header FileFault → Type 0
+Named parsed named = MatchResult parsed (λ x. named ≡ Ok x) (λ e. IsErrAnd named (λ f. f ≡ Signature e))
+
+ok_before : (parsed : Result Header HeaderFault) (named : Result Header FileFault) → Named parsed named → (h : Header) → named ≡ Ok h
+    → parsed ≡ Ok h
+ok_before (Ok x) named is h was = cc
+ok_before (Err e) named is h was = let p = err_from_is_err_and named is in cc
+
+err_before : (parsed : Result Header HeaderFault) (named : Result Header FileFault) → Named parsed named → (f : FileFault) → named ≡ Err f
+    → (e : HeaderFault) × (parsed ≡ Err e) × (f ≡ Signature e)
+err_before (Ok x) named is f was = cc
+err_before (Err e) named is f was = let p = err_from_is_err_and named is in (e, refl, cc)
 
 pub returns-in_err-skip_lead-clause-answers : goal.returns-in_err-skip_lead-clause-answers
 returns-in_err-skip_lead-clause-answers g c = λ told.
@@ -27,31 +45,34 @@ pub returns-in_err-blob-clause-browses : goal.returns-in_err-blob-clause-browses
 returns-in_err-blob-clause-browses g c = browses_then g.S.Shelf.tells g.S.Shelf.paths g.S.Shelf.rest g.S.Shelf.absences g.S.Shelf.faults
     c.args.shelf.now c.skip_lead.new.shelf c.read_part.new.shelf c.skip_lead.ensures.browses c.read_part.ensures.browses
 
-pub returns-in-Ok-clause-answers : goal.returns-in-Ok-clause-answers
-returns-in-Ok-clause-answers g c = λ told.
+pub returns-in_err-signature-clause-answers : goal.returns-in_err-signature-clause-answers
+returns-in_err-signature-clause-answers g c = λ told.
+    let bytes = left (g.S.Shelf.rest c.args.shelf.now) in
+    let mid = left (g.S.Shelf.rest c.skip_lead.new.shelf) in
+    let rest = left (g.S.Shelf.rest c.read_part.new.shelf) in
+    let p = err_from_is_err_and c.from_residual-in_err-signature.result c.from_residual-in_err-signature.ensures.1 in
+    let q = err_before c.parse.result c.map_err.result c.map_err.ensures.cases c.in_err-signature.field-0.0 c.in_err-signature.was in
+    rw (p.1, p.2, q.2) (signature_bad bytes mid c.in_ok-blob.blob.items rest (c.in_ok-skip_lead.ensures.answers told)
+    (c.in_ok-blob.ensures.answers told) q.0 (sym q.1 ∙ c.parse.ensures.value ∙ ap header c.deref.ensures.value))
+
+pub returns-in_err-signature-clause-browses : goal.returns-in_err-signature-clause-browses
+returns-in_err-signature-clause-browses g c = browses_then g.S.Shelf.tells g.S.Shelf.paths g.S.Shelf.rest g.S.Shelf.absences g.S.Shelf.faults
+    c.args.shelf.now c.skip_lead.new.shelf c.read_part.new.shelf c.skip_lead.ensures.browses c.read_part.ensures.browses
+
+pub returns-clause-answers : goal.returns-clause-answers
+returns-clause-answers g c = λ told.
     let old = g.S.Shelf.rest c.args.shelf.now in
     let lead = g.S.Shelf.rest c.skip_lead.new.shelf in
     let mid = g.S.Shelf.rest c.read_part.new.shelf in
     let new = g.S.Shelf.rest c.read_main.new.shelf in
+    let parsed = ok_before c.parse.result c.map_err.result c.map_err.ensures.cases c.in_ok-signature.signature c.in_ok-signature.was in
     let whole = signature_good (left old) (left lead) c.in_ok-blob.blob.items (left mid) (c.in_ok-skip_lead.ensures.answers told)
-    (c.in_ok-blob.ensures.answers told) c.in-Ok.signature (c.in-Ok.ensures.value ∙ ap header c.deref.ensures.value) in
-    whole_answers c.in-Ok.signature old mid new c.read_main.result whole (c.read_main.ensures.answers told)
+    (c.in_ok-blob.ensures.answers told) c.in_ok-signature.signature (sym parsed ∙ c.parse.ensures.value ∙ ap header c.deref.ensures.value) in
+    whole_answers c.in_ok-signature.signature old mid new c.read_main.result whole (c.read_main.ensures.answers told)
 
-pub returns-in-Ok-clause-browses : goal.returns-in-Ok-clause-browses
-returns-in-Ok-clause-browses g c =
+pub returns-clause-browses : goal.returns-clause-browses
+returns-clause-browses g c =
     let first = browses_then g.S.Shelf.tells g.S.Shelf.paths g.S.Shelf.rest g.S.Shelf.absences g.S.Shelf.faults c.args.shelf.now c.skip_lead.new.shelf
     c.read_part.new.shelf c.skip_lead.ensures.browses c.read_part.ensures.browses in
     browses_then g.S.Shelf.tells g.S.Shelf.paths g.S.Shelf.rest g.S.Shelf.absences g.S.Shelf.faults c.args.shelf.now c.read_part.new.shelf
     c.read_main.new.shelf first c.read_main.ensures.browses
-
-pub returns-clause-answers : goal.returns-clause-answers
-returns-clause-answers g c = λ told.
-    let bytes = left (g.S.Shelf.rest c.args.shelf.now) in
-    let mid = left (g.S.Shelf.rest c.skip_lead.new.shelf) in
-    let rest = left (g.S.Shelf.rest c.read_part.new.shelf) in
-    signature_bad bytes mid c.in_ok-blob.blob.items rest (c.in_ok-skip_lead.ensures.answers told) (c.in_ok-blob.ensures.answers told) c.in-Err.fault
-    (c.in-Err.ensures.value ∙ ap header c.deref.ensures.value)
-
-pub returns-clause-browses : goal.returns-clause-browses
-returns-clause-browses g c = browses_then g.S.Shelf.tells g.S.Shelf.paths g.S.Shelf.rest g.S.Shelf.absences g.S.Shelf.faults c.args.shelf.now
-    c.skip_lead.new.shelf c.read_part.new.shelf c.skip_lead.ensures.browses c.read_part.ensures.browses
