@@ -13,7 +13,7 @@ use Rattle.rpm_outside.specs.inner.Moments.{leaves_then, leaves_weaker}
 use Rattle.rpm_pkgdb.specs.Blobs.{blobs}
 use Rattle.rpm_pkgdb.specs.Quiet.{StandsFor, StandsAs, BlobMap, IsQuiet, Anything}
 use Rattle.rpm_pkgdb.specs.Store.{Store}
-use Rattle.rpm_hindex.specs.declared.planning.Work.{Work}
+use Rattle.rpm_hindex.specs.declared.plan.Work.{Work}
 use Rattle.rpm_hindex.specs.State as hindex
 use Rattle.rpm_hindex.specs.State.{State, sealed, is_current, is_in_order}
 use Rattle.rpm_db.specs.Changes.{IsChangedStill}

@@ -7,7 +7,7 @@ use Rattle.std.proofs.lemmas.Bool.Decides.{nat_tests}
 use Rattle.rpm_outside.specs.Files.{Units, Files, unit_at}
 use Rattle.rpm_pkgdb.specs.Quiet.{StandsFor, BlobMap}
 use Rattle.rpm_pkgdb.specs.Store.{Store}
-use Rattle.rpm_hindex.specs.declared.planning.Work.{Work}
+use Rattle.rpm_hindex.specs.declared.plan.Work.{Work}
 use Rattle.rpm_hindex.specs.Index.{records}
 use Rattle.rpm_hindex.specs.Rows.{SameRows}
 use Rattle.rpm_hindex.specs.State.{sealed, state_of, is_current, is_in_order}

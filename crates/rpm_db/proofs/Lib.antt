@@ -1,4 +1,5 @@
 pub mod Answers
+pub mod Faults
 pub mod Rowing
 pub mod Making
 pub mod Opened
@@ -12,6 +13,8 @@ pub mod Raised
 pub mod SealedRows
 pub mod Changed
 pub mod Both
+pub mod Halves
+pub mod Left
 pub mod SameLogs
 pub mod Prepared
 pub mod Wholes

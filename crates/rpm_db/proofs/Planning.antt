@@ -13,13 +13,13 @@ use Rattle.rpm_pkgdb.specs.Planned.{IsPlan, IsFor, moves_of}
 use Rattle.rpm_pkgdb.specs.Quiet.{BlobMap}
 use Rattle.rpm_pkgdb.specs.Store.{Store}
 use Rattle.rpm_pkgdb.specs.Written.{with_spare, next_field, field_after}
-use Rattle.rpm_hindex.specs.declared.planning.Work.{Work}
+use Rattle.rpm_hindex.specs.declared.plan.Work.{Work}
 use Rattle.rpm_db.specs.Changes.{IsChangedStill, ReadsAtMost}
 use Rattle.rpm_db.specs.Lawful.{HasRows, AreLawful}
 use Rattle.rpm_db.specs.Rows.{rows}
 use Rattle.rpm_db.specs.Runs.{Runs}
 use Rattle.rpm_db.specs.State.{Package, packages, state}
-use Rattle.rpm_db.specs.inner.Writes.{SameFiles, WritesRows, IsSealedAfter, packages_of, state_of, number_for, field_for, cost_before}
+use Rattle.rpm_db.specs.inner.Writes.{SameFiles, WritesRows, IsSealedAfter, packages_of, state_of, number_for, field_for, cost_before, put_map}
 use Rattle.rpm_db.proofs.Changed.{rows_sealed}
 use Rattle.rpm_db.proofs.Edited.{number_is}
 use Rattle.rpm_db.proofs.Puts.{blobs_planned, map_planned, field_planned, reads_put}
@@ -45,10 +45,6 @@ pub record IsPutPlan (value planned : Store) (n : Option ℕ) (plan : Plan) (byt
   pub plan_is : IsPlan planned plan
   pub asked : IsFor n (length blob) plan
   pub own : bytes ≡ blob
-
--- the blobs after it
-abbrev put_map : Units → Store → Option ℕ → List ℕ → BlobMap
-put_map file value n blob = finite.insert (blobs file value) (number_for n value) (Some blob)
 
 put_map_is : {value planned : Store} {n : Option ℕ} {plan : Plan} {bytes blob : List ℕ} (file mid : Units) → mid ≡ file
     → IsPutPlan value planned n plan bytes blob → finite.insert (blobs mid planned) plan.target.number (Some bytes) ≡ put_map file value n blob

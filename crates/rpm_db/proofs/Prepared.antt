@@ -4,7 +4,7 @@ use Rattle.std.specs.Prelude.{IsOk}
 use Rattle.std.specs.FinMap as finite
 use Rattle.std.specs.Ordering.{nat_cmp}
 use Rattle.rpm_outside.specs.Files.{Units, unit_at}
-use Rattle.rpm_hindex.specs.declared.planning.Work.{Work}
+use Rattle.rpm_hindex.specs.declared.plan.Work.{Work}
 use Rattle.rpm_hindex.specs.declared.faults.PrepareFault.TheVariants.{BadIndex}
 use Rattle.rpm_hindex.specs.Index.{records}
 use Rattle.rpm_hindex.specs.Plans.{HasChanged, IsPlanFor}

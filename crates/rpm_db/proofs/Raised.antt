@@ -2,8 +2,8 @@
 use Rattle.std.proofs.Common.{◌≡◌, inl, inr, ℕ, ◌+◌, ◌≤◌, Bool, List, Option, Some, None, ap, ◌∙◌, arith}
 use Rattle.std.specs.FinMap as finite
 use Rattle.rpm_outside.specs.Files.{Units}
-use Rattle.rpm_pkgdb.specs.declared.moving.Move.{Move}
-use Rattle.rpm_pkgdb.specs.declared.page.Page.{Page}
+use Rattle.rpm_pkgdb.specs.declared.moved_blocks.Move.{Move}
+use Rattle.rpm_pkgdb.specs.declared.page_plan.Page.{Page}
 use Rattle.rpm_pkgdb.specs.declared.plan.Plan.{Plan}
 use Rattle.rpm_pkgdb.specs.declared.plan.Target.{Target}
 use Rattle.rpm_pkgdb.specs.Blobs.{blobs}

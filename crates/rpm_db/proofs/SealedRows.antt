@@ -1,7 +1,7 @@
 -- The index while a change of it is written and sealed.
 use Rattle.std.proofs.Common.{◌≡◌, ◌⊎◌, inl, inr, ℕ, ◌≤◌, List, ◌∷◌, [], length, sym, ap, ◌∙◌, subst}
 use Rattle.rpm_outside.specs.Files.{Units, put}
-use Rattle.rpm_hindex.specs.declared.planning.Work.{Work}
+use Rattle.rpm_hindex.specs.declared.plan.Work.{Work}
 use Rattle.rpm_hindex.specs.Images.{VoidOrSameSeal, SealedOrSame, IsSealed}
 use Rattle.rpm_hindex.specs.Plans.{after, buckets_after}
 use Rattle.rpm_hindex.specs.State.{seal_unit}

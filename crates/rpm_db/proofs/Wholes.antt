@@ -1,7 +1,7 @@
 -- An index that is well formed as a whole, while a change of it is worked out and written.
 use Rattle.std.proofs.Common.{◌≡◌, ℕ, List, sym, subst}
 use Rattle.rpm_outside.specs.Files.{Units, Files, unit_at}
-use Rattle.rpm_hindex.specs.declared.planning.Work.{Work}
+use Rattle.rpm_hindex.specs.declared.plan.Work.{Work}
 use Rattle.rpm_hindex.specs.Plans.{IsPlanFor}
 use Rattle.rpm_hindex.specs.Rows.{Row}
 use Rattle.rpm_hindex.specs.State.{buckets_of}

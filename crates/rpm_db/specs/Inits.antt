@@ -1,12 +1,21 @@
 -- What making a database leaves.
-use Rattle.std.specs.Prelude.{◌≡◌, Ok}
+use Rattle.std.specs.Prelude.{◌≡◌, ◌⊎◌, [], true, false, IsTrue, Result, Ok, Err}
 use Rattle.std.specs.FinMap as finite
+use Rattle.rpm_outside.specs.declared.disk.Disk as disk
+use Rattle.rpm_outside.specs.declared.disk.File.TheVariants.{Idx}
+use Rattle.rpm_outside.specs.Changes.{IsSettled}
 use Rattle.rpm_outside.specs.Files.{Units, Files}
 use Rattle.rpm_pkgdb.specs.Blobs.{blobs}
+use Rattle.rpm_pkgdb.specs.Quiet.{IsQuiet}
+use Rattle.rpm_pkgdb.specs.Reaches.{ReachesTo}
 use Rattle.rpm_pkgdb.specs.Store.{Store, store}
+use Rattle.rpm_pkgdb.specs.Written.{made_new}
+use Rattle.rpm_hindex.specs.Sizes.{units_for}
 use Rattle.rpm_db.specs.declared.change_fault.ChangeFault.{ChangeFault}
 use Rattle.rpm_db.specs.declared.change_fault.ChangeFault.TheVariants.{Stopped, DiskFault, NoMemory}
+use Rattle.rpm_db.specs.Database.{Database, IsIndexed, Keeps, KeepsIndex, is_indexed}
 use Rattle.rpm_db.specs.Lawful.{IsLawful}
+use Rattle.rpm_db.specs.Reaches.{ReachesMade}
 
 -- a Packages.db without packages, whose number field is 1
 pub record IsEmpty (pkg : Units) : Type 0 where
@@ -29,3 +38,28 @@ IsInitFault Stopped = Unit {0}
 IsInitFault DiskFault = Unit {0}
 IsInitFault NoMemory = Unit {0}
 IsInitFault _ = ⊥
+
+-- ---- what it leaves
+
+module _ {D : Type 0} (d : disk.Ghosts D) where
+  -- a database was made: it has no package, an index without rows, and can be changed
+  pub record IsInit (old new : D) (before after : Database) : Type 0 where
+    pub store_is : after.store ≡ made_new before.store
+    pub generation : after.store.generation ≡ 1
+    pub indexed : is_indexed after ≡ true
+    pub going : after.stopped ≡ false
+    pub keeps : IsTrue d.tells → Keeps (d.files new).pkg after
+    pub keeps_index : IsTrue d.tells → KeepsIndex (d.files new).idx after
+    pub index : IsTrue d.tells → IsIndexed (d.files new).pkg (d.files new).idx after
+    pub quiet : IsTrue d.tells → IsQuiet after.store (d.files new) (d.left_since new (d.moment new))
+    pub settled : IsTrue d.tells → IsSettled Idx (d.files new) (d.left_since new (d.moment new))
+    pub reach : IsTrue d.tells → ReachesMade (units_for []) (d.files old).idx (d.files new).idx
+    pub end : IsTrue d.tells → ReachesTo after.store (d.files old).pkg (d.files new).pkg
+
+-- a value is stopped by a fault of the disk alone, and answers Stopped exactly where it was before
+pub record StopsAs {A : Type 0} (before after : Database)
+    (result : Result A ChangeFault) : Type 0 where
+  pub stopped : (after.stopped ≡ true → (before.stopped ≡ true) ⊎ (result ≡ Err DiskFault))
+      × (result ≡ Err DiskFault → after.stopped ≡ true)
+  pub is_stopped : (before.stopped ≡ true → result ≡ Err Stopped)
+      × (result ≡ Err Stopped → before.stopped ≡ true)

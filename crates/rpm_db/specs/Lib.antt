@@ -1,4 +1,5 @@
 pub mod Answers
+pub mod Changed
 pub mod Changes
 pub mod Database
 pub mod Inits

@@ -9,7 +9,7 @@ use Rattle.rpm_hindex.specs.declared.faults.RewriteFault.{RewriteFault}
 use Rattle.rpm_hindex.specs.declared.faults.RewriteFault.TheVariants as rewrite
 use Rattle.rpm_db.specs.declared.open_fault.DbOpenFault.{DbOpenFault}
 use Rattle.rpm_db.specs.declared.open_fault.DbOpenFault.TheVariants.{Damaged, IndexFull, DiskFault, NoMemory}
-use Rattle.rpm_db.specs.Database.{Database, Keeps, KeepsIndex, IsIndexed, is_blank}
+use Rattle.rpm_db.specs.Database.{Database, Keeps, KeepsIndex, IsIndexed, holds, is_blank, is_indexed}
 use Rattle.rpm_db.specs.Lawful.{IsLawful, is_current_at}
 use Rattle.rpm_db.specs.Rows.{rows}
 use Rattle.rpm_db.specs.State.{packages}
@@ -73,6 +73,12 @@ pub record IsOpened (old new : Files) (result : Result Database DbOpenFault) : T
   pub keeps : IfOk result (λ db. Keeps new.pkg db × KeepsIndex new.idx db)
   pub index : IfOk result (λ db. is_blank db ≡ false → IsLawful old.pkg old.idx → IsIndexed new.pkg new.idx db)
   pub made : IfOk result (λ db. must_make old.idx (store old.pkg) ≡ true → IsIndexed new.pkg new.idx db)
+
+-- a value that was opened with an index: it goes on, and has one where a database was made
+pub record IsFresh (db : Database) : Type 0 where
+  pub from_one : holds 0 db ≡ false
+  pub indexed : is_indexed db ≡ not (is_blank db)
+  pub going : db.stopped ≡ false
 
 -- ---- making the index
 

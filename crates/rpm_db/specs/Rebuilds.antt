@@ -1,10 +1,15 @@
 -- What making the index anew answers.
-use Rattle.std.specs.Prelude.{◌≡◌, ◌<◌, ◌≤◌, ◌^◌, true, false, Result, Ok, Err}
+use Rattle.std.specs.Prelude.{◌≡◌, ◌⊎◌, IsTrue, ◌<◌, ◌≤◌, ◌^◌, true, false, Result, Ok, Err}
+use Rattle.rpm_outside.specs.declared.disk.Disk as disk
+use Rattle.rpm_outside.specs.declared.disk.File.TheVariants.{Pkg, Idx}
+use Rattle.rpm_outside.specs.Changes.{IsSettled}
 use Rattle.rpm_outside.specs.Files.{Files}
 use Rattle.rpm_hindex.specs.Sizes.{units_for}
 use Rattle.rpm_db.specs.declared.change_fault.ChangeFault.{ChangeFault}
 use Rattle.rpm_db.specs.declared.change_fault.ChangeFault.TheVariants.{Stopped, IndexFull, DiskFault, NoMemory}
-use Rattle.rpm_db.specs.Database.{Database, KeepsIndex, IsIndexed}
+use Rattle.rpm_db.specs.Changes.{IsServing}
+use Rattle.rpm_db.specs.Database.{Database, KeepsIndex, IsIndexed, is_blank, is_indexed}
+use Rattle.rpm_db.specs.Reaches.{ReachesMade}
 use Rattle.rpm_db.specs.Rows.{rows}
 use Rattle.rpm_db.specs.State.{packages}
 
@@ -27,3 +32,25 @@ RebuildIs db (Err (IndexFull needed)) = db.stopped ≡ false
 RebuildIs db (Err DiskFault) = db.stopped ≡ false
 RebuildIs db (Err NoMemory) = db.stopped ≡ false
 RebuildIs db (Err _) = ⊥
+
+-- ---- what it leaves
+
+module _ {D : Type 0} (d : disk.Ghosts D) where
+  -- the index was made: the value can be changed, and both files are settled
+  pub record IsRenewed (old new : D) (before after : Database) : Type 0 where
+    pub going : after.stopped ≡ false
+    pub serving : IsTrue d.tells → IsServing (d.files new) (d.left_since new (d.moment new)) after
+    pub pkg : IsTrue d.tells → IsSettled Pkg (d.files new) (d.left_since new (d.moment new))
+    pub settled : IsTrue d.tells → IsSettled Idx (d.files new) (d.left_since new (d.moment new))
+    pub reach : IsTrue d.tells
+        → ReachesMade (units_for (rows (packages (d.files old).pkg before.store)))
+        (d.files old).idx (d.files new).idx
+
+-- whatever it answers: the store stays, and the value is stopped by a fault of the disk alone
+pub record IsStill (before after : Database) (result : Result (Unit {0}) ChangeFault) : Type 0 where
+  pub store : after.store ≡ before.store
+  pub generation : after.store.generation ≡ before.store.generation
+  pub indexed : is_indexed after ≡ true
+  pub not_blank : is_blank after ≡ false
+  pub stopped : (after.stopped ≡ true → (before.stopped ≡ true) ⊎ (result ≡ Err DiskFault))
+      × (result ≡ Err DiskFault → after.stopped ≡ true)

@@ -1,8 +1,11 @@
 -- Laws on the definitions, for the crates above.
 pub mod Above
+pub mod Both
+pub mod Faults
 pub mod Kept
 pub mod Laws
 pub mod LawfulLaws
+pub mod Making
 pub mod Own
 pub mod Places
 pub mod RoomLaws

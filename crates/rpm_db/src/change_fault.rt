@@ -1,5 +1,8 @@
 //! Why a database isn't changed.
 
+ghost use Rattle.std.specs.Prelude.{◌≡◌};
+ghost use Rattle.rpm_db.specs.declared.change_fault.ChangeFault.TheVariants.{BadHeader};
+
 use rpm_header::HeaderFault;
 use thiserror::Error;
 
@@ -36,4 +39,13 @@ pub enum ChangeFault {
     /// There was no memory.
     #[error("out of memory")]
     NoMemory,
+}
+
+/// A fault of a header is that of the blob.
+impl From<HeaderFault> for ChangeFault {
+    ghost from_gives = { λ fault e. e ≡ BadHeader fault };
+
+    fn from(fault: HeaderFault) -> ChangeFault {
+        ChangeFault::BadHeader(fault)
+    }
 }

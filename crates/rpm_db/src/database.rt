@@ -16,7 +16,7 @@ ghost use Rattle.rpm_db.specs.Changes.{next};
 ghost use Rattle.rpm_db.specs.State.{state};
 ghost use Rattle.rpm_db.specs.Database.{Keeps, OpenIs, IsNext, holds, is_blank, is_indexed, next_number};
 ghost use Rattle.rpm_db.specs.Lawful.{Remade, StaysLawful};
-ghost use Rattle.rpm_db.specs.Openings.{IsOpened, OpeningReads, StoreIs, units_needed};
+ghost use Rattle.rpm_db.specs.Openings.{IsFresh, IsOpened, OpeningReads, StoreIs, units_needed};
 ghost use Rattle.rpm_db.specs.Reaches.{ReachesMade};
 ghost use Rattle.rpm_db.specs.Runs.{Runs};
 
@@ -24,7 +24,7 @@ use crate::indexing::{index_for, settle};
 use crate::open_fault::DbOpenFault;
 use rpm_hindex::Hindex;
 use rpm_outside::{Disk, File};
-use rpm_pkgdb::{OpenFault, PkgDb};
+use rpm_pkgdb::PkgDb;
 use std::alloc::Global;
 use std::marker::Model;
 
@@ -57,12 +57,8 @@ fn open_store<D: Disk>(alloc: Global, disk: &mut D) -> Result<PkgDb, DbOpenFault
     ensures looks { Looks D.tells D.files D.left_since D.moment D.bytes_read D.follows Pkg (2 ^ 32) disk.old disk.new }
     ensures cause { HasCauseAt (result ≡ Err DbOpenFault.DiskFault) (D.faults disk.old) (D.faults disk.new) }
 {
-    match PkgDb::open(alloc, disk) {
-        Ok(store) => Ok(store),
-        Err(OpenFault::Damaged(damage)) => Err(DbOpenFault::Damaged(damage)),
-        Err(OpenFault::DiskFault) => Err(DbOpenFault::DiskFault),
-        Err(OpenFault::NoMemory) => Err(DbOpenFault::NoMemory),
-    }
+    let store = PkgDb::open(alloc, disk)?;
+    Ok(store)
 }
 
 impl Db {
@@ -72,9 +68,7 @@ impl Db {
     /// Beside the two syncs it does what `open_settled` does, and answers what that answers.
     pub fn open<D: Disk>(alloc: Global, disk: &mut D) -> Result<Db, DbOpenFault>
         ensures opened { IsTrue D.tells → IsOpened (D.files disk.old) (D.files disk.new) result }
-        ensures from_one { IfOk result (λ db. holds 0 db ≡ false) }
-        ensures indexed { IfOk result (λ db. is_indexed db ≡ not (is_blank db)) }
-        ensures going { IfOk result (λ db. db.stopped ≡ false) }
+        ensures fresh { IfOk result IsFresh }
         ensures quiet { IfOk result (λ db. IsTrue D.tells → IsQuiet db.store (D.files disk.new) (D.left_since disk.new (D.moment disk.new))) }
         ensures durable { IfOk result (λ _db. IsTrue D.tells → IsSettled Pkg (D.files disk.new) (D.left_since disk.new (D.moment disk.new))) }
         ensures settled { IfOk result (λ _db. IsTrue D.tells → IsSettled Idx (D.files disk.new) (D.left_since disk.new (D.moment disk.new))) }
@@ -109,9 +103,7 @@ impl Db {
         requires pkg { IsTrue D.tells → IsSettled Pkg (D.files disk.old) (D.left_since disk.old (D.moment disk.old)) }
         requires idx { IsTrue D.tells → IsSettled Idx (D.files disk.old) (D.left_since disk.old (D.moment disk.old)) }
         ensures opened { IsTrue D.tells → IsOpened (D.files disk.old) (D.files disk.new) result }
-        ensures from_one { IfOk result (λ db. holds 0 db ≡ false) }
-        ensures indexed { IfOk result (λ db. is_indexed db ≡ not (is_blank db)) }
-        ensures going { IfOk result (λ db. db.stopped ≡ false) }
+        ensures fresh { IfOk result IsFresh }
         ensures quiet { IfOk result (λ db. IsTrue D.tells → IsQuiet db.store (D.files disk.new) (D.left_since disk.new (D.moment disk.new))) }
         ensures durable { IfOk result (λ _db. IsTrue D.tells → IsSettled Pkg (D.files disk.new) (D.left_since disk.new (D.moment disk.new))) }
         ensures settled { IfOk result (λ _db. IsTrue D.tells → IsSettled Idx (D.files disk.new) (D.left_since disk.new (D.moment disk.new))) }
@@ -123,10 +115,7 @@ impl Db {
         ensures runs { Runs D.tells D.files D.left_since D.moment D.bytes_read D.follows Remade disk.old disk.new }
         ensures cause { HasCauseAt (result ≡ Err DbOpenFault.DiskFault) (D.faults disk.old) (D.faults disk.new) }
     {
-        let store = match open_store(alloc, disk) {
-            Ok(store) => store,
-            Err(fault) => return Err(fault),
-        };
+        let store = open_store(alloc, disk)?;
         if store.is_blank() {
             return Ok(Db {
                 store,
@@ -134,14 +123,12 @@ impl Db {
                 is_stopped: false,
             });
         }
-        match index_for(alloc, disk, &store) {
-            Ok(index) => Ok(Db {
-                store,
-                index: Some(index),
-                is_stopped: false,
-            }),
-            Err(fault) => Err(fault),
-        }
+        let index = index_for(alloc, disk, &store)?;
+        Ok(Db {
+            store,
+            index: Some(index),
+            is_stopped: false,
+        })
     }
 
     /// Reads the store alone. Nothing is written and no file is settled, and the value has no index.
@@ -164,14 +151,12 @@ impl Db {
         ensures looks { Looks D.tells D.files D.left_since D.moment D.bytes_read D.follows Pkg (2 ^ 32) disk.old disk.new }
         ensures cause { HasCauseAt (result ≡ Err DbOpenFault.DiskFault) (D.faults disk.old) (D.faults disk.new) }
     {
-        match open_store(alloc, disk) {
-            Ok(store) => Ok(Db {
-                store,
-                index: None,
-                is_stopped: false,
-            }),
-            Err(fault) => Err(fault),
-        }
+        let store = open_store(alloc, disk)?;
+        Ok(Db {
+            store,
+            index: None,
+            is_stopped: false,
+        })
     }
 
     /// Whether no database was made yet.

@@ -1,22 +1,22 @@
 //! Adding, putting and erasing.
 
-ghost use Rattle.std.specs.Prelude.{◌≡◌, ◌≢◌, ◌⊎◌, ◌+◌, ◌≤◌, length, IsTrue, true, false, None, Some, Ok, Err, OnOk, IfOk, IfErr};
+ghost use Rattle.std.specs.Prelude.{◌≡◌, ◌+◌, ◌≤◌, length, IsTrue, true, false, None, Some, Ok, Err, OnOk, IfOk};
 ghost use Rattle.rpm_header.specs.Header.{Header, header};
 ghost use Rattle.rpm_outside.specs.Causes.{HasCauseAt};
 ghost use Rattle.rpm_outside.specs.Crash.{LeavesOnly};
 ghost use Rattle.rpm_outside.specs.declared.disk.File.TheVariants.{Pkg};
 ghost use Rattle.rpm_pkgdb.specs.Reaches.{ReachesTo};
 ghost use Rattle.rpm_hindex.specs.Sizes.{units_for};
-ghost use Rattle.rpm_db.specs.Changes.{Add, Put, Erase, apply, AllSay, IsChangedStill, IsServing, ReadsAtMost, with_room};
-ghost use Rattle.rpm_db.specs.Database.{IsIndexed, holds, is_blank, is_indexed, next_number, cost};
-ghost use Rattle.rpm_db.specs.Lawful.{IsWholeIndex, AreLawful};
-ghost use Rattle.rpm_db.specs.Reaches.{Reaches};
-ghost use Rattle.rpm_db.specs.Refusals.{AddIs, PutIs, EraseIs, FullIndexIs, BadIndexIs, StaysWhole, IsRefusal};
+ghost use Rattle.rpm_db.specs.Changed.{Changed, IsLeft};
+ghost use Rattle.rpm_db.specs.Changes.{Add, Put, Erase, apply, IsChangedStill, IsServing, ReadsAtMost, with_room};
+ghost use Rattle.rpm_db.specs.Database.{IsIndexed, holds, is_indexed, next_number, cost};
+ghost use Rattle.rpm_db.specs.Lawful.{AreLawful};
+ghost use Rattle.rpm_db.specs.Refusals.{AddIs, PutIs, EraseIs, FullIndexIs, BadIndexIs};
 ghost use Rattle.rpm_db.specs.Room.{RoomIs, next_store};
 ghost use Rattle.rpm_db.specs.Rows.{rows};
 ghost use Rattle.rpm_db.specs.Runs.{Runs};
 ghost use Rattle.rpm_db.specs.State.{state};
-ghost use Rattle.rpm_db.specs.inner.Writes.{SameFiles, SameLog};
+ghost use Rattle.rpm_db.specs.inner.Writes.{SameLog};
 
 use crate::change_fault::ChangeFault;
 use crate::database::Db;
@@ -59,28 +59,12 @@ impl Db {
         ensures causes { AddIs self.old blob.now result }
         ensures placed { (h : Header) → header blob.now ≡ Ok h → RoomIs (next_store (Add h.blob) self.old.store) self.old.store self.new.store result }
         ensures number { IfOk result (λ n. n ≡ next_number self.old) }
-        ensures state { OnOk result (IsTrue D.tells → (h : Header) → header blob.now ≡ Ok h → state (D.files disk.new).pkg self.new.store ≡ apply
-            (Add h.blob) (state (D.files disk.old).pkg self.old.store)) }
-        ensures held { OnOk result (IsTrue D.tells → (h : Header) → header blob.now ≡ Ok h → AllSay (apply (Add h.blob)
-            (state (D.files disk.old).pkg self.old.store)) (D.left_since disk.new (D.moment disk.new))) }
-        ensures generation { OnOk result (self.new.store.generation ≡ self.old.store.generation + 1) }
-        ensures indexed { is_indexed self.new ≡ true }
-        ensures not_blank { is_blank self.new ≡ false }
-        ensures index { OnOk result (IsTrue D.tells → IsIndexed (D.files disk.old).pkg (D.files disk.old).idx self.old → IsIndexed (D.files disk.new).pkg
-            (D.files disk.new).idx self.new) }
-        ensures reach { OnOk result (IsTrue D.tells → IsIndexed (D.files disk.old).pkg (D.files disk.old).idx self.old → (h : Header)
-            → header blob.now ≡ Ok h → Reaches (state (D.files disk.old).pkg self.old.store) (Add h.blob) (D.files disk.old).idx (D.files disk.new).idx) }
+        ensures changed { OnOk result ((h : Header) → header blob.now ≡ Ok h → Changed D.Disk disk.old disk.new (Add h.blob) self.old self.new) }
+        ensures left { IsLeft D.Disk disk.old disk.new self.old self.new (with_room self.new.store.spare self.old) result }
         ensures end { OnOk result (IsTrue D.tells → ReachesTo self.new.store (D.files disk.old).pkg (D.files disk.new).pkg) }
         ensures full { IsTrue D.tells → self.old.stopped ≡ false → IsIndexed (D.files disk.old).pkg (D.files disk.old).idx self.old → (h : Header)
             → header blob.now ≡ Ok h → FullIndexIs (units_for (rows (apply (Add h.blob) (state (D.files disk.old).pkg self.old.store)).packages)) result }
-        ensures whole { IsTrue D.tells → IsWholeIndex (D.files disk.old).idx → StaysWhole (D.files disk.new).idx result }
         ensures bad { IsTrue D.tells → BadIndexIs (D.files disk.old).idx result }
-        ensures serving { result ≢ Err ChangeFault.DiskFault → self.old.stopped ≡ false → IsTrue D.tells → IsServing (D.files disk.new)
-            (D.left_since disk.new (D.moment disk.new)) self.new }
-        ensures refused { IfErr result (λ e. IsRefusal e → self.new ≡ with_room self.new.store.spare self.old) }
-        ensures same { IfErr result (λ e. IsRefusal e → Runs D.tells D.files D.left_since D.moment D.bytes_read D.follows SameFiles disk.old disk.new) }
-        ensures stopped { (self.new.stopped ≡ true → (self.old.stopped ≡ true) ⊎ (result ≡ Err ChangeFault.DiskFault))
-            × (result ≡ Err ChangeFault.DiskFault → self.new.stopped ≡ true) }
         ensures stops { IsTrue D.tells → AreLawful (D.left_since disk.old (D.moment disk.old)) → (h : Header) → header blob.now ≡ Ok h → LeavesOnly
             D.moment D.left_since disk.old disk.new (IsChangedStill (state (D.files disk.old).pkg self.old.store)
             (apply (Add h.blob) (state (D.files disk.old).pkg self.old.store)) (D.left_since disk.old (D.moment disk.old))) }
@@ -91,10 +75,7 @@ impl Db {
         if self.is_stopped {
             return Err(ChangeFault::Stopped);
         }
-        let view = match View::parse(blob) {
-            Ok(view) => view,
-            Err(fault) => return Err(ChangeFault::BadHeader(fault)),
-        };
+        let view = View::parse(blob)?;
         if self.store.next_number() == u32::MAX {
             return Err(ChangeFault::NumbersSpent);
         }
@@ -132,28 +113,12 @@ impl Db {
         requires serving { self.old.stopped ≡ false → IsTrue D.tells → IsServing (D.files disk.old) (D.left_since disk.old (D.moment disk.old)) self.old }
         ensures causes { PutIs self.old n blob.now result }
         ensures placed { (h : Header) → header blob.now ≡ Ok h → RoomIs (next_store (Put n h.blob) self.old.store) self.old.store self.new.store result }
-        ensures state { OnOk result (IsTrue D.tells → (h : Header) → header blob.now ≡ Ok h → state (D.files disk.new).pkg self.new.store ≡ apply
-            (Put n h.blob) (state (D.files disk.old).pkg self.old.store)) }
-        ensures held { OnOk result (IsTrue D.tells → (h : Header) → header blob.now ≡ Ok h → AllSay (apply (Put n h.blob)
-            (state (D.files disk.old).pkg self.old.store)) (D.left_since disk.new (D.moment disk.new))) }
-        ensures generation { OnOk result (self.new.store.generation ≡ self.old.store.generation + 1) }
-        ensures indexed { is_indexed self.new ≡ true }
-        ensures not_blank { is_blank self.new ≡ false }
-        ensures index { OnOk result (IsTrue D.tells → IsIndexed (D.files disk.old).pkg (D.files disk.old).idx self.old → IsIndexed (D.files disk.new).pkg
-            (D.files disk.new).idx self.new) }
-        ensures reach { OnOk result (IsTrue D.tells → IsIndexed (D.files disk.old).pkg (D.files disk.old).idx self.old → (h : Header)
-            → header blob.now ≡ Ok h → Reaches (state (D.files disk.old).pkg self.old.store) (Put n h.blob) (D.files disk.old).idx (D.files disk.new).idx) }
+        ensures changed { OnOk result ((h : Header) → header blob.now ≡ Ok h → Changed D.Disk disk.old disk.new (Put n h.blob) self.old self.new) }
+        ensures left { IsLeft D.Disk disk.old disk.new self.old self.new (with_room self.new.store.spare self.old) result }
         ensures end { OnOk result (IsTrue D.tells → ReachesTo self.new.store (D.files disk.old).pkg (D.files disk.new).pkg) }
         ensures full { IsTrue D.tells → self.old.stopped ≡ false → IsIndexed (D.files disk.old).pkg (D.files disk.old).idx self.old → (h : Header)
             → header blob.now ≡ Ok h → FullIndexIs (units_for (rows (apply (Put n h.blob) (state (D.files disk.old).pkg self.old.store)).packages)) result }
-        ensures whole { IsTrue D.tells → IsWholeIndex (D.files disk.old).idx → StaysWhole (D.files disk.new).idx result }
         ensures bad { IsTrue D.tells → BadIndexIs (D.files disk.old).idx result }
-        ensures serving { result ≢ Err ChangeFault.DiskFault → self.old.stopped ≡ false → IsTrue D.tells → IsServing (D.files disk.new)
-            (D.left_since disk.new (D.moment disk.new)) self.new }
-        ensures refused { IfErr result (λ e. IsRefusal e → self.new ≡ with_room self.new.store.spare self.old) }
-        ensures same { IfErr result (λ e. IsRefusal e → Runs D.tells D.files D.left_since D.moment D.bytes_read D.follows SameFiles disk.old disk.new) }
-        ensures stopped { (self.new.stopped ≡ true → (self.old.stopped ≡ true) ⊎ (result ≡ Err ChangeFault.DiskFault))
-            × (result ≡ Err ChangeFault.DiskFault → self.new.stopped ≡ true) }
         ensures stops { IsTrue D.tells → AreLawful (D.left_since disk.old (D.moment disk.old)) → (h : Header) → header blob.now ≡ Ok h → LeavesOnly
             D.moment D.left_since disk.old disk.new (IsChangedStill (state (D.files disk.old).pkg self.old.store)
             (apply (Put n h.blob) (state (D.files disk.old).pkg self.old.store)) (D.left_since disk.old (D.moment disk.old))) }
@@ -164,10 +129,7 @@ impl Db {
         if self.is_stopped {
             return Err(ChangeFault::Stopped);
         }
-        let view = match View::parse(blob) {
-            Ok(view) => view,
-            Err(fault) => return Err(ChangeFault::BadHeader(fault)),
-        };
+        let view = View::parse(blob)?;
         if !self.store.holds(n) {
             return Err(ChangeFault::NoSuch);
         }
@@ -200,28 +162,12 @@ impl Db {
         requires serving { self.old.stopped ≡ false → IsTrue D.tells → IsServing (D.files disk.old) (D.left_since disk.old (D.moment disk.old)) self.old }
         ensures causes { EraseIs self.old n result }
         ensures placed { RoomIs (next_store (Erase n) self.old.store) self.old.store self.new.store result }
-        ensures state { OnOk result (IsTrue D.tells → state (D.files disk.new).pkg self.new.store ≡ apply
-            (Erase n) (state (D.files disk.old).pkg self.old.store)) }
-        ensures held { OnOk result (IsTrue D.tells → AllSay (apply (Erase n) (state (D.files disk.old).pkg self.old.store))
-            (D.left_since disk.new (D.moment disk.new))) }
-        ensures generation { OnOk result (self.new.store.generation ≡ self.old.store.generation + 1) }
-        ensures indexed { is_indexed self.new ≡ true }
-        ensures not_blank { is_blank self.new ≡ false }
-        ensures index { OnOk result (IsTrue D.tells → IsIndexed (D.files disk.old).pkg (D.files disk.old).idx self.old → IsIndexed (D.files disk.new).pkg
-            (D.files disk.new).idx self.new) }
-        ensures reach { OnOk result (IsTrue D.tells → IsIndexed (D.files disk.old).pkg (D.files disk.old).idx self.old → Reaches
-            (state (D.files disk.old).pkg self.old.store) (Erase n) (D.files disk.old).idx (D.files disk.new).idx) }
+        ensures changed { OnOk result (Changed D.Disk disk.old disk.new (Erase n) self.old self.new) }
+        ensures left { IsLeft D.Disk disk.old disk.new self.old self.new self.old result }
         ensures end { OnOk result (IsTrue D.tells → length (D.files disk.new).pkg ≤ length (D.files disk.old).pkg) }
         ensures full { IsTrue D.tells → self.old.stopped ≡ false → IsIndexed (D.files disk.old).pkg (D.files disk.old).idx self.old
             → FullIndexIs (units_for (rows (apply (Erase n) (state (D.files disk.old).pkg self.old.store)).packages)) result }
-        ensures whole { IsTrue D.tells → IsWholeIndex (D.files disk.old).idx → StaysWhole (D.files disk.new).idx result }
         ensures bad { IsTrue D.tells → BadIndexIs (D.files disk.old).idx result }
-        ensures serving { result ≢ Err ChangeFault.DiskFault → self.old.stopped ≡ false → IsTrue D.tells → IsServing (D.files disk.new)
-            (D.left_since disk.new (D.moment disk.new)) self.new }
-        ensures refused { IfErr result (λ e. IsRefusal e → self.new ≡ self.old) }
-        ensures same { IfErr result (λ e. IsRefusal e → Runs D.tells D.files D.left_since D.moment D.bytes_read D.follows SameFiles disk.old disk.new) }
-        ensures stopped { (self.new.stopped ≡ true → (self.old.stopped ≡ true) ⊎ (result ≡ Err ChangeFault.DiskFault))
-            × (result ≡ Err ChangeFault.DiskFault → self.new.stopped ≡ true) }
         ensures stops { IsTrue D.tells → AreLawful (D.left_since disk.old (D.moment disk.old)) → LeavesOnly
             D.moment D.left_since disk.old disk.new (IsChangedStill (state (D.files disk.old).pkg self.old.store)
             (apply (Erase n) (state (D.files disk.old).pkg self.old.store)) (D.left_since disk.old (D.moment disk.old))) }

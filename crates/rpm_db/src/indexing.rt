@@ -4,6 +4,7 @@ ghost use Rattle.std.specs.Prelude.{◌≡◌, ◌≢◌, ℕ, ◌+◌, ◌≤�
 ghost use Rattle.rpm_outside.specs.Files.{Files};
 ghost use Rattle.rpm_outside.specs.Causes.{HasCause, HasCauseAt};
 ghost use Rattle.rpm_outside.specs.Changes.{IsSettled};
+ghost use Rattle.rpm_outside.specs.Looks.{ReadAtMost};
 ghost use Rattle.rpm_outside.specs.declared.disk.File.TheVariants.{Pkg, Idx};
 ghost use Rattle.rpm_pkgdb.specs.declared.slot.Damage.{Damage};
 ghost use Rattle.rpm_pkgdb.specs.Costs.{cost_all};
@@ -19,6 +20,7 @@ ghost use Rattle.rpm_db.specs.Reaches.{ReachesMade};
 ghost use Rattle.rpm_db.specs.Rows.{rows};
 ghost use Rattle.rpm_db.specs.Runs.{Runs};
 ghost use Rattle.rpm_db.specs.State.{packages};
+ghost use Rattle.rpm_db.specs.inner.Making.{CanIndex};
 
 use crate::open_fault::DbOpenFault;
 use crate::rows::rows_of;
@@ -87,9 +89,7 @@ fn write_index<D: Disk>(
     ensures runs { Runs D.tells D.files D.left_since D.moment D.bytes_read D.follows Remade disk.old disk.new }
     ensures cause { HasCauseAt (result ≡ Err RewriteFault.DiskFault) (D.faults disk.old) (D.faults disk.new) }
 {
-    if let Err(fault) = index.rewrite(alloc, disk, rows) {
-        return Err(fault);
-    }
+    index.rewrite(alloc, disk, rows)?;
     match seal_index(disk, index, generation) {
         Ok(()) => Ok(()),
         Err(IndexDiskFault) => Err(RewriteFault::DiskFault),
@@ -117,25 +117,17 @@ pub fn make_index<D: Disk>(
     ensures refused { IfErr result (λ e. IsRefused e → (index.new ≡ index.old) × (IsTrue D.tells → D.files disk.new ≡ D.files disk.old)) }
     ensures reach { OnOk result (IsTrue D.tells → ReachesMade (units_for (rows (packages (D.files disk.old).pkg store.now)))
         (D.files disk.old).idx (D.files disk.new).idx) }
-    ensures reads { D.bytes_read disk.new Pkg ≤ D.bytes_read disk.old Pkg + cost_all store.now }
-    ensures unread { D.bytes_read disk.new Idx ≤ D.bytes_read disk.old Idx }
+    ensures reads { ReadAtMost Pkg (cost_all store.now) (D.bytes_read disk.old) (D.bytes_read disk.new) }
     ensures runs { Runs D.tells D.files D.left_since D.moment D.bytes_read D.follows Remade disk.old disk.new }
     ensures cause { HasCauseAt (result ≡ Err RewriteFault.DiskFault) (D.faults disk.old) (D.faults disk.new) }
 {
-    let rows = match rows_of(alloc, disk, store) {
-        Ok(rows) => rows,
-        Err(fault) => return Err(fault),
-    };
+    let rows = rows_of(alloc, disk, store)?;
     write_index(alloc, disk, index, &rows, store.generation())
 }
 
 /// The index of a store, which is made from the packages where it isn't current.
 pub fn index_for<D: Disk>(alloc: Global, disk: &mut D, store: &PkgDb) -> Result<Hindex, DbOpenFault>
-    requires keeps { IsTrue D.tells → Keeps (D.files disk.old).pkg store.now }
-    requires made { 1 ≤ store.now.pages }
-    requires from_one { slot_with 0 store.now.slots ≡ None }
-    requires pkg { IsTrue D.tells → IsSettled Pkg (D.files disk.old) (D.left_since disk.old (D.moment disk.old)) }
-    requires idx { IsTrue D.tells → IsSettled Idx (D.files disk.old) (D.left_since disk.old (D.moment disk.old)) }
+    requires can { CanIndex D.Disk disk.old store.now }
     ensures full { IsTrue D.tells → FullOpenIs (not (is_current_at store.now.generation (D.files disk.old).idx))
         (units_for (rows (packages (D.files disk.old).pkg store.now))) result }
     ensures undamaged { (d : Damage) → result ≢ Err (DbOpenFault.Damaged d) }

@@ -1,6 +1,10 @@
 //! Why a database isn't opened.
 
-use rpm_pkgdb::Damage;
+ghost use Rattle.std.specs.Prelude.{◌≡◌};
+ghost use Rattle.rpm_db.specs.declared.open_fault.DbOpenFault.TheVariants.{Damaged};
+ghost use Rattle.rpm_db.specs.inner.Faults.{store_fault};
+
+use rpm_pkgdb::{Damage, OpenFault};
 use thiserror::Error;
 
 /// Why a database isn't opened.
@@ -18,4 +22,26 @@ pub enum DbOpenFault {
     /// There was no memory.
     #[error("out of memory")]
     NoMemory,
+}
+
+/// Damage is that of the store.
+impl From<Damage> for DbOpenFault {
+    ghost from_gives = { λ damage e. e ≡ Damaged damage };
+
+    fn from(damage: Damage) -> DbOpenFault {
+        DbOpenFault::Damaged(damage)
+    }
+}
+
+/// Why the store of a database isn't opened.
+impl From<OpenFault> for DbOpenFault {
+    ghost from_gives = { λ fault e. e ≡ store_fault fault };
+
+    fn from(fault: OpenFault) -> DbOpenFault {
+        match fault {
+            OpenFault::Damaged(damage) => DbOpenFault::from(damage),
+            OpenFault::DiskFault => DbOpenFault::DiskFault,
+            OpenFault::NoMemory => DbOpenFault::NoMemory,
+        }
+    }
 }

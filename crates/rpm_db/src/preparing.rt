@@ -8,8 +8,8 @@ ghost use Rattle.rpm_outside.specs.declared.disk.File.TheVariants.{Pkg, Idx};
 ghost use Rattle.rpm_outside.specs.Looks.{Looks};
 ghost use Rattle.rpm_pkgdb.specs.Costs.{cost};
 ghost use Rattle.rpm_pkgdb.specs.Store.{Keeps};
-ghost use Rattle.rpm_hindex.specs.Plans.{CanWrite, LeavesOrder, HasChanged, units_after};
-ghost use Rattle.rpm_hindex.specs.Sizes.{units_for, live_of};
+ghost use Rattle.rpm_hindex.specs.Plans.{HasChanged};
+ghost use Rattle.rpm_hindex.specs.Sizes.{units_for};
 ghost use Rattle.rpm_hindex.specs.State as hindex;
 ghost use Rattle.rpm_db.specs.Lawful.{HasRows, IsWholeIndex};
 ghost use Rattle.rpm_db.specs.Openings.{IsOutside};
@@ -17,8 +17,9 @@ ghost use Rattle.rpm_db.specs.Refusals.{FullIndexIs, BadIndexIs, IsOfIndex, IsOf
 ghost use Rattle.rpm_db.specs.Rows.{header_rows, rows_at, rows};
 ghost use Rattle.rpm_db.specs.Runs.{Runs};
 ghost use Rattle.rpm_db.specs.State.{Package, packages};
+ghost use Rattle.rpm_db.specs.inner.Both.{AreRead, CanApply, LeadsTo};
 ghost use Rattle.rpm_db.specs.inner.Places.{AreWithout};
-ghost use Rattle.rpm_db.specs.inner.Writes.{WritesRows, WritesWhole, SameFiles, old_rows, cost_before};
+ghost use Rattle.rpm_db.specs.inner.Writes.{WritesWhole, SameFiles, old_rows, cost_before};
 
 use crate::change_fault::ChangeFault;
 use crate::rows::{push_header, push_package};
@@ -116,15 +117,11 @@ fn prepare_rows<D: Disk>(
 ) -> Result<IndexPlan, ChangeFault>
     requires order { hindex.is_in_order index.now ≡ true }
     requires keeps { IsTrue D.tells → hindex.Keeps (D.files disk.old).idx index.now }
-    ensures can { IfOk result (λ plan. CanWrite index.now.units plan.work) }
-    ensures ordered { IfOk result (λ plan. LeavesOrder plan.work) }
-    ensures makes { IfOk result (λ plan. IsTrue D.tells → (before after : finite.FinMap nat_cmp Package) → HasRows before (D.files disk.old).idx
-        → HasChanged drops.now adds.now (rows before) (rows after) → WritesRows (rows after) plan.work (D.files disk.old).idx) }
+    ensures change { IfOk result (λ plan. CanApply index.now.units plan.work) }
+    ensures leads { IfOk result (λ plan. (before after : finite.FinMap nat_cmp Package) → HasChanged drops.now adds.now (rows before) (rows after)
+        → LeadsTo D.Disk disk.old index.now.units before after adds.now plan.work) }
     ensures full { IsTrue D.tells → (before after : finite.FinMap nat_cmp Package) → HasRows before (D.files disk.old).idx
         → HasChanged drops.now adds.now (rows before) (rows after) → FullIndexIs (units_for (rows after)) result }
-    ensures reach { IfOk result (λ plan. IsTrue D.tells → (before after : finite.FinMap nat_cmp Package) → HasRows before (D.files disk.old).idx
-        → HasChanged drops.now adds.now (rows before) (rows after)
-        → units_after plan.work ≤ max (index.now.units + live_of adds.now) (units_for (rows after))) }
     ensures whole { IfOk result (λ plan. IsTrue D.tells → IsWholeIndex (D.files disk.old).idx → WritesWhole plan.work (D.files disk.old).idx) }
     ensures bad { IsTrue D.tells → BadIndexIs (D.files disk.old).idx result }
     ensures kinds { IfErr result IsOfIndex }
@@ -151,23 +148,15 @@ pub fn prepare_put<D: Disk>(
     number: u32,
     view: &View<'_>,
 ) -> Result<IndexPlan, ChangeFault>
-    requires order { hindex.is_in_order index.now ≡ true }
-    requires keeps { IsTrue D.tells → Keeps (D.files disk.old).pkg store.now }
-    requires units { IsTrue D.tells → hindex.Keeps (D.files disk.old).idx index.now }
-    ensures can { IfOk result (λ plan. CanWrite index.now.units plan.work) }
-    ensures ordered { IfOk result (λ plan. LeavesOrder plan.work) }
-    ensures makes { IfOk result (λ plan. IsTrue D.tells → (after : finite.FinMap nat_cmp Package)
-        → HasRows (packages (D.files disk.old).pkg store.now) (D.files disk.old).idx
+    requires read { AreRead D.Disk disk.old store.now index.now }
+    ensures change { IfOk result (λ plan. CanApply index.now.units plan.work) }
+    ensures leads { IfOk result (λ plan. (after : finite.FinMap nat_cmp Package)
         → HasChanged (old_rows n (packages (D.files disk.old).pkg store.now)) (header_rows number view.now)
-        (rows (packages (D.files disk.old).pkg store.now)) (rows after) → WritesRows (rows after) plan.work (D.files disk.old).idx) }
+        (rows (packages (D.files disk.old).pkg store.now)) (rows after)
+        → LeadsTo D.Disk disk.old index.now.units (packages (D.files disk.old).pkg store.now) after (header_rows number view.now) plan.work) }
     ensures full { IsTrue D.tells → (after : finite.FinMap nat_cmp Package) → HasRows (packages (D.files disk.old).pkg store.now) (D.files disk.old).idx
         → HasChanged (old_rows n (packages (D.files disk.old).pkg store.now)) (header_rows number view.now)
         (rows (packages (D.files disk.old).pkg store.now)) (rows after) → FullIndexIs (units_for (rows after)) result }
-    ensures reach { IfOk result (λ plan. IsTrue D.tells → (after : finite.FinMap nat_cmp Package)
-        → HasRows (packages (D.files disk.old).pkg store.now) (D.files disk.old).idx
-        → HasChanged (old_rows n (packages (D.files disk.old).pkg store.now)) (header_rows number view.now)
-        (rows (packages (D.files disk.old).pkg store.now)) (rows after)
-        → units_after plan.work ≤ max (index.now.units + live_of (header_rows number view.now)) (units_for (rows after))) }
     ensures whole { IfOk result (λ plan. IsTrue D.tells → IsWholeIndex (D.files disk.old).idx → WritesWhole plan.work (D.files disk.old).idx) }
     ensures bad { IsTrue D.tells → BadIndexIs (D.files disk.old).idx result }
     ensures kinds { IfErr result IsOfIndex }
@@ -193,23 +182,15 @@ pub fn prepare_erase<D: Disk>(
     index: &Hindex,
     n: u32,
 ) -> Result<IndexPlan, ChangeFault>
-    requires order { hindex.is_in_order index.now ≡ true }
-    requires keeps { IsTrue D.tells → Keeps (D.files disk.old).pkg store.now }
-    requires units { IsTrue D.tells → hindex.Keeps (D.files disk.old).idx index.now }
-    ensures can { IfOk result (λ plan. CanWrite index.now.units plan.work) }
-    ensures ordered { IfOk result (λ plan. LeavesOrder plan.work) }
-    ensures makes { IfOk result (λ plan. IsTrue D.tells → (after : finite.FinMap nat_cmp Package)
-        → HasRows (packages (D.files disk.old).pkg store.now) (D.files disk.old).idx
+    requires read { AreRead D.Disk disk.old store.now index.now }
+    ensures change { IfOk result (λ plan. CanApply index.now.units plan.work) }
+    ensures leads { IfOk result (λ plan. (after : finite.FinMap nat_cmp Package)
         → HasChanged (rows_at n (finite.get (packages (D.files disk.old).pkg store.now) n)) []
-        (rows (packages (D.files disk.old).pkg store.now)) (rows after) → WritesRows (rows after) plan.work (D.files disk.old).idx) }
+        (rows (packages (D.files disk.old).pkg store.now)) (rows after)
+        → LeadsTo D.Disk disk.old index.now.units (packages (D.files disk.old).pkg store.now) after [] plan.work) }
     ensures full { IsTrue D.tells → (after : finite.FinMap nat_cmp Package) → HasRows (packages (D.files disk.old).pkg store.now) (D.files disk.old).idx
         → HasChanged (rows_at n (finite.get (packages (D.files disk.old).pkg store.now) n)) []
         (rows (packages (D.files disk.old).pkg store.now)) (rows after) → FullIndexIs (units_for (rows after)) result }
-    ensures reach { IfOk result (λ plan. IsTrue D.tells → (after : finite.FinMap nat_cmp Package)
-        → HasRows (packages (D.files disk.old).pkg store.now) (D.files disk.old).idx
-        → HasChanged (rows_at n (finite.get (packages (D.files disk.old).pkg store.now) n)) []
-        (rows (packages (D.files disk.old).pkg store.now)) (rows after)
-        → units_after plan.work ≤ max index.now.units (units_for (rows after))) }
     ensures whole { IfOk result (λ plan. IsTrue D.tells → IsWholeIndex (D.files disk.old).idx → WritesWhole plan.work (D.files disk.old).idx) }
     ensures bad { IsTrue D.tells → BadIndexIs (D.files disk.old).idx result }
     ensures kinds { IfErr result IsOfIndex }

@@ -1,6 +1,6 @@
 //! Putting a header that was parsed.
 
-ghost use Rattle.std.specs.Prelude.{◌≡◌, ◌≢◌, ◌+◌, IsTrue, true, false, length, is_none, IfSome, None, Some, Ok, Err, OnOk, IfOk, IfErr};
+ghost use Rattle.std.specs.Prelude.{◌≡◌, IsTrue, length, is_none, None, Some, Ok, Err, OnOk, IfOk};
 ghost use Rattle.rpm_header.specs.Header.{header};
 ghost use Rattle.rpm_outside.specs.Causes.{HasCauseAt};
 ghost use Rattle.rpm_outside.specs.Crash.{LeavesOnly};
@@ -8,16 +8,16 @@ ghost use Rattle.rpm_outside.specs.declared.disk.File.TheVariants.{Pkg};
 ghost use Rattle.rpm_pkgdb.specs.Planned.{IsFull};
 ghost use Rattle.rpm_pkgdb.specs.Reaches.{ReachesTo};
 ghost use Rattle.rpm_hindex.specs.Sizes.{units_for};
-ghost use Rattle.rpm_db.specs.Changes.{apply, AllSay, IsChangedStill, IsServing, ReadsAtMost, with_room};
-ghost use Rattle.rpm_db.specs.Database.{IsIndexed, holds, is_blank, is_indexed, next_number};
-ghost use Rattle.rpm_db.specs.Lawful.{IsWholeIndex, AreLawful};
-ghost use Rattle.rpm_db.specs.Reaches.{Reaches};
-ghost use Rattle.rpm_db.specs.Refusals.{LaterIs, FullIndexIs, BadIndexIs, StaysWhole, IsRefusal, is_stopping};
+ghost use Rattle.rpm_db.specs.Changed.{Changed, IsLeft, IsReady};
+ghost use Rattle.rpm_db.specs.Changes.{apply, IsChangedStill, ReadsAtMost, with_room};
+ghost use Rattle.rpm_db.specs.Lawful.{AreLawful};
+ghost use Rattle.rpm_db.specs.Refusals.{LaterIs, is_stopping};
 ghost use Rattle.rpm_db.specs.Room.{RoomIs, next_store};
 ghost use Rattle.rpm_db.specs.Rows.{rows};
 ghost use Rattle.rpm_db.specs.Runs.{Runs};
-ghost use Rattle.rpm_db.specs.State.{state};
-ghost use Rattle.rpm_db.specs.inner.Writes.{SameFiles, SameLog, change_for, number_for};
+ghost use Rattle.rpm_db.specs.State.{packages, state};
+ghost use Rattle.rpm_db.specs.inner.Both.{CanTake, IndexIs};
+ghost use Rattle.rpm_db.specs.inner.Writes.{SameLog, change_for, number_for};
 
 use crate::change_fault::ChangeFault;
 use crate::database::Db;
@@ -42,36 +42,17 @@ impl Db {
         n: Option<u32>,
         view: &View<'_>,
     ) -> Result<u32, ChangeFault>
-        requires going { self.old.stopped ≡ false }
-        requires indexed { is_indexed self.old ≡ true }
-        requires held { IfSome n (λ m. holds m self.old ≡ true) }
-        requires left { n ≡ None → next_number self.old ≢ 4294967295 }
+        requires ready { IsReady D.Disk disk.old self.old }
+        requires takes { CanTake n self.old.store }
         requires own { header view.now.blob ≡ Ok view.now }
-        requires serving { IsTrue D.tells → IsServing (D.files disk.old) (D.left_since disk.old (D.moment disk.old)) self.old }
         ensures later { LaterIs self.old.store.generation (IsFull self.old.store (is_none n) (length view.now.blob)) result }
         ensures placed { RoomIs (next_store (change_for n view.now.blob) self.old.store) self.old.store self.new.store result }
         ensures number { IfOk result (λ m. m ≡ number_for n self.old.store) }
-        ensures state { OnOk result (IsTrue D.tells → state (D.files disk.new).pkg self.new.store ≡ apply (change_for n view.now.blob)
-            (state (D.files disk.old).pkg self.old.store)) }
-        ensures held { OnOk result (IsTrue D.tells → AllSay (apply (change_for n view.now.blob) (state (D.files disk.old).pkg self.old.store))
-            (D.left_since disk.new (D.moment disk.new))) }
-        ensures generation { OnOk result (self.new.store.generation ≡ self.old.store.generation + 1) }
-        ensures indexed { is_indexed self.new ≡ true }
-        ensures not_blank { is_blank self.new ≡ false }
-        ensures index { OnOk result (IsTrue D.tells → IsIndexed (D.files disk.old).pkg (D.files disk.old).idx self.old → IsIndexed (D.files disk.new).pkg
-            (D.files disk.new).idx self.new) }
-        ensures reach { OnOk result (IsTrue D.tells → IsIndexed (D.files disk.old).pkg (D.files disk.old).idx self.old → Reaches
-            (state (D.files disk.old).pkg self.old.store) (change_for n view.now.blob) (D.files disk.old).idx (D.files disk.new).idx) }
+        ensures changed { OnOk result (Changed D.Disk disk.old disk.new (change_for n view.now.blob) self.old self.new) }
+        ensures left { IsLeft D.Disk disk.old disk.new self.old self.new (with_room self.new.store.spare self.old) result }
         ensures end { OnOk result (IsTrue D.tells → ReachesTo self.new.store (D.files disk.old).pkg (D.files disk.new).pkg) }
-        ensures full { IsTrue D.tells → IsIndexed (D.files disk.old).pkg (D.files disk.old).idx self.old → FullIndexIs (units_for (rows
-            (apply (change_for n view.now.blob) (state (D.files disk.old).pkg self.old.store)).packages)) result }
-        ensures whole { IsTrue D.tells → IsWholeIndex (D.files disk.old).idx → StaysWhole (D.files disk.new).idx result }
-        ensures bad { IsTrue D.tells → BadIndexIs (D.files disk.old).idx result }
-        ensures serving { result ≢ Err ChangeFault.DiskFault → IsTrue D.tells → IsServing (D.files disk.new)
-            (D.left_since disk.new (D.moment disk.new)) self.new }
-        ensures refused { IfErr result (λ e. IsRefusal e → self.new ≡ with_room self.new.store.spare self.old) }
-        ensures same { IfErr result (λ e. IsRefusal e → Runs D.tells D.files D.left_since D.moment D.bytes_read D.follows SameFiles disk.old disk.new) }
-        ensures stopped { (self.new.stopped ≡ true → result ≡ Err ChangeFault.DiskFault) × (result ≡ Err ChangeFault.DiskFault → self.new.stopped ≡ true) }
+        ensures index { IndexIs D.Disk disk.old (packages (D.files disk.old).pkg self.old.store)
+            (units_for (rows (apply (change_for n view.now.blob) (state (D.files disk.old).pkg self.old.store)).packages)) result }
         ensures stops { IsTrue D.tells → AreLawful (D.left_since disk.old (D.moment disk.old)) → LeavesOnly D.moment D.left_since disk.old disk.new
             (IsChangedStill (state (D.files disk.old).pkg self.old.store) (apply (change_for n view.now.blob)
             (state (D.files disk.old).pkg self.old.store)) (D.left_since disk.old (D.moment disk.old))) }

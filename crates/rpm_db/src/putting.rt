@@ -27,7 +27,8 @@ ghost use Rattle.rpm_db.specs.Room.{RoomCause, RoomIs, raised};
 ghost use Rattle.rpm_db.specs.Rows.{rows, header_rows};
 ghost use Rattle.rpm_db.specs.Runs.{Runs};
 ghost use Rattle.rpm_db.specs.State.{packages, state};
-ghost use Rattle.rpm_db.specs.inner.Writes.{SameLog, SameFiles, WritesRows, WritesWhole, packages_of, state_of, number_for, field_for, cost_before};
+ghost use Rattle.rpm_db.specs.inner.Both.{AreRead, CanApply, CanChange, CanPut, CanTake, IndexIs, IsDone, IsMade, IsRefused, LeadsTo, PlacedIs};
+ghost use Rattle.rpm_db.specs.inner.Writes.{SameLog, SameFiles, WritesWhole, packages_of, state_of, number_for, field_for, cost_before, put_map};
 
 use crate::change_fault::ChangeFault;
 use crate::changing::{write_erase, write_put};
@@ -57,32 +58,19 @@ fn plan_put<D: Disk>(
     n: Option<u32>,
     view: &View<'_>,
 ) -> Result<(Plan, IndexPlan), ChangeFault>
-    requires keeps { IsTrue D.tells → Keeps (D.files disk.old).pkg store.old }
+    requires read { AreRead D.Disk disk.old store.old index.now }
     requires made { 1 ≤ store.old.pages }
-    requires held { IfSome n (λ m. IsSome (slot_with m store.old.slots)) }
-    requires left { n ≡ None → next_number store.old ≢ 4294967295 }
-    requires units { IsTrue D.tells → hindex.Keeps (D.files disk.old).idx index.now }
-    requires order { hindex.is_in_order index.now ≡ true }
+    requires takes { CanTake n store.old }
     ensures value { store.new ≡ with_spare store.new.spare store.old }
     ensures later { LaterIs store.old.generation (IsFull store.old (is_none n) (length view.now.blob)) result }
-    ensures left { OnOk result (store.old.generation < 4294967295) }
-    ensures room { OnOk result (1 ≤ store.new.spare) }
-    ensures placed { IfOk result (λ planned. placed n (length view.now.blob) store.old ≡ Some (placement_of planned.0)) }
-    ensures nowhere { IfErr result (RoomCause (placed n (length view.now.blob) store.old)) }
-    ensures plan { IfOk result (λ planned. IsPlan store.new planned.0) }
-    ensures asked { IfOk result (λ planned. IsFor n (length view.now.blob) planned.0) }
-    ensures can { IfOk result (λ planned. CanWrite index.now.units planned.1.work) }
-    ensures ordered { IfOk result (λ planned. LeavesOrder planned.1.work) }
-    ensures makes { IfOk result (λ planned. IsTrue D.tells → HasRows (packages (D.files disk.old).pkg store.old) (D.files disk.old).idx → WritesRows
-        (rows (packages_of (finite.insert (blobs (D.files disk.old).pkg store.old) (number_for n store.old) (Some view.now.blob)))) planned.1.work
-        (D.files disk.old).idx) }
-    ensures full { IsTrue D.tells → HasRows (packages (D.files disk.old).pkg store.old) (D.files disk.old).idx → FullIndexIs
-        (units_for (rows (packages_of (finite.insert (blobs (D.files disk.old).pkg store.old) (number_for n store.old) (Some view.now.blob))))) result }
-    ensures reach { IfOk result (λ planned. IsTrue D.tells → HasRows (packages (D.files disk.old).pkg store.old) (D.files disk.old).idx
-        → units_after planned.1.work ≤ max (index.now.units + live_of (header_rows (number_for n store.old) view.now))
-        (units_for (rows (packages_of (finite.insert (blobs (D.files disk.old).pkg store.old) (number_for n store.old) (Some view.now.blob)))))) }
+    ensures placed { PlacedIs n (length view.now.blob) store.old result }
+    ensures plan { IfOk result (λ planned. CanPut store.new planned.0) }
+    ensures change { IfOk result (λ planned. CanApply index.now.units planned.1.work) }
+    ensures leads { IfOk result (λ planned. LeadsTo D.Disk disk.old index.now.units (packages (D.files disk.old).pkg store.old)
+        (packages_of (put_map (D.files disk.old).pkg store.old n view.now.blob)) (header_rows (number_for n store.old) view.now) planned.1.work) }
     ensures whole { IfOk result (λ planned. IsTrue D.tells → IsWholeIndex (D.files disk.old).idx → WritesWhole planned.1.work (D.files disk.old).idx) }
-    ensures bad { IsTrue D.tells → BadIndexIs (D.files disk.old).idx result }
+    ensures index { IndexIs D.Disk disk.old (packages (D.files disk.old).pkg store.old)
+        (units_for (rows (packages_of (put_map (D.files disk.old).pkg store.old n view.now.blob)))) result }
     ensures reads { D.bytes_read disk.new Pkg ≤ D.bytes_read disk.old Pkg + cost_before n store.old }
     ensures runs { Runs D.tells D.files D.left_since D.moment D.bytes_read D.follows SameFiles disk.old disk.new }
     ensures cause { HasCauseAt (result ≡ Err ChangeFault.DiskFault) (D.faults disk.old) (D.faults disk.new) }
@@ -112,48 +100,23 @@ pub fn put_header<D: Disk>(
     n: Option<u32>,
     view: &View<'_>,
 ) -> Result<u32, ChangeFault>
-    requires going { store.old.is_stopped ≡ false }
-    requires keeps { IsTrue D.tells → Keeps (D.files disk.old).pkg store.old }
-    requires made { 1 ≤ store.old.pages }
-    requires from_one { slot_with 0 store.old.slots ≡ None }
-    requires held { IfSome n (λ m. IsSome (slot_with m store.old.slots)) }
-    requires left { n ≡ None → next_number store.old ≢ 4294967295 }
-    requires units { IsTrue D.tells → hindex.Keeps (D.files disk.old).idx index.old }
-    requires order { hindex.is_current store.old.generation index.old ≡ true }
-    requires quiet { IsTrue D.tells → IsQuiet store.old (D.files disk.old) (D.left_since disk.old (D.moment disk.old)) }
-    requires settled { IsTrue D.tells → IsSettled Idx (D.files disk.old) (D.left_since disk.old (D.moment disk.old)) }
+    requires ready { CanChange D.Disk disk.old store.old index.old }
+    requires takes { CanTake n store.old }
     ensures later { LaterIs store.old.generation (IsFull store.old (is_none n) (length view.now.blob)) result }
     ensures placed { RoomIs (put_in n (length view.now.blob) (raised store.old)) store.old store.new result }
     ensures number { IfOk result (λ m. m ≡ number_for n store.old) }
-    ensures going { OnOk result (store.new.is_stopped ≡ false) }
-    ensures generation { OnOk result (store.new.generation ≡ store.old.generation + 1) }
-    ensures made { 1 ≤ store.new.pages }
-    ensures from_one { slot_with 0 store.new.slots ≡ None }
-    ensures current { OnOk result (hindex.is_current store.new.generation index.new ≡ true) }
-    ensures kept { OnOk result (IsTrue D.tells → Keeps (D.files disk.new).pkg store.new) }
-    ensures units { OnOk result (IsTrue D.tells → hindex.Keeps (D.files disk.new).idx index.new) }
-    ensures quiet { OnOk result (IsTrue D.tells → IsQuiet store.new (D.files disk.new) (D.left_since disk.new (D.moment disk.new))) }
-    ensures settled { OnOk result (IsTrue D.tells → IsSettled Idx (D.files disk.new) (D.left_since disk.new (D.moment disk.new))) }
-    ensures stands { OnOk result (IsTrue D.tells → (image : Files) → D.left_since disk.new (D.moment disk.new) image → StandsFor store.new.generation
-        store.new.field (blobs (D.files disk.new).pkg store.new) image.pkg) }
-    ensures state { OnOk result (IsTrue D.tells → state (D.files disk.new).pkg store.new ≡ state_of (finite.insert
-        (blobs (D.files disk.old).pkg store.old) (number_for n store.old) (Some view.now.blob)) (field_for n store.old)) }
-    ensures rows { OnOk result (IsTrue D.tells → HasRows (packages (D.files disk.old).pkg store.old) (D.files disk.old).idx
-        → HasRows (packages (D.files disk.new).pkg store.new) (D.files disk.new).idx) }
-    ensures full { IsTrue D.tells → HasRows (packages (D.files disk.old).pkg store.old) (D.files disk.old).idx → FullIndexIs
-        (units_for (rows (packages_of (finite.insert (blobs (D.files disk.old).pkg store.old) (number_for n store.old) (Some view.now.blob))))) result }
-    ensures reach { OnOk result (IsTrue D.tells → HasRows (packages (D.files disk.old).pkg store.old) (D.files disk.old).idx
-        → index.new.units ≤ max (index.old.units + live_of (header_rows (number_for n store.old) view.now))
-        (units_for (rows (packages_of (finite.insert (blobs (D.files disk.old).pkg store.old) (number_for n store.old) (Some view.now.blob)))))) }
+    ensures is_made { IsMade store.new }
+    ensures done { OnOk result (IsDone D.Disk disk.old disk.new store.old store.new index.new (put_map (D.files disk.old).pkg store.old n view.now.blob)
+        (field_for n store.old) (index.old.units + live_of (header_rows (number_for n store.old) view.now))) }
+    ensures index { IndexIs D.Disk disk.old (packages (D.files disk.old).pkg store.old)
+        (units_for (rows (packages_of (put_map (D.files disk.old).pkg store.old n view.now.blob)))) result }
     ensures end { OnOk result (IsTrue D.tells → ReachesTo store.new (D.files disk.old).pkg (D.files disk.new).pkg) }
-    ensures whole { OnOk result (IsTrue D.tells → IsWholeIndex (D.files disk.old).idx → IsWholeIndex (D.files disk.new).idx) }
-    ensures bad { IsTrue D.tells → BadIndexIs (D.files disk.old).idx result }
-    ensures refused { IfErr result (λ e. IsRefusal e → (store.new ≡ with_spare store.new.spare store.old) × (index.new ≡ index.old)) }
-    ensures same { IfErr result (λ e. IsRefusal e → Runs D.tells D.files D.left_since D.moment D.bytes_read D.follows SameFiles disk.old disk.new) }
+    ensures refused { IfErr result (λ e. IsRefusal e → IsRefused D.Disk disk.old disk.new (with_spare store.new.spare store.old) store.new
+        index.old index.new) }
     ensures stops { IsTrue D.tells → AreLawful (D.left_since disk.old (D.moment disk.old))
         → HasRows (packages (D.files disk.old).pkg store.old) (D.files disk.old).idx → LeavesOnly D.moment D.left_since disk.old disk.new
-        (IsChangedStill (state (D.files disk.old).pkg store.old) (state_of (finite.insert (blobs (D.files disk.old).pkg store.old)
-        (number_for n store.old) (Some view.now.blob)) (field_for n store.old)) (D.left_since disk.old (D.moment disk.old))) }
+        (IsChangedStill (state (D.files disk.old).pkg store.old) (state_of (put_map (D.files disk.old).pkg store.old n view.now.blob)
+        (field_for n store.old)) (D.left_since disk.old (D.moment disk.old))) }
     ensures reads { ReadsAtMost n store.old (D.bytes_read disk.old Pkg) (D.bytes_read disk.new Pkg) }
     ensures runs { Runs D.tells D.files D.left_since D.moment D.bytes_read D.follows SameLog disk.old disk.new }
     ensures cause { HasCauseAt (result ≡ Err ChangeFault.DiskFault) (D.faults disk.old) (D.faults disk.new) }
@@ -176,41 +139,17 @@ pub fn erase_number<D: Disk>(
     index: &mut Hindex,
     n: u32,
 ) -> Result<(), ChangeFault>
-    requires going { store.old.is_stopped ≡ false }
-    requires keeps { IsTrue D.tells → Keeps (D.files disk.old).pkg store.old }
-    requires made { 1 ≤ store.old.pages }
-    requires from_one { slot_with 0 store.old.slots ≡ None }
+    requires ready { CanChange D.Disk disk.old store.old index.old }
     requires held { IsSome (slot_with n store.old.slots) }
-    requires units { IsTrue D.tells → hindex.Keeps (D.files disk.old).idx index.old }
-    requires order { hindex.is_current store.old.generation index.old ≡ true }
-    requires quiet { IsTrue D.tells → IsQuiet store.old (D.files disk.old) (D.left_since disk.old (D.moment disk.old)) }
-    requires settled { IsTrue D.tells → IsSettled Idx (D.files disk.old) (D.left_since disk.old (D.moment disk.old)) }
     ensures later { LaterIs store.old.generation ⊥ result }
     ensures ok { OnOk result (store.new ≡ erased n (raised store.old)) }
-    ensures going { OnOk result (store.new.is_stopped ≡ false) }
-    ensures generation { OnOk result (store.new.generation ≡ store.old.generation + 1) }
-    ensures made { 1 ≤ store.new.pages }
-    ensures from_one { slot_with 0 store.new.slots ≡ None }
-    ensures current { OnOk result (hindex.is_current store.new.generation index.new ≡ true) }
-    ensures kept { OnOk result (IsTrue D.tells → Keeps (D.files disk.new).pkg store.new) }
-    ensures units { OnOk result (IsTrue D.tells → hindex.Keeps (D.files disk.new).idx index.new) }
-    ensures quiet { OnOk result (IsTrue D.tells → IsQuiet store.new (D.files disk.new) (D.left_since disk.new (D.moment disk.new))) }
-    ensures settled { OnOk result (IsTrue D.tells → IsSettled Idx (D.files disk.new) (D.left_since disk.new (D.moment disk.new))) }
-    ensures stands { OnOk result (IsTrue D.tells → (image : Files) → D.left_since disk.new (D.moment disk.new) image → StandsFor store.new.generation
-        store.new.field (blobs (D.files disk.new).pkg store.new) image.pkg) }
-    ensures state { OnOk result (IsTrue D.tells → state (D.files disk.new).pkg store.new ≡ state_of (finite.remove
-        (blobs (D.files disk.old).pkg store.old) n) store.old.field) }
-    ensures rows { OnOk result (IsTrue D.tells → HasRows (packages (D.files disk.old).pkg store.old) (D.files disk.old).idx
-        → HasRows (packages (D.files disk.new).pkg store.new) (D.files disk.new).idx) }
-    ensures full { IsTrue D.tells → HasRows (packages (D.files disk.old).pkg store.old) (D.files disk.old).idx → FullIndexIs
+    ensures is_made { IsMade store.new }
+    ensures done { OnOk result (IsDone D.Disk disk.old disk.new store.old store.new index.new (finite.remove (blobs (D.files disk.old).pkg store.old) n)
+        store.old.field index.old.units) }
+    ensures index { IndexIs D.Disk disk.old (packages (D.files disk.old).pkg store.old)
         (units_for (rows (packages_of (finite.remove (blobs (D.files disk.old).pkg store.old) n)))) result }
-    ensures reach { OnOk result (IsTrue D.tells → HasRows (packages (D.files disk.old).pkg store.old) (D.files disk.old).idx
-        → index.new.units ≤ max index.old.units (units_for (rows (packages_of (finite.remove (blobs (D.files disk.old).pkg store.old) n))))) }
     ensures end { OnOk result (IsTrue D.tells → length (D.files disk.new).pkg ≤ length (D.files disk.old).pkg) }
-    ensures whole { OnOk result (IsTrue D.tells → IsWholeIndex (D.files disk.old).idx → IsWholeIndex (D.files disk.new).idx) }
-    ensures bad { IsTrue D.tells → BadIndexIs (D.files disk.old).idx result }
-    ensures refused { IfErr result (λ e. IsRefusal e → (store.new ≡ store.old) × (index.new ≡ index.old)) }
-    ensures same { IfErr result (λ e. IsRefusal e → Runs D.tells D.files D.left_since D.moment D.bytes_read D.follows SameFiles disk.old disk.new) }
+    ensures refused { IfErr result (λ e. IsRefusal e → IsRefused D.Disk disk.old disk.new store.old store.new index.old index.new) }
     ensures stops { IsTrue D.tells → AreLawful (D.left_since disk.old (D.moment disk.old))
         → HasRows (packages (D.files disk.old).pkg store.old) (D.files disk.old).idx → LeavesOnly D.moment D.left_since disk.old disk.new
         (IsChangedStill (state (D.files disk.old).pkg store.old) (state_of (finite.remove (blobs (D.files disk.old).pkg store.old) n)

@@ -88,9 +88,7 @@ impl Db {
         ensures looks { Looks D.tells D.files D.left_since D.moment D.bytes_read D.follows Pkg (cost n self.now) disk.old disk.new }
         ensures cause { HasCauseAt (result ≡ Err GetFault.DiskFault) (D.faults disk.old) (D.faults disk.new) }
     {
-        match self.read(alloc, disk, n) {
-            Ok(blob) => cut_header(blob),
-            Err(fault) => Err(fault),
-        }
+        let blob = self.read(alloc, disk, n)?;
+        cut_header(blob)
     }
 }

@@ -2,22 +2,22 @@
 
 ghost use Rattle.std.specs.Prelude.{◌≡◌, ◌⊎◌, ℕ, ◌+◌, ◌≤◌, IsTrue, true, false, is_some, None, Err, OnOk, IfErr};
 ghost use Rattle.rpm_outside.specs.Causes.{HasCauseAt};
-ghost use Rattle.rpm_outside.specs.Changes.{IsSettled};
-ghost use Rattle.rpm_outside.specs.declared.disk.File.TheVariants.{Pkg, Idx};
+ghost use Rattle.rpm_outside.specs.Looks.{ReadAtMost};
+ghost use Rattle.rpm_outside.specs.declared.disk.File.TheVariants.{Pkg};
 ghost use Rattle.rpm_pkgdb.specs.Costs as costs;
 ghost use Rattle.rpm_pkgdb.specs.Slots.{slot_with};
 ghost use Rattle.rpm_pkgdb.specs.Store as pkgdb;
 ghost use Rattle.rpm_hindex.specs.Rewrites.{IsRefused};
 ghost use Rattle.rpm_hindex.specs.Sizes.{units_for};
-ghost use Rattle.rpm_db.specs.Changes.{IsServing};
-ghost use Rattle.rpm_db.specs.Database.{Keeps, KeepsIndex, KeepsUnits, IsInOrder, IsIndexed, is_blank, is_indexed, cost_all};
-ghost use Rattle.rpm_db.specs.Lawful.{IsIndexOf, Remade, StaysLawful};
+ghost use Rattle.rpm_db.specs.Database.{Keeps, KeepsIndex, KeepsUnits, is_indexed, cost_all};
+ghost use Rattle.rpm_db.specs.Lawful.{Remade, StaysLawful};
 ghost use Rattle.rpm_db.specs.Openings.{FullIs};
-ghost use Rattle.rpm_db.specs.Rebuilds.{IsRebuilt, RebuildIs};
+ghost use Rattle.rpm_db.specs.Rebuilds.{IsRebuilt, IsRenewed, IsStill, RebuildIs};
 ghost use Rattle.rpm_db.specs.Reaches.{ReachesMade};
 ghost use Rattle.rpm_db.specs.Rows.{rows};
 ghost use Rattle.rpm_db.specs.Runs.{Runs};
 ghost use Rattle.rpm_db.specs.State.{packages};
+ghost use Rattle.rpm_db.specs.inner.Making.{IsRemade};
 
 use crate::change_fault::ChangeFault;
 use crate::database::Db;
@@ -40,16 +40,11 @@ fn remake<D: Disk>(
     requires index { IsTrue D.tells → KeepsUnits (D.files disk.old).idx index.old }
     ensures full { IsTrue D.tells → FullIs (units_for (rows (packages (D.files disk.old).pkg store.now))) result }
     ensures some { is_some index.new ≡ true }
-    ensures order { OnOk result (IsInOrder store.now.generation index.new) }
-    ensures kept { OnOk result (IsTrue D.tells → KeepsUnits (D.files disk.new).idx index.new) }
-    ensures index { OnOk result (IsTrue D.tells → IsIndexOf (D.files disk.new).pkg (D.files disk.new).idx) }
-    ensures pkg { OnOk result (IsTrue D.tells → IsSettled Pkg (D.files disk.new) (D.left_since disk.new (D.moment disk.new))) }
-    ensures settled { OnOk result (IsTrue D.tells → IsSettled Idx (D.files disk.new) (D.left_since disk.new (D.moment disk.new))) }
+    ensures remade { OnOk result (IsRemade D.Disk disk.new store.now.generation index.new) }
     ensures refused { IfErr result (λ e. IsRefused e → (index.new ≡ index.old) × (IsTrue D.tells → D.files disk.new ≡ D.files disk.old)) }
     ensures reach { OnOk result (IsTrue D.tells → ReachesMade (units_for (rows (packages (D.files disk.old).pkg store.now)))
         (D.files disk.old).idx (D.files disk.new).idx) }
-    ensures reads { D.bytes_read disk.new Pkg ≤ D.bytes_read disk.old Pkg + costs.cost_all store.now }
-    ensures unread { D.bytes_read disk.new Idx ≤ D.bytes_read disk.old Idx }
+    ensures reads { ReadAtMost Pkg (costs.cost_all store.now) (D.bytes_read disk.old) (D.bytes_read disk.new) }
     ensures runs { Runs D.tells D.files D.left_since D.moment D.bytes_read D.follows Remade disk.old disk.new }
     ensures cause { HasCauseAt (result ≡ Err RewriteFault.DiskFault) (D.faults disk.old) (D.faults disk.new) }
 {
@@ -81,21 +76,10 @@ impl Db {
         requires index { self.old.stopped ≡ false → IsTrue D.tells → KeepsIndex (D.files disk.old).idx self.old }
         ensures causes { RebuildIs self.old result }
         ensures rebuilt { IsTrue D.tells → IsRebuilt (D.files disk.old) (D.files disk.new) self.old self.new result }
-        ensures store { self.new.store ≡ self.old.store }
-        ensures generation { self.new.store.generation ≡ self.old.store.generation }
-        ensures indexed { is_indexed self.new ≡ true }
-        ensures not_blank { is_blank self.new ≡ false }
-        ensures stopped { (self.new.stopped ≡ true → (self.old.stopped ≡ true) ⊎ (result ≡ Err ChangeFault.DiskFault))
-            × (result ≡ Err ChangeFault.DiskFault → self.new.stopped ≡ true) }
-        ensures pkg { OnOk result (IsTrue D.tells → IsSettled Pkg (D.files disk.new) (D.left_since disk.new (D.moment disk.new))) }
-        ensures settled { OnOk result (IsTrue D.tells → IsSettled Idx (D.files disk.new) (D.left_since disk.new (D.moment disk.new))) }
-        ensures going { OnOk result (self.new.stopped ≡ false) }
-        ensures serving { OnOk result (IsTrue D.tells → IsServing (D.files disk.new) (D.left_since disk.new (D.moment disk.new)) self.new) }
+        ensures still { IsStill self.old self.new result }
+        ensures renewed { OnOk result (IsRenewed D.Disk disk.old disk.new self.old self.new) }
         ensures stops { IsTrue D.tells → StaysLawful D.moment D.left_since disk.old disk.new }
-        ensures reach { OnOk result (IsTrue D.tells → ReachesMade (units_for (rows (packages (D.files disk.old).pkg self.old.store)))
-            (D.files disk.old).idx (D.files disk.new).idx) }
-        ensures reads { D.bytes_read disk.new Pkg ≤ D.bytes_read disk.old Pkg + cost_all self.old }
-        ensures unread { D.bytes_read disk.new Idx ≤ D.bytes_read disk.old Idx }
+        ensures reads { ReadAtMost Pkg (cost_all self.old) (D.bytes_read disk.old) (D.bytes_read disk.new) }
         ensures runs { Runs D.tells D.files D.left_since D.moment D.bytes_read D.follows Remade disk.old disk.new }
         ensures cause { HasCauseAt (result ≡ Err ChangeFault.DiskFault) (D.faults disk.old) (D.faults disk.new) }
     {

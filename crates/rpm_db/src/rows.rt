@@ -123,10 +123,8 @@ pub fn rows_of<D: Disk>(alloc: Global, disk: &mut D, store: &PkgDb) -> Result<Ro
     let mut rows = Rows::new(alloc);
     let mut passed = 0;
     while let Some(number) = store.next_above(passed) {
-        match push_package(alloc, disk, store, &mut rows, number) {
-            Ok(()) => passed = number,
-            Err(fault) => return Err(fault),
-        }
+        push_package(alloc, disk, store, &mut rows, number)?;
+        passed = number;
     }
     Ok(rows)
 }

@@ -4,9 +4,9 @@ ghost use Rattle.std.specs.Prelude.{◌≡◌, ◌≢◌, ◌⊎◌, ℕ, ◌+�
 ghost use Rattle.rpm_outside.specs.Causes.{HasCauseAt};
 ghost use Rattle.rpm_outside.specs.Changes.{IsSettled};
 ghost use Rattle.rpm_outside.specs.Crash.{LeavesOnly};
-ghost use Rattle.rpm_outside.specs.Files.{Files, blank};
+ghost use Rattle.rpm_outside.specs.Files.{blank};
+ghost use Rattle.rpm_outside.specs.Looks.{ReadAtMost};
 ghost use Rattle.rpm_outside.specs.declared.disk.File.TheVariants.{Pkg, Idx};
-ghost use Rattle.rpm_pkgdb.specs.Quiet.{IsQuiet};
 ghost use Rattle.rpm_pkgdb.specs.Reaches.{ReachesTo};
 ghost use Rattle.rpm_pkgdb.specs.Slots.{slot_with};
 ghost use Rattle.rpm_pkgdb.specs.Store as pkgdb;
@@ -17,12 +17,13 @@ ghost use Rattle.rpm_hindex.specs.Rows.{SameRows};
 ghost use Rattle.rpm_hindex.specs.Sizes.{units_for};
 ghost use Rattle.rpm_hindex.specs.State as hindex;
 ghost use Rattle.rpm_hindex.specs.Whole.{IsWellFormed};
-ghost use Rattle.rpm_db.specs.Database.{Keeps, KeepsIndex, IsIndexed, is_blank, is_indexed};
-ghost use Rattle.rpm_db.specs.Inits.{IsEmptyStill, IsInitFault};
-ghost use Rattle.rpm_db.specs.Lawful.{IsIndexOf, Remade};
+ghost use Rattle.rpm_db.specs.Database.{Keeps, is_blank};
+ghost use Rattle.rpm_db.specs.Inits.{IsEmptyStill, IsInit, IsInitFault, StopsAs};
+ghost use Rattle.rpm_db.specs.Lawful.{Remade};
 ghost use Rattle.rpm_db.specs.Reaches.{ReachesMade};
 ghost use Rattle.rpm_db.specs.Runs.{Runs};
 ghost use Rattle.rpm_db.specs.State.{state};
+ghost use Rattle.rpm_db.specs.inner.Making.{CanMake, IsMadeEmpty};
 ghost use Rattle.rpm_db.specs.inner.Writes.{SameLog};
 
 use crate::change_fault::ChangeFault;
@@ -66,25 +67,16 @@ pub fn make_files<D: Disk>(
     disk: &mut D,
     store: &mut PkgDb,
 ) -> Result<Hindex, RewriteFault>
-    requires going { store.old.is_stopped ≡ false }
-    requires blank { store.old.pages ≡ 0 }
-    requires keeps { IsTrue D.tells → pkgdb.Keeps (D.files disk.old).pkg store.old }
-    requires pkg { IsTrue D.tells → IsSettled Pkg (D.files disk.old) (D.left_since disk.old (D.moment disk.old)) }
+    requires can { CanMake D.Disk disk.old store.old }
     ensures room { (needed : ℕ) → result ≢ Err (RewriteFault.IndexFull needed) }
     ensures made { IfOk result (λ _index. store.new ≡ made_new store.old) }
     ensures from_one { slot_with 0 store.old.slots ≡ None → slot_with 0 store.new.slots ≡ None }
-    ensures kept { IfOk result (λ _index. IsTrue D.tells → pkgdb.Keeps (D.files disk.new).pkg store.new) }
-    ensures current { IfOk result (λ index. hindex.is_current 1 index ≡ true) }
-    ensures units { IfOk result (λ index. IsTrue D.tells → hindex.Keeps (D.files disk.new).idx index) }
-    ensures index { IfOk result (λ _index. IsTrue D.tells → IsIndexOf (D.files disk.new).pkg (D.files disk.new).idx) }
-    ensures settled { IfOk result (λ _index. IsTrue D.tells → IsSettled Idx (D.files disk.new) (D.left_since disk.new (D.moment disk.new))) }
-    ensures quiet { IfOk result (λ _index. IsTrue D.tells → IsQuiet store.new (D.files disk.new) (D.left_since disk.new (D.moment disk.new))) }
+    ensures empty { IfOk result (λ index. IsMadeEmpty D.Disk disk.new store.new index) }
     ensures refused { IfErr result (λ e. IsRefused e → (store.new ≡ store.old) × (IsTrue D.tells → D.files disk.new ≡ D.files disk.old)) }
     ensures stops { IsTrue D.tells → LeavesOnly D.moment D.left_since disk.old disk.new (IsEmptyStill (D.left_since disk.old (D.moment disk.old))) }
     ensures reach { IfOk result (λ _index. IsTrue D.tells → ReachesMade (units_for []) (D.files disk.old).idx (D.files disk.new).idx) }
     ensures end { IfOk result (λ _index. IsTrue D.tells → ReachesTo store.new (D.files disk.old).pkg (D.files disk.new).pkg) }
-    ensures reads { D.bytes_read disk.new Idx ≤ D.bytes_read disk.old Idx + 32 }
-    ensures unread { D.bytes_read disk.new Pkg ≤ D.bytes_read disk.old Pkg }
+    ensures reads { ReadAtMost Idx 32 (D.bytes_read disk.old) (D.bytes_read disk.new) }
     ensures runs { Runs D.tells D.files D.left_since D.moment D.bytes_read D.follows SameLog disk.old disk.new }
     ensures cause { HasCauseAt (result ≡ Err RewriteFault.DiskFault) (D.faults disk.old) (D.faults disk.new) }
 {
@@ -118,25 +110,14 @@ impl Db {
         requires pkg { self.old.stopped ≡ false → is_blank self.old ≡ true → IsTrue D.tells → IsSettled Pkg (D.files disk.old)
             (D.left_since disk.old (D.moment disk.old)) }
         ensures made { IfOk result (λ made. made ≡ is_blank self.old) }
-        ensures done { result ≡ Ok true → (self.new.store ≡ made_new self.old.store) × (is_indexed self.new ≡ true) × (self.new.stopped ≡ false) }
+        ensures done { result ≡ Ok true → IsInit D.Disk disk.old disk.new self.old self.new }
+        ensures same { result ≡ Ok false → (self.new ≡ self.old) × (disk.new ≡ disk.old) }
         ensures state { IfOk result (λ _made. IsTrue D.tells → state (D.files disk.new).pkg self.new.store ≡ state (D.files disk.old).pkg self.old.store) }
         ensures not_blank { IfOk result (λ _made. is_blank self.new ≡ false) }
-        ensures generation { result ≡ Ok true → self.new.store.generation ≡ 1 }
-        ensures same { result ≡ Ok false → (self.new ≡ self.old) × (disk.new ≡ disk.old) }
-        ensures kept { result ≡ Ok true → IsTrue D.tells → Keeps (D.files disk.new).pkg self.new × KeepsIndex (D.files disk.new).idx self.new }
-        ensures index { result ≡ Ok true → IsTrue D.tells → IsIndexed (D.files disk.new).pkg (D.files disk.new).idx self.new }
-        ensures quiet { result ≡ Ok true → IsTrue D.tells → IsQuiet self.new.store (D.files disk.new) (D.left_since disk.new (D.moment disk.new)) }
-        ensures settled { result ≡ Ok true → IsTrue D.tells → IsSettled Idx (D.files disk.new) (D.left_since disk.new (D.moment disk.new)) }
-        ensures refused { IfErr result (λ e. e ≢ ChangeFault.DiskFault → IsTrue D.tells → D.files disk.new ≡ D.files disk.old) }
-        ensures reach { result ≡ Ok true → IsTrue D.tells → ReachesMade (units_for []) (D.files disk.old).idx (D.files disk.new).idx }
-        ensures end { result ≡ Ok true → IsTrue D.tells → ReachesTo self.new.store (D.files disk.old).pkg (D.files disk.new).pkg }
-        ensures reads { D.bytes_read disk.new Idx ≤ D.bytes_read disk.old Idx + 32 }
-        ensures unread { D.bytes_read disk.new Pkg ≤ D.bytes_read disk.old Pkg }
+        ensures refused { IfErr result (λ e. e ≢ ChangeFault.DiskFault → (self.new ≡ self.old) × (IsTrue D.tells → D.files disk.new ≡ D.files disk.old)) }
+        ensures reads { ReadAtMost Idx 32 (D.bytes_read disk.old) (D.bytes_read disk.new) }
         ensures kinds { IfErr result IsInitFault }
-        ensures stopped { (self.new.stopped ≡ true → (self.old.stopped ≡ true) ⊎ (result ≡ Err ChangeFault.DiskFault))
-            × (result ≡ Err ChangeFault.DiskFault → self.new.stopped ≡ true) }
-        ensures is_stopped { (self.old.stopped ≡ true → result ≡ Err ChangeFault.Stopped) × (result ≡ Err ChangeFault.Stopped → self.old.stopped ≡ true) }
-        ensures value { IfErr result (λ e. e ≢ ChangeFault.DiskFault → self.new ≡ self.old) }
+        ensures stopped { StopsAs self.old self.new result }
         ensures stops { IsTrue D.tells → self.old.stopped ≡ false → is_blank self.old ≡ true → LeavesOnly D.moment D.left_since disk.old disk.new
             (IsEmptyStill (D.left_since disk.old (D.moment disk.old))) }
         ensures runs { Runs D.tells D.files D.left_since D.moment D.bytes_read D.follows SameLog disk.old disk.new }

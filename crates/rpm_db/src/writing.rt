@@ -17,7 +17,8 @@ ghost use Rattle.rpm_pkgdb.specs.Store.{Keeps};
 ghost use Rattle.rpm_pkgdb.specs.Written.{with_generation, with_plan, with_spare, erased, next_field, field_after};
 ghost use Rattle.rpm_hindex.specs.Plans.{CanWrite, LeavesOrder, units_after};
 ghost use Rattle.rpm_hindex.specs.State as hindex;
-ghost use Rattle.rpm_db.specs.inner.Writes.{BlobsTo, IndexTo, IsSealedAfter};
+ghost use Rattle.rpm_db.specs.inner.Both.{CanApply, CanPut, IsApplied, IsStored};
+ghost use Rattle.rpm_db.specs.inner.Writes.{BlobsTo, IndexTo};
 
 use rpm_hindex::{Hindex, IndexDiskFault, IndexPlan};
 use rpm_outside::Disk;
@@ -33,23 +34,17 @@ pub fn put_raised<D: Disk>(
     requires going { store.old.is_stopped ≡ false }
     requires keeps { IsTrue D.tells → Keeps (D.files disk.old).pkg store.old }
     requires made { 1 ≤ store.old.pages }
-    requires left { store.old.generation < 4294967295 }
-    requires room { 1 ≤ store.old.spare }
-    requires plan { IsPlan store.old plan }
+    requires plan { CanPut store.old plan }
     requires length { plan.target.length ≡ length blob.now }
     ensures number { IfOk result (λ n. n ≡ plan.target.number) }
     ensures ok { OnOk result (store.new ≡ with_spare store.new.spare (with_plan plan (with_generation (store.old.generation + 1) store.old))) }
     ensures err { OnErr result ((store.new.slots ≡ store.old.slots) × (store.new.pages ≡ store.old.pages)) }
-    ensures kept { OnOk result (IsTrue D.tells → Keeps (D.files disk.new).pkg store.new) }
-    ensures blobs { OnOk result (IsTrue D.tells → blobs (D.files disk.new).pkg store.new ≡ finite.insert (blobs (D.files disk.old).pkg store.old)
-        plan.target.number (Some blob.now)) }
+    ensures stored { OnOk result (IsStored D.Disk disk.new store.new (finite.insert (blobs (D.files disk.old).pkg store.old) plan.target.number
+        (Some blob.now))) }
     ensures images { IsTrue D.tells → IsQuiet store.old (D.files disk.old) (D.left_since disk.old (D.moment disk.old)) → LeavesOnly D.moment
         D.left_since disk.old disk.new (Stops Pkg (BlobsTo store.old.generation store.old.field (field_after (next_field plan.target) store.old.field)
         (blobs (D.files disk.old).pkg store.old) (finite.insert (blobs (D.files disk.old).pkg store.old) plan.target.number (Some blob.now)))
         (D.left_since disk.old (D.moment disk.old))) }
-    ensures quiet { OnOk result (IsTrue D.tells → IsQuiet store.new (D.files disk.new) (D.left_since disk.new (D.moment disk.new))) }
-    ensures stands { OnOk result (IsTrue D.tells → (image : Files) → D.left_since disk.new (D.moment disk.new) image → StandsFor store.new.generation
-        store.new.field (blobs (D.files disk.new).pkg store.new) image.pkg) }
     ensures end { OnOk result (IsTrue D.tells → ReachesTo store.new (D.files disk.old).pkg (D.files disk.new).pkg) }
     ensures changes { Changes D.tells D.files D.left_since D.moment D.bytes_read D.follows Pkg Anything
         (moving_cost store.old.slots (moves_of plan.page)) disk.old disk.new }
@@ -70,14 +65,10 @@ pub fn erase_raised<D: Disk>(disk: &mut D, store: &mut PkgDb, n: u32) -> Result<
     requires held { IsSome (slot_with n store.old.slots) }
     ensures ok { OnOk result (store.new ≡ erased n (with_generation (store.old.generation + 1) store.old)) }
     ensures err { OnErr result ((store.new.slots ≡ store.old.slots) × (store.new.pages ≡ store.old.pages)) }
-    ensures kept { OnOk result (IsTrue D.tells → Keeps (D.files disk.new).pkg store.new) }
-    ensures blobs { OnOk result (IsTrue D.tells → blobs (D.files disk.new).pkg store.new ≡ finite.remove (blobs (D.files disk.old).pkg store.old) n) }
+    ensures stored { OnOk result (IsStored D.Disk disk.new store.new (finite.remove (blobs (D.files disk.old).pkg store.old) n)) }
     ensures images { IsTrue D.tells → IsQuiet store.old (D.files disk.old) (D.left_since disk.old (D.moment disk.old)) → LeavesOnly D.moment
         D.left_since disk.old disk.new (Stops Pkg (BlobsTo store.old.generation store.old.field store.old.field (blobs (D.files disk.old).pkg store.old)
         (finite.remove (blobs (D.files disk.old).pkg store.old) n)) (D.left_since disk.old (D.moment disk.old))) }
-    ensures quiet { OnOk result (IsTrue D.tells → IsQuiet store.new (D.files disk.new) (D.left_since disk.new (D.moment disk.new))) }
-    ensures stands { OnOk result (IsTrue D.tells → (image : Files) → D.left_since disk.new (D.moment disk.new) image → StandsFor store.new.generation
-        store.new.field (blobs (D.files disk.new).pkg store.new) image.pkg) }
     ensures end { OnOk result (IsTrue D.tells → length (D.files disk.new).pkg ≤ length (D.files disk.old).pkg) }
     ensures changes { Changes D.tells D.files D.left_since D.moment D.bytes_read D.follows Pkg Anything 0 disk.old disk.new }
     ensures cause { HasCause (D.faults disk.old) (D.faults disk.new) result }
@@ -95,14 +86,9 @@ pub fn write_rows<D: Disk>(
     plan: IndexPlan,
     generation: u32,
 ) -> Result<(), IndexDiskFault>
-    requires plan { CanWrite index.old.units plan.work }
-    requires ordered { LeavesOrder plan.work }
+    requires change { CanApply index.old.units plan.work }
     requires keeps { IsTrue D.tells → hindex.Keeps (D.files disk.old).idx index.old }
-    ensures current { OnOk result (hindex.is_current generation index.new ≡ true) }
-    ensures grows { OnOk result (index.new.units ≤ max index.old.units (units_after plan.work)) }
-    ensures kept { OnOk result (IsTrue D.tells → hindex.Keeps (D.files disk.new).idx index.new) }
-    ensures sealed { OnOk result (IsTrue D.tells → IsSealedAfter generation plan.work (D.files disk.old).idx (D.files disk.new).idx) }
-    ensures settled { OnOk result (IsTrue D.tells → IsSettled Idx (D.files disk.new) (D.left_since disk.new (D.moment disk.new))) }
+    ensures applied { OnOk result (IsApplied D.Disk disk.old disk.new index.old index.new generation plan.work) }
     ensures changes { Changes D.tells D.files D.left_since D.moment D.bytes_read D.follows Idx
         (IndexTo generation plan.work (D.files disk.old).idx) 0 disk.old disk.new }
     ensures cause { HasCause (D.faults disk.old) (D.faults disk.new) result }

@@ -4,10 +4,11 @@ use Rattle.std.specs.Prelude as lists
 use Rattle.std.specs.Ordering.{nat_cmp}
 use Rattle.std.specs.FinMap as finite
 use Rattle.rpm_outside.specs.Files.{Units, Files, unit_at, blank, put}
+use Rattle.rpm_pkgdb.specs.Blobs.{blobs}
 use Rattle.rpm_pkgdb.specs.Costs.{cost}
 use Rattle.rpm_pkgdb.specs.Store.{Store, next_number}
 use Rattle.rpm_pkgdb.specs.Quiet.{StandsFor, BlobMap}
-use Rattle.rpm_hindex.specs.declared.planning.Work.{Work}
+use Rattle.rpm_hindex.specs.declared.plan.Work.{Work}
 use Rattle.rpm_hindex.specs.Images.{IsSealed}
 use Rattle.rpm_hindex.specs.Index.{records}
 use Rattle.rpm_hindex.specs.Plans.{after, buckets_after}
@@ -85,6 +86,10 @@ number_for (Some n) value = n
 abbrev pub field_for : Option ℕ → Store → ℕ
 field_for None value = next_number value + 1
 field_for (Some n) value = value.field
+
+-- the blobs after it, with this blob under that number
+abbrev pub put_map : Units → Store → Option ℕ → List ℕ → BlobMap
+put_map file value n blob = finite.insert (blobs file value) (number_for n value) (Some blob)
 
 -- the change that a header makes under a new number, or one that is there
 abbrev pub change_for : Option ℕ → List ℕ → Change

@@ -1,18 +1,19 @@
-use Rattle.std.proofs.Common.{◌≡◌, ℕ, length, true, sym, ap, ◌∙◌, subst, arith}
+use Rattle.std.proofs.Common.{length, sym, ap, ◌∙◌, subst, arith}
 use Rattle.std.specs.FinMap as finite
 use Rattle.rpm_outside.specs.Files.{Units}
 use Rattle.rpm_pkgdb.specs.Blobs.{blobs}
-use Rattle.rpm_pkgdb.specs.Quiet.{Anything, StandsFor}
+use Rattle.rpm_pkgdb.specs.Quiet.{Anything}
 use Rattle.rpm_pkgdb.specs.Slots.{slot_with}
-use Rattle.rpm_pkgdb.specs.Store.{Store, store}
+use Rattle.rpm_pkgdb.specs.Store.{Store}
 use Rattle.rpm_hindex.specs.State as hindex
-use Rattle.rpm_db.specs.inner.Writes.{IndexTo, IsSealedAfter}
-use Rattle.rpm_db.proofs.Both.{sealed_at, runs_store, runs_both, quiet_then, store_stops, change_stops}
+use Rattle.rpm_db.specs.inner.Writes.{IndexTo}
+use Rattle.rpm_db.proofs.Both.{sealed_at, runs_store, runs_both, store_stops, change_stops}
+use Rattle.rpm_db.proofs.Halves.{reads_both, stored_then, applied_since}
 use Rattle.rpm_db.proofs.changing.write_erase.Goals as goal
 
 pub write_rows-requires-clause-keeps : goal.write_rows-requires-clause-keeps
 write_rows-requires-clause-keeps g c = λ told.
-    subst (λ (u : Units). hindex.Keeps u c.args.index.now) (sym (c.in-Ok.ensures.changes.idx told)) (c.requires.units told)
+    subst (λ (u : Units). hindex.Keeps u c.args.index.now) (sym (c.in-Ok.ensures.changes.idx told)) (c.requires.ready.units told)
 
 -- ---- the store wasn't written
 
@@ -23,14 +24,8 @@ returns-in_default-clause-stops g c = λ told has change.
     let file = (g.D.Disk.files a).pkg in
     store_stops g.D.Disk.tells g.D.Disk.files g.D.Disk.left_since g.D.Disk.moment g.D.Disk.bytes_read g.D.Disk.follows told st.generation st.field st.field
     (blobs file st) (finite.remove (blobs file st) c.args.n) a c.erase_raised.new.disk c.erase_raised.new.disk
-    (sealed_at st.generation (g.D.Disk.files a).idx c.args.index.now (c.requires.units told) c.requires.order) has (c.requires.settled told)
-    (c.in_default.ensures.images told (c.requires.quiet told))
-
-pub returns-in_default-clause-reads : goal.returns-in_default-clause-reads
-returns-in_default-clause-reads g c = omega (arith, c.in_default.ensures.changes.reads.pkg)
-
-pub returns-in_default-clause-unread : goal.returns-in_default-clause-unread
-returns-in_default-clause-unread g c = omega (arith, c.in_default.ensures.changes.reads.idx)
+    (sealed_at st.generation (g.D.Disk.files a).idx c.args.index.now (c.requires.ready.units told) c.requires.ready.order) has (c.requires.ready.settled told)
+    (c.in_default.ensures.images told (c.requires.ready.quiet told))
 
 pub returns-in_default-clause-runs : goal.returns-in_default-clause-runs
 returns-in_default-clause-runs g c =
@@ -49,15 +44,9 @@ returns-in-Ok-write_rows-clause-stops g c = λ told has change.
     let generation = ap (λ (v : Store). v.generation) e.ok in
     change_stops g.D.Disk.tells g.D.Disk.files g.D.Disk.left_since g.D.Disk.moment g.D.Disk.bytes_read g.D.Disk.follows told st.generation st.field
     st.field (blobs file st) (finite.remove (blobs file st) c.args.n) a c.erase_raised.new.disk c.write_rows.new.disk
-    (sealed_at st.generation (g.D.Disk.files a).idx c.args.index.now (c.requires.units told) c.requires.order) has (c.requires.settled told)
-    c.args.change.work put c.generation.result 0 change (e.images told (c.requires.quiet told)) e.changes generation
-    (ap (λ (v : Store). v.field) e.ok) (e.blobs told) (e.stands told) (c.generation.ensures.value ∙ generation) c.in-Ok-write_rows.ensures.changes
-
-pub returns-in-Ok-write_rows-clause-reads : goal.returns-in-Ok-write_rows-clause-reads
-returns-in-Ok-write_rows-clause-reads g c = omega (arith, c.in-Ok.ensures.changes.reads.pkg, c.in-Ok-write_rows.ensures.changes.reads.pkg)
-
-pub returns-in-Ok-write_rows-clause-unread : goal.returns-in-Ok-write_rows-clause-unread
-returns-in-Ok-write_rows-clause-unread g c = omega (arith, c.in-Ok.ensures.changes.reads.idx, c.in-Ok-write_rows.ensures.changes.reads.idx)
+    (sealed_at st.generation (g.D.Disk.files a).idx c.args.index.now (c.requires.ready.units told) c.requires.ready.order) has (c.requires.ready.settled told)
+    c.args.change.work put c.generation.result 0 change (e.images told (c.requires.ready.quiet told)) e.changes generation
+    (ap (λ (v : Store). v.field) e.ok) (e.stored.blobs_are told) (e.stored.stands told) (c.generation.ensures.value ∙ generation) c.in-Ok-write_rows.ensures.changes
 
 pub returns-in-Ok-write_rows-clause-runs : goal.returns-in-Ok-write_rows-clause-runs
 returns-in-Ok-write_rows-clause-runs g c =
@@ -75,15 +64,9 @@ returns-in-Err-clause-stops g c = λ told has change.
     let generation = ap (λ (v : Store). v.generation) e.ok in
     change_stops g.D.Disk.tells g.D.Disk.files g.D.Disk.left_since g.D.Disk.moment g.D.Disk.bytes_read g.D.Disk.follows told st.generation st.field
     st.field (blobs file st) (finite.remove (blobs file st) c.args.n) a c.erase_raised.new.disk c.write_rows.new.disk
-    (sealed_at st.generation (g.D.Disk.files a).idx c.args.index.now (c.requires.units told) c.requires.order) has (c.requires.settled told)
-    c.args.change.work put c.generation.result 0 change (e.images told (c.requires.quiet told)) e.changes generation
-    (ap (λ (v : Store). v.field) e.ok) (e.blobs told) (e.stands told) (c.generation.ensures.value ∙ generation) c.in-Err.ensures.changes
-
-pub returns-in-Err-clause-reads : goal.returns-in-Err-clause-reads
-returns-in-Err-clause-reads g c = omega (arith, c.in-Ok.ensures.changes.reads.pkg, c.in-Err.ensures.changes.reads.pkg)
-
-pub returns-in-Err-clause-unread : goal.returns-in-Err-clause-unread
-returns-in-Err-clause-unread g c = omega (arith, c.in-Ok.ensures.changes.reads.idx, c.in-Err.ensures.changes.reads.idx)
+    (sealed_at st.generation (g.D.Disk.files a).idx c.args.index.now (c.requires.ready.units told) c.requires.ready.order) has (c.requires.ready.settled told)
+    c.args.change.work put c.generation.result 0 change (e.images told (c.requires.ready.quiet told)) e.changes generation
+    (ap (λ (v : Store). v.field) e.ok) (e.stored.blobs_are told) (e.stored.stands told) (c.generation.ensures.value ∙ generation) c.in-Err.ensures.changes
 
 pub returns-in-Err-clause-runs : goal.returns-in-Err-clause-runs
 returns-in-Err-clause-runs g c =
@@ -93,58 +76,45 @@ returns-in-Err-clause-runs g c =
 
 -- ---- all was
 
-pub returns-in-Ok-write_rows-clause-current : goal.returns-in-Ok-write_rows-clause-current
-returns-in-Ok-write_rows-clause-current g c =
-    subst (λ (n : ℕ). hindex.is_current n c.write_rows.new.index ≡ true) c.generation.ensures.value c.in-Ok-write_rows.ensures.current
-
-pub returns-in-Ok-write_rows-clause-kept : goal.returns-in-Ok-write_rows-clause-kept
-returns-in-Ok-write_rows-clause-kept g c = λ told. ap store (c.in-Ok-write_rows.ensures.changes.pkg told) ∙ c.in-Ok.ensures.kept told
-
-pub returns-in-Ok-write_rows-clause-blobs : goal.returns-in-Ok-write_rows-clause-blobs
-returns-in-Ok-write_rows-clause-blobs g c = λ told.
-    ap (λ (u : Units). blobs u c.erase_raised.new.store) (c.in-Ok-write_rows.ensures.changes.pkg told) ∙ c.in-Ok.ensures.blobs told
-
-pub returns-in-Ok-write_rows-clause-sealed : goal.returns-in-Ok-write_rows-clause-sealed
-returns-in-Ok-write_rows-clause-sealed g c = λ told.
-    let new = (g.D.Disk.files c.write_rows.new.disk).idx in
-    subst (λ (n : ℕ). IsSealedAfter n c.args.change.work (g.D.Disk.files c.args.disk.now).idx new) c.generation.ensures.value
-    (subst (λ (u : Units). IsSealedAfter c.generation.result c.args.change.work u new) (c.in-Ok.ensures.changes.idx told)
-    (c.in-Ok-write_rows.ensures.sealed told))
-
-pub returns-in-Ok-write_rows-clause-quiet : goal.returns-in-Ok-write_rows-clause-quiet
-returns-in-Ok-write_rows-clause-quiet g c = λ told.
-    quiet_then g.D.Disk.tells g.D.Disk.files g.D.Disk.left_since g.D.Disk.moment g.D.Disk.bytes_read g.D.Disk.follows told c.erase_raised.new.store
-    (IndexTo c.generation.result c.args.change.work (g.D.Disk.files c.erase_raised.new.disk).idx) 0 c.erase_raised.new.disk c.write_rows.new.disk
-    c.in-Ok-write_rows.ensures.changes (c.in-Ok.ensures.quiet told)
-
--- ---- what holds of each value
-
-pub returns-in_default-clause-made : goal.returns-in_default-clause-made
-returns-in_default-clause-made g c = omega (arith, c.in_default.ensures.err.1, c.requires.made)
-
-pub returns-in_default-clause-from_one : goal.returns-in_default-clause-from_one
-returns-in_default-clause-from_one g c = ap (slot_with 0) c.in_default.ensures.err.0 ∙ c.requires.from_one
-
-pub returns-in-Ok-write_rows-clause-from_one : goal.returns-in-Ok-write_rows-clause-from_one
-returns-in-Ok-write_rows-clause-from_one g c = c.generation.ensures.from_one
-
-pub returns-in-Err-clause-from_one : goal.returns-in-Err-clause-from_one
-returns-in-Err-clause-from_one g c = c.generation.ensures.from_one
-
-pub returns-in-Ok-write_rows-clause-made : goal.returns-in-Ok-write_rows-clause-made
-returns-in-Ok-write_rows-clause-made g c = omega (arith, ap (λ (v : Store). v.pages) c.in-Ok.ensures.ok, c.requires.made)
-
-pub returns-in-Err-clause-made : goal.returns-in-Err-clause-made
-returns-in-Err-clause-made g c = omega (arith, ap (λ (v : Store). v.pages) c.in-Ok.ensures.ok, c.requires.made)
-
-pub returns-in-Ok-write_rows-clause-stands : goal.returns-in-Ok-write_rows-clause-stands
-returns-in-Ok-write_rows-clause-stands g c = λ told image here.
-    let e = c.in-Ok-write_rows.ensures.changes in
-    let s = e.now told image here in
-    let st = c.erase_raised.new.store in
-    subst (λ (u : Units). StandsFor st.generation st.field (blobs u st) image.pkg) (sym (e.pkg told))
-    (subst (StandsFor st.generation st.field (blobs (g.D.Disk.files c.erase_raised.new.disk).pkg st)) (sym s.pkg) (c.in-Ok.ensures.stands told s.from s.was))
-
 pub returns-in-Ok-write_rows-clause-end : goal.returns-in-Ok-write_rows-clause-end
 returns-in-Ok-write_rows-clause-end g c = λ told.
     omega (arith, c.in-Ok.ensures.end told, ap length (c.in-Ok-write_rows.ensures.changes.pkg told))
+
+-- ---- what both leave
+
+pub returns-in_default-clause-is_made : goal.returns-in_default-clause-is_made
+returns-in_default-clause-is_made g c = record {
+  made = omega (arith, c.in_default.ensures.err.1, c.requires.ready.made);
+  from_one = ap (slot_with 0) c.in_default.ensures.err.0 ∙ c.requires.ready.from_one;
+}
+
+pub returns-in-Ok-write_rows-clause-is_made : goal.returns-in-Ok-write_rows-clause-is_made
+returns-in-Ok-write_rows-clause-is_made g c = record {
+  made = omega (arith, ap (λ (v : Store). v.pages) c.in-Ok.ensures.ok, c.requires.ready.made);
+  from_one = c.generation.ensures.from_one;
+}
+
+pub returns-in-Err-clause-is_made : goal.returns-in-Err-clause-is_made
+returns-in-Err-clause-is_made g c = record {
+  made = omega (arith, ap (λ (v : Store). v.pages) c.in-Ok.ensures.ok, c.requires.ready.made);
+  from_one = c.generation.ensures.from_one;
+}
+
+pub returns-in-Ok-write_rows-clause-stored : goal.returns-in-Ok-write_rows-clause-stored
+returns-in-Ok-write_rows-clause-stored g c =
+    stored_then g.D.Disk c.erase_raised.new.store _ _ 0 _ _ c.in-Ok-write_rows.ensures.changes c.in-Ok.ensures.stored
+
+pub returns-in-Ok-write_rows-clause-applied : goal.returns-in-Ok-write_rows-clause-applied
+returns-in-Ok-write_rows-clause-applied g c =
+    applied_since g.D.Disk _ _ _ _ _ _ _ _ c.in-Ok.ensures.changes.idx c.generation.ensures.value c.in-Ok-write_rows.ensures.applied
+
+pub returns-in_default-clause-reads : goal.returns-in_default-clause-reads
+returns-in_default-clause-reads g c = c.in_default.ensures.changes.reads
+
+pub returns-in-Ok-write_rows-clause-reads : goal.returns-in-Ok-write_rows-clause-reads
+returns-in-Ok-write_rows-clause-reads g c =
+    reads_both 0 _ _ _ c.in-Ok.ensures.changes.reads c.in-Ok-write_rows.ensures.changes.reads
+
+pub returns-in-Err-clause-reads : goal.returns-in-Err-clause-reads
+returns-in-Err-clause-reads g c =
+    reads_both 0 _ _ _ c.in-Ok.ensures.changes.reads c.in-Err.ensures.changes.reads

@@ -24,7 +24,7 @@ returns-then-is_current-clause-rows g c = λ told lawful.
     let now : is_current_at value.generation new.idx ≡ true =
     sym (current_same value.generation new.idx c.in-Ok.index (c.in-Ok.ensures.kept told)) ∙ here in
     subst (λ (f : Files). HasRows (packages f.pkg value) f.idx) (sym same)
-    (rows_of_lawful old.pkg old.idx value (c.requires.keeps told) c.requires.made lawful
+    (rows_of_lawful old.pkg old.idx value (c.requires.can.keeps told) c.requires.can.made lawful
     (ap (λ (f : Files). is_current_at value.generation f.idx) (sym same) ∙ now))
 
 pub returns-in-Ok-make_index-clause-rows : goal.returns-in-Ok-make_index-clause-rows
@@ -34,7 +34,7 @@ returns-in-Ok-make_index-clause-rows g c = λ told lawful.
     let e = c.in-Ok-make_index.ensures in
     let new = g.D.Disk.files c.make_index.new.disk in
     let pkg : new.pkg ≡ (g.D.Disk.files c.args.disk.now).pkg = (e.runs.reads_as told).pkg ∙ ap (λ (f : Files). f.pkg) same in
-    rows_of_index new.pkg new.idx value (ap store pkg ∙ c.requires.keeps told) (e.index told)
+    rows_of_index new.pkg new.idx value (ap store pkg ∙ c.requires.can.keeps told) (e.index told)
 
 pub returns-then-is_current-clause-made : goal.returns-then-is_current-clause-made
 returns-then-is_current-clause-made g c = λ told stale.
@@ -56,7 +56,7 @@ returns-in-Ok-make_index-clause-made g c = λ told stale.
     let e = c.in-Ok-make_index.ensures in
     let new = g.D.Disk.files c.make_index.new.disk in
     let pkg : new.pkg ≡ (g.D.Disk.files c.args.disk.now).pkg = (e.runs.reads_as told).pkg ∙ ap (λ (f : Files). f.pkg) same in
-    rows_of_index new.pkg new.idx value (ap store pkg ∙ c.requires.keeps told) (e.index told)
+    rows_of_index new.pkg new.idx value (ap store pkg ∙ c.requires.can.keeps told) (e.index told)
 
 pub returns-in-Err-DiskFault-clause-runs : goal.returns-in-Err-DiskFault-clause-runs
 returns-in-Err-DiskFault-clause-runs g c =

@@ -12,19 +12,19 @@ use Rattle.rpm_db.proofs.indexing.make_index.Goals as goal
 
 pub write_index-requires-clause-rows : goal.write_index-requires-clause-rows
 write_index-requires-clause-rows g c = λ told.
-    let e = c.in-Ok.ensures in
+    let e = c.in_ok-rows.ensures in
     let store = c.args.store.now in
     let file = (g.D.Disk.files c.rows_of.new.disk).pkg in
     let same = (e.looks.untouched told).same in
-    subst (λ (n : ℕ). IsOfRows n c.in-Ok.rows file) (sym c.generation.ensures.value)
-    (of_rows file store c.in-Ok.rows (e.kept told) (e.rows told ∙ ap (λ (f : Files). rows (packages f.pkg store)) (sym same)))
+    subst (λ (n : ℕ). IsOfRows n c.in_ok-rows.rows file) (sym c.generation.ensures.value)
+    (of_rows file store c.in_ok-rows.rows (e.kept told) (e.rows told ∙ ap (λ (f : Files). rows (packages f.pkg store)) (sym same)))
 
 pub returns-clause-reach : goal.returns-clause-reach
 returns-clause-reach g c =
-    let all = c.in-Ok.rows in
+    let all = c.in_ok-rows.rows in
     let before = c.args.index.now.units in
     let after = c.write_index.new.index in
     let new = (g.D.Disk.files c.write_index.new.disk).idx in
     both_ok c.write_index.result (λ (grows : after.units ≤ max before (units_for all)) (kept : IsTrue g.D.Disk.tells → Keeps new after) told.
-    let most = subst (λ (rs : List Row). after.units ≤ max before (units_for rs)) (c.in-Ok.ensures.rows told) grows in
+    let most = subst (λ (rs : List Row). after.units ≤ max before (units_for rs)) (c.in_ok-rows.ensures.rows told) grows in
     omega (arith, most, (kept told).units, (c.requires.index told).units)) c.write_index.ensures.grows c.write_index.ensures.kept

@@ -8,21 +8,21 @@ use Rattle.rpm_db.proofs.indexing.write_index.Goals as goal
 
 pub seal_index-requires-clause-written : goal.seal_index-requires-clause-written
 seal_index-requires-clause-written g c = ordered_pending c.rewrite.new.self.pending c.rewrite.new.self.units c.rewrite.new.self.second
-    c.in_default.ensures.ordered
+    c.in_ok-rewrite.ensures.ordered
 
 pub returns-in-Ok-clause-runs : goal.returns-in-Ok-clause-runs
 returns-in-Ok-clause-runs g c =
     runs_then g.D.Disk.tells g.D.Disk.files g.D.Disk.left_since g.D.Disk.moment g.D.Disk.bytes_read g.D.Disk.follows g.met.D.Disk.follows_trans
     Remade Remade Remade c.args.disk.now c.rewrite.new.disk c.seal_index.new.disk (λ x y r. r) remade_then
     (runs_index g.D.Disk.tells g.D.Disk.files g.D.Disk.left_since g.D.Disk.moment g.D.Disk.bytes_read g.D.Disk.follows Remade VoidOrSame (λ f. Unit {0}) 0
-    c.args.disk.now c.rewrite.new.disk voiding (λ told. tt) (λ told image left. tt) c.in_default.ensures.changes) c.in-Ok.ensures.runs
+    c.args.disk.now c.rewrite.new.disk voiding (λ told. tt) (λ told image left. tt) c.in_ok-rewrite.ensures.changes) c.in-Ok.ensures.runs
 
-pub returns-in-Err-seal_index-clause-runs : goal.returns-in-Err-seal_index-clause-runs
-returns-in-Err-seal_index-clause-runs g c =
+pub returns-in-Err-clause-runs : goal.returns-in-Err-clause-runs
+returns-in-Err-clause-runs g c =
     runs_then g.D.Disk.tells g.D.Disk.files g.D.Disk.left_since g.D.Disk.moment g.D.Disk.bytes_read g.D.Disk.follows g.met.D.Disk.follows_trans
     Remade Remade Remade c.args.disk.now c.rewrite.new.disk c.seal_index.new.disk (λ x y r. r) remade_then
     (runs_index g.D.Disk.tells g.D.Disk.files g.D.Disk.left_since g.D.Disk.moment g.D.Disk.bytes_read g.D.Disk.follows Remade VoidOrSame (λ f. Unit {0}) 0
-    c.args.disk.now c.rewrite.new.disk voiding (λ told. tt) (λ told image left. tt) c.in_default.ensures.changes) c.in-Err-seal_index.ensures.runs
+    c.args.disk.now c.rewrite.new.disk voiding (λ told. tt) (λ told image left. tt) c.in_ok-rewrite.ensures.changes) c.in-Err.ensures.runs
 
 pub returns-in-Ok-clause-grows : goal.returns-in-Ok-clause-grows
-returns-in-Ok-clause-grows g c = omega (arith, c.in_default.ensures.grows, c.in-Ok.ensures.units)
+returns-in-Ok-clause-grows g c = omega (arith, c.in_ok-rewrite.ensures.grows, c.in-Ok.ensures.units)

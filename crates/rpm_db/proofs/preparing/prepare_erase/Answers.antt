@@ -1,4 +1,4 @@
-use Rattle.std.proofs.Common.{◌≡◌, List, sym, ap, ◌∙◌, subst, arith}
+use Rattle.std.proofs.Common.{IsTrue, List, sym, ap, ◌∙◌, subst, arith}
 use Rattle.std.specs.FinMap as finite
 use Rattle.rpm_outside.specs.Files.{Files}
 use Rattle.rpm_hindex.specs.Plans.{HasChanged}
@@ -10,24 +10,12 @@ use Rattle.rpm_db.specs.State.{packages}
 use Rattle.rpm_db.specs.inner.Running.{runs_then}
 use Rattle.rpm_db.specs.inner.Writes.{WritesRows, SameFiles}
 use Rattle.rpm_hindex.specs.Sizes.{live_of}
-use Rattle.rpm_db.proofs.Reached.{live_none}
 use Rattle.rpm_db.proofs.Wholes.{whole_work}
 use Rattle.rpm_db.proofs.preparing.prepare_erase.Goals as goal
 
 pub prepare_rows-requires-clause-keeps : goal.prepare_rows-requires-clause-keeps
 prepare_rows-requires-clause-keeps g c = λ told.
-    subst (λ (f : Files). hindex.Keeps f.idx c.args.index.now) (sym (c.in-Ok.ensures.runs.reads_as told)) (c.requires.units told)
-
-pub returns-in-Ok-prepare_rows-clause-makes : goal.returns-in-Ok-prepare_rows-clause-makes
-returns-in-Ok-prepare_rows-clause-makes g c = λ told new has changed.
-    let P = packages (g.D.Disk.files c.args.disk.now).pkg c.args.store.now in
-    let same = c.in-Ok.ensures.runs.reads_as told in
-    let here = subst (λ (f : Files). HasRows P f.idx) (sym same) has in
-    let change =
-    subst (λ (ds : List Row). HasChanged ds c.new-adds.result (rows P) (rows new)) (sym (c.in-Ok.ensures.rows told))
-    (subst (λ (rs : List Row). HasChanged (rows_at c.args.n (finite.get P c.args.n)) rs (rows P) (rows new)) (sym c.new-adds.ensures) changed) in
-    subst (λ (f : Files). WritesRows (rows new) c.in-Ok-prepare_rows.plan.work f.idx) same
-    (c.in-Ok-prepare_rows.ensures.makes told P new here change)
+    subst (λ (f : Files). hindex.Keeps f.idx c.args.index.now) (sym (c.in-Ok.ensures.runs.reads_as told)) (c.requires.read.units told)
 
 pub returns-in-Ok-prepare_rows-clause-whole : goal.returns-in-Ok-prepare_rows-clause-whole
 returns-in-Ok-prepare_rows-clause-whole g c = λ told whole.
@@ -54,12 +42,19 @@ returns-in-Ok-prepare_rows-clause-runs g c =
 pub returns-in-Ok-prepare_rows-clause-reads : goal.returns-in-Ok-prepare_rows-clause-reads
 returns-in-Ok-prepare_rows-clause-reads g c = omega (arith, c.in-Ok.ensures.reads, c.in-Ok-prepare_rows.ensures.unread)
 
-pub returns-in-Ok-prepare_rows-clause-reach : goal.returns-in-Ok-prepare_rows-clause-reach
-returns-in-Ok-prepare_rows-clause-reach g c = λ told new has changed.
+pub returns-in-Ok-prepare_rows-clause-leads : goal.returns-in-Ok-prepare_rows-clause-leads
+returns-in-Ok-prepare_rows-clause-leads g c = λ new changed.
     let P = packages (g.D.Disk.files c.args.disk.now).pkg c.args.store.now in
-    let here = subst (λ (f : Files). HasRows P f.idx) (sym (c.in-Ok.ensures.runs.reads_as told)) has in
-    let change =
+    let change = λ (told : IsTrue g.D.Disk.tells).
     subst (λ (ds : List Row). HasChanged ds c.new-adds.result (rows P) (rows new)) (sym (c.in-Ok.ensures.rows told))
     (subst (λ (rs : List Row). HasChanged (rows_at c.args.n (finite.get P c.args.n)) rs (rows P) (rows new)) (sym c.new-adds.ensures) changed) in
-    let none : live_of c.new-adds.result ≡ 0 = ap live_of c.new-adds.ensures ∙ live_none in
-    omega (arith, c.in-Ok-prepare_rows.ensures.reach told P new here change, none)
+    record {
+      makes = λ told has.
+          (let same = c.in-Ok.ensures.runs.reads_as told in
+          let here = subst (λ (f : Files). HasRows P f.idx) (sym same) has in
+          subst (λ (f : Files). WritesRows (rows new) c.in-Ok-prepare_rows.plan.work f.idx) same
+          ((c.in-Ok-prepare_rows.ensures.leads P new (change told)).makes told here));
+      reach = λ told has.
+          (let here = subst (λ (f : Files). HasRows P f.idx) (sym (c.in-Ok.ensures.runs.reads_as told)) has in
+          omega (arith, (c.in-Ok-prepare_rows.ensures.leads P new (change told)).reach told here, ap live_of c.new-adds.ensures));
+    }

@@ -13,18 +13,7 @@ use Rattle.rpm_db.proofs.preparing.prepare_put.Goals as goal
 
 pub prepare_rows-requires-clause-keeps : goal.prepare_rows-requires-clause-keeps
 prepare_rows-requires-clause-keeps g c = λ told.
-    subst (λ (f : Files). hindex.Keeps f.idx c.args.index.now) (sym (c.in-Ok.ensures.runs.reads_as told)) (c.requires.units told)
-
-pub returns-in-Ok-prepare_rows-clause-makes : goal.returns-in-Ok-prepare_rows-clause-makes
-returns-in-Ok-prepare_rows-clause-makes g c = λ told new has changed.
-    let P = packages (g.D.Disk.files c.args.disk.now).pkg c.args.store.now in
-    let same = c.in-Ok.ensures.runs.reads_as told in
-    let here = subst (λ (f : Files). HasRows P f.idx) (sym same) has in
-    let still =
-    changed_still c.args.n P (header_rows c.args.number c.args.view.now) c.in-Ok.change.drops c.in-Ok.change.adds (rows new) (c.in-Ok.ensures.drops told)
-    (c.in-Ok.ensures.adds told) changed in
-    subst (λ (f : Files). WritesRows (rows new) c.in-Ok-prepare_rows.plan.work f.idx) same
-    (c.in-Ok-prepare_rows.ensures.makes told P new here still)
+    subst (λ (f : Files). hindex.Keeps f.idx c.args.index.now) (sym (c.in-Ok.ensures.runs.reads_as told)) (c.requires.read.units told)
 
 pub returns-in-Ok-prepare_rows-clause-whole : goal.returns-in-Ok-prepare_rows-clause-whole
 returns-in-Ok-prepare_rows-clause-whole g c = λ told whole.
@@ -60,12 +49,24 @@ returns-clause-full g c = λ told new has changed.
     (c.in-Ok.ensures.adds told) changed in
     c.in-Err-prepare_rows.ensures.full told P new here still
 
-pub returns-in-Ok-prepare_rows-clause-reach : goal.returns-in-Ok-prepare_rows-clause-reach
-returns-in-Ok-prepare_rows-clause-reach g c = λ told new has changed.
+pub returns-in-Ok-prepare_rows-clause-leads : goal.returns-in-Ok-prepare_rows-clause-leads
+returns-in-Ok-prepare_rows-clause-leads g c = λ new changed.
     let P = packages (g.D.Disk.files c.args.disk.now).pkg c.args.store.now in
     let adds = header_rows c.args.number c.args.view.now in
-    let here = subst (λ (f : Files). HasRows P f.idx) (sym (c.in-Ok.ensures.runs.reads_as told)) has in
-    let still =
-    changed_still c.args.n P adds c.in-Ok.change.drops c.in-Ok.change.adds (rows new) (c.in-Ok.ensures.drops told) (c.in-Ok.ensures.adds told) changed in
-    let few = live_less c.in-Ok.change.adds adds (λ r. omega (arith, c.in-Ok.ensures.adds told r)) in
-    omega (arith, c.in-Ok-prepare_rows.ensures.reach told P new here still, few)
+    record {
+      makes = λ told has.
+          (let same = c.in-Ok.ensures.runs.reads_as told in
+          let here = subst (λ (f : Files). HasRows P f.idx) (sym same) has in
+          let still =
+          changed_still c.args.n P adds c.in-Ok.change.drops c.in-Ok.change.adds (rows new) (c.in-Ok.ensures.drops told) (c.in-Ok.ensures.adds told)
+          changed in
+          subst (λ (f : Files). WritesRows (rows new) c.in-Ok-prepare_rows.plan.work f.idx) same
+          ((c.in-Ok-prepare_rows.ensures.leads P new still).makes told here));
+      reach = λ told has.
+          (let here = subst (λ (f : Files). HasRows P f.idx) (sym (c.in-Ok.ensures.runs.reads_as told)) has in
+          let still =
+          changed_still c.args.n P adds c.in-Ok.change.drops c.in-Ok.change.adds (rows new) (c.in-Ok.ensures.drops told) (c.in-Ok.ensures.adds told)
+          changed in
+          let few = live_less c.in-Ok.change.adds adds (λ r. omega (arith, c.in-Ok.ensures.adds told r)) in
+          omega (arith, (c.in-Ok-prepare_rows.ensures.leads P new still).reach told here, few));
+    }

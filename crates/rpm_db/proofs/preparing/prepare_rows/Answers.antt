@@ -13,16 +13,6 @@ use Rattle.rpm_db.proofs.Prepared.{of_records, writes_rows, never_bad}
 use Rattle.rpm_db.proofs.Wholes.{whole_plan}
 use Rattle.rpm_db.proofs.preparing.prepare_rows.Goals as goal
 
-pub returns-in-Ok-clause-makes : goal.returns-in-Ok-clause-makes
-returns-in-Ok-clause-makes g c = λ told old new has changed.
-    let idx = (g.D.Disk.files c.args.disk.now).idx in
-    let first = (c.requires.keeps told).first in
-    let drops = c.args.drops.now in
-    let adds = c.args.adds.now in
-    let whole = subst (λ (u : List ℕ). IsWellFormed (buckets_of u) idx) (sym first) has.whole in
-    writes_rows drops adds old new idx has changed c.in-Ok.plan.work
-    (subst (λ (u : List ℕ). IsPlanFor drops adds (buckets_of u) idx c.in-Ok.plan.work) first (c.in-Ok.ensures.makes told whole))
-
 pub returns-in-Ok-clause-whole : goal.returns-in-Ok-clause-whole
 returns-in-Ok-clause-whole g c = λ told whole.
     whole_plan c.args.drops.now c.args.adds.now c.args.index.now.first (g.D.Disk.files c.args.disk.now).idx c.in-Ok.plan.work
@@ -111,13 +101,24 @@ returns-in-Err-NoMemory-clause-runs g c =
 pub returns-in-Err-NoMemory-clause-unread : goal.returns-in-Err-NoMemory-clause-unread
 returns-in-Err-NoMemory-clause-unread g c = omega (arith, c.in-Err-NoMemory.ensures.looks.reads.pkg)
 
-pub returns-in-Ok-clause-reach : goal.returns-in-Ok-clause-reach
-returns-in-Ok-clause-reach g c = λ told old new has changed.
+pub returns-in-Ok-clause-change : goal.returns-in-Ok-clause-change
+returns-in-Ok-clause-change g c = record { can = c.in-Ok.ensures.can; ordered = c.in-Ok.ensures.ordered }
+
+pub returns-in-Ok-clause-leads : goal.returns-in-Ok-clause-leads
+returns-in-Ok-clause-leads g c = λ old new changed.
     let idx = (g.D.Disk.files c.args.disk.now).idx in
-    let first = (c.requires.keeps told).first in
     let drops = c.args.drops.now in
     let adds = c.args.adds.now in
-    let whole = subst (λ (u : List ℕ). IsWellFormed (buckets_of u) idx) (sym first) has.whole in
-    let reach = subst (λ (u : List ℕ). ReachesFor drops adds (records (buckets_of u) idx) c.args.index.now.units c.in-Ok.plan.work) first
-    (c.in-Ok.ensures.reach told whole) in
-    reach (rows new) (of_records drops adds old new idx has changed)
+    record {
+      makes = λ told has.
+          (let first = (c.requires.keeps told).first in
+          let whole = subst (λ (u : List ℕ). IsWellFormed (buckets_of u) idx) (sym first) has.whole in
+          writes_rows drops adds old new idx has changed c.in-Ok.plan.work
+          (subst (λ (u : List ℕ). IsPlanFor drops adds (buckets_of u) idx c.in-Ok.plan.work) first (c.in-Ok.ensures.makes told whole)));
+      reach = λ told has.
+          (let first = (c.requires.keeps told).first in
+          let whole = subst (λ (u : List ℕ). IsWellFormed (buckets_of u) idx) (sym first) has.whole in
+          let reach = subst (λ (u : List ℕ). ReachesFor drops adds (records (buckets_of u) idx) c.args.index.now.units c.in-Ok.plan.work) first
+          (c.in-Ok.ensures.reach told whole) in
+          reach (rows new) (of_records drops adds old new idx has changed));
+    }

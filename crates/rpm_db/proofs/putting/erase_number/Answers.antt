@@ -1,40 +1,25 @@
-use Rattle.std.proofs.Common.{length, sym, ap, ◌∙◌, subst, arith}
+use Rattle.std.proofs.Common.{length, refl, IsTrue, ap, ◌∙◌, arith}
 use Rattle.std.specs.FinMap as finite
 use Rattle.rpm_outside.specs.Files.{Files}
 use Rattle.rpm_pkgdb.specs.Blobs.{blobs}
-use Rattle.rpm_pkgdb.specs.Store.{Store, store}
-use Rattle.rpm_hindex.specs.State as hindex
+use Rattle.rpm_pkgdb.specs.Store.{Store}
 use Rattle.rpm_db.specs.State.{state}
 use Rattle.rpm_db.specs.inner.Writes.{packages_of, state_of}
 use Rattle.rpm_db.proofs.Edited.{rows_erased}
-use Rattle.rpm_db.proofs.Found.{current_in_order}
+use Rattle.rpm_db.proofs.Halves.{changed_again, read_of, same_again}
+use Rattle.rpm_db.proofs.Reached.{live_none}
 use Rattle.rpm_db.proofs.Planning.{stops_erase, state_written, rows_written}
-use Rattle.rpm_db.proofs.Unwritten.{quiet_same, settled_same, log_same, log_then, stops_refused}
+use Rattle.rpm_db.proofs.Unwritten.{log_same, log_then, stops_refused}
 use Rattle.rpm_db.proofs.Wholes.{whole_sealed}
 use Rattle.rpm_db.proofs.putting.erase_number.Goals as goal
 
 -- ---- what the write asks for
 
-pub write_erase-requires-clause-keeps : goal.write_erase-requires-clause-keeps
-write_erase-requires-clause-keeps g c = λ told. ap (λ (f : Files). store f.pkg) (c.in-Ok.ensures.runs.reads_as told) ∙ c.requires.keeps told
+pub prepare_erase-requires : goal.prepare_erase-requires
+prepare_erase-requires g c = record { read = read_of g.D.Disk _ _ _ c.requires.ready }
 
-pub write_erase-requires-clause-units : goal.write_erase-requires-clause-units
-write_erase-requires-clause-units g c = λ told.
-    subst (λ (f : Files). hindex.Keeps f.idx c.args.index.now) (sym (c.in-Ok.ensures.runs.reads_as told)) (c.requires.units told)
-
-pub write_erase-requires-clause-quiet : goal.write_erase-requires-clause-quiet
-write_erase-requires-clause-quiet g c = λ told.
-    quiet_same g.D.Disk.tells g.D.Disk.files g.D.Disk.left_since g.D.Disk.moment g.D.Disk.bytes_read g.D.Disk.follows c.args.disk.now
-    c.prepare_erase.new.disk told
-    c.in-Ok.ensures.runs c.args.store.now (c.requires.quiet told)
-
-pub write_erase-requires-clause-settled : goal.write_erase-requires-clause-settled
-write_erase-requires-clause-settled g c = λ told.
-    settled_same g.D.Disk.tells g.D.Disk.files g.D.Disk.left_since g.D.Disk.moment g.D.Disk.bytes_read g.D.Disk.follows c.args.disk.now
-    c.prepare_erase.new.disk told
-    c.in-Ok.ensures.runs (c.requires.settled told)
-
--- ---- the plan was refused
+pub write_erase-requires-clause-ready : goal.write_erase-requires-clause-ready
+write_erase-requires-clause-ready g c = same_again g.D.Disk _ _ _ _ c.in-Ok.ensures.runs c.requires.ready
 
 pub returns-in-Err-clause-stops : goal.returns-in-Err-clause-stops
 returns-in-Err-clause-stops g c = λ told lawful has.
@@ -57,7 +42,7 @@ returns-in-Ok-write_erase-clause-stops g c = λ told lawful has.
     let file = (g.D.Disk.files c.args.disk.now).pkg in
     let e = c.in-Ok.ensures in
     stops_erase _ _ _ _ _ _ _ _ _ told lawful e.runs st c.args.n c.in-Ok.change.work has
-    (e.makes told (packages_of (finite.remove (blobs file st) c.args.n)) has (rows_erased file st c.args.n))
+    ((e.leads (packages_of (finite.remove (blobs file st) c.args.n)) (rows_erased file st c.args.n)).makes told has)
     (c.in-Ok-write_erase.ensures.stops told)
 
 pub returns-in-Err-write_erase-clause-stops : goal.returns-in-Err-write_erase-clause-stops
@@ -66,55 +51,8 @@ returns-in-Err-write_erase-clause-stops g c = λ told lawful has.
     let file = (g.D.Disk.files c.args.disk.now).pkg in
     let e = c.in-Ok.ensures in
     stops_erase _ _ _ _ _ _ _ _ _ told lawful e.runs st c.args.n c.in-Ok.change.work has
-    (e.makes told (packages_of (finite.remove (blobs file st) c.args.n)) has (rows_erased file st c.args.n))
+    ((e.leads (packages_of (finite.remove (blobs file st) c.args.n)) (rows_erased file st c.args.n)).makes told has)
     (c.in-Err-write_erase.ensures.stops told)
-
-pub returns-in-Ok-write_erase-clause-full : goal.returns-in-Ok-write_erase-clause-full
-returns-in-Ok-write_erase-clause-full g c = λ told has.
-    let st = c.args.store.now in
-    let file = (g.D.Disk.files c.args.disk.now).pkg in
-    c.in-Ok.ensures.full told (packages_of (finite.remove (blobs file st) c.args.n)) has (rows_erased file st c.args.n)
-
-pub returns-in-Err-clause-full : goal.returns-in-Err-clause-full
-returns-in-Err-clause-full g c = λ told has.
-    let st = c.args.store.now in
-    let file = (g.D.Disk.files c.args.disk.now).pkg in
-    (c.in-Err.ensures.full told (packages_of (finite.remove (blobs file st) c.args.n)) has (rows_erased file st c.args.n))
-
-pub returns-in-Err-clause-bad : goal.returns-in-Err-clause-bad
-returns-in-Err-clause-bad g c = λ told. (c.in-Err.ensures.bad told)
-
-pub prepare_erase-requires-clause-order : goal.prepare_erase-requires-clause-order
-prepare_erase-requires-clause-order g c = current_in_order c.args.store.now.generation c.args.index.now c.requires.order
-
-pub returns-in-Ok-write_erase-clause-state : goal.returns-in-Ok-write_erase-clause-state
-returns-in-Ok-write_erase-clause-state g c = λ told.
-    let st = c.args.store.now in
-    let f = g.D.Disk.files in
-    let w = c.in-Ok-write_erase.ensures in
-    state_written (f c.write_erase.new.disk).pkg c.write_erase.new.store (finite.remove (blobs (f c.args.disk.now).pkg st) c.args.n) st.field
-    (w.blobs told ∙ ap (λ (fs : Files). finite.remove (blobs fs.pkg st) c.args.n) (c.in-Ok.ensures.runs.reads_as told))
-    (ap (λ (v : Store). v.field) w.ok)
-
-pub returns-in-Ok-write_erase-clause-rows : goal.returns-in-Ok-write_erase-clause-rows
-returns-in-Ok-write_erase-clause-rows g c = λ told has.
-    let st = c.args.store.now in
-    let f = g.D.Disk.files in
-    let old = f c.args.disk.now in
-    let new = f c.write_erase.new.disk in
-    let e = c.in-Ok.ensures in
-    let w = c.in-Ok-write_erase.ensures in
-    let same = e.runs.reads_as told in
-    let goes_to = finite.remove (blobs old.pkg st) c.args.n in
-    let after = c.write_erase.new.store in
-    rows_written new.pkg new.idx old.idx (f c.prepare_erase.new.disk).idx after after.generation c.in-Ok.change.work goes_to
-    (w.blobs told ∙ ap (λ (fs : Files). finite.remove (blobs fs.pkg st) c.args.n) same) (ap (λ (fs : Files). fs.idx) same)
-    (e.makes told (packages_of goes_to) has (rows_erased old.pkg st c.args.n)) (w.sealed told)
-
-pub returns-in-Ok-write_erase-clause-whole : goal.returns-in-Ok-write_erase-clause-whole
-returns-in-Ok-write_erase-clause-whole g c = λ told whole.
-    let e = c.in-Ok.ensures in
-    whole_sealed _ c.in-Ok.change.work _ _ _ (e.runs.reads_as told) (e.whole told whole) (c.in-Ok-write_erase.ensures.sealed told)
 
 pub returns-in-Ok-write_erase-clause-runs : goal.returns-in-Ok-write_erase-clause-runs
 returns-in-Ok-write_erase-clause-runs g c =
@@ -126,16 +64,59 @@ returns-in-Err-write_erase-clause-runs g c =
     log_then g.D.Disk.tells g.D.Disk.files g.D.Disk.left_since g.D.Disk.moment g.D.Disk.bytes_read g.D.Disk.follows g.met.D.Disk.follows_trans
     c.args.disk.now c.prepare_erase.new.disk c.write_erase.new.disk c.in-Ok.ensures.runs c.in-Err-write_erase.ensures.runs
 
-pub returns-in-Ok-write_erase-clause-reach : goal.returns-in-Ok-write_erase-clause-reach
-returns-in-Ok-write_erase-clause-reach g c = λ told has.
-    let st = c.args.store.now in
-    let file = (g.D.Disk.files c.args.disk.now).pkg in
-    omega (
-      arith,
-      c.in-Ok.ensures.reach told (packages_of (finite.remove (blobs file st) c.args.n)) has (rows_erased file st c.args.n),
-      c.in-Ok-write_erase.ensures.grows,
-    )
-
 pub returns-in-Ok-write_erase-clause-end : goal.returns-in-Ok-write_erase-clause-end
 returns-in-Ok-write_erase-clause-end g c = λ told.
     omega (arith, c.in-Ok-write_erase.ensures.end told, ap (λ (fs : Files). length fs.pkg) (c.in-Ok.ensures.runs.reads_as told))
+
+pub returns-in-Ok-write_erase-clause-done : goal.returns-in-Ok-write_erase-clause-done
+returns-in-Ok-write_erase-clause-done g c =
+    let D = g.D.Disk in
+    let st = c.args.store.now in
+    let f = D.files in
+    let old = f c.args.disk.now in
+    let new = f c.write_erase.new.disk in
+    let e = c.in-Ok.ensures in
+    let w = c.in-Ok-write_erase.ensures in
+    let after = c.write_erase.new.store in
+    let goes_to = finite.remove (blobs old.pkg st) c.args.n in
+    let leads = e.leads (packages_of goes_to) (rows_erased old.pkg st c.args.n) in
+    let goes = λ (told : IsTrue D.tells).
+    w.stored.blobs_are told ∙ ap (λ (fs : Files). finite.remove (blobs fs.pkg st) c.args.n) (e.runs.reads_as told) in
+    record {
+      ready = changed_again D _ _ after _ _ _ _ (ap (λ (v : Store). v.is_stopped) w.ok ∙ c.requires.ready.going) w.is_made w.stored w.applied;
+      generation_is = ap (λ (v : Store). v.generation) w.ok;
+      state_is = λ told. state_written new.pkg after goes_to st.field (goes told) (ap (λ (v : Store). v.field) w.ok);
+      stands = w.stored.stands;
+      rows_are = λ told has.
+          rows_written new.pkg new.idx old.idx (f c.prepare_erase.new.disk).idx after after.generation c.in-Ok.change.work goes_to (goes told)
+          (ap (λ (fs : Files). fs.idx) (e.runs.reads_as told)) (leads.makes told has) (w.applied.sealed told);
+      reach = λ told has. omega (arith, leads.reach told has, w.applied.grows, live_none);
+      whole = λ told whole. whole_sealed _ c.in-Ok.change.work _ _ _ (e.runs.reads_as told) (e.whole told whole) (w.applied.sealed told);
+    }
+
+pub returns-in-Ok-write_erase-clause-index : goal.returns-in-Ok-write_erase-clause-index
+returns-in-Ok-write_erase-clause-index g c = record {
+  full = λ told has.
+      (let st = c.args.store.now in
+      let file = (g.D.Disk.files c.args.disk.now).pkg in
+      c.in-Ok.ensures.full told (packages_of (finite.remove (blobs file st) c.args.n)) has (rows_erased file st c.args.n));
+  bad = λ told. tt;
+}
+
+pub returns-in-Err-write_erase-clause-index : goal.returns-in-Err-write_erase-clause-index
+returns-in-Err-write_erase-clause-index g c = record { full = λ told has. tt; bad = λ told. tt }
+
+pub returns-in-Err-clause-index : goal.returns-in-Err-clause-index
+returns-in-Err-clause-index g c = record {
+  full = λ told has.
+      (let st = c.args.store.now in
+      let file = (g.D.Disk.files c.args.disk.now).pkg in
+      c.in-Err.ensures.full told (packages_of (finite.remove (blobs file st) c.args.n)) has (rows_erased file st c.args.n));
+  bad = λ told. c.in-Err.ensures.bad told;
+}
+
+pub returns-in-Err-clause-is_made : goal.returns-in-Err-clause-is_made
+returns-in-Err-clause-is_made g c = record { made = c.requires.ready.made; from_one = c.requires.ready.from_one }
+
+pub returns-in-Err-clause-refused : goal.returns-in-Err-clause-refused
+returns-in-Err-clause-refused g c = λ refusal. record { store_is = refl; index_is = refl; runs = c.in-Err.ensures.runs }

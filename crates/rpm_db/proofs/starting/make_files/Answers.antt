@@ -47,9 +47,9 @@ returns-in-Err-clause-stops g c = λ told.
     let value = c.args.store.now in
     let a = c.args.disk.now in
     let b = c.empty_index.new.disk in
-    let none = blank_is (g.D.Disk.files a).pkg (in_file value) (c.requires.keeps told) c.requires.blank in
+    let none = blank_is (g.D.Disk.files a).pkg (in_file value) (c.requires.can.keeps told) c.requires.can.blank in
     let e = c.in-Err.ensures in
-    let first = stops_index g.D.Disk.moment g.D.Disk.left_since a b (g.D.Disk.files a).pkg none (c.requires.pkg told) (e.runs.any_moment told) in
+    let first = stops_index g.D.Disk.moment g.D.Disk.left_since a b (g.D.Disk.files a).pkg none (c.requires.can.pkg told) (e.runs.any_moment told) in
     first
 
 pub returns-in_default-clause-stops : goal.returns-in_default-clause-stops
@@ -57,16 +57,16 @@ returns-in_default-clause-stops g c = λ told.
     let value = c.args.store.now in
     let a = c.args.disk.now in
     let b = c.empty_index.new.disk in
-    let none = blank_is (g.D.Disk.files a).pkg (in_file value) (c.requires.keeps told) c.requires.blank in
+    let none = blank_is (g.D.Disk.files a).pkg (in_file value) (c.requires.can.keeps told) c.requires.can.blank in
     let e = c.in-Ok.ensures in
-    let first = stops_index g.D.Disk.moment g.D.Disk.left_since a b (g.D.Disk.files a).pkg none (c.requires.pkg told) (e.runs.any_moment told) in
+    let first = stops_index g.D.Disk.moment g.D.Disk.left_since a b (g.D.Disk.files a).pkg none (c.requires.can.pkg told) (e.runs.any_moment told) in
     let d = c.make.new.disk in
     let m = c.in_default.ensures in
     let idx = (g.D.Disk.files b).idx in
     let void : unit_at idx 0 ≡ blank = sym (e.kept told).first ∙ e.voided in
-    let keeps = ap store (e.runs.reads_as told).pkg ∙ c.requires.keeps told in
+    let keeps = ap store (e.runs.reads_as told).pkg ∙ c.requires.can.keeps told in
     let quiet = settled_quiet value (g.D.Disk.files b) (g.D.Disk.left_since b (g.D.Disk.moment b)) keeps
-    (still_settled g.D.Disk.tells g.D.Disk.files g.D.Disk.left_since g.D.Disk.moment g.D.Disk.bytes_read g.D.Disk.follows a b told e.runs (c.requires.pkg
+    (still_settled g.D.Disk.tells g.D.Disk.files g.D.Disk.left_since g.D.Disk.moment g.D.Disk.bytes_read g.D.Disk.follows a b told e.runs (c.requires.can.pkg
     told)) in
     let made = stops_make g.D.Disk.moment g.D.Disk.left_since a b d idx void (e.runs.now told) (e.settled told) (m.images told quiet) in
     two g.D.Disk.moment g.D.Disk.left_since a b d first made
@@ -76,16 +76,16 @@ returns-in-Ok-seal_index-clause-stops g c = λ told.
     let value = c.args.store.now in
     let a = c.args.disk.now in
     let b = c.empty_index.new.disk in
-    let none = blank_is (g.D.Disk.files a).pkg (in_file value) (c.requires.keeps told) c.requires.blank in
+    let none = blank_is (g.D.Disk.files a).pkg (in_file value) (c.requires.can.keeps told) c.requires.can.blank in
     let e = c.in-Ok.ensures in
-    let first = stops_index g.D.Disk.moment g.D.Disk.left_since a b (g.D.Disk.files a).pkg none (c.requires.pkg told) (e.runs.any_moment told) in
+    let first = stops_index g.D.Disk.moment g.D.Disk.left_since a b (g.D.Disk.files a).pkg none (c.requires.can.pkg told) (e.runs.any_moment told) in
     let d = c.make.new.disk in
     let m = c.in-Ok-make.ensures in
     let idx = (g.D.Disk.files b).idx in
     let void : unit_at idx 0 ≡ blank = sym (e.kept told).first ∙ e.voided in
-    let keeps = ap store (e.runs.reads_as told).pkg ∙ c.requires.keeps told in
+    let keeps = ap store (e.runs.reads_as told).pkg ∙ c.requires.can.keeps told in
     let quiet = settled_quiet value (g.D.Disk.files b) (g.D.Disk.left_since b (g.D.Disk.moment b)) keeps
-    (still_settled g.D.Disk.tells g.D.Disk.files g.D.Disk.left_since g.D.Disk.moment g.D.Disk.bytes_read g.D.Disk.follows a b told e.runs (c.requires.pkg
+    (still_settled g.D.Disk.tells g.D.Disk.files g.D.Disk.left_since g.D.Disk.moment g.D.Disk.bytes_read g.D.Disk.follows a b told e.runs (c.requires.can.pkg
     told)) in
     let made = stops_make g.D.Disk.moment g.D.Disk.left_since a b d idx void (e.runs.now told) (e.settled told) (m.images told quiet) in
     let f = c.seal_index.new.disk in
@@ -99,16 +99,16 @@ returns-in-Err-seal_index-clause-stops g c = λ told.
     let value = c.args.store.now in
     let a = c.args.disk.now in
     let b = c.empty_index.new.disk in
-    let none = blank_is (g.D.Disk.files a).pkg (in_file value) (c.requires.keeps told) c.requires.blank in
+    let none = blank_is (g.D.Disk.files a).pkg (in_file value) (c.requires.can.keeps told) c.requires.can.blank in
     let e = c.in-Ok.ensures in
-    let first = stops_index g.D.Disk.moment g.D.Disk.left_since a b (g.D.Disk.files a).pkg none (c.requires.pkg told) (e.runs.any_moment told) in
+    let first = stops_index g.D.Disk.moment g.D.Disk.left_since a b (g.D.Disk.files a).pkg none (c.requires.can.pkg told) (e.runs.any_moment told) in
     let d = c.make.new.disk in
     let m = c.in-Ok-make.ensures in
     let idx = (g.D.Disk.files b).idx in
     let void : unit_at idx 0 ≡ blank = sym (e.kept told).first ∙ e.voided in
-    let keeps = ap store (e.runs.reads_as told).pkg ∙ c.requires.keeps told in
+    let keeps = ap store (e.runs.reads_as told).pkg ∙ c.requires.can.keeps told in
     let quiet = settled_quiet value (g.D.Disk.files b) (g.D.Disk.left_since b (g.D.Disk.moment b)) keeps
-    (still_settled g.D.Disk.tells g.D.Disk.files g.D.Disk.left_since g.D.Disk.moment g.D.Disk.bytes_read g.D.Disk.follows a b told e.runs (c.requires.pkg
+    (still_settled g.D.Disk.tells g.D.Disk.files g.D.Disk.left_since g.D.Disk.moment g.D.Disk.bytes_read g.D.Disk.follows a b told e.runs (c.requires.can.pkg
     told)) in
     let made = stops_make g.D.Disk.moment g.D.Disk.left_since a b d idx void (e.runs.now told) (e.settled told) (m.images told quiet) in
     let f = c.seal_index.new.disk in
@@ -117,10 +117,20 @@ returns-in-Err-seal_index-clause-stops g c = λ told.
     (c.in-Err-seal_index.ensures.runs.any_moment told) in
     two g.D.Disk.moment g.D.Disk.left_since a d f (two g.D.Disk.moment g.D.Disk.left_since a b d first made) sealed
 
-pub returns-in-Ok-seal_index-clause-quiet : goal.returns-in-Ok-seal_index-clause-quiet
-returns-in-Ok-seal_index-clause-quiet g c = λ told.
-    still_quiet g.D.Disk.tells g.D.Disk.files g.D.Disk.left_since g.D.Disk.moment g.D.Disk.bytes_read g.D.Disk.follows c.make.new.disk
-    c.seal_index.new.disk c.make.new.self told c.in-Ok-seal_index.ensures.runs (c.in-Ok-make.ensures.quiet told)
+pub returns-in-Ok-seal_index-clause-empty : goal.returns-in-Ok-seal_index-clause-empty
+returns-in-Ok-seal_index-clause-empty g c =
+    let m = c.in-Ok-make.ensures in
+    let s = c.in-Ok-seal_index.ensures in
+    record {
+      kept = λ told. ap store (s.runs.reads_as told).pkg ∙ m.kept told;
+      quiet = λ told.
+          still_quiet g.D.Disk.tells g.D.Disk.files g.D.Disk.left_since g.D.Disk.moment g.D.Disk.bytes_read g.D.Disk.follows c.make.new.disk
+          c.seal_index.new.disk c.make.new.self told s.runs (m.quiet told);
+      current = s.current;
+      units = s.kept;
+      index_of = s.index;
+      settled = s.settled;
+    }
 
 pub returns-in-Err-clause-runs : goal.returns-in-Err-clause-runs
 returns-in-Err-clause-runs g c =

@@ -3,11 +3,11 @@ use Rattle.std.specs.FinMap as finite
 use Rattle.rpm_outside.specs.declared.disk.File.TheVariants.{Pkg}
 use Rattle.rpm_outside.specs.inner.Changing.{changes_then, stops_then, stops_weaker}
 use Rattle.rpm_pkgdb.specs.Blobs.{blobs}
-use Rattle.rpm_pkgdb.specs.Quiet.{Anything}
+use Rattle.rpm_pkgdb.specs.Quiet.{Anything, BlobMap}
 use Rattle.rpm_pkgdb.specs.Store.{Store}
 use Rattle.rpm_pkgdb.specs.Written.{stopped, RaisesTo, ErasesTo}
 use Rattle.rpm_db.specs.inner.Writes.{BlobsTo}
-use Rattle.rpm_db.proofs.Results.{map_err, map_ok}
+use Rattle.rpm_db.proofs.Results.{map_err, map_ok, four_ok}
 use Rattle.rpm_db.proofs.Raised.{raises_to, erases_to}
 use Rattle.rpm_db.proofs.writing.erase_raised.Goals as goal
 
@@ -63,3 +63,11 @@ returns-in-Ok-clause-end g c =
     let f = g.D.Disk.files in
     map_ok c.erase.result (λ (reach : IsTrue g.D.Disk.tells → length (f c.erase.new.disk).pkg ≤ length (f c.raise.new.disk).pkg) told.
     omega (arith, reach told, c.in-Ok.ensures.reach told)) c.erase.ensures.reach
+
+pub returns-in-Ok-clause-stored : goal.returns-in-Ok-clause-stored
+returns-in-Ok-clause-stored g c = four_ok c.erase.result (λ kept is quiet stands. record {
+  kept = kept;
+  blobs_are = λ told. is told ∙ ap (λ (m : BlobMap). finite.remove m c.args.n) (c.in-Ok.ensures.blobs told);
+  quiet = quiet;
+  stands = stands;
+}) c.erase.ensures.kept c.erase.ensures.blobs c.erase.ensures.quiet c.erase.ensures.stands

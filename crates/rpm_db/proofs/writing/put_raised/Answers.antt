@@ -5,19 +5,19 @@ use Rattle.rpm_outside.specs.inner.Changing.{changes_then, stops_then, stops_wea
 use Rattle.rpm_pkgdb.specs.Blobs.{blobs}
 use Rattle.rpm_pkgdb.specs.Growing.{moving_cost}
 use Rattle.rpm_pkgdb.specs.Planned.{IsPlan, moves_of}
-use Rattle.rpm_pkgdb.specs.Quiet.{Anything}
+use Rattle.rpm_pkgdb.specs.Quiet.{Anything, BlobMap}
 use Rattle.rpm_pkgdb.specs.Reaches.{ReachesTo}
 use Rattle.rpm_pkgdb.specs.Store.{Store}
 use Rattle.rpm_pkgdb.specs.Written.{stopped, RaisesTo, PutsTo, next_field, field_after}
 use Rattle.rpm_db.specs.inner.Writes.{BlobsTo}
-use Rattle.rpm_db.proofs.Results.{map_err, map_ok}
+use Rattle.rpm_db.proofs.Results.{map_err, map_ok, four_ok}
 use Rattle.rpm_db.proofs.Raised.{plan_raised, raises_to, puts_to}
 use Rattle.rpm_db.proofs.writing.put_raised.Goals as goal
 
 pub put-requires-clause-plan : goal.put-requires-clause-plan
 put-requires-clause-plan g c =
     subst (λ (v : Store). IsPlan v c.args.plan) (sym c.in-Ok.ensures.ok) (plan_raised (c.args.store.now.generation + 1) c.args.store.now c.args.plan
-    c.requires.plan)
+    c.requires.plan.plan_is)
 
 pub returns-in_default-clause-images : goal.returns-in_default-clause-images
 returns-in_default-clause-images g c = λ told quiet.
@@ -76,3 +76,12 @@ returns-clause-end g c =
     let f = g.D.Disk.files in
     map_ok c.put.result (λ (reach : IsTrue g.D.Disk.tells → ReachesTo c.put.new.self (f c.raise.new.disk).pkg (f c.put.new.disk).pkg) told.
     omega (arith, reach told, c.in-Ok.ensures.reach told)) c.put.ensures.reach
+
+pub returns-clause-stored : goal.returns-clause-stored
+returns-clause-stored g c = four_ok c.put.result (λ kept is quiet stands. record {
+  kept = kept;
+  blobs_are = λ told.
+      is told ∙ ap (λ (m : BlobMap). finite.insert m c.args.plan.target.number (Some c.args.blob.now)) (c.in-Ok.ensures.blobs told);
+  quiet = quiet;
+  stands = stands;
+}) c.put.ensures.kept c.put.ensures.blobs c.put.ensures.quiet c.put.ensures.stands

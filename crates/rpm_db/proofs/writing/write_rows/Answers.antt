@@ -5,14 +5,14 @@ use Rattle.rpm_hindex.specs.Images.{VoidOrSameSeal, SealedOrSame}
 use Rattle.rpm_hindex.specs.State.{State, seal_unit}
 use Rattle.rpm_db.specs.inner.Writes.{IndexTo}
 use Rattle.rpm_db.proofs.Making.{ordered_some, ordered_pending}
-use Rattle.rpm_db.proofs.Results.{map_ok}
+use Rattle.rpm_db.proofs.Results.{five_ok}
 use Rattle.rpm_db.proofs.SealedRows.{IsWritten, unsealed_yet, sealed_now, sealing_rows, is_written}
 use Rattle.rpm_db.proofs.writing.write_rows.Goals as goal
 
 pub seal-requires-clause-written : goal.seal-requires-clause-written
 seal-requires-clause-written g c =
     let i = c.apply.new.self in
-    ordered_pending i.pending i.units i.second (c.in-Ok.ensures.ordered c.requires.ordered)
+    ordered_pending i.pending i.units i.second (c.in-Ok.ensures.ordered c.requires.change.ordered)
 
 pub returns-in_default-clause-changes : goal.returns-in_default-clause-changes
 returns-in_default-clause-changes g c =
@@ -32,7 +32,7 @@ returns-clause-changes g c =
     let i = c.apply.new.self in
     let e = c.in-Ok.ensures in
     let unit = seal_unit n i.pending in
-    let some = ordered_some i.pending i.units i.second (e.ordered c.requires.ordered) in
+    let some = ordered_some i.pending i.units i.second (e.ordered c.requires.change.ordered) in
     changes_between D.tells D.files D.left_since D.moment D.bytes_read D.follows Idx g.met.D.Disk.follows_trans VoidOrSameSeal (SealedOrSame unit)
     (IndexTo n work file) (IsWritten n work file) 0 0 0 c.args.disk.now b c.seal.new.disk (omega arith) (unsealed_yet n work file)
     (sealing_rows n work file unit (ap (seal_unit n) e.pending))
@@ -42,8 +42,8 @@ returns-clause-changes g c =
     (c.seal.ensures.whichever told) (e.settled told image left))
     e.changes c.seal.ensures.changes
 
-pub returns-clause-sealed : goal.returns-clause-sealed
-returns-clause-sealed g c = map_ok c.seal.result (λ wrote told.
+pub returns-clause-applied : goal.returns-clause-applied
+returns-clause-applied g c =
     let D = g.D.Disk in
     let n = c.args.generation in
     let work = c.args.plan.work in
@@ -51,14 +51,16 @@ returns-clause-sealed g c = map_ok c.seal.result (λ wrote told.
     let mid = (D.files c.apply.new.disk).idx in
     let i = c.apply.new.self in
     let e = c.in-Ok.ensures in
-    let some = ordered_some i.pending i.units i.second (e.ordered c.requires.ordered) in
-    sealed_now n work file (seal_unit n i.pending) mid (D.files c.seal.new.disk).idx (ap (seal_unit n) e.pending)
-    (is_written n work file i.pending mid mid e.pending (e.written told) (omega (arith, (e.kept told).units, some)) (c.seal.ensures.whichever told) refl)
-    (wrote told)) c.seal.ensures.sealed
-
-pub returns-clause-current : goal.returns-clause-current
-returns-clause-current g c = map_ok c.seal.result (λ current. current (c.in-Ok.ensures.ordered c.requires.ordered)) c.seal.ensures.current
-
-pub returns-clause-grows : goal.returns-clause-grows
-returns-clause-grows g c =
-    map_ok c.seal.result (λ is. omega (arith, ap (λ (s : State). s.units) is, c.in-Ok.ensures.grows)) c.seal.ensures.state
+    let ordered = e.ordered c.requires.change.ordered in
+    let some = ordered_some i.pending i.units i.second ordered in
+    five_ok c.seal.result (λ current is kept wrote settled. record {
+      current = current ordered;
+      grows = omega (arith, ap (λ (s : State). s.units) is, e.grows);
+      kept = kept;
+      sealed = λ told.
+          sealed_now n work file (seal_unit n i.pending) mid (D.files c.seal.new.disk).idx (ap (seal_unit n) e.pending)
+          (is_written n work file i.pending mid mid e.pending (e.written told) (omega (arith, (e.kept told).units, some)) (c.seal.ensures.whichever told)
+          refl)
+          (wrote told);
+      settled = settled;
+    }) c.seal.ensures.current c.seal.ensures.state c.seal.ensures.kept c.seal.ensures.sealed c.seal.ensures.settled

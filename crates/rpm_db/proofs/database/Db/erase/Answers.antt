@@ -1,24 +1,29 @@
-use Rattle.std.proofs.Common.{◌≡◌, ◌≤◌, ◌^◌, arith, true, false, is_some, Option, Some, Err, sym, ap, ◌∙◌, subst, inr}
+use Rattle.std.proofs.Common.{◌≡◌, ◌≤◌, ◌^◌, arith, true, false, is_some, Option, Some, IsTrue, sym, ap, ◌∙◌, subst}
 use Rattle.rpm_pkgdb.specs.Slots.{slot_with}
 use Rattle.rpm_pkgdb.specs.Store.{Store}
 use Rattle.rpm_pkgdb.specs.Written.{with_spare}
 use Rattle.rpm_hindex.specs.Sizes.{units_for}
 use Rattle.rpm_hindex.specs.State as hindex
-use Rattle.rpm_db.specs.declared.change_fault.ChangeFault.TheVariants.{DiskFault}
 use Rattle.rpm_db.specs.Changes.{Erase}
 use Rattle.rpm_db.specs.Database.{Database, IsInOrder, holds}
 use Rattle.rpm_db.specs.Lawful.{HasRows}
-use Rattle.rpm_db.specs.Refusals.{LaterCause, FullCause, is_stopping}
+use Rattle.rpm_db.specs.Refusals.{LaterCause, FullCause}
 use Rattle.rpm_db.specs.Room.{next_store, raised}
 use Rattle.rpm_db.specs.Rows.{rows}
 use Rattle.rpm_db.specs.State.{State, packages, state}
 use Rattle.rpm_db.proofs.Applied.{erase_goes, held_by}
 use Rattle.rpm_db.proofs.Unwritten.{stops_told}
-use Rattle.rpm_db.proofs.Refused.{is_refusal, stopping_is, refusal_goes, erase_cause}
+use Rattle.rpm_db.proofs.Left.{left_done, left_fault, ready_inside}
+use Rattle.rpm_db.proofs.Refused.{refusal_goes, erase_cause}
 use Rattle.rpm_db.proofs.Rooms.{room_erased}
-use Rattle.rpm_db.proofs.Served.{database_of, indexed_as, rows_of_disk, room_same, refused_same, serving_same, serving_inside}
-use Rattle.rpm_db.proofs.Wholes.{whole_cause}
+use Rattle.rpm_db.proofs.Served.{database_of, rows_of_disk, room_same, refused_same, serving_inside}
 use Rattle.rpm_db.proofs.database.Db.erase.Goals as goal
+
+pub erase_number-requires-clause-ready : goal.erase_number-requires-clause-ready
+erase_number-requires-clause-ready g c =
+    let told_going : c.args.self.now.stopped ≡ false = sym (ap (λ (db : Database). db.stopped) c.self.view_is) ∙ c.if-self.false in
+    ready_inside g.D.Disk c.args.disk.now c.self.inside.store c.self.inside.index c.in-Some.index c.self.inside.is_stopped c.args.self.now c.self.invariant
+    c.if-self.false c.self.view_is c.in-Some.is (c.requires.serving told_going)
 
 pub returns-in-Ok-clause-placed : goal.returns-in-Ok-clause-placed
 returns-in-Ok-clause-placed g c =
@@ -26,34 +31,13 @@ returns-in-Ok-clause-placed g c =
     subst (λ (v : Store). next_store (Erase c.args.n) v ≡ Some (with_spare v.spare c.erase_number.new.store)) same
     (ap Some (sym (ap (with_spare c.self.inside.store.spare) c.in-Ok.ensures.ok)))
 
-pub returns-in-Ok-clause-state : goal.returns-in-Ok-clause-state
-returns-in-Ok-clause-state g c = λ told.
-    let st = c.self.inside.store in
-    let old = g.D.Disk.files c.args.disk.now in
-    let same : c.self.inside.store ≡ c.args.self.now.store = ap (λ (db : Database). db.store) c.self.view_is in
-    c.in-Ok.ensures.state told ∙ erase_goes old.pkg st c.args.self.now.store same c.args.n
-
-pub returns-in-Ok-clause-held : goal.returns-in-Ok-clause-held
-returns-in-Ok-clause-held g c = λ told image here.
-    held_by (g.D.Disk.files c.erase_number.new.disk).pkg image.pkg c.erase_number.new.store _ (returns-in-Ok-clause-state g c told)
-    (c.in-Ok.ensures.stands told image here)
-
-pub returns-in-Ok-clause-index : goal.returns-in-Ok-clause-index
-returns-in-Ok-clause-index g c = λ told was.
-    let e = c.in-Ok.ensures in
-    let old = g.D.Disk.files c.args.disk.now in
-    let new = g.D.Disk.files c.erase_number.new.disk in
-    let same : c.self.inside.store ≡ c.args.self.now.store = ap (λ (db : Database). db.store) c.self.view_is in
-    indexed_as new.pkg new.idx c.erase_number.new.store c.erase_number.new.index c.self.inside.is_stopped (e.units told) e.current
-    (e.rows told (subst (λ (v : Store). HasRows (packages old.pkg v) old.idx) (sym same) was.rows_are))
-
 pub returns-in-Ok-clause-full : goal.returns-in-Ok-clause-full
 returns-in-Ok-clause-full g c = λ told runs was.
     let st = c.self.inside.store in
     let old = g.D.Disk.files c.args.disk.now in
     let same : c.self.inside.store ≡ c.args.self.now.store = ap (λ (db : Database). db.store) c.self.view_is in
     let has = subst (λ (v : Store). HasRows (packages old.pkg v) old.idx) (sym same) was.rows_are in
-    subst (λ (s : State). units_for (rows s.packages) ≤ 2 ^ 28) (erase_goes old.pkg st c.args.self.now.store same c.args.n) (c.in-Ok.ensures.full told has)
+    subst (λ (s : State). units_for (rows s.packages) ≤ 2 ^ 28) (erase_goes old.pkg st c.args.self.now.store same c.args.n) (c.in-Ok.ensures.index.full told has)
 
 pub returns-in-Err-clause-full : goal.returns-in-Err-clause-full
 returns-in-Err-clause-full g c = λ told runs was.
@@ -62,7 +46,7 @@ returns-in-Err-clause-full g c = λ told runs was.
     let same : c.self.inside.store ≡ c.args.self.now.store = ap (λ (db : Database). db.store) c.self.view_is in
     let has = subst (λ (v : Store). HasRows (packages old.pkg v) old.idx) (sym same) was.rows_are in
     subst (λ (s : State). FullCause (units_for (rows s.packages)) c.in-Err.fault) (erase_goes old.pkg st c.args.self.now.store same c.args.n)
-    (c.in-Err.ensures.full told has)
+    (c.in-Err.ensures.index.full told has)
 
 pub returns-in-Ok-clause-stops : goal.returns-in-Ok-clause-stops
 returns-in-Ok-clause-stops g c = λ told lawful.
@@ -81,8 +65,6 @@ returns-in-Ok-clause-stops g c = λ told lawful.
     stops_told g.D.Disk.moment g.D.Disk.left_since a c.erase_number.new.disk images _ _ _ _ (ap (state old.pkg) same)
     (erase_goes old.pkg st c.args.self.now.store same c.args.n) (c.in-Ok.ensures.stops told lawful has)
 
--- ---- a fault
-
 pub returns-in-Err-clause-causes : goal.returns-in-Err-clause-causes
 returns-in-Err-clause-causes g c =
     let same : c.self.inside.store ≡ c.args.self.now.store = ap (λ (db : Database). db.store) c.self.view_is in
@@ -93,43 +75,9 @@ returns-in-Err-clause-causes g c =
     erase_cause c.args.self.now c.args.n c.in-Err.fault told_going here
     (subst (λ (v : Store). LaterCause v.generation ⊥ c.in-Err.fault) same c.in-Err.ensures.later)
 
-pub returns-in-Err-clause-whole : goal.returns-in-Err-clause-whole
-returns-in-Err-clause-whole g c = λ told whole. whole_cause _ c.in-Err.fault whole (c.in-Err.ensures.bad told)
-
 pub returns-in-Err-clause-placed : goal.returns-in-Err-clause-placed
 returns-in-Err-clause-placed g c =
     room_erased c.self.inside.store.generation c.args.n (raised c.args.self.now.store) c.in-Err.fault c.in-Err.ensures.later
-
-pub returns-in-Err-clause-serving : goal.returns-in-Err-clause-serving
-returns-in-Err-clause-serving g c = λ other runs told.
-    let st = c.self.inside.store in
-    let a = c.args.disk.now in
-    let e = c.in-Err.ensures in
-    let going = c.if-self.false in
-    let told_going : c.args.self.now.stopped ≡ false = sym (ap (λ (db : Database). db.stopped) c.self.view_is) ∙ going in
-    let s = serving_inside (g.D.Disk.files a) (g.D.Disk.left_since a (g.D.Disk.moment a)) st c.self.inside.index c.in-Some.index
-    c.self.inside.is_stopped c.args.self.now c.self.view_is c.in-Some.is (c.requires.serving told_going told) in
-    let refusal = is_refusal c.in-Err.fault (λ is. other (ap Err is)) in
-    serving_same g.D.Disk.tells g.D.Disk.files g.D.Disk.left_since g.D.Disk.moment g.D.Disk.bytes_read g.D.Disk.follows
-    a c.erase_number.new.disk told (e.same refusal) st c.erase_number.new.store c.in-Some.index c.erase_number.new.index c.self.inside.is_stopped
-    c.is_stopping-self-inside.result (room_same st c.erase_number.new.store (e.refused refusal).0) (e.refused refusal).1 s
-
-pub returns-in-Err-clause-refused : goal.returns-in-Err-clause-refused
-returns-in-Err-clause-refused g c = λ refusal.
-    let st = c.self.inside.store in
-    let r = c.in-Err.ensures.refused refusal in
-    let going = c.if-self.false in
-    let told_going : c.args.self.now.stopped ≡ false = sym (ap (λ (db : Database). db.stopped) c.self.view_is) ∙ going in
-    let view = ap (λ (i : Option hindex.State). database_of st i c.self.inside.is_stopped) (sym c.in-Some.is) ∙ c.self.view_is in
-    refused_same st c.erase_number.new.store c.in-Some.index c.erase_number.new.index c.self.inside.is_stopped c.is_stopping-self-inside.result
-    c.args.self.now view
-    r.0 r.1 (c.is_stopping-self-inside.ensures ∙ refusal_goes c.in-Err.fault refusal ∙ sym going)
-
-pub returns-in-Err-clause-stopped : goal.returns-in-Err-clause-stopped
-returns-in-Err-clause-stopped g c = (
-  λ on. inr (ap Err (stopping_is c.in-Err.fault (sym c.is_stopping-self-inside.ensures ∙ on))),
-  λ is. (let fault : c.in-Err.fault ≡ DiskFault = cc in c.is_stopping-self-inside.ensures ∙ ap is_stopping fault),
-)
 
 pub returns-in-Err-clause-stops : goal.returns-in-Err-clause-stops
 returns-in-Err-clause-stops g c = λ told lawful.
@@ -148,22 +96,53 @@ returns-in-Err-clause-stops g c = λ told lawful.
     stops_told g.D.Disk.moment g.D.Disk.left_since a c.erase_number.new.disk images _ _ _ _ (ap (state old.pkg) same)
     (erase_goes old.pkg st c.args.self.now.store same c.args.n) (c.in-Err.ensures.stops told lawful has)
 
-pub returns-in-Ok-clause-reach : goal.returns-in-Ok-clause-reach
-returns-in-Ok-clause-reach g c = λ told was.
+-- ---- what was made, and what is left
+
+pub returns-in-Ok-clause-changed : goal.returns-in-Ok-clause-changed
+returns-in-Ok-clause-changed g c =
+    let D = g.D.Disk in
     let st = c.self.inside.store in
     let now = c.args.self.now.store in
     let a = c.args.disk.now in
-    let old = g.D.Disk.files a in
+    let old = D.files a in
+    let new = D.files c.erase_number.new.disk in
     let e = c.in-Ok.ensures in
     let same : st ≡ now = ap (λ (db : Database). db.store) c.self.view_is in
-    let has = subst (λ (v : Store). HasRows (packages old.pkg v) old.idx) (sym same) was.rows_are in
+    let goes = erase_goes old.pkg st now same c.args.n in
     let told_going : c.args.self.now.stopped ≡ false = sym (ap (λ (db : Database). db.stopped) c.self.view_is) ∙ c.if-self.false in
-    let s = serving_inside old (g.D.Disk.left_since a (g.D.Disk.moment a)) st c.self.inside.index c.in-Some.index c.self.inside.is_stopped c.args.self.now
-    c.self.view_is c.in-Some.is (c.requires.serving told_going told) in
-    omega (
-      arith,
-      e.reach told has,
-      s.index.units,
-      (e.units told).units,
-      ap (λ (t : State). units_for (rows t.packages)) (erase_goes old.pkg st now same c.args.n),
-    )
+    let s = λ (told : IsTrue D.tells). serving_inside old (D.left_since a (D.moment a)) st c.self.inside.index c.in-Some.index c.self.inside.is_stopped
+    c.args.self.now c.self.view_is c.in-Some.is (c.requires.serving told_going told) in
+    record {
+      state_is = λ told. e.done.state_is told ∙ goes;
+      held = λ told image here. held_by new.pkg image.pkg c.erase_number.new.store _ (e.done.state_is told ∙ goes) (e.done.stands told image here);
+      reach = λ told was.
+          (let has = subst (λ (v : Store). HasRows (packages old.pkg v) old.idx) (sym same) was.rows_are in
+          omega (
+            arith,
+            e.done.reach told has,
+            (s told).index.units,
+            (e.done.ready.units told).units,
+            ap (λ (t : State). units_for (rows t.packages)) goes,
+          ));
+    }
+
+pub returns-in-Ok-clause-left : goal.returns-in-Ok-clause-left
+returns-in-Ok-clause-left g c =
+    left_done g.D.Disk _ _ c.self.inside.store _ c.self.inside.index _ c.self.inside.is_stopped c.args.self.now _ _ _ _ _ c.self.view_is
+    c.in-Ok.ensures.done
+
+pub returns-in-Err-clause-left : goal.returns-in-Err-clause-left
+returns-in-Err-clause-left g c =
+    let st = c.self.inside.store in
+    let after = c.erase_number.new.store in
+    let e = c.in-Err.ensures in
+    let view = ap (λ (i : Option hindex.State). database_of st i c.self.inside.is_stopped) (sym c.in-Some.is) ∙ c.self.view_is in
+    left_fault g.D.Disk _ _ st after st c.self.inside.index c.in-Some.index c.erase_number.new.index c.self.inside.is_stopped
+    c.is_stopping-self-inside.result c.args.self.now c.args.self.now c.in-Err.fault c.self.view_is c.in-Some.is e.is_made
+    c.is_stopping-self-inside.ensures e.index.bad c.requires.serving e.refused (room_same st after)
+    (λ refusal. refused_same st after c.in-Some.index c.erase_number.new.index c.self.inside.is_stopped c.is_stopping-self-inside.result c.args.self.now view
+    (e.refused refusal).store_is (e.refused refusal).index_is
+    (c.is_stopping-self-inside.ensures ∙ refusal_goes c.in-Err.fault refusal ∙ sym c.if-self.false))
+
+pub returns-in-Err-clause-bad : goal.returns-in-Err-clause-bad
+returns-in-Err-clause-bad g c = λ told. c.in-Err.ensures.index.bad told

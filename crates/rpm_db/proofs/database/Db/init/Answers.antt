@@ -9,13 +9,27 @@ use Rattle.rpm_db.proofs.Rebuilt.{indexed_now}
 use Rattle.rpm_db.proofs.Stays.{state_made}
 use Rattle.rpm_db.proofs.database.Db.init.Goals as goal
 
-pub returns-in-Ok-clause-index : goal.returns-in-Ok-clause-index
-returns-in-Ok-clause-index g c = λ is told.
+pub returns-in-Ok-clause-done : goal.returns-in-Ok-clause-done
+returns-in-Ok-clause-done g c = λ is.
     let e = c.in-Ok.ensures in
     let new = g.D.Disk.files c.make_files.new.disk in
+    let same : c.self.inside.store ≡ c.args.self.now.store = ap (λ (db : Database). db.store) c.self.view_is in
     let one : c.make_files.new.store.generation ≡ 1 = ap (λ (s : Store). s.generation) e.made in
-    indexed_now new.pkg new.idx c.make_files.new.store (Some c.in-Ok.index) c.self.inside.is_stopped (e.kept told) refl
-    (ap (λ (n : ℕ). hindex.is_current n c.in-Ok.index) one ∙ e.current) (e.units told) (e.index told)
+    record {
+      store_is = e.made ∙ ap made_new same;
+      generation = one;
+      indexed = refl;
+      going = c.if-self.false;
+      keeps = e.empty.kept;
+      keeps_index = e.empty.units;
+      index = λ told.
+          indexed_now new.pkg new.idx c.make_files.new.store (Some c.in-Ok.index) c.self.inside.is_stopped (e.empty.kept told) refl
+          (ap (λ (n : ℕ). hindex.is_current n c.in-Ok.index) one ∙ e.empty.current) (e.empty.units told) (e.empty.index_of told);
+      quiet = e.empty.quiet;
+      settled = e.empty.settled;
+      reach = e.reach;
+      end = e.end;
+    }
 
 pub returns-in-Ok-clause-state : goal.returns-in-Ok-clause-state
 returns-in-Ok-clause-state g c = λ told.

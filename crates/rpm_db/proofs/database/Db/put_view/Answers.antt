@@ -1,26 +1,35 @@
-use Rattle.std.proofs.Common.{◌≡◌, ◌≤◌, ◌^◌, arith, false, length, is_none, is_some, Option, Some, Err, sym, ap, ◌∙◌, subst}
+use Rattle.std.proofs.Common.{◌≡◌, ◌≤◌, ◌^◌, arith, false, length, is_none, is_some, Option, Some, IsTrue, sym, ap, ◌∙◌, subst}
 use Rattle.rpm_pkgdb.specs.Placing.{put_in}
 use Rattle.rpm_pkgdb.specs.Planned.{IsFull}
 use Rattle.rpm_pkgdb.specs.Store.{Store}
 use Rattle.rpm_pkgdb.specs.Written.{with_spare}
 use Rattle.rpm_hindex.specs.Sizes.{units_for, live_of}
 use Rattle.rpm_hindex.specs.State as hindex
-use Rattle.rpm_db.specs.declared.change_fault.ChangeFault.TheVariants.{DiskFault}
 use Rattle.rpm_db.specs.Database.{Database, IsInOrder}
 use Rattle.rpm_db.specs.Lawful.{HasRows}
-use Rattle.rpm_db.specs.Refusals.{LaterCause, FullCause, is_stopping}
+use Rattle.rpm_db.specs.Refusals.{LaterCause, FullCause}
 use Rattle.rpm_db.specs.Room.{RoomCause, raised}
 use Rattle.rpm_db.specs.Rows.{rows, header_rows}
+use Rattle.rpm_db.specs.inner.Both.{CanTake}
 use Rattle.rpm_db.specs.inner.Writes.{number_for}
 use Rattle.rpm_db.proofs.Reached.{added_is}
 use Rattle.rpm_db.specs.State.{State, packages, state}
 use Rattle.rpm_db.proofs.Applied.{put_goes, held_by}
 use Rattle.rpm_db.proofs.Unwritten.{stops_told}
-use Rattle.rpm_db.proofs.Refused.{is_refusal, stopping_is, refusal_goes}
+use Rattle.rpm_db.proofs.Left.{left_done, left_fault, ready_inside}
+use Rattle.rpm_db.proofs.Refused.{refusal_goes}
 use Rattle.rpm_db.proofs.Rooms.{put_next}
-use Rattle.rpm_db.proofs.Served.{database_of, indexed_as, rows_of_disk, refused_room, serving_same, serving_inside}
-use Rattle.rpm_db.proofs.Wholes.{whole_cause}
+use Rattle.rpm_db.proofs.Served.{database_of, rows_of_disk, refused_room, serving_inside}
 use Rattle.rpm_db.proofs.database.Db.put_view.Goals as goal
+
+pub put_header-requires-clause-ready : goal.put_header-requires-clause-ready
+put_header-requires-clause-ready g c =
+    ready_inside g.D.Disk c.args.disk.now c.self.inside.store c.self.inside.index c.in-Some.index c.self.inside.is_stopped c.args.self.now c.self.invariant
+    (ap (λ (db : Database). db.stopped) c.self.view_is ∙ c.requires.ready.going) c.self.view_is c.in-Some.is c.requires.ready.serving
+
+pub put_header-requires-clause-takes : goal.put_header-requires-clause-takes
+put_header-requires-clause-takes g c =
+    subst (CanTake c.args.n) (sym (ap (λ (db : Database). db.store) c.self.view_is)) c.requires.takes
 
 pub returns-in-Ok-clause-later : goal.returns-in-Ok-clause-later
 returns-in-Ok-clause-later g c =
@@ -35,44 +44,6 @@ returns-in-Ok-clause-placed g c =
     sym (put_next c.args.n bytes c.args.self.now.store)
     ∙ subst (λ (v : Store). put_in c.args.n (length bytes) (raised v) ≡ Some (with_spare v.spare c.put_header.new.store)) same c.in-Ok.ensures.placed
 
-pub returns-in-Ok-clause-state : goal.returns-in-Ok-clause-state
-returns-in-Ok-clause-state g c = λ told.
-    let st = c.self.inside.store in
-    let old = g.D.Disk.files c.args.disk.now in
-    let same : c.self.inside.store ≡ c.args.self.now.store = ap (λ (db : Database). db.store) c.self.view_is in
-    c.in-Ok.ensures.state told ∙ put_goes old.pkg st c.args.self.now.store same c.args.n c.args.view.now c.requires.own
-
-pub returns-in-Ok-clause-held : goal.returns-in-Ok-clause-held
-returns-in-Ok-clause-held g c = λ told image here.
-    held_by (g.D.Disk.files c.put_header.new.disk).pkg image.pkg c.put_header.new.store _ (returns-in-Ok-clause-state g c told)
-    (c.in-Ok.ensures.stands told image here)
-
-pub returns-in-Ok-clause-index : goal.returns-in-Ok-clause-index
-returns-in-Ok-clause-index g c = λ told was.
-    let e = c.in-Ok.ensures in
-    let old = g.D.Disk.files c.args.disk.now in
-    let new = g.D.Disk.files c.put_header.new.disk in
-    let same : c.self.inside.store ≡ c.args.self.now.store = ap (λ (db : Database). db.store) c.self.view_is in
-    indexed_as new.pkg new.idx c.put_header.new.store c.put_header.new.index c.self.inside.is_stopped (e.units told) e.current
-    (e.rows told (subst (λ (v : Store). HasRows (packages old.pkg v) old.idx) (sym same) was.rows_are))
-
-pub returns-in-Ok-clause-full : goal.returns-in-Ok-clause-full
-returns-in-Ok-clause-full g c = λ told was.
-    let st = c.self.inside.store in
-    let old = g.D.Disk.files c.args.disk.now in
-    let same : c.self.inside.store ≡ c.args.self.now.store = ap (λ (db : Database). db.store) c.self.view_is in
-    let has = subst (λ (v : Store). HasRows (packages old.pkg v) old.idx) (sym same) was.rows_are in
-    subst (λ (s : State). units_for (rows s.packages) ≤ 2 ^ 28) (put_goes old.pkg st c.args.self.now.store same c.args.n c.args.view.now c.requires.own)
-    (c.in-Ok.ensures.full told has)
-
-pub returns-in-Err-clause-full : goal.returns-in-Err-clause-full
-returns-in-Err-clause-full g c = λ told was.
-    let old = g.D.Disk.files c.args.disk.now in
-    let same : c.self.inside.store ≡ c.args.self.now.store = ap (λ (db : Database). db.store) c.self.view_is in
-    let has = subst (λ (v : Store). HasRows (packages old.pkg v) old.idx) (sym same) was.rows_are in
-    subst (λ (s : State). FullCause (units_for (rows s.packages)) c.in-Err.fault)
-    (put_goes old.pkg c.self.inside.store c.args.self.now.store same c.args.n c.args.view.now c.requires.own) (c.in-Err.ensures.full told has)
-
 pub returns-in-Ok-clause-stops : goal.returns-in-Ok-clause-stops
 returns-in-Ok-clause-stops g c = λ told lawful.
     let st = c.self.inside.store in
@@ -80,25 +51,20 @@ returns-in-Ok-clause-stops g c = λ told lawful.
     let old = g.D.Disk.files a in
     let images = g.D.Disk.left_since a (g.D.Disk.moment a) in
     let same : c.self.inside.store ≡ c.args.self.now.store = ap (λ (db : Database). db.store) c.self.view_is in
-    let going : c.self.inside.is_stopped ≡ false = ap (λ (db : Database). db.stopped) c.self.view_is ∙ c.requires.going in
+    let going : c.self.inside.is_stopped ≡ false = ap (λ (db : Database). db.stopped) c.self.view_is ∙ c.requires.ready.going in
     let s = serving_inside old images st c.self.inside.index c.in-Some.index c.self.inside.is_stopped c.args.self.now c.self.view_is c.in-Some.is
-    (c.requires.serving told) in
+    (c.requires.ready.serving told) in
     let current = subst (IsInOrder st.generation) c.in-Some.is (c.self.invariant.order going) in
     let made = c.self.invariant.made (ap is_some c.in-Some.is) in
     let has = rows_of_disk old.pkg old.idx st c.in-Some.index s.keeps made s.index current (lawful old (g.met.D.Disk.as_read a told)) in
     stops_told g.D.Disk.moment g.D.Disk.left_since a c.put_header.new.disk images _ _ _ _ (ap (state old.pkg) same)
     (put_goes old.pkg st c.args.self.now.store same c.args.n c.args.view.now c.requires.own) (c.in-Ok.ensures.stops told lawful has)
 
--- ---- a fault
-
 pub returns-in-Err-clause-later : goal.returns-in-Err-clause-later
 returns-in-Err-clause-later g c =
     let same : c.self.inside.store ≡ c.args.self.now.store = ap (λ (db : Database). db.store) c.self.view_is in
     subst (λ (v : Store). LaterCause v.generation (IsFull v (is_none c.args.n) (length c.args.view.now.blob)) c.in-Err.fault) same
     c.in-Err.ensures.later
-
-pub returns-in-Err-clause-whole : goal.returns-in-Err-clause-whole
-returns-in-Err-clause-whole g c = λ told whole. whole_cause _ c.in-Err.fault whole (c.in-Err.ensures.bad told)
 
 pub returns-in-Err-clause-placed : goal.returns-in-Err-clause-placed
 returns-in-Err-clause-placed g c =
@@ -107,34 +73,6 @@ returns-in-Err-clause-placed g c =
     subst (λ (o : Option Store). RoomCause o c.in-Err.fault)
     (ap (λ (v : Store). put_in c.args.n (length bytes) (raised v)) same ∙ put_next c.args.n bytes c.args.self.now.store) c.in-Err.ensures.placed
 
-pub returns-in-Err-clause-serving : goal.returns-in-Err-clause-serving
-returns-in-Err-clause-serving g c = λ other told.
-    let st = c.self.inside.store in
-    let a = c.args.disk.now in
-    let e = c.in-Err.ensures in
-    let going : c.self.inside.is_stopped ≡ false = ap (λ (db : Database). db.stopped) c.self.view_is ∙ c.requires.going in
-    let s = serving_inside (g.D.Disk.files a) (g.D.Disk.left_since a (g.D.Disk.moment a)) st c.self.inside.index c.in-Some.index
-    c.self.inside.is_stopped c.args.self.now c.self.view_is c.in-Some.is (c.requires.serving told) in
-    let refusal = is_refusal c.in-Err.fault (λ is. other (ap Err is)) in
-    serving_same g.D.Disk.tells g.D.Disk.files g.D.Disk.left_since g.D.Disk.moment g.D.Disk.bytes_read g.D.Disk.follows
-    a c.put_header.new.disk told (e.same refusal) st c.put_header.new.store c.in-Some.index c.put_header.new.index c.self.inside.is_stopped
-    c.is_stopping-self-inside.result (e.refused refusal).0 (e.refused refusal).1 s
-
-pub returns-in-Err-clause-refused : goal.returns-in-Err-clause-refused
-returns-in-Err-clause-refused g c = λ refusal.
-    let st = c.self.inside.store in
-    let r = c.in-Err.ensures.refused refusal in
-    let going : c.self.inside.is_stopped ≡ false = ap (λ (db : Database). db.stopped) c.self.view_is ∙ c.requires.going in
-    let view = ap (λ (i : Option hindex.State). database_of st i c.self.inside.is_stopped) (sym c.in-Some.is) ∙ c.self.view_is in
-    refused_room st c.put_header.new.store c.in-Some.index c.put_header.new.index c.self.inside.is_stopped c.is_stopping-self-inside.result c.args.self.now view
-    r.0 r.1 (c.is_stopping-self-inside.ensures ∙ refusal_goes c.in-Err.fault refusal ∙ sym going)
-
-pub returns-in-Err-clause-stopped : goal.returns-in-Err-clause-stopped
-returns-in-Err-clause-stopped g c = (
-  λ on. ap Err (stopping_is c.in-Err.fault (sym c.is_stopping-self-inside.ensures ∙ on)),
-  λ is. (let fault : c.in-Err.fault ≡ DiskFault = cc in c.is_stopping-self-inside.ensures ∙ ap is_stopping fault),
-)
-
 pub returns-in-Err-clause-stops : goal.returns-in-Err-clause-stops
 returns-in-Err-clause-stops g c = λ told lawful.
     let st = c.self.inside.store in
@@ -142,33 +80,90 @@ returns-in-Err-clause-stops g c = λ told lawful.
     let old = g.D.Disk.files a in
     let images = g.D.Disk.left_since a (g.D.Disk.moment a) in
     let same : c.self.inside.store ≡ c.args.self.now.store = ap (λ (db : Database). db.store) c.self.view_is in
-    let going : c.self.inside.is_stopped ≡ false = ap (λ (db : Database). db.stopped) c.self.view_is ∙ c.requires.going in
+    let going : c.self.inside.is_stopped ≡ false = ap (λ (db : Database). db.stopped) c.self.view_is ∙ c.requires.ready.going in
     let s = serving_inside old images st c.self.inside.index c.in-Some.index c.self.inside.is_stopped c.args.self.now c.self.view_is c.in-Some.is
-    (c.requires.serving told) in
+    (c.requires.ready.serving told) in
     let current = subst (IsInOrder st.generation) c.in-Some.is (c.self.invariant.order going) in
     let made = c.self.invariant.made (ap is_some c.in-Some.is) in
     let has = rows_of_disk old.pkg old.idx st c.in-Some.index s.keeps made s.index current (lawful old (g.met.D.Disk.as_read a told)) in
     stops_told g.D.Disk.moment g.D.Disk.left_since a c.put_header.new.disk images _ _ _ _ (ap (state old.pkg) same)
     (put_goes old.pkg st c.args.self.now.store same c.args.n c.args.view.now c.requires.own) (c.in-Err.ensures.stops told lawful has)
 
-pub returns-in-Ok-clause-reach : goal.returns-in-Ok-clause-reach
-returns-in-Ok-clause-reach g c = λ told was.
+-- ---- what was made, and what is left
+
+pub returns-in-Ok-clause-changed : goal.returns-in-Ok-clause-changed
+returns-in-Ok-clause-changed g c =
+    let D = g.D.Disk in
     let st = c.self.inside.store in
     let now = c.args.self.now.store in
     let h = c.args.view.now in
     let a = c.args.disk.now in
-    let old = g.D.Disk.files a in
+    let old = D.files a in
+    let new = D.files c.put_header.new.disk in
     let e = c.in-Ok.ensures in
     let same : st ≡ now = ap (λ (db : Database). db.store) c.self.view_is in
-    let has = subst (λ (v : Store). HasRows (packages old.pkg v) old.idx) (sym same) was.rows_are in
-    let s = serving_inside old (g.D.Disk.left_since a (g.D.Disk.moment a)) st c.self.inside.index c.in-Some.index c.self.inside.is_stopped c.args.self.now
-    c.self.view_is c.in-Some.is (c.requires.serving told) in
-    omega (
-      arith,
-      e.reach told has,
-      s.index.units,
-      (e.units told).units,
-      ap (λ (v : Store). live_of (header_rows (number_for c.args.n v) h)) same,
-      added_is old.pkg now c.args.n h c.requires.own,
-      ap (λ (t : State). units_for (rows t.packages)) (put_goes old.pkg st now same c.args.n h c.requires.own),
-    )
+    let goes = put_goes old.pkg st now same c.args.n h c.requires.own in
+    let s = λ (told : IsTrue D.tells). serving_inside old (D.left_since a (D.moment a)) st c.self.inside.index c.in-Some.index c.self.inside.is_stopped
+    c.args.self.now c.self.view_is c.in-Some.is (c.requires.ready.serving told) in
+    record {
+      state_is = λ told. e.done.state_is told ∙ goes;
+      held = λ told image here. held_by new.pkg image.pkg c.put_header.new.store _ (e.done.state_is told ∙ goes) (e.done.stands told image here);
+      reach = λ told was.
+          (let has = subst (λ (v : Store). HasRows (packages old.pkg v) old.idx) (sym same) was.rows_are in
+          omega (
+            arith,
+            e.done.reach told has,
+            (s told).index.units,
+            (e.done.ready.units told).units,
+            ap (λ (v : Store). live_of (header_rows (number_for c.args.n v) h)) same,
+            added_is old.pkg now c.args.n h c.requires.own,
+            ap (λ (t : State). units_for (rows t.packages)) goes,
+          ));
+    }
+
+pub returns-in-Ok-clause-left : goal.returns-in-Ok-clause-left
+returns-in-Ok-clause-left g c =
+    left_done g.D.Disk _ _ c.self.inside.store _ c.self.inside.index _ c.self.inside.is_stopped c.args.self.now _ _ _ _ _ c.self.view_is
+    c.in-Ok.ensures.done
+
+pub returns-in-Err-clause-left : goal.returns-in-Err-clause-left
+returns-in-Err-clause-left g c =
+    let st = c.self.inside.store in
+    let after = c.put_header.new.store in
+    let e = c.in-Err.ensures in
+    let going : c.self.inside.is_stopped ≡ false = ap (λ (db : Database). db.stopped) c.self.view_is ∙ c.requires.ready.going in
+    let view = ap (λ (i : Option hindex.State). database_of st i c.self.inside.is_stopped) (sym c.in-Some.is) ∙ c.self.view_is in
+    left_fault g.D.Disk _ _ st after (with_spare after.spare st) c.self.inside.index c.in-Some.index c.put_header.new.index c.self.inside.is_stopped
+    c.is_stopping-self-inside.result c.args.self.now _ c.in-Err.fault c.self.view_is c.in-Some.is e.is_made c.is_stopping-self-inside.ensures e.index.bad
+    (λ runs. c.requires.ready.serving) e.refused (λ room. room)
+    (λ refusal. refused_room st after c.in-Some.index c.put_header.new.index c.self.inside.is_stopped c.is_stopping-self-inside.result c.args.self.now view
+    (e.refused refusal).store_is (e.refused refusal).index_is
+    (c.is_stopping-self-inside.ensures ∙ refusal_goes c.in-Err.fault refusal ∙ sym going))
+
+pub returns-in-Ok-clause-index : goal.returns-in-Ok-clause-index
+returns-in-Ok-clause-index g c =
+    let st = c.self.inside.store in
+    let now = c.args.self.now.store in
+    let old = g.D.Disk.files c.args.disk.now in
+    let same : st ≡ now = ap (λ (db : Database). db.store) c.self.view_is in
+    let goes = put_goes old.pkg st now same c.args.n c.args.view.now c.requires.own in
+    record {
+      full = λ told has.
+          subst (λ (s : State). units_for (rows s.packages) ≤ 2 ^ 28) goes
+          (c.in-Ok.ensures.index.full told (subst (λ (v : Store). HasRows (packages old.pkg v) old.idx) (sym same) has));
+      bad = λ told. tt;
+    }
+
+pub returns-in-Err-clause-index : goal.returns-in-Err-clause-index
+returns-in-Err-clause-index g c =
+    let st = c.self.inside.store in
+    let now = c.args.self.now.store in
+    let old = g.D.Disk.files c.args.disk.now in
+    let same : st ≡ now = ap (λ (db : Database). db.store) c.self.view_is in
+    let goes = put_goes old.pkg st now same c.args.n c.args.view.now c.requires.own in
+    record {
+      full = λ told has.
+          subst (λ (s : State). FullCause (units_for (rows s.packages)) c.in-Err.fault) goes
+          (c.in-Err.ensures.index.full told (subst (λ (v : Store). HasRows (packages old.pkg v) old.idx) (sym same) has));
+      bad = λ told. c.in-Err.ensures.index.bad told;
+    }

@@ -3,6 +3,7 @@ use Rattle.rpm_pkgdb.specs.Store.{Store, store}
 use Rattle.rpm_pkgdb.specs.Store as pkgdb
 use Rattle.rpm_hindex.specs.Sizes.{units_for}
 use Rattle.rpm_db.specs.Database.{Database}
+use Rattle.rpm_db.specs.Reaches.{ReachesMade}
 use Rattle.rpm_db.specs.Rows.{rows}
 use Rattle.rpm_db.specs.State.{packages}
 use Rattle.rpm_db.proofs.Opened.{stays_lawful}
@@ -20,20 +21,29 @@ returns-in-Ok-clause-rebuilt g c = λ told.
     let keeps = subst (pkgdb.Keeps old.pkg) (sym same) (c.requires.keeps going told) in (
       subst (λ (s : Store). units_for (rows (packages old.pkg s)) ≤ 2 ^ 28) same (e.full told),
       c.if-self.false,
-      e.kept told,
-      rebuilt old new value c.remake.new.index c.self.inside.is_stopped (e.runs.reads_as told) keeps e.some e.order (e.kept told) (e.index told),
+      e.remade.kept told,
+      rebuilt old new value c.remake.new.index c.self.inside.is_stopped (e.runs.reads_as told) keeps e.some e.remade.order (e.remade.kept told)
+          (e.remade.index_of told),
     )
 
-pub returns-in-Ok-clause-serving : goal.returns-in-Ok-clause-serving
-returns-in-Ok-clause-serving g c = λ told.
+pub returns-in-Ok-clause-renewed : goal.returns-in-Ok-clause-renewed
+returns-in-Ok-clause-renewed g c =
     let e = c.in-Ok.ensures in
     let old = g.D.Disk.files c.args.disk.now in
     let new = c.remake.new.disk in
     let going : c.args.self.now.stopped ≡ false = sym (ap (λ (db : Database). db.stopped) c.self.view_is) ∙ c.if-self.false in
     let same : c.self.inside.store ≡ c.args.self.now.store = ap (λ (db : Database). db.store) c.self.view_is in
-    let keeps = subst (pkgdb.Keeps old.pkg) (sym same) (c.requires.keeps going told) in
-    serving_now (g.D.Disk.files new) (g.D.Disk.left_since new (g.D.Disk.moment new)) c.self.inside.store c.remake.new.index c.self.inside.is_stopped
-    (ap store (e.runs.reads_as told).pkg ∙ keeps) (e.kept told) (e.pkg told) (e.settled told)
+    record {
+      going = c.if-self.false;
+      serving = λ told.
+          serving_now (g.D.Disk.files new) (g.D.Disk.left_since new (g.D.Disk.moment new)) c.self.inside.store c.remake.new.index
+          c.self.inside.is_stopped (ap store (e.runs.reads_as told).pkg ∙ subst (pkgdb.Keeps old.pkg) (sym same) (c.requires.keeps going told))
+          (e.remade.kept told) (e.remade.pkg told) (e.remade.settled told);
+      pkg = e.remade.pkg;
+      settled = e.remade.settled;
+      reach = λ told.
+          subst (λ (s : Store). ReachesMade (units_for (rows (packages old.pkg s))) old.idx (g.D.Disk.files new).idx) same (e.reach told);
+    }
 
 pub returns-in-Ok-clause-stops : goal.returns-in-Ok-clause-stops
 returns-in-Ok-clause-stops g c = λ told. stays_lawful _ _ _ _ _ _ _ _ told c.in-Ok.ensures.runs

@@ -1,0 +1,48 @@
+-- A change of an open database as one thing: what it asks, what it makes, what it leaves.
+use Rattle.std.specs.Prelude.{◌≡◌, ◌≢◌, ◌⊎◌, ◌+◌, true, false, IsTrue, OnOk, IfErr, Result, Err}
+use Rattle.rpm_outside.specs.declared.disk.Disk as disk
+use Rattle.rpm_db.specs.declared.change_fault.ChangeFault.{ChangeFault}
+use Rattle.rpm_db.specs.declared.change_fault.ChangeFault.TheVariants.{DiskFault}
+use Rattle.rpm_db.specs.Changes.{AllSay, Change, IsServing, apply}
+use Rattle.rpm_db.specs.Database.{Database, IsIndexed, is_blank, is_indexed}
+use Rattle.rpm_db.specs.Lawful.{IsWholeIndex}
+use Rattle.rpm_db.specs.Reaches.{Reaches}
+use Rattle.rpm_db.specs.Refusals.{IsRefusal, StaysWhole}
+use Rattle.rpm_db.specs.Runs.{Runs}
+use Rattle.rpm_db.specs.State.{state}
+use Rattle.rpm_db.specs.inner.Writes.{SameFiles}
+
+module _ {D : Type 0} (d : disk.Ghosts D) where
+  -- it can be changed: it has an index, wasn't stopped, and is what the disk's files say
+  pub record IsReady (at : D) (db : Database) : Type 0 where
+    pub indexed : is_indexed db ≡ true
+    pub going : db.stopped ≡ false
+    pub serving : IsTrue d.tells → IsServing (d.files at) (d.left_since at (d.moment at)) db
+
+  -- a change was made: the files say the state after it, also after each crash from now on
+  pub record Changed (old new : D) (change : Change) (before after : Database) : Type 0 where
+    pub state_is : IsTrue d.tells
+        → state (d.files new).pkg after.store ≡ apply change (state (d.files old).pkg before.store)
+    pub held : IsTrue d.tells
+        → AllSay (apply change (state (d.files old).pkg before.store))
+        (d.left_since new (d.moment new))
+    pub reach : IsTrue d.tells → IsIndexed (d.files old).pkg (d.files old).idx before
+        → Reaches (state (d.files old).pkg before.store) change (d.files old).idx (d.files new).idx
+
+  -- what is left of a value; after a refusal it is this one, and no file was written
+  pub record IsLeft {A : Type 0} (old new : D) (before after refused_as : Database)
+      (result : Result A ChangeFault) : Type 0 where
+    pub indexed : is_indexed after ≡ true
+    pub not_blank : is_blank after ≡ false
+    pub generation : OnOk result (after.store.generation ≡ before.store.generation + 1)
+    pub index : OnOk result (IsTrue d.tells → IsIndexed (d.files old).pkg (d.files old).idx before
+        → IsIndexed (d.files new).pkg (d.files new).idx after)
+    pub whole : IsTrue d.tells → IsWholeIndex (d.files old).idx
+        → StaysWhole (d.files new).idx result
+    pub serving : result ≢ Err DiskFault → before.stopped ≡ false → IsTrue d.tells
+        → IsServing (d.files new) (d.left_since new (d.moment new)) after
+    pub refused : IfErr result (λ e. IsRefusal e → after ≡ refused_as)
+    pub same : IfErr result (λ e. IsRefusal e
+        → Runs d.tells d.files d.left_since d.moment d.bytes_read d.follows SameFiles old new)
+    pub stopped : (after.stopped ≡ true → (before.stopped ≡ true) ⊎ (result ≡ Err DiskFault))
+        × (result ≡ Err DiskFault → after.stopped ≡ true)

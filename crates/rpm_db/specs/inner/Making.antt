@@ -1,0 +1,44 @@
+-- Making an index, and a database: what is asked of its store, and what is left.
+use Rattle.std.specs.Prelude.{◌≡◌, ℕ, ◌≤◌, true, false, IsTrue, Option, None}
+use Rattle.rpm_outside.specs.declared.disk.Disk as disk
+use Rattle.rpm_outside.specs.declared.disk.File.TheVariants.{Pkg, Idx}
+use Rattle.rpm_outside.specs.Changes.{IsSettled}
+use Rattle.rpm_pkgdb.specs.Quiet.{IsQuiet}
+use Rattle.rpm_pkgdb.specs.Slots.{slot_with}
+use Rattle.rpm_pkgdb.specs.Store.{Keeps, Store}
+use Rattle.rpm_hindex.specs.State as hindex
+use Rattle.rpm_db.specs.Database.{IsInOrder, KeepsUnits}
+use Rattle.rpm_db.specs.Lawful.{IsIndexOf}
+
+module _ {D : Type 0} (d : disk.Ghosts D) where
+  -- a store that was made, on settled files
+  pub record CanIndex (at : D) (value : Store) : Type 0 where
+    pub keeps : IsTrue d.tells → Keeps (d.files at).pkg value
+    pub made : 1 ≤ value.pages
+    pub from_one : slot_with 0 value.slots ≡ None
+    pub pkg : IsTrue d.tells → IsSettled Pkg (d.files at) (d.left_since at (d.moment at))
+    pub idx : IsTrue d.tells → IsSettled Idx (d.files at) (d.left_since at (d.moment at))
+
+  -- an index was made of the packages, current at this generation; both files are settled
+  pub record IsRemade (at : D) (generation : ℕ) (index : Option hindex.State) : Type 0 where
+    pub order : IsInOrder generation index
+    pub kept : IsTrue d.tells → KeepsUnits (d.files at).idx index
+    pub index_of : IsTrue d.tells → IsIndexOf (d.files at).pkg (d.files at).idx
+    pub pkg : IsTrue d.tells → IsSettled Pkg (d.files at) (d.left_since at (d.moment at))
+    pub settled : IsTrue d.tells → IsSettled Idx (d.files at) (d.left_since at (d.moment at))
+
+  -- a blank store, on a settled Packages.db
+  pub record CanMake (at : D) (value : Store) : Type 0 where
+    pub going : value.is_stopped ≡ false
+    pub blank : value.pages ≡ 0
+    pub keeps : IsTrue d.tells → Keeps (d.files at).pkg value
+    pub pkg : IsTrue d.tells → IsSettled Pkg (d.files at) (d.left_since at (d.moment at))
+
+  -- both files were made, with an index of no rows that is current
+  pub record IsMadeEmpty (at : D) (value : Store) (index : hindex.State) : Type 0 where
+    pub kept : IsTrue d.tells → Keeps (d.files at).pkg value
+    pub quiet : IsTrue d.tells → IsQuiet value (d.files at) (d.left_since at (d.moment at))
+    pub current : hindex.is_current 1 index ≡ true
+    pub units : IsTrue d.tells → hindex.Keeps (d.files at).idx index
+    pub index_of : IsTrue d.tells → IsIndexOf (d.files at).pkg (d.files at).idx
+    pub settled : IsTrue d.tells → IsSettled Idx (d.files at) (d.left_since at (d.moment at))
