@@ -6,8 +6,8 @@ use Rattle.rpm_header.specs.Header.{Header, header}
 use Rattle.rpm_db.specs.State.{Package, Good, Bad}
 use Rattle.rpm_select.specs.declared.selection.Selection.{Selection}
 use Rattle.rpm_select.specs.declared.selection.Selection.TheVariants.{Number, All, Pattern, Label, Path, Group, Provides, Requires, Conflicts, Obsoletes, Trigger, Directory, Tid, Recommends}
-use Rattle.rpm_select.specs.declared.picker.Picked.{Picked}
-use Rattle.rpm_select.specs.declared.picker.PickFault.{PickFault}
+use Rattle.rpm_select.specs.declared.picked.Picked.{Picked}
+use Rattle.rpm_select.specs.declared.picked.PickFault.{PickFault}
 use Rattle.rpm_select.specs.inner.Single.{OneIs, OneOf}
 use Rattle.rpm_select.specs.Selections.{takes_header, takes_read, is_picked, is_elsewhere}
 

@@ -12,6 +12,7 @@ pub mod Owning
 pub mod Passing
 pub mod Picking
 pub mod Pieces
+pub mod Recalling
 pub mod Rising
 pub mod Searching
 pub mod Serving

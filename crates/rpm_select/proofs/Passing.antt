@@ -10,11 +10,12 @@ use Rattle.rpm_outside.specs.Files.{Units}
 use Rattle.rpm_db.specs.State.{Package, packages}
 use Rattle.rpm_db.specs.Database.{Database, IsNext}
 use Rattle.rpm_db.specs.inner.Above.{next_above}
-use Rattle.rpm_select.specs.declared.picker.Picked.{Picked}
+use Rattle.rpm_select.specs.declared.picked.Picked.{Picked}
 use Rattle.rpm_select.specs.declared.selection.Selection.{Selection}
 use Rattle.rpm_select.specs.inner.Single.{OneOf}
 use Rattle.rpm_select.specs.Picks.{entry_in}
 use Rattle.rpm_select.specs.Reach.{Reach, reaches, Serves}
+use Rattle.rpm_select.specs.Recents.{picks_at}
 use Rattle.rpm_select.specs.Selections.{is_picked}
 use Rattle.rpm_select.proofs.Picking.{left, any_to, none_so_far}
 use Rattle.rpm_select.proofs.Unpicked.{none_in, skip_in, unpicked}
@@ -78,6 +79,17 @@ module _ (r : Reach) (file : Units) (db : Database) (sel : Selection) (serves : 
       (λ q p a b there. unpicked r file db sel serves q p (next.2 q a (omega (arith, a, b))) there)
       ∙ here (packages file db.store) sel (m - 1) m found.value (omega (arith, next.0)) found.there found.takes
       ∙ ap (λ (e : ℕ × Package). e ∷ left (packages file db.store) sel m) (sym found.entry)
+
+  -- the same where its package is what a selection picks
+  pub taken_next : (k m : ℕ) (o : Option Package) → IsNext (reaches r db) k (Some m) → finite.get (packages file db.store) m ≡ o → true ≡ picks_at sel m o
+      → (p : Package) × (left (packages file db.store) sel k ≡ (m, p) ∷ left (packages file db.store) sel m)
+  taken_next k m None next there takes = absurd cc
+  taken_next k m (Some p) next there takes = (
+    p,
+    skip (packages file db.store) sel k (m - 1) (omega (arith, next.0))
+        (λ q v a b at. unpicked r file db sel serves q v (next.2 q a (omega (arith, a, b))) at)
+        ∙ here (packages file db.store) sel (m - 1) m p (omega (arith, next.0)) there (sym takes),
+  )
 
   pub none_next : (k : ℕ) → IsNext (reaches r db) k None → left (packages file db.store) sel k ≡ []
   none_next k next = skip_all (packages file db.store) sel k (λ q p a there. unpicked r file db sel serves q p (next q a) there)

@@ -4,10 +4,10 @@ use Rattle.std.specs.List.{list_any}
 use Rattle.rpm_db.specs.State as state
 use Rattle.rpm_db.specs.State.{Package}
 use Rattle.rpm_db.specs.Database.{Database, cost, cost_to, cost_all}
-use Rattle.rpm_select.specs.declared.picker.Picked.{Picked}
-use Rattle.rpm_select.specs.declared.picker.Picked.TheVariants.{Good, Bad}
-use Rattle.rpm_select.specs.declared.picker.PickFault.{PickFault}
-use Rattle.rpm_select.specs.declared.picker.PickFault.TheVariants.{BadIndex, DiskFault, NoMemory}
+use Rattle.rpm_select.specs.declared.picked.Picked.{Picked}
+use Rattle.rpm_select.specs.declared.picked.Picked.TheVariants.{Good, Bad}
+use Rattle.rpm_select.specs.declared.picked.PickFault.{PickFault}
+use Rattle.rpm_select.specs.declared.picked.PickFault.TheVariants.{BadIndex, DiskFault, NoMemory}
 use Rattle.rpm_select.specs.declared.selection.Selection.{Selection}
 use Rattle.rpm_select.specs.declared.selection.Selection.TheVariants.{Number}
 
@@ -16,15 +16,27 @@ abbrev pub entry_in : Picked → ℕ × Package
 entry_in (Good number blob) = (number, state.Good blob)
 entry_in (Bad number) = (number, state.Bad)
 
+-- its number
 abbrev pub number_in : Picked → ℕ
 number_in (Good number blob) = number
 number_in (Bad number) = number
+
+-- its package
+abbrev pub package_in : Picked → Package
+package_in (Good number blob) = state.Good blob
+package_in (Bad number) = state.Bad
 
 -- the first of them, or none where there is none
 abbrev pub NextIs : List (ℕ × Package) → Result (Option Picked) PickFault → Type 0
 NextIs left (Ok None) = left ≡ []
 NextIs left (Ok (Some picked)) = (rest : List (ℕ × Package)) × (left ≡ entry_in picked ∷ rest)
 NextIs left (Err fault) = Unit {0}
+
+-- the number of the first of them, or none where there is none
+abbrev pub NextNumberIs : List (ℕ × Package) → Result (Option ℕ) PickFault → Type 0
+NextNumberIs left (Ok None) = left ≡ []
+NextNumberIs left (Ok (Some n)) = (p : Package) × (rest : List (ℕ × Package)) × (left ≡ (n, p) ∷ rest)
+NextNumberIs left (Err fault) = Unit {0}
 
 -- whether one is at most n
 abbrev pub AnyIs : List (ℕ × Package) → ℕ → Result Bool PickFault → Type 0

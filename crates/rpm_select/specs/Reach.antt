@@ -11,9 +11,9 @@ use Rattle.rpm_db.specs.Answers.{key_chain}
 use Rattle.rpm_db.specs.Database.{Database, is_indexed, holds, cost, cost_to, cost_all}
 use Rattle.rpm_db.specs.Lawful.{HasRows}
 use Rattle.rpm_db.specs.State.{Package, packages}
-use Rattle.rpm_select.specs.declared.picker.Picked.{Picked}
-use Rattle.rpm_select.specs.declared.picker.PickFault.{PickFault}
-use Rattle.rpm_select.specs.declared.picker.PickFault.TheVariants.{BadIndex, DiskFault, NoMemory}
+use Rattle.rpm_select.specs.declared.picked.Picked.{Picked}
+use Rattle.rpm_select.specs.declared.picked.PickFault.{PickFault}
+use Rattle.rpm_select.specs.declared.picked.PickFault.TheVariants.{BadIndex, DiskFault, NoMemory}
 use Rattle.rpm_select.specs.declared.selection.Selection.{Selection}
 use Rattle.rpm_select.specs.declared.selection.Selection.TheVariants.{Number}
 use Rattle.rpm_select.specs.Candidates.{has_keys, candidates}
@@ -76,6 +76,11 @@ reach_all (These ns) db = sum_by (λ n. cost n db) ns
 abbrev pub reach_after : ℕ → Reach → Database → Result (Option Picked) PickFault → ℕ
 reach_after n r db (Ok (Some picked)) = reach_to (number_in picked) r db - reach_to n r db
 reach_after n r db _ = reach_all r db - reach_to n r db
+
+-- the same where its number alone is given
+abbrev pub reach_next : ℕ → Reach → Database → Result (Option ℕ) PickFault → ℕ
+reach_next n r db (Ok (Some m)) = reach_to m r db - reach_to n r db
+reach_next n r db _ = reach_all r db - reach_to n r db
 
 -- ---- what is read of an index
 

@@ -15,7 +15,7 @@ ghost use Rattle.rpm_select.specs.Picks.{is_of_index};
 ghost use Rattle.rpm_select.specs.inner.Asking.{AreWith, Adds};
 
 use crate::asked::{Asked, keys_asked};
-use crate::picker::PickFault;
+use crate::picked::PickFault;
 use crate::selection::Selection;
 use rpm_db::{Db, FindFault, Hits};
 use rpm_outside::{Disk, File};

@@ -1,119 +1,26 @@
 //! The packages that a question picks, one at a time.
 
-ghost use Rattle.std.specs.Prelude.{◌≡◌, ◌≢◌, ℕ, ◌<◌, IsTrue, IsOk, IfOk, IfErr, IfSome, ◌+◌, ◌≤◌, false, true, Ok, Err, Some};
-ghost use Rattle.std.specs.FinMap as finite;
+ghost use Rattle.std.specs.Prelude.{◌≡◌, ◌<◌, IsTrue, IsOk, IfOk, IfErr, IfSome, ◌+◌, ◌≤◌, false, true, Ok, Err, Some};
 ghost use Rattle.std.specs.List.Sorted.{IsStrictlyIncreasing};
-ghost use Rattle.rpm_header.specs.Header.{header};
 ghost use Rattle.rpm_outside.specs.Causes.{HasCauseAt};
 ghost use Rattle.rpm_outside.specs.declared.disk.File.TheVariants.{Pkg, Idx};
 ghost use Rattle.rpm_outside.specs.Looks.{Looks, LooksAt};
-ghost use Rattle.rpm_db.specs.State.{Bad, packages, package_of, above};
-ghost use Rattle.rpm_db.specs.Database.{Keeps, KeepsIndex, IsNext, cost, cost_to};
-ghost use Rattle.rpm_select.specs.Selections.{picks, takes_bad, is_elsewhere};
+ghost use Rattle.rpm_db.specs.State.{packages, above};
+ghost use Rattle.rpm_db.specs.Database.{Keeps, KeepsIndex, IsNext, cost_to};
+ghost use Rattle.rpm_select.specs.Selections.{picks};
 ghost use Rattle.rpm_select.specs.Candidates.{keys_asked};
 ghost use Rattle.rpm_select.specs.Reach.{These, asks, unasked, reach, reaches, reach_to, reach_after, Serves, HasIndexRows, IsBroken, KeysCost};
 ghost use Rattle.rpm_select.specs.Picks.{NextIs, AnyIs, number_in, cost_after, ReadsOwn, is_broken};
-ghost use Rattle.rpm_select.specs.inner.Single.{OneIs, OneOf, TakenIs, IsNumbered};
 
 use crate::asking::numbers_asked;
+use crate::picked::{PickFault, Picked, pick};
 use crate::reach::Reach;
-use crate::rows::takes_header;
 use crate::selection::Selection;
-use rpm_db::{Db, GetFault};
-use rpm_header::View;
+use rpm_db::Db;
 use rpm_outside::{Disk, File};
 use std::alloc::Global;
 use std::marker::Model;
 use std::mem::replace;
-use thiserror::Error;
-
-/// The bytes of a header, which was parsed. Contracts see it as the list of them.
-#[derive(Drop)]
-pub struct Blob {
-    bytes: Vec<u8>,
-}
-
-impl Model for Blob {
-    ghost use Rattle.std.specs.Prelude.{List, ℕ};
-    ghost use Rattle.rpm_header.specs.Header.{IsOwn};
-
-    ghost Value = { List ℕ };
-
-    ghost view = { λ s. s.bytes.items };
-
-    ghost invariant = { λ s. IsOwn s.bytes.items };
-}
-
-impl Blob {
-    pub fn as_slice(&self) -> &[u8]
-        ensures { result.now ≡ self.now }
-    {
-        &self.bytes
-    }
-
-    /// The header. It isn't parsed again.
-    pub fn view(&self) -> View<'_>
-        ensures { header self.now ≡ Ok result }
-    {
-        View::of_checked(&self.bytes)
-    }
-}
-
-/// A package that is picked.
-#[derive(Drop)]
-pub enum Picked {
-    /// A header's own bytes.
-    Good { number: u32, blob: Blob },
-    /// A package that can't be read.
-    Bad { number: u32 },
-}
-
-impl Picked {
-    /// The number of the package.
-    pub fn number(&self) -> u32
-        ensures { result ≡ number_in self.now }
-    {
-        match self {
-            Picked::Good { number, .. } => *number,
-            Picked::Bad { number } => *number,
-        }
-    }
-
-    /// The number of the package, which is let go.
-    pub fn into_number(self) -> u32
-        ensures { result ≡ number_in self }
-    {
-        match self {
-            Picked::Good { number, .. } => number,
-            Picked::Bad { number } => number,
-        }
-    }
-}
-
-/// Why nothing is picked.
-#[derive(Clone, Copy, Debug, PartialEq, Eq, Error)]
-pub enum PickFault {
-    /// The index is broken at this unit.
-    #[error("Hindex.db is damaged")]
-    BadIndex { unit: u64 },
-    /// A call of the disk failed.
-    #[error("the database could not be read or written")]
-    DiskFault,
-    /// There was no memory for a package.
-    #[error("out of memory")]
-    NoMemory,
-}
-
-// What a selection does with a package that was read.
-#[derive(Clone, Copy)]
-enum Taken {
-    // It takes the header, which has so many bytes.
-    Good(usize),
-    // It doesn't take the header.
-    Passed,
-    // There is no header.
-    Bad,
-}
 
 /// The way through the packages that a selection picks: the numbers that it goes over. Contracts see these. It holds four bytes for each
 /// number that an index gave, and nothing where no index is asked; and the room of a package that was read, for the next one.
@@ -132,126 +39,6 @@ impl Model for Picker {
     ghost view = { λ s. reach_of s.reach };
 
     ghost invariant = { λ s. IsRising s.reach };
-}
-
-/// Whether a selection takes a package that can't be read.
-fn takes_bad(selection: &Selection<'_>, number: u32) -> bool
-    ensures { result ≡ takes_bad selection.now number }
-{
-    match selection {
-        Selection::All | Selection::Pattern(_) => true,
-        Selection::Number(wanted) => number == *wanted,
-        _ => false,
-    }
-}
-
-/// A package that can't be read, where the selection takes it.
-fn pick_bad(selection: &Selection<'_>, number: u32) -> Result<Option<Picked>, PickFault>
-    ensures told { OneIs selection.now number Bad result }
-    ensures numbered { IsNumbered number result }
-    ensures no_fault { result ≢ Err PickFault.DiskFault }
-    ensures unbroken { is_broken result ≡ false }
-{
-    if takes_bad(selection, number) {
-        Ok(Some(Picked::Bad { number }))
-    } else {
-        Ok(None)
-    }
-}
-
-/// Whether the selection takes a header, and how long the header is.
-fn taken_length(
-    alloc: Global,
-    selection: &Selection<'_>,
-    number: u32,
-    blob: &[u8],
-) -> Result<Taken, PickFault>
-    ensures told { IfOk result (λ t. TakenIs selection.now number blob.now t) }
-    ensures no_fault { result ≢ Err PickFault.DiskFault }
-    ensures unbroken { is_broken result ≡ false }
-{
-    let Ok(view) = View::parse(blob) else {
-        return Ok(Taken::Bad);
-    };
-    let length = view.blob().len();
-    match takes_header(alloc, selection, number, &view) {
-        Ok(true) => Ok(Taken::Good(length)),
-        Ok(false) => Ok(Taken::Passed),
-        Err(_) => Err(PickFault::NoMemory),
-    }
-}
-
-/// A package by the bytes that it is read from, where the selection takes it; where it doesn't, they become the room of the next one.
-fn pick_blob(
-    alloc: Global,
-    selection: &Selection<'_>,
-    number: u32,
-    blob: Vec<u8>,
-    room: &mut Vec<u8>,
-) -> Result<Option<Picked>, PickFault>
-    ensures told { OneIs selection.now number (package_of (Some blob.items)) result }
-    ensures numbered { IsNumbered number result }
-    ensures no_fault { result ≢ Err PickFault.DiskFault }
-    ensures unbroken { is_broken result ≡ false }
-{
-    match taken_length(alloc, selection, number, &blob) {
-        Err(fault) => Err(fault),
-        Ok(Taken::Bad) => pick_bad(selection, number),
-        Ok(Taken::Passed) => {
-            *room = blob;
-            Ok(None)
-        }
-        Ok(Taken::Good(length)) => {
-            let mut bytes = blob;
-            bytes.truncate(length);
-            Ok(Some(Picked::Good {
-                number,
-                blob: Blob { bytes },
-            }))
-        }
-    }
-}
-
-/// Whether a selection can't pick a package of this number, whatever that is.
-fn is_elsewhere(selection: &Selection<'_>, number: u32) -> bool
-    ensures { result ≡ is_elsewhere selection.now number }
-{
-    match selection {
-        Selection::Number(wanted) => number != *wanted,
-        _ => false,
-    }
-}
-
-/// A number's package, where it is there and the selection takes it, in this room. Reads its blocks once, and nothing where the selection
-/// is another number.
-fn pick<D: Disk>(
-    alloc: Global,
-    db: &Db,
-    disk: &mut D,
-    selection: &Selection<'_>,
-    number: u32,
-    room: &mut Vec<u8>,
-) -> Result<Option<Picked>, PickFault>
-    requires keeps { IsTrue D.tells → Keeps (D.files disk.old).pkg db.now }
-    requires runs { db.now.stopped ≡ false }
-    ensures kept { IsTrue D.tells → Keeps (D.files disk.new).pkg db.now }
-    ensures told { IsTrue D.tells → OneOf selection.now number (finite.get (packages (D.files disk.old).pkg db.now.store) number) result }
-    ensures numbered { IsNumbered number result }
-    ensures looks { Looks D.tells D.files D.left_since D.moment D.bytes_read D.follows Pkg (cost number db.now) disk.old disk.new }
-    ensures cause { HasCauseAt (result ≡ Err PickFault.DiskFault) (D.faults disk.old) (D.faults disk.new) }
-    ensures unbroken { is_broken result ≡ false }
-    ensures unread { is_elsewhere selection.now number ≡ true → D.bytes_read disk.new File.Pkg ≡ D.bytes_read disk.old File.Pkg }
-{
-    if is_elsewhere(selection, number) {
-        return Ok(None);
-    }
-    match db.read_in(disk, number, replace(room, Vec::new(alloc))) {
-        Ok(blob) => pick_blob(alloc, selection, number, blob, room),
-        Err(GetFault::Bad) => pick_bad(selection, number),
-        Err(GetFault::NoSuch) => Ok(None),
-        Err(GetFault::DiskFault) => Err(PickFault::DiskFault),
-        Err(GetFault::NoMemory) => Err(PickFault::NoMemory),
-    }
 }
 
 /// Whether an index is asked: one is kept, and the selection has keys.
@@ -291,7 +78,7 @@ fn over(alloc: Global, numbers: Vec<u32>) -> Picker
 
 impl Picker {
     /// The least number above this one that is gone over.
-    fn next_number(&self, db: &Db, n: u32) -> Option<u32>
+    pub(crate) fn next_number(&self, db: &Db, n: u32) -> Option<u32>
         ensures { IsNext (reaches self.now db.now) n result }
     {
         self.reach.next_above(db, n)
@@ -346,7 +133,7 @@ impl Picker {
         ensures { self.new ≡ self.old }
     {
         if let Picked::Good { blob, .. } = picked {
-            self.room = blob.bytes;
+            self.room = blob.into_bytes();
         }
     }
 

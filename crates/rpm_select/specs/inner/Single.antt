@@ -3,10 +3,10 @@ use Rattle.std.specs.Prelude.{◌≡◌, ℕ, List, take, true, false, Option, S
 use Rattle.rpm_header.specs.Header.{IsOwn}
 use Rattle.rpm_db.specs.State as state
 use Rattle.rpm_db.specs.State.{Package}
-use Rattle.rpm_select.specs.declared.picker.Picked.{Picked}
-use Rattle.rpm_select.specs.declared.picker.PickFault.{PickFault}
-use Rattle.rpm_select.specs.declared.picker.Taken.{Taken}
-use Rattle.rpm_select.specs.declared.picker.Taken.TheVariants as taken
+use Rattle.rpm_select.specs.declared.picked.Picked.{Picked}
+use Rattle.rpm_select.specs.declared.picked.PickFault.{PickFault}
+use Rattle.rpm_select.specs.declared.picked.Taken.{Taken}
+use Rattle.rpm_select.specs.declared.picked.Taken.TheVariants as taken
 use Rattle.rpm_select.specs.declared.selection.Selection.{Selection}
 use Rattle.rpm_select.specs.Selections.{is_picked}
 use Rattle.rpm_select.specs.Picks.{entry_in, number_in}

@@ -5,7 +5,7 @@ use Rattle.std.specs.FinMap as finite
 use Rattle.rpm_db.specs.Database.{cost}
 use Rattle.rpm_db.specs.State.{packages}
 use Rattle.rpm_select.proofs.Elsewhere.{one_elsewhere}
-use Rattle.rpm_select.proofs.picker.pick.Goals as goal
+use Rattle.rpm_select.proofs.picked.pick.Goals as goal
 
 pub returns-then-is_elsewhere-clause-told : goal.returns-then-is_elsewhere-clause-told
 returns-then-is_elsewhere-clause-told g c = λ told.

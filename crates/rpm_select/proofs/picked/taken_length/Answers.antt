@@ -2,7 +2,7 @@ use Rattle.std.proofs.Common.{◌≡◌, ℕ, List, true, false, length, take, O
 use Rattle.rpm_header.specs.Header.{header}
 use Rattle.rpm_db.specs.State.{Package, Good, read_as}
 use Rattle.rpm_select.specs.Selections.{is_picked, takes_header, takes_read}
-use Rattle.rpm_select.proofs.picker.taken_length.Goals as goal
+use Rattle.rpm_select.proofs.picked.taken_length.Goals as goal
 
 pub returns-in-Ok-true-clause-told : goal.returns-in-Ok-true-clause-told
 returns-in-Ok-true-clause-told c =

@@ -1,0 +1,133 @@
+use Rattle.std.proofs.Common.{◌≡◌, ℕ, ◌<◌, ◌-◌, true, false, refl, sym, subst, ◌∙◌, arith}
+use Rattle.std.specs.FinMap as finite
+use Rattle.rpm_outside.specs.Files.{Files}
+use Rattle.rpm_outside.specs.inner.Looking.{looks_then, looks_more}
+use Rattle.rpm_db.specs.State.{packages}
+use Rattle.rpm_db.specs.Database.{cost}
+use Rattle.rpm_outside.specs.declared.disk.File.TheVariants.{Pkg}
+use Rattle.rpm_select.specs.declared.recent.Recent.{Recent}
+use Rattle.rpm_select.specs.Reach.{reaches, reach_to, reach_all}
+use Rattle.rpm_select.specs.Recents.{IsHeld, Recalls, picks_at}
+use Rattle.rpm_select.specs.inner.Costing.{reach_more, reach_some}
+use Rattle.rpm_select.proofs.Passing.{passed_next, taken_next, none_next}
+use Rattle.rpm_select.proofs.Picking.{left, above_picks}
+use Rattle.rpm_select.proofs.Recalling.{passed_at, at_start}
+use Rattle.rpm_select.proofs.picker.Picker.next_number_after.Goals as goal
+
+pub loop-next-preserved : goal.loop-next-preserved
+loop-next-preserved g c =
+    let db = c.args.db.now in
+    let r = c.args.self.now in
+    let n = c.args.n in
+    let k = c.loop-next.passed in
+    let m = c.in-Some.next in
+    let sel = c.args.selection.now in
+    let inv = c.loop-next.invariant in
+    let done = c.in-Ok-false.ensures in
+    let more = reach_more r db k m c.in-Some.ensures in
+    record {
+      keeps = done.kept;
+      later = omega (arith, inv.later, c.in-Some.ensures.0);
+      up = omega (arith, inv.up, more);
+      looks =
+          looks_then g.D.Disk.tells g.D.Disk.files g.D.Disk.left_since g.D.Disk.moment g.D.Disk.bytes_read g.D.Disk.follows Pkg g.met.D.Disk.follows_trans
+          (reach_to k r db - reach_to n r db) (cost m db) (reach_to m r db - reach_to n r db) c.args.disk.now c.loop-next.disk c.picks.new.disk
+          (omega (arith, more, inv.up)) inv.looks done.looks;
+      faults = omega (arith, inv.faults, done.cause.later);
+      start = λ at. (let lt : k < m = c.in-Some.ensures.0 in absurd (omega (arith, at, lt, inv.later)));
+      reached = λ lt. c.in-Some.ensures.1;
+      recalls = λ told holds.
+          subst (λ (f : Files). Recalls (packages f.pkg db.store) c.loop-next.recent → Recalls (packages f.pkg db.store) c.picks.new.self)
+          (inv.looks.untouched told).same (done.recalls told) (inv.recalls told holds);
+      same = λ told serves holds.
+          let file = (g.D.Disk.files c.args.disk.now).pkg in
+          let answer = subst (λ (f : Files). Recalls (packages f.pkg db.store) c.loop-next.recent
+          → false ≡ picks_at sel m (finite.get (packages f.pkg db.store) m)) (inv.looks.untouched told).same
+          (rw c.in-Ok-false.field-0-test at (done.told told)) (inv.recalls told holds) in
+          inv.same told serves holds
+          ∙ passed_next r file db sel serves k m c.in-Some.ensures (passed_at sel m (finite.get (packages file db.store) m) answer);
+    }
+
+pub returns-in-Ok-true-clause-told : goal.returns-in-Ok-true-clause-told
+returns-in-Ok-true-clause-told g c = λ told serves holds.
+    let db = c.args.db.now in
+    let k = c.loop-next.passed in
+    let m = c.in-Some.next in
+    let sel = c.args.selection.now in
+    let inv = c.loop-next.invariant in
+    let file = (g.D.Disk.files c.args.disk.now).pkg in
+    let all = packages file db.store in
+    let answer = subst (λ (f : Files). Recalls (packages f.pkg db.store) c.loop-next.recent
+    → true ≡ picks_at sel m (finite.get (packages f.pkg db.store) m)) (inv.looks.untouched told).same
+    (rw c.in-Ok-true.field-0-test at (c.in-Ok-true.ensures.told told)) (inv.recalls told holds) in
+    let found = taken_next c.args.self.now file db sel serves k m (finite.get all m) c.in-Some.ensures refl answer in
+    (found.0, left all sel m, above_picks all sel c.args.n ∙ inv.same told serves holds ∙ found.1)
+
+pub returns-in-Ok-true-clause-looks : goal.returns-in-Ok-true-clause-looks
+returns-in-Ok-true-clause-looks g c =
+    let db = c.args.db.now in
+    let r = c.args.self.now in
+    let n = c.args.n in
+    let k = c.loop-next.passed in
+    let m = c.in-Some.next in
+    let inv = c.loop-next.invariant in
+    looks_then g.D.Disk.tells g.D.Disk.files g.D.Disk.left_since g.D.Disk.moment g.D.Disk.bytes_read g.D.Disk.follows Pkg g.met.D.Disk.follows_trans
+    (reach_to k r db - reach_to n r db) (cost m db) (reach_to m r db - reach_to n r db) c.args.disk.now c.loop-next.disk c.picks.new.disk
+    (omega (arith, reach_more r db k m c.in-Some.ensures, inv.up)) inv.looks c.in-Ok-true.ensures.looks
+
+pub returns-in-Ok-true-clause-held : goal.returns-in-Ok-true-clause-held
+returns-in-Ok-true-clause-held g c = (rw c.in-Ok-true.field-0-test at c.in-Ok-true.ensures.held) refl
+
+pub returns-in-Ok-true-clause-unread : goal.returns-in-Ok-true-clause-unread
+returns-in-Ok-true-clause-unread g c = λ m held next is.
+    let inv = c.loop-next.invariant in
+    let k = c.loop-next.passed in
+    let same : c.in-Some.next ≡ m = cc in
+    let lt : k < m = omega (arith, c.in-Some.ensures.0, same) in
+    let start = inv.start (at_start (reaches c.args.self.now c.args.db.now) c.args.n k m inv.later inv.reached next lt) in
+    let before : IsHeld m c.loop-next.recent = subst (λ (r : Recent). IsHeld m r) (sym start.1) held in
+    c.in-Ok-true.ensures.unread (subst (λ (i : ℕ). IsHeld i c.loop-next.recent) (sym same) before) ∙ start.0
+
+pub returns-in-Ok-true-clause-rises : goal.returns-in-Ok-true-clause-rises
+returns-in-Ok-true-clause-rises g c = omega (arith, c.loop-next.invariant.later, c.in-Some.ensures.0)
+
+pub returns-in-Ok-true-clause-recalls : goal.returns-in-Ok-true-clause-recalls
+returns-in-Ok-true-clause-recalls g c = λ told holds.
+    let db = c.args.db.now in
+    let inv = c.loop-next.invariant in
+    subst (λ (f : Files). Recalls (packages f.pkg db.store) c.loop-next.recent → Recalls (packages f.pkg db.store) c.picks.new.self)
+    (inv.looks.untouched told).same (c.in-Ok-true.ensures.recalls told) (inv.recalls told holds)
+
+pub returns-in-Err-clause-recalls : goal.returns-in-Err-clause-recalls
+returns-in-Err-clause-recalls g c = λ told holds.
+    let db = c.args.db.now in
+    let inv = c.loop-next.invariant in
+    subst (λ (f : Files). Recalls (packages f.pkg db.store) c.loop-next.recent → Recalls (packages f.pkg db.store) c.picks.new.self)
+    (inv.looks.untouched told).same (c.in-Err.ensures.recalls told) (inv.recalls told holds)
+
+pub returns-in-Err-clause-looks : goal.returns-in-Err-clause-looks
+returns-in-Err-clause-looks g c =
+    let db = c.args.db.now in
+    let r = c.args.self.now in
+    let n = c.args.n in
+    let k = c.loop-next.passed in
+    let m = c.in-Some.next in
+    let inv = c.loop-next.invariant in
+    looks_then g.D.Disk.tells g.D.Disk.files g.D.Disk.left_since g.D.Disk.moment g.D.Disk.bytes_read g.D.Disk.follows Pkg g.met.D.Disk.follows_trans
+    (reach_to k r db - reach_to n r db) (cost m db) (reach_all r db - reach_to n r db) c.args.disk.now c.loop-next.disk c.picks.new.disk
+    (omega (arith, reach_more r db k m c.in-Some.ensures, reach_some r db m, inv.up)) inv.looks c.in-Err.ensures.looks
+
+pub returns-clause-told : goal.returns-clause-told
+returns-clause-told g c = λ told serves holds.
+    let file = (g.D.Disk.files c.args.disk.now).pkg in
+    let db = c.args.db.now in
+    above_picks (packages file db.store) c.args.selection.now c.args.n ∙ c.loop-next.invariant.same told serves holds
+    ∙ none_next c.args.self.now file db c.args.selection.now serves c.loop-next.passed c.in_default.ensures
+
+pub returns-clause-looks : goal.returns-clause-looks
+returns-clause-looks g c =
+    let db = c.args.db.now in
+    let r = c.args.self.now in
+    looks_more g.D.Disk.tells g.D.Disk.files g.D.Disk.left_since g.D.Disk.moment g.D.Disk.bytes_read g.D.Disk.follows Pkg
+    (reach_to c.loop-next.passed r db - reach_to c.args.n r db) (reach_all r db - reach_to c.args.n r db) c.args.disk.now c.loop-next.disk
+    (omega (arith, reach_some r db c.loop-next.passed)) c.loop-next.invariant.looks

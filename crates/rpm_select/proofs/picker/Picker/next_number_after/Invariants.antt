@@ -1,0 +1,31 @@
+use Rattle.std.proofs.Common.{◌≡◌, ◌<◌, ◌≤◌, ◌-◌, ◌^◌, true}
+use Rattle.std.specs.Prelude.{IsTrue}
+use Rattle.rpm_outside.specs.Looks.{Looks}
+use Rattle.rpm_db.specs.State.{packages}
+use Rattle.rpm_db.specs.Database.{Keeps}
+use Rattle.rpm_outside.specs.declared.disk.File.TheVariants.{Pkg}
+use Rattle.rpm_select.specs.Reach.{reaches, reach_to, Serves}
+use Rattle.rpm_select.specs.Recents.{Recalls}
+use Rattle.rpm_select.proofs.Picking.{left}
+use Rattle.rpm_select.proofs.picker.Picker.next_number_after.Given as goal
+
+abbrev pub invariant-loop-next : goal.invariant-loop-next
+invariant-loop-next g l = record {
+  keeps : IsTrue g.D.Disk.tells → Keeps (g.D.Disk.files l.disk).pkg l.db;
+  later : l.n ≤ l.passed;
+  up : reach_to l.n l.self l.db ≤ reach_to l.passed l.self l.db;
+  looks : Looks g.D.Disk.tells g.D.Disk.files g.D.Disk.left_since g.D.Disk.moment g.D.Disk.bytes_read g.D.Disk.follows Pkg
+      (reach_to l.passed l.self l.db - reach_to l.n l.self l.db) l.initial.disk l.disk;
+  faults : g.D.Disk.faults l.initial.disk ≤ g.D.Disk.faults l.disk;
+  start : l.passed ≡ l.n → (g.D.Disk.bytes_read l.disk Pkg ≡ g.D.Disk.bytes_read l.initial.disk Pkg) × (l.recent ≡ l.initial.recent);
+  reached : l.n < l.passed → reaches l.self l.db l.passed ≡ true;
+  recalls : IsTrue g.D.Disk.tells → Recalls (packages (g.D.Disk.files l.initial.disk).pkg l.db.store) l.initial.recent
+      → Recalls (packages (g.D.Disk.files l.initial.disk).pkg l.db.store) l.recent;
+  same : IsTrue g.D.Disk.tells → Serves l.self (packages (g.D.Disk.files l.initial.disk).pkg l.db.store) l.selection
+      → Recalls (packages (g.D.Disk.files l.initial.disk).pkg l.db.store) l.initial.recent
+      → left (packages (g.D.Disk.files l.initial.disk).pkg l.db.store) l.selection l.n
+      ≡ left (packages (g.D.Disk.files l.initial.disk).pkg l.db.store) l.selection l.passed;
+}
+
+abbrev pub decreases-loop-next : goal.decreases-loop-next
+decreases-loop-next g l = 2 ^ 32 - l.passed

@@ -1,0 +1,28 @@
+-- What is held of the package that was read last.
+use Rattle.std.specs.Prelude.{◌≡◌, ℕ, Bool, false, Option, Some, None, IfSome}
+use Rattle.std.specs.Option.{option_map}
+use Rattle.std.specs.Ordering.{nat_cmp}
+use Rattle.std.specs.FinMap as finite
+use Rattle.rpm_db.specs.State.{Package}
+use Rattle.rpm_select.specs.declared.picked.Picked.{Picked}
+use Rattle.rpm_select.specs.declared.recent.Recent.{Recent}
+use Rattle.rpm_select.specs.declared.selection.Selection.{Selection}
+use Rattle.rpm_select.specs.Picks.{number_in, package_in}
+use Rattle.rpm_select.specs.Selections.{is_picked}
+
+-- what is held is the package of this number
+abbrev pub IsHeld : ℕ → Recent → Type 0
+IsHeld n recent = option_map number_in recent.last ≡ Some n
+
+-- it is the package of its number
+abbrev pub IsOf : finite.FinMap nat_cmp Package → Picked → Type 0
+IsOf packages picked = finite.get packages (number_in picked) ≡ Some (package_in picked)
+
+-- what is held, if anything is, is the package of its number
+abbrev pub Recalls : finite.FinMap nat_cmp Package → Recent → Type 0
+Recalls packages recent = IfSome recent.last (IsOf packages)
+
+-- a selection picks what a number has
+abbrev pub picks_at : Selection → ℕ → Option Package → Bool
+picks_at sel n None = false
+picks_at sel n (Some p) = is_picked sel (n, p)

@@ -1,0 +1,160 @@
+//! The package that was read last.
+
+ghost use Rattle.std.specs.Prelude.{◌≡◌, ◌≢◌, ◌<◌, ℕ, IsTrue, is_some, true, false, Ok, Err, Some, IfOk, IfSome};
+ghost use Rattle.std.specs.Ordering.{nat_cmp};
+ghost use Rattle.std.specs.FinMap as finite;
+ghost use Rattle.rpm_outside.specs.Causes.{HasCauseAt};
+ghost use Rattle.rpm_outside.specs.declared.disk.File.TheVariants.{Pkg};
+ghost use Rattle.rpm_outside.specs.Looks.{Looks};
+ghost use Rattle.rpm_db.specs.State.{Package, packages, above};
+ghost use Rattle.rpm_db.specs.Database.{Keeps, IsNext, cost};
+ghost use Rattle.rpm_select.specs.Selections.{picks, is_picked};
+ghost use Rattle.rpm_select.specs.Reach.{Serves, reaches, reach_next};
+ghost use Rattle.rpm_select.specs.Picks.{NextNumberIs, number_in, package_in, is_broken};
+ghost use Rattle.rpm_select.specs.Recents.{IsHeld, IsOf, Recalls, picks_at};
+
+use crate::picked::{PickFault, Picked, pick, takes_bad};
+use crate::picker::Picker;
+use crate::rows::takes_header;
+use crate::selection::Selection;
+use rpm_db::Db;
+use rpm_outside::{Disk, File};
+use std::alloc::Global;
+
+/// The package that was read last. Whoever asks about it again needn't read it, nor parse it.
+#[derive(Drop)]
+pub struct Recent {
+    last: Option<Picked>,
+}
+
+/// Whether a selection picks a package.
+fn takes(alloc: Global, selection: &Selection<'_>, picked: &Picked) -> Result<bool, PickFault>
+    ensures told { IfOk result (λ b. b ≡ is_picked selection.now (number_in picked.now, package_in picked.now)) }
+    ensures no_fault { result ≢ Err PickFault.DiskFault }
+    ensures unbroken { is_broken result ≡ false }
+{
+    match picked {
+        Picked::Good { number, blob } => {
+            match takes_header(alloc, selection, *number, &blob.view()) {
+                Ok(takes) => Ok(takes),
+                Err(_) => Err(PickFault::NoMemory),
+            }
+        }
+        Picked::Bad { number } => Ok(takes_bad(selection, *number)),
+    }
+}
+
+impl Recent {
+    /// Nothing was read.
+    pub fn new() -> Recent
+        ensures { (packages : finite.FinMap nat_cmp Package) → Recalls packages result }
+    {
+        Recent { last: None }
+    }
+
+    /// The package of this number, if it is the one that is held.
+    fn recall(&self, number: u32) -> Option<&Picked>
+        ensures given { IsHeld number self.now → is_some result ≡ true }
+        ensures number { IfSome result (λ held. number_in held.now ≡ number) }
+        ensures held { IfSome result (λ held. IsHeld number self.now) }
+        ensures same { IfSome result (λ held. (packages : finite.FinMap nat_cmp Package) → Recalls packages self.now → IsOf packages held.now) }
+    {
+        match &self.last {
+            Some(held) => {
+                if held.number() == number {
+                    Some(held)
+                } else {
+                    None
+                }
+            }
+            None => None,
+        }
+    }
+
+    /// Lets go of what is held. Its room is for the next one.
+    fn take_room(&mut self, alloc: Global) -> Vec<u8>
+        ensures { (packages : finite.FinMap nat_cmp Package) → Recalls packages self.new }
+    {
+        match self.last.take() {
+            Some(Picked::Good { blob, .. }) => blob.into_bytes(),
+            _ => Vec::new(alloc),
+        }
+    }
+
+    /// Whether a selection picks a number's package. That is read, if it isn't held, and is held then.
+    fn picks<D: Disk>(
+        &mut self,
+        alloc: Global,
+        db: &Db,
+        disk: &mut D,
+        selection: &Selection<'_>,
+        number: u32,
+    ) -> Result<bool, PickFault>
+        requires keeps { IsTrue D.tells → Keeps (D.files disk.old).pkg db.now }
+        requires runs { db.now.stopped ≡ false }
+        ensures kept { IsTrue D.tells → Keeps (D.files disk.new).pkg db.now }
+        ensures told { IfOk result (λ b. IsTrue D.tells → Recalls (packages (D.files disk.old).pkg db.now.store) self.old
+            → b ≡ picks_at selection.now number (finite.get (packages (D.files disk.old).pkg db.now.store) number)) }
+        ensures recalls { IsTrue D.tells → Recalls (packages (D.files disk.old).pkg db.now.store) self.old
+            → Recalls (packages (D.files disk.old).pkg db.now.store) self.new }
+        ensures held { result ≡ Ok true → IsHeld number self.new }
+        ensures looks { Looks D.tells D.files D.left_since D.moment D.bytes_read D.follows Pkg (cost number db.now) disk.old disk.new }
+        ensures unread { IsHeld number self.old → D.bytes_read disk.new File.Pkg ≡ D.bytes_read disk.old File.Pkg }
+        ensures unbroken { is_broken result ≡ false }
+        ensures cause { HasCauseAt (result ≡ Err PickFault.DiskFault) (D.faults disk.old) (D.faults disk.new) }
+    {
+        if let Some(held) = self.recall(number) {
+            return takes(alloc, selection, held);
+        }
+        let mut room = self.take_room(alloc);
+        match pick(alloc, db, disk, &Selection::All, number, &mut room) {
+            Ok(Some(read)) => {
+                let takes = takes(alloc, selection, &read);
+                self.last = Some(read);
+                takes
+            }
+            Ok(None) => Ok(false),
+            Err(fault) => Err(fault),
+        }
+    }
+}
+
+impl Picker {
+    /// The number of the package that `next_after` gives, with the same faults. Of the numbers that it goes over, a package that is held
+    /// isn't read again; the one that was read last is held.
+    pub fn next_number_after<D: Disk>(
+        &self,
+        alloc: Global,
+        db: &Db,
+        disk: &mut D,
+        selection: &Selection<'_>,
+        recent: &mut Recent,
+        n: u32,
+    ) -> Result<Option<u32>, PickFault>
+        requires keeps { IsTrue D.tells → Keeps (D.files disk.old).pkg db.now }
+        requires runs { db.now.stopped ≡ false }
+        ensures kept { IsTrue D.tells → Keeps (D.files disk.new).pkg db.now }
+        ensures told { IsTrue D.tells → Serves self.now (packages (D.files disk.old).pkg db.now.store) selection.now
+            → Recalls (packages (D.files disk.old).pkg db.now.store) recent.old
+            → NextNumberIs (above n (picks (packages (D.files disk.old).pkg db.now.store) selection.now)) result }
+        ensures recalls { IsTrue D.tells → Recalls (packages (D.files disk.old).pkg db.now.store) recent.old
+            → Recalls (packages (D.files disk.old).pkg db.now.store) recent.new }
+        ensures held { IfOk result (λ o. IfSome o (λ next. IsHeld next recent.new)) }
+        ensures unread { (m : ℕ) → IsHeld m recent.old → IsNext (reaches self.now db.now) n (Some m) → result ≡ Ok (Some m)
+            → D.bytes_read disk.new File.Pkg ≡ D.bytes_read disk.old File.Pkg }
+        ensures rises { IfOk result (λ o. IfSome o (λ next. n < next)) }
+        ensures looks { Looks D.tells D.files D.left_since D.moment D.bytes_read D.follows Pkg (reach_next n self.now db.now result) disk.old disk.new }
+        ensures unbroken { is_broken result ≡ false }
+        ensures cause { HasCauseAt (result ≡ Err PickFault.DiskFault) (D.faults disk.old) (D.faults disk.new) }
+    {
+        let mut passed = n;
+        while let Some(next) = self.next_number(db, passed) {
+            match recent.picks(alloc, db, disk, selection, next) {
+                Ok(false) => passed = next,
+                Ok(true) => return Ok(Some(next)),
+                Err(fault) => return Err(fault),
+            }
+        }
+        Ok(None)
+    }
+}
