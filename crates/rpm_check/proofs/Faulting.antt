@@ -2,8 +2,8 @@
 use Rattle.std.proofs.Common.{ℕ, List, [], ◌∷◌, inl, inr}
 use Rattle.rpm_outside.specs.Files.{Units}
 use Rattle.rpm_tags.specs.declared.kind.Kind.{Kind}
-use Rattle.rpm_select.specs.declared.picker.PickFault.{PickFault}
-use Rattle.rpm_select.specs.declared.picker.PickFault.TheVariants as pick
+use Rattle.rpm_select.specs.declared.picked.PickFault.{PickFault}
+use Rattle.rpm_select.specs.declared.picked.PickFault.TheVariants as pick
 use Rattle.rpm_select.specs.Reach as select
 use Rattle.rpm_select.specs.Reach.{IsFaultOfOne}
 use Rattle.rpm_check.specs.Answers.{IsFaultOfSome, IsBroken}

@@ -1,36 +1,24 @@
 -- The numbers of packages that are picked, one after the other.
-use Rattle.std.proofs.Common.{◌≡◌, ℕ, List, [], ◌∷◌, ◌++◌, map, Option, Some, Ok, sym, ap, ◌∙◌, subst, append_assoc, append-nil}
+use Rattle.std.proofs.Common.{◌≡◌, ℕ, List, [], ◌∷◌, ◌++◌, map, Some, Ok, sym, ap, ◌∙◌, append_assoc, append-nil}
 use Rattle.std.specs.FinMap as finite
 use Rattle.std.specs.Ordering.{nat_cmp}
 use Rattle.rpm_outside.specs.Files.{Units}
 use Rattle.rpm_db.specs.Database.{Database, Keeps}
 use Rattle.rpm_db.specs.State.{Package, packages, above}
-use Rattle.rpm_select.specs.declared.picker.Picked.{Picked}
 use Rattle.rpm_select.specs.declared.selection.Selection.{Selection}
-use Rattle.rpm_select.specs.Picks.{NextIs, entry_in, number_in}
+use Rattle.rpm_select.specs.Picks.{NextNumberIs}
 use Rattle.rpm_select.specs.Selections.{picks}
-use Rattle.rpm_check.proofs.Above.{named, next_picked, numbers_above}
+use Rattle.rpm_check.proofs.Above.{numbers_above}
 use Rattle.rpm_check.proofs.FromOne.{from_one}
-use Rattle.rpm_select.specs.inner.Rising.{picks_from_one}
-
--- one more
-pub more_picked : (all : finite.FinMap nat_cmp Package) (sel : Selection) (n : ℕ) (picked : Picked) (rest : List (ℕ × Package)) (ns whole : List ℕ)
-    → above n (picks all sel) ≡ entry_in picked ∷ rest → ns ++ numbers_above all sel n ≡ whole
-    → (ns ++ number_in picked ∷ []) ++ numbers_above all sel (number_in picked) ≡ whole
-more_picked all sel n picked rest ns whole is so_far =
-    let later = numbers_above all sel (number_in picked) in
-    let one : numbers_above all sel n ≡ number_in picked ∷ later =
-    ap (map (λ e. e.0)) (next_picked all sel n picked rest is) ∙ ap (λ (m : ℕ). m ∷ later) (named picked) in
-    append_assoc ns (number_in picked ∷ []) later ∙ ap (λ (ms : List ℕ). ns ++ ms) (sym one) ∙ so_far
+use Rattle.rpm_select.specs.inner.Rising.{next_picked, picks_from_one}
 
 -- one more is pushed
-pub gained : (all : finite.FinMap nat_cmp Package) (sel : Selection) (n : ℕ) (o : Option Picked) (picked : Picked) (number : ℕ) (ns new whole : List ℕ)
-    → NextIs (above n (picks all sel)) (Ok o) → o ≡ Some picked → new ≡ ns ++ number ∷ [] → number ≡ number_in picked
-    → ns ++ numbers_above all sel n ≡ whole → new ++ numbers_above all sel number ≡ whole
-gained all sel n o picked number ns new whole next is added same so_far =
-    let one = subst (λ (p : Option Picked). NextIs (above n (picks all sel)) (Ok p)) is next in
-    ap (λ (ms : List ℕ). ms ++ numbers_above all sel number) added ∙ ap (λ (m : ℕ). (ns ++ m ∷ []) ++ numbers_above all sel m) same
-    ∙ more_picked all sel n picked one.0 ns whole one.1 so_far
+pub gained : (all : finite.FinMap nat_cmp Package) (sel : Selection) (n m : ℕ) (ns new whole : List ℕ) → NextNumberIs (above n (picks all sel)) (Ok (Some m))
+    → new ≡ ns ++ m ∷ [] → ns ++ numbers_above all sel n ≡ whole → new ++ numbers_above all sel m ≡ whole
+gained all sel n m ns new whole next added so_far =
+    let later = numbers_above all sel m in
+    let one : numbers_above all sel n ≡ m ∷ later = ap (map (λ e. e.0)) (next_picked all sel n (m, next.0) next.1 next.2) in
+    ap (λ (ms : List ℕ). ms ++ later) added ∙ append_assoc ns (m ∷ []) later ∙ ap (λ (ms : List ℕ). ns ++ ms) (sym one) ∙ so_far
 
 -- no more
 pub all_picked : (file : Units) (db : Database) (sel : Selection) (n : ℕ) (ns : List ℕ) → Keeps file db

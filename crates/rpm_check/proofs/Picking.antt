@@ -3,14 +3,13 @@ use Rattle.std.proofs.Common.{◌≡◌, ℕ, List, [], ◌∷◌, Bool, cond, �
 use Rattle.std.specs.List.{filter, list_any}
 use Rattle.std.proofs.lemmas.Bool.{cases_Bool}
 use Rattle.rpm_db.specs.State.{Package}
-use Rattle.rpm_select.specs.declared.picker.Picked.{Picked}
-use Rattle.rpm_select.specs.Picks.{NextIs}
+use Rattle.rpm_select.specs.Picks.{NextNumberIs}
 use Rattle.rpm_check.specs.inner.Picking.{is_some_of}
 
 -- the first above a number is there where there is one
-pub is_some_next : (left : List (ℕ × Package)) (o : Option Picked) → NextIs left (Ok o) → is_some o ≡ is_some_of left
+pub is_some_next : (left : List (ℕ × Package)) (o : Option ℕ) → NextNumberIs left (Ok o) → is_some o ≡ is_some_of left
 is_some_next left None none = ap is_some_of (sym none)
-is_some_next left (Some picked) some = ap is_some_of (sym some.1)
+is_some_next left (Some n) some = ap is_some_of (sym some.2)
 
 -- ---- a filter of a list
 

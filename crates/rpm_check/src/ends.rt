@@ -12,7 +12,7 @@ ghost use Rattle.rpm_check.specs.Answers.{Glances, IsBroken, is_broken};
 ghost use Rattle.rpm_check.specs.Edges.{givers};
 ghost use Rattle.rpm_check.specs.Unmet.{required};
 ghost use Rattle.rpm_check.specs.inner.Ends.{needs_at, is_good_at};
-ghost use Rattle.rpm_check.specs.inner.GiverMemos.{RemembersGivers};
+ghost use Rattle.rpm_check.specs.inner.GiverMemos.{KnowsGivers};
 ghost use Rattle.rpm_check.specs.inner.Needs.{needed_in};
 
 use crate::faults::CheckFault;
@@ -48,13 +48,13 @@ fn push_givers<D: Disk>(
     requires keeps_index { IsTrue D.tells → KeepsIndex (D.files disk.old).idx db.now }
     requires runs { db.now.stopped ≡ false }
     requires remembers { IsTrue D.tells → HasIndexRows db.now (D.files disk.old).pkg (D.files disk.old).idx
-        → RemembersGivers (givers (packages (D.files disk.old).pkg db.now.store)) memo.old }
+        → KnowsGivers (packages (D.files disk.old).pkg db.now.store) memo.old }
     ensures kept { IsTrue D.tells → Keeps (D.files disk.new).pkg db.now }
     ensures kept_index { IsTrue D.tells → KeepsIndex (D.files disk.new).idx db.now }
     ensures told { OnOk result (IsTrue D.tells → HasIndexRows db.now (D.files disk.old).pkg (D.files disk.old).idx → ends.new.items
         ≡ ends.old.items ++ givers (packages (D.files disk.old).pkg db.now.store) (needed_in needed.now)) }
     ensures remembered { IsTrue D.tells → HasIndexRows db.now (D.files disk.old).pkg (D.files disk.old).idx
-        → RemembersGivers (givers (packages (D.files disk.old).pkg db.now.store)) memo.new }
+        → KnowsGivers (packages (D.files disk.old).pkg db.now.store) memo.new }
     ensures broken { IsTrue D.tells → IfErr result (IsBroken (D.files disk.old).idx) }
     ensures lawful { IsTrue D.tells → HasIndexRows db.now (D.files disk.old).pkg (D.files disk.old).idx → is_broken result ≡ false }
     ensures looks { Glances D.tells D.files D.left_since D.moment D.bytes_read D.follows disk.old disk.new }
@@ -64,7 +64,7 @@ fn push_givers<D: Disk>(
     if let Some(known) = memo.get(&key) {
         return push_all(ends, known);
     }
-    let found = givers(alloc, db, disk, needed)?;
+    let found = givers(alloc, db, disk, &mut memo.recent, needed)?;
     push_all(ends, &found)?;
     memo.put(key, found)?;
     Ok(())
@@ -83,13 +83,13 @@ fn push_ends<D: Disk>(
     requires keeps_index { IsTrue D.tells → KeepsIndex (D.files disk.old).idx db.now }
     requires runs { db.now.stopped ≡ false }
     requires remembers { IsTrue D.tells → HasIndexRows db.now (D.files disk.old).pkg (D.files disk.old).idx
-        → RemembersGivers (givers (packages (D.files disk.old).pkg db.now.store)) memo.old }
+        → KnowsGivers (packages (D.files disk.old).pkg db.now.store) memo.old }
     ensures kept { IsTrue D.tells → Keeps (D.files disk.new).pkg db.now }
     ensures kept_index { IsTrue D.tells → KeepsIndex (D.files disk.new).idx db.now }
     ensures told { OnOk result (IsTrue D.tells → HasIndexRows db.now (D.files disk.old).pkg (D.files disk.old).idx → ends.new.items
         ≡ ends.old.items ++ flat_map (givers (packages (D.files disk.old).pkg db.now.store)) (required view.now)) }
     ensures remembered { IsTrue D.tells → HasIndexRows db.now (D.files disk.old).pkg (D.files disk.old).idx
-        → RemembersGivers (givers (packages (D.files disk.old).pkg db.now.store)) memo.new }
+        → KnowsGivers (packages (D.files disk.old).pkg db.now.store) memo.new }
     ensures broken { IsTrue D.tells → IfErr result (IsBroken (D.files disk.old).idx) }
     ensures lawful { IsTrue D.tells → HasIndexRows db.now (D.files disk.old).pkg (D.files disk.old).idx → is_broken result ≡ false }
     ensures looks { Glances D.tells D.files D.left_since D.moment D.bytes_read D.follows disk.old disk.new }
@@ -116,7 +116,7 @@ fn push_ends_of<D: Disk>(
     requires keeps_index { IsTrue D.tells → KeepsIndex (D.files disk.old).idx db.now }
     requires runs { db.now.stopped ≡ false }
     requires remembers { IsTrue D.tells → HasIndexRows db.now (D.files disk.old).pkg (D.files disk.old).idx
-        → RemembersGivers (givers (packages (D.files disk.old).pkg db.now.store)) memo.old }
+        → KnowsGivers (packages (D.files disk.old).pkg db.now.store) memo.old }
     ensures kept { IsTrue D.tells → Keeps (D.files disk.new).pkg db.now }
     ensures kept_index { IsTrue D.tells → KeepsIndex (D.files disk.new).idx db.now }
     ensures good { IfOk result (λ good. IsTrue D.tells → good ≡ is_good_at (finite.get (packages (D.files disk.old).pkg db.now.store) number)) }
@@ -124,7 +124,7 @@ fn push_ends_of<D: Disk>(
         ≡ ends.old.items ++ flat_map (givers (packages (D.files disk.old).pkg db.now.store))
         (needs_at (finite.get (packages (D.files disk.old).pkg db.now.store) number))) }
     ensures remembered { IsTrue D.tells → HasIndexRows db.now (D.files disk.old).pkg (D.files disk.old).idx
-        → RemembersGivers (givers (packages (D.files disk.old).pkg db.now.store)) memo.new }
+        → KnowsGivers (packages (D.files disk.old).pkg db.now.store) memo.new }
     ensures broken { IsTrue D.tells → IfErr result (IsBroken (D.files disk.old).idx) }
     ensures lawful { IsTrue D.tells → HasIndexRows db.now (D.files disk.old).pkg (D.files disk.old).idx → is_broken result ≡ false }
     ensures looks { Glances D.tells D.files D.left_since D.moment D.bytes_read D.follows disk.old disk.new }
@@ -167,7 +167,7 @@ pub fn ends_of<D: Disk>(
     requires keeps_index { IsTrue D.tells → KeepsIndex (D.files disk.old).idx db.now }
     requires runs { db.now.stopped ≡ false }
     requires remembers { IsTrue D.tells → HasIndexRows db.now (D.files disk.old).pkg (D.files disk.old).idx
-        → RemembersGivers (givers (packages (D.files disk.old).pkg db.now.store)) memo.old }
+        → KnowsGivers (packages (D.files disk.old).pkg db.now.store) memo.old }
     ensures kept { IsTrue D.tells → Keeps (D.files disk.new).pkg db.now }
     ensures kept_index { IsTrue D.tells → KeepsIndex (D.files disk.new).idx db.now }
     ensures good { IfOk result (λ found. IsTrue D.tells
@@ -177,7 +177,7 @@ pub fn ends_of<D: Disk>(
         → (m : ℕ) → is_in m ends.items ≡ is_in m (flat_map (givers (packages (D.files disk.old).pkg db.now.store))
         (needs_at (finite.get (packages (D.files disk.old).pkg db.now.store) number))))) }
     ensures remembered { IsTrue D.tells → HasIndexRows db.now (D.files disk.old).pkg (D.files disk.old).idx
-        → RemembersGivers (givers (packages (D.files disk.old).pkg db.now.store)) memo.new }
+        → KnowsGivers (packages (D.files disk.old).pkg db.now.store) memo.new }
     ensures broken { IsTrue D.tells → IfErr result (IsBroken (D.files disk.old).idx) }
     ensures lawful { IsTrue D.tells → HasIndexRows db.now (D.files disk.old).pkg (D.files disk.old).idx → is_broken result ≡ false }
     ensures looks { Glances D.tells D.files D.left_since D.moment D.bytes_read D.follows disk.old disk.new }

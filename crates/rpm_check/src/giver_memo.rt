@@ -1,39 +1,47 @@
 //! Requirements whose packages were looked up before.
 
-ghost use Rattle.std.specs.Prelude.{◌≡◌, ℕ, List, IfSome};
-ghost use Rattle.rpm_tags.specs.Wanted.{Needed};
-ghost use Rattle.rpm_check.specs.inner.GiverMemos.{RemembersGivers};
+ghost use Rattle.std.specs.Prelude.{◌≡◌, IfSome};
+ghost use Rattle.std.specs.FinMap.{FinMap};
+ghost use Rattle.std.specs.Ordering.{nat_cmp};
+ghost use Rattle.rpm_db.specs.State.{Package};
+ghost use Rattle.rpm_check.specs.Edges.{givers};
+ghost use Rattle.rpm_check.specs.inner.GiverMemos.{KnowsGivers};
 ghost use Rattle.rpm_check.specs.inner.Memos.{need_of};
 
 use crate::memo::Requirement;
+use rpm_select::Recent;
 use std::alloc::{AllocError, Global};
 use std::collections::BTreeMap;
 
-/// The numbers of the packages that meet requirements that were looked up before.
+/// The numbers of the packages that meet requirements that were looked up before, and the package that was read last for one.
 #[derive(Drop)]
 pub struct GiverMemo {
     numbers: BTreeMap<Requirement, Vec<u32>>,
+    pub recent: Recent,
 }
 
 impl GiverMemo {
     pub fn new(alloc: Global) -> GiverMemo
-        ensures { (of : Needed → List ℕ) → RemembersGivers of result }
+        ensures { (packages : FinMap nat_cmp Package) → KnowsGivers packages result }
     {
         GiverMemo {
             numbers: BTreeMap::new(alloc),
+            recent: Recent::new(),
         }
     }
 
     /// The numbers that are known of a requirement.
     pub fn get(&self, key: &Requirement) -> Option<&Vec<u32>>
-        ensures { (of : Needed → List ℕ) → RemembersGivers of self.now → IfSome result (λ known. known.now.items ≡ of (need_of key.now)) }
+        ensures { (packages : FinMap nat_cmp Package) → KnowsGivers packages self.now
+            → IfSome result (λ known. known.now.items ≡ givers packages (need_of key.now)) }
     {
         self.numbers.get(key)
     }
 
     /// Notes the numbers of the packages that meet a requirement.
     pub fn put(&mut self, key: Requirement, numbers: Vec<u32>) -> Result<(), AllocError>
-        ensures { (of : Needed → List ℕ) → RemembersGivers of self.old → numbers.items ≡ of (need_of key) → RemembersGivers of self.new }
+        ensures { (packages : FinMap nat_cmp Package) → KnowsGivers packages self.old → numbers.items ≡ givers packages (need_of key)
+            → KnowsGivers packages self.new }
     {
         self.numbers.insert(key, numbers)?;
         Ok(())

@@ -7,7 +7,7 @@ ghost use Rattle.rpm_db.specs.State.{packages};
 ghost use Rattle.rpm_select.specs.Reach.{HasIndexRows};
 ghost use Rattle.rpm_check.specs.Answers.{Glances, IsBroken, is_broken};
 ghost use Rattle.rpm_check.specs.Unmet.{required, is_met, is_passed_over, lacks, unmet_in};
-ghost use Rattle.rpm_check.specs.inner.Memos.{Remembers};
+ghost use Rattle.rpm_check.specs.inner.Memos.{Knows};
 ghost use Rattle.rpm_check.specs.inner.Needs.{needed_in};
 
 use crate::faults::CheckFault;
@@ -45,13 +45,13 @@ fn is_met_once<D: Disk>(
     requires keeps_index { IsTrue D.tells → KeepsIndex (D.files disk.old).idx db.now }
     requires runs { db.now.stopped ≡ false }
     requires remembers { IsTrue D.tells → HasIndexRows db.now (D.files disk.old).pkg (D.files disk.old).idx
-        → Remembers (is_met (packages (D.files disk.old).pkg db.now.store)) memo.old }
+        → Knows (packages (D.files disk.old).pkg db.now.store) memo.old }
     ensures kept { IsTrue D.tells → Keeps (D.files disk.new).pkg db.now }
     ensures kept_index { IsTrue D.tells → KeepsIndex (D.files disk.new).idx db.now }
     ensures told { IfOk result (λ met. IsTrue D.tells → HasIndexRows db.now (D.files disk.old).pkg (D.files disk.old).idx
         → met ≡ is_met (packages (D.files disk.old).pkg db.now.store) (needed_in needed.now)) }
     ensures remembered { IsTrue D.tells → HasIndexRows db.now (D.files disk.old).pkg (D.files disk.old).idx
-        → Remembers (is_met (packages (D.files disk.old).pkg db.now.store)) memo.new }
+        → Knows (packages (D.files disk.old).pkg db.now.store) memo.new }
     ensures broken { IsTrue D.tells → IfErr result (IsBroken (D.files disk.old).idx) }
     ensures lawful { IsTrue D.tells → HasIndexRows db.now (D.files disk.old).pkg (D.files disk.old).idx → is_broken result ≡ false }
     ensures looks { Glances D.tells D.files D.left_since D.moment D.bytes_read D.follows disk.old disk.new }
@@ -61,7 +61,7 @@ fn is_met_once<D: Disk>(
     if let Some(known) = memo.get(&key) {
         return Ok(known);
     }
-    let found = is_met(alloc, db, disk, needed)?;
+    let found = is_met(alloc, db, disk, &mut memo.recent, needed)?;
     memo.put(key, found)?;
     Ok(found)
 }
@@ -78,13 +78,13 @@ pub fn lacks<D: Disk>(
     requires keeps_index { IsTrue D.tells → KeepsIndex (D.files disk.old).idx db.now }
     requires runs { db.now.stopped ≡ false }
     requires remembers { IsTrue D.tells → HasIndexRows db.now (D.files disk.old).pkg (D.files disk.old).idx
-        → Remembers (is_met (packages (D.files disk.old).pkg db.now.store)) memo.old }
+        → Knows (packages (D.files disk.old).pkg db.now.store) memo.old }
     ensures kept { IsTrue D.tells → Keeps (D.files disk.new).pkg db.now }
     ensures kept_index { IsTrue D.tells → KeepsIndex (D.files disk.new).idx db.now }
     ensures told { IfOk result (λ b. IsTrue D.tells → HasIndexRows db.now (D.files disk.old).pkg (D.files disk.old).idx
         → b ≡ lacks (packages (D.files disk.old).pkg db.now.store) (needed_in needed.now)) }
     ensures remembered { IsTrue D.tells → HasIndexRows db.now (D.files disk.old).pkg (D.files disk.old).idx
-        → Remembers (is_met (packages (D.files disk.old).pkg db.now.store)) memo.new }
+        → Knows (packages (D.files disk.old).pkg db.now.store) memo.new }
     ensures broken { IsTrue D.tells → IfErr result (IsBroken (D.files disk.old).idx) }
     ensures lawful { IsTrue D.tells → HasIndexRows db.now (D.files disk.old).pkg (D.files disk.old).idx → is_broken result ≡ false }
     ensures looks { Glances D.tells D.files D.left_since D.moment D.bytes_read D.follows disk.old disk.new }
@@ -121,13 +121,13 @@ pub fn push_lacking<D: Disk>(
     requires keeps_index { IsTrue D.tells → KeepsIndex (D.files disk.old).idx db.now }
     requires runs { db.now.stopped ≡ false }
     requires remembers { IsTrue D.tells → HasIndexRows db.now (D.files disk.old).pkg (D.files disk.old).idx
-        → Remembers (is_met (packages (D.files disk.old).pkg db.now.store)) memo.old }
+        → Knows (packages (D.files disk.old).pkg db.now.store) memo.old }
     ensures kept { IsTrue D.tells → Keeps (D.files disk.new).pkg db.now }
     ensures kept_index { IsTrue D.tells → KeepsIndex (D.files disk.new).idx db.now }
     ensures told { OnOk result (IsTrue D.tells → HasIndexRows db.now (D.files disk.old).pkg (D.files disk.old).idx → found.new.items
         ≡ found.old.items ++ unmet_in (lacks (packages (D.files disk.old).pkg db.now.store)) number (required view.now) 0) }
     ensures remembered { IsTrue D.tells → HasIndexRows db.now (D.files disk.old).pkg (D.files disk.old).idx
-        → Remembers (is_met (packages (D.files disk.old).pkg db.now.store)) memo.new }
+        → Knows (packages (D.files disk.old).pkg db.now.store) memo.new }
     ensures broken { IsTrue D.tells → IfErr result (IsBroken (D.files disk.old).idx) }
     ensures lawful { IsTrue D.tells → HasIndexRows db.now (D.files disk.old).pkg (D.files disk.old).idx → is_broken result ≡ false }
     ensures looks { Glances D.tells D.files D.left_since D.moment D.bytes_read D.follows disk.old disk.new }

@@ -23,3 +23,4 @@ pub use next::next_unmet;
 pub use reading::{ReadGraph, read_graph};
 pub use report::unmet;
 pub use rpm_graph::{ClassList, Edge, Graph, order};
+pub use rpm_select::Recent;

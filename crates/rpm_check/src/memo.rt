@@ -1,10 +1,14 @@
 //! Requirements that were looked up before.
 
-ghost use Rattle.std.specs.Prelude.{◌≡◌, Bool, IfOk, IfSome};
-ghost use Rattle.rpm_tags.specs.Wanted.{Needed};
-ghost use Rattle.rpm_check.specs.inner.Memos.{need_of, Remembers};
+ghost use Rattle.std.specs.Prelude.{◌≡◌, IfOk, IfSome};
+ghost use Rattle.std.specs.FinMap.{FinMap};
+ghost use Rattle.std.specs.Ordering.{nat_cmp};
+ghost use Rattle.rpm_db.specs.State.{Package};
+ghost use Rattle.rpm_check.specs.Unmet.{is_met};
+ghost use Rattle.rpm_check.specs.inner.Memos.{need_of, Knows};
 ghost use Rattle.rpm_check.specs.inner.Needs.{needed_in};
 
+use rpm_select::Recent;
 use rpm_tags::Dependency;
 use std::alloc::{AllocError, Global};
 use std::collections::BTreeMap;
@@ -29,33 +33,37 @@ impl Requirement {
     }
 }
 
-/// Whether requirements are met that were looked up before.
+/// Whether requirements are met that were looked up before, and the package that was read last for one.
 #[derive(Drop)]
 pub struct Memo {
     answers: BTreeMap<Requirement, bool>,
+    pub recent: Recent,
 }
 
 impl Memo {
     pub fn new(alloc: Global) -> Memo
-        ensures { (so : Needed → Bool) → Remembers so result }
+        ensures { (packages : FinMap nat_cmp Package) → Knows packages result }
     {
         Memo {
             answers: BTreeMap::new(alloc),
+            recent: Recent::new(),
         }
     }
 
     /// What is known of a requirement.
     pub fn get(&self, key: &Requirement) -> Option<bool>
-        ensures { (so : Needed → Bool) → Remembers so self.now → IfSome result (λ known. known ≡ so (need_of key.now)) }
+        ensures { (packages : FinMap nat_cmp Package) → Knows packages self.now
+            → IfSome result (λ known. known ≡ is_met packages (need_of key.now)) }
     {
         self.answers.get(key).copied()
     }
 
     /// Notes whether a requirement is met.
-    pub fn put(&mut self, key: Requirement, is_met: bool) -> Result<(), AllocError>
-        ensures { (so : Needed → Bool) → Remembers so self.old → is_met ≡ so (need_of key) → Remembers so self.new }
+    pub fn put(&mut self, key: Requirement, met: bool) -> Result<(), AllocError>
+        ensures { (packages : FinMap nat_cmp Package) → Knows packages self.old → met ≡ is_met packages (need_of key)
+            → Knows packages self.new }
     {
-        self.answers.insert(key, is_met)?;
+        self.answers.insert(key, met)?;
         Ok(())
     }
 }

@@ -7,8 +7,8 @@ ghost use Rattle.rpm_db.specs.Database.{Keeps, KeepsIndex};
 ghost use Rattle.rpm_db.specs.State.{packages};
 ghost use Rattle.rpm_select.specs.Reach.{HasIndexRows};
 ghost use Rattle.rpm_check.specs.Answers.{Glances, IsBroken, is_broken};
-ghost use Rattle.rpm_check.specs.Unmet.{required, is_met, lacks, unmet, unmet_in, is_above, unmet_after, IsNextUnmet};
-ghost use Rattle.rpm_check.specs.inner.Memos.{Remembers};
+ghost use Rattle.rpm_check.specs.Unmet.{required, lacks, unmet, unmet_in, is_above, unmet_after, IsNextUnmet};
+ghost use Rattle.rpm_check.specs.inner.Memos.{Knows};
 ghost use Rattle.rpm_check.specs.inner.Rounds.{unmet_at, IsFirst};
 
 use crate::faults::CheckFault;
@@ -43,13 +43,13 @@ fn next_lacking<D: Disk>(
     requires keeps_index { IsTrue D.tells → KeepsIndex (D.files disk.old).idx db.now }
     requires runs { db.now.stopped ≡ false }
     requires remembers { IsTrue D.tells → HasIndexRows db.now (D.files disk.old).pkg (D.files disk.old).idx
-        → Remembers (is_met (packages (D.files disk.old).pkg db.now.store)) memo.old }
+        → Knows (packages (D.files disk.old).pkg db.now.store) memo.old }
     ensures kept { IsTrue D.tells → Keeps (D.files disk.new).pkg db.now }
     ensures kept_index { IsTrue D.tells → KeepsIndex (D.files disk.new).idx db.now }
     ensures told { IfOk result (λ next. IsTrue D.tells → HasIndexRows db.now (D.files disk.old).pkg (D.files disk.old).idx
         → IsFirst (filter (is_above n i) (unmet_in (lacks (packages (D.files disk.old).pkg db.now.store)) number (required view.now) 0)) next) }
     ensures remembered { IsTrue D.tells → HasIndexRows db.now (D.files disk.old).pkg (D.files disk.old).idx
-        → Remembers (is_met (packages (D.files disk.old).pkg db.now.store)) memo.new }
+        → Knows (packages (D.files disk.old).pkg db.now.store) memo.new }
     ensures broken { IsTrue D.tells → IfErr result (IsBroken (D.files disk.old).idx) }
     ensures lawful { IsTrue D.tells → HasIndexRows db.now (D.files disk.old).pkg (D.files disk.old).idx → is_broken result ≡ false }
     ensures looks { Glances D.tells D.files D.left_since D.moment D.bytes_read D.follows disk.old disk.new }
@@ -85,14 +85,14 @@ fn next_in<D: Disk>(
     requires keeps_index { IsTrue D.tells → KeepsIndex (D.files disk.old).idx db.now }
     requires runs { db.now.stopped ≡ false }
     requires remembers { IsTrue D.tells → HasIndexRows db.now (D.files disk.old).pkg (D.files disk.old).idx
-        → Remembers (is_met (packages (D.files disk.old).pkg db.now.store)) memo.old }
+        → Knows (packages (D.files disk.old).pkg db.now.store) memo.old }
     ensures kept { IsTrue D.tells → Keeps (D.files disk.new).pkg db.now }
     ensures kept_index { IsTrue D.tells → KeepsIndex (D.files disk.new).idx db.now }
     ensures told { IfOk result (λ next. IsTrue D.tells → HasIndexRows db.now (D.files disk.old).pkg (D.files disk.old).idx
         → IsFirst (filter (is_above n i) (unmet_at (lacks (packages (D.files disk.old).pkg db.now.store)) number
         (finite.get (packages (D.files disk.old).pkg db.now.store) number))) next) }
     ensures remembered { IsTrue D.tells → HasIndexRows db.now (D.files disk.old).pkg (D.files disk.old).idx
-        → Remembers (is_met (packages (D.files disk.old).pkg db.now.store)) memo.new }
+        → Knows (packages (D.files disk.old).pkg db.now.store) memo.new }
     ensures broken { IsTrue D.tells → IfErr result (IsBroken (D.files disk.old).idx) }
     ensures lawful { IsTrue D.tells → HasIndexRows db.now (D.files disk.old).pkg (D.files disk.old).idx → is_broken result ≡ false }
     ensures looks { Glances D.tells D.files D.left_since D.moment D.bytes_read D.follows disk.old disk.new }

@@ -8,9 +8,9 @@ ghost use Rattle.rpm_db.specs.Database.{Keeps, KeepsIndex};
 ghost use Rattle.rpm_db.specs.State.{packages};
 ghost use Rattle.rpm_select.specs.Reach.{HasIndexRows};
 ghost use Rattle.rpm_check.specs.Answers.{Glances, IsBroken, is_broken};
-ghost use Rattle.rpm_check.specs.Edges.{givers, good_numbers, edges_from, all_edges};
+ghost use Rattle.rpm_check.specs.Edges.{good_numbers, edges_from, all_edges};
 ghost use Rattle.rpm_check.specs.inner.Ends.{good_if, is_good_at};
-ghost use Rattle.rpm_check.specs.inner.GiverMemos.{RemembersGivers};
+ghost use Rattle.rpm_check.specs.inner.GiverMemos.{KnowsGivers};
 ghost use Rattle.rpm_check.specs.inner.Nodes.{AreRising, numbers_of, edges_of};
 
 use crate::ends::ends_of;
@@ -40,7 +40,7 @@ fn push_node<D: Disk>(
     requires keeps_index { IsTrue D.tells → KeepsIndex (D.files disk.old).idx db.now }
     requires runs { db.now.stopped ≡ false }
     requires remembers { IsTrue D.tells → HasIndexRows db.now (D.files disk.old).pkg (D.files disk.old).idx
-        → RemembersGivers (givers (packages (D.files disk.old).pkg db.now.store)) memo.old }
+        → KnowsGivers (packages (D.files disk.old).pkg db.now.store) memo.old }
     requires rising { AreRising nodes.old.items }
     requires below { All (λ n. n < number) (numbers_of nodes.old.items) }
     ensures kept { IsTrue D.tells → Keeps (D.files disk.new).pkg db.now }
@@ -54,7 +54,7 @@ fn push_node<D: Disk>(
         ≡ flat_map (edges_of (good_numbers (packages (D.files disk.old).pkg db.now.store))) nodes.old.items
         ++ edges_from (packages (D.files disk.old).pkg db.now.store) number) }
     ensures remembered { IsTrue D.tells → HasIndexRows db.now (D.files disk.old).pkg (D.files disk.old).idx
-        → RemembersGivers (givers (packages (D.files disk.old).pkg db.now.store)) memo.new }
+        → KnowsGivers (packages (D.files disk.old).pkg db.now.store) memo.new }
     ensures broken { IsTrue D.tells → IfErr result (IsBroken (D.files disk.old).idx) }
     ensures lawful { IsTrue D.tells → HasIndexRows db.now (D.files disk.old).pkg (D.files disk.old).idx → is_broken result ≡ false }
     ensures looks { Glances D.tells D.files D.left_since D.moment D.bytes_read D.follows disk.old disk.new }

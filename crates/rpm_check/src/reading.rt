@@ -24,8 +24,9 @@ use std::alloc::Global;
 ///
 /// Reads the blocks of each package once, and looks each distinct requirement up once, as `givers` does: what was found of a name
 /// with these flags and this version is remembered. So with an index it takes n log n steps in the requirements and the edges, and
-/// reads beside them the candidates of each distinct one. Holds one package at a time, the distinct requirements, 4 bytes for each
-/// package that meets one of them, 4 bytes for each package and each other that it requires, and the graph.
+/// reads beside them the candidates of each distinct one, but not again the one that was read last. Holds that and one other package at
+/// a time, the distinct requirements, 4 bytes for each package that meets one of them, 4 bytes for each package and each other that it
+/// requires, and the graph.
 ///
 /// # Errors
 ///

@@ -7,8 +7,8 @@ ghost use Rattle.rpm_db.specs.Database.{Keeps, KeepsIndex};
 ghost use Rattle.rpm_db.specs.State.{packages};
 ghost use Rattle.rpm_select.specs.Reach.{HasIndexRows};
 ghost use Rattle.rpm_check.specs.Answers.{Glances, IsBroken, is_broken};
-ghost use Rattle.rpm_check.specs.Unmet.{is_met, lacks, unmet};
-ghost use Rattle.rpm_check.specs.inner.Memos.{Remembers};
+ghost use Rattle.rpm_check.specs.Unmet.{lacks, unmet};
+ghost use Rattle.rpm_check.specs.inner.Memos.{Knows};
 ghost use Rattle.rpm_check.specs.inner.Rounds.{unmet_at};
 
 use crate::faults::CheckFault;
@@ -33,14 +33,14 @@ fn push_unmet<D: Disk>(
     requires keeps_index { IsTrue D.tells → KeepsIndex (D.files disk.old).idx db.now }
     requires runs { db.now.stopped ≡ false }
     requires remembers { IsTrue D.tells → HasIndexRows db.now (D.files disk.old).pkg (D.files disk.old).idx
-        → Remembers (is_met (packages (D.files disk.old).pkg db.now.store)) memo.old }
+        → Knows (packages (D.files disk.old).pkg db.now.store) memo.old }
     ensures kept { IsTrue D.tells → Keeps (D.files disk.new).pkg db.now }
     ensures kept_index { IsTrue D.tells → KeepsIndex (D.files disk.new).idx db.now }
     ensures told { OnOk result (IsTrue D.tells → HasIndexRows db.now (D.files disk.old).pkg (D.files disk.old).idx → found.new.items
         ≡ found.old.items ++ unmet_at (lacks (packages (D.files disk.old).pkg db.now.store)) number
         (finite.get (packages (D.files disk.old).pkg db.now.store) number)) }
     ensures remembered { IsTrue D.tells → HasIndexRows db.now (D.files disk.old).pkg (D.files disk.old).idx
-        → Remembers (is_met (packages (D.files disk.old).pkg db.now.store)) memo.new }
+        → Knows (packages (D.files disk.old).pkg db.now.store) memo.new }
     ensures broken { IsTrue D.tells → IfErr result (IsBroken (D.files disk.old).idx) }
     ensures lawful { IsTrue D.tells → HasIndexRows db.now (D.files disk.old).pkg (D.files disk.old).idx → is_broken result ≡ false }
     ensures looks { Glances D.tells D.files D.left_since D.moment D.bytes_read D.follows disk.old disk.new }
@@ -64,7 +64,8 @@ fn push_unmet<D: Disk>(
 ///
 /// Reads the blocks of each package once, and looks each distinct requirement up once, as `is_met` does: what was found of a name with
 /// these flags and this version is remembered, in order. So with an index it takes n log n steps in the requirements, and reads beside
-/// them the candidates of each distinct one. Holds the distinct requirements, one package at a time, and 8 bytes for each that is listed.
+/// them the candidates of each distinct one. Holds the distinct requirements, a package and the one that was read
+/// last for a requirement, which isn't read again for the next one, and 8 bytes for each that is listed.
 ///
 /// # Errors
 ///

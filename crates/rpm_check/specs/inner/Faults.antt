@@ -1,6 +1,6 @@
 -- What stops a report where a picker fails.
-use Rattle.rpm_select.specs.declared.picker.PickFault.{PickFault}
-use Rattle.rpm_select.specs.declared.picker.PickFault.TheVariants as pick
+use Rattle.rpm_select.specs.declared.picked.PickFault.{PickFault}
+use Rattle.rpm_select.specs.declared.picked.PickFault.TheVariants as pick
 use Rattle.rpm_check.specs.declared.faults.CheckFault.{CheckFault}
 use Rattle.rpm_check.specs.declared.faults.CheckFault.TheVariants.{BadIndex, DiskFault, NoMemory}
 

@@ -1,11 +1,21 @@
 -- What a memo of packages remembers.
 use Rattle.std.specs.Prelude.{◌≡◌, ℕ, List, IfSome}
 use Rattle.std.specs.BTreeMap.{get}
+use Rattle.std.specs.FinMap.{FinMap}
+use Rattle.std.specs.Ordering.{nat_cmp}
 use Rattle.rpm_tags.specs.Wanted.{Needed}
+use Rattle.rpm_db.specs.State.{Package}
+use Rattle.rpm_select.specs.Recents.{Recalls}
 use Rattle.rpm_check.specs.declared.memo.Requirement.{Requirement}
 use Rattle.rpm_check.specs.declared.giver_memo.GiverMemo.{GiverMemo}
+use Rattle.rpm_check.specs.Edges.{givers}
 use Rattle.rpm_check.specs.inner.Memos.{need_of, key_order}
 
 -- the numbers that are known of a requirement are its own
 abbrev pub RemembersGivers : (Needed → List ℕ) → GiverMemo → Type 0
 RemembersGivers of memo = (key : Requirement) → IfSome (get key_order memo.numbers key) (λ known. known.items ≡ of (need_of key))
+
+-- and what is held of the package that was read last
+pub record KnowsGivers (packages : FinMap nat_cmp Package) (memo : GiverMemo) : Type 0 where
+  pub numbers : RemembersGivers (givers packages) memo
+  pub recent : Recalls packages memo.recent

@@ -3,10 +3,14 @@ use Rattle.std.specs.Prelude.{◌≡◌, Bool, IfSome}
 use Rattle.std.specs.declared.cmp.Ordering.{Ordering}
 use Rattle.std.specs.BTreeMap.{get}
 use Rattle.std.specs.Cmp.Lexicographic.{slice_cmp}
+use Rattle.std.specs.FinMap.{FinMap}
 use Rattle.std.specs.Ordering.{nat_cmp, ordering_then}
 use Rattle.rpm_tags.specs.Wanted.{Needed}
+use Rattle.rpm_db.specs.State.{Package}
+use Rattle.rpm_select.specs.Recents.{Recalls}
 use Rattle.rpm_check.specs.declared.memo.Requirement.{Requirement}
 use Rattle.rpm_check.specs.declared.memo.Memo.{Memo}
+use Rattle.rpm_check.specs.Unmet.{is_met}
 
 -- the requirement that a key stands for
 abbrev pub need_of : Requirement → Needed
@@ -21,3 +25,8 @@ key_order a b =
 -- what is known of a requirement is so
 abbrev pub Remembers : (Needed → Bool) → Memo → Type 0
 Remembers is_so memo = (key : Requirement) → IfSome (get key_order memo.answers key) (λ known. known ≡ is_so (need_of key))
+
+-- and what is held of the package that was read last
+pub record Knows (packages : FinMap nat_cmp Package) (memo : Memo) : Type 0 where
+  pub answers : Remembers (is_met packages) memo
+  pub recent : Recalls packages memo.recent

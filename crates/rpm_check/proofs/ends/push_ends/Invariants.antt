@@ -7,7 +7,7 @@ use Rattle.rpm_select.specs.Reach.{HasIndexRows}
 use Rattle.rpm_check.specs.Answers.{Glances}
 use Rattle.rpm_check.specs.Edges.{givers}
 use Rattle.rpm_check.specs.Unmet.{required}
-use Rattle.rpm_check.specs.inner.GiverMemos.{RemembersGivers}
+use Rattle.rpm_check.specs.inner.GiverMemos.{KnowsGivers}
 use Rattle.rpm_check.proofs.ends.push_ends.Given as goal
 
 abbrev pub invariant-loop-needed : goal.invariant-loop-needed
@@ -17,7 +17,7 @@ invariant-loop-needed g l = record {
   looks : Glances g.D.Disk.tells g.D.Disk.files g.D.Disk.left_since g.D.Disk.moment g.D.Disk.bytes_read g.D.Disk.follows l.initial.disk l.disk;
   faults : g.D.Disk.faults l.initial.disk ≤ g.D.Disk.faults l.disk;
   remembers : IsTrue g.D.Disk.tells → HasIndexRows l.db (g.D.Disk.files l.initial.disk).pkg (g.D.Disk.files l.initial.disk).idx
-      → RemembersGivers (givers (packages (g.D.Disk.files l.initial.disk).pkg l.db.store)) l.memo;
+      → KnowsGivers (packages (g.D.Disk.files l.initial.disk).pkg l.db.store) l.memo;
   told : IsTrue g.D.Disk.tells → HasIndexRows l.db (g.D.Disk.files l.initial.disk).pkg (g.D.Disk.files l.initial.disk).idx
       → l.ends.items ++ flat_map (givers (packages (g.D.Disk.files l.initial.disk).pkg l.db.store)) l.left
       ≡ l.initial.ends.items ++ flat_map (givers (packages (g.D.Disk.files l.initial.disk).pkg l.db.store)) (required l.view);

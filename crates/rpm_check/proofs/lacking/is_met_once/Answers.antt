@@ -1,9 +1,33 @@
-use Rattle.std.proofs.Common.{ap, ◌∙◌}
+use Rattle.std.proofs.Common.{sym, ap, ◌∙◌}
 use Rattle.rpm_db.specs.State.{packages}
 use Rattle.rpm_check.specs.Unmet.{is_met}
 use Rattle.rpm_check.proofs.lacking.is_met_once.Goals as goal
 
 pub returns-in-Some-clause-told : goal.returns-in-Some-clause-told
 returns-in-Some-clause-told g c = λ told has.
-    let so = is_met (packages (g.D.Disk.files c.args.disk.now).pkg c.args.db.now.store) in
-    c.in-Some.ensures so (c.requires.remembers told has) ∙ ap so c.in_ok-key.ensures
+    let all = packages (g.D.Disk.files c.args.disk.now).pkg c.args.db.now.store in
+    c.in-Some.ensures all (c.requires.remembers told has) ∙ ap (is_met all) c.in_ok-key.ensures
+
+pub returns-in_err-found-clause-remembered : goal.returns-in_err-found-clause-remembered
+returns-in_err-found-clause-remembered g c = λ told has.
+    let knows = c.requires.remembers told has in
+    record { answers = knows.answers; recent = c.in_err-found.ensures.recalls told knows.recent }
+
+pub returns-in_err-put-clause-remembered : goal.returns-in_err-put-clause-remembered
+returns-in_err-put-clause-remembered g c = λ told has.
+    let all = packages (g.D.Disk.files c.args.disk.now).pkg c.args.db.now.store in
+    let knows = c.requires.remembers told has in
+    let found = c.in_ok-found.ensures in
+    c.in_err-put.ensures all (record { answers = knows.answers; recent = found.recalls told knows.recent })
+    (found.told told has knows.recent ∙ ap (is_met all) (sym c.in_ok-key.ensures))
+
+pub returns-clause-remembered : goal.returns-clause-remembered
+returns-clause-remembered g c = λ told has.
+    let all = packages (g.D.Disk.files c.args.disk.now).pkg c.args.db.now.store in
+    let knows = c.requires.remembers told has in
+    let found = c.in_ok-found.ensures in
+    c.in_ok-put.ensures all (record { answers = knows.answers; recent = found.recalls told knows.recent })
+    (found.told told has knows.recent ∙ ap (is_met all) (sym c.in_ok-key.ensures))
+
+pub returns-clause-told : goal.returns-clause-told
+returns-clause-told g c = λ told has. c.in_ok-found.ensures.told told has (c.requires.remembers told has).recent

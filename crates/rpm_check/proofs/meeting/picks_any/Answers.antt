@@ -3,8 +3,9 @@ use Rattle.std.proofs.lemmas.Result.{err_from_is_err_and}
 use Rattle.rpm_outside.specs.Files.{Files}
 use Rattle.rpm_db.specs.State.{packages, above}
 use Rattle.rpm_select.specs.Candidates.{keys_asked}
-use Rattle.rpm_select.specs.Picks.{NextIs}
+use Rattle.rpm_select.specs.Picks.{NextNumberIs}
 use Rattle.rpm_select.specs.Reach.{Serves}
+use Rattle.rpm_select.specs.Recents.{Recalls}
 use Rattle.rpm_select.specs.Selections.{picks}
 use Rattle.rpm_check.specs.inner.Picking.{is_some_of}
 use Rattle.rpm_check.proofs.Faulting.{broken_from}
@@ -20,14 +21,20 @@ returns-in_err-picker-clause-broken g c = λ told.
     rw (p.1, p.2) (broken_from (keys_asked c.args.selection.now) idx c.in_err-picker.field-0.0 (c.in_err-picker.ensures.broken told))
 
 pub returns-clause-told : goal.returns-clause-told
-returns-clause-told g c = λ told has.
+returns-clause-told g c = λ told has holds.
     let db = c.args.db.now in
     let sel = c.args.selection.now in
     let picker = c.in_ok-picker.picker in
     let picked = c.in_ok-picked.picked in
     let pkg = (g.D.Disk.files c.args.disk.now).pkg in
     let next = subst (λ (f : Files). Serves picker (packages f.pkg db.store) sel
-    → NextIs (above 0 (picks (packages f.pkg db.store) sel)) (Ok picked)) (c.in_ok-picker.ensures.looks.untouched told).same
+    → Recalls (packages f.pkg db.store) c.args.recent.now → NextNumberIs (above 0 (picks (packages f.pkg db.store) sel)) (Ok picked)) (c.in_ok-picker.ensures.looks.untouched told).same
     (c.in_ok-picked.ensures.told told) in
-    c.is_some.ensures ∙ is_some_next (above 0 (picks (packages pkg db.store) sel)) picked (next (c.in_ok-picker.ensures.serves told has))
+    c.is_some.ensures ∙ is_some_next (above 0 (picks (packages pkg db.store) sel)) picked (next (c.in_ok-picker.ensures.serves told has) holds)
     ∙ ap is_some_of (picks_from_one pkg db sel (from_one pkg db (c.requires.keeps told)))
+
+pub returns-clause-recalls : goal.returns-clause-recalls
+returns-clause-recalls g c = λ told holds.
+    let db = c.args.db.now in
+    subst (λ (f : Files). Recalls (packages f.pkg db.store) c.args.recent.now → Recalls (packages f.pkg db.store) c.next_number_after.new.recent)
+    (c.in_ok-picker.ensures.looks.untouched told).same (c.in_ok-picked.ensures.recalls told) holds

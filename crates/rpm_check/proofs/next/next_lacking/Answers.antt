@@ -5,8 +5,8 @@ use Rattle.rpm_tags.specs.Wanted.{Needed}
 use Rattle.rpm_db.specs.State.{packages}
 use Rattle.rpm_select.specs.Reach.{HasIndexRows}
 use Rattle.rpm_check.specs.declared.list.Unmet.{Unmet}
-use Rattle.rpm_check.specs.Unmet.{is_met, lacks, unmet_in, is_above}
-use Rattle.rpm_check.specs.inner.Memos.{Remembers}
+use Rattle.rpm_check.specs.Unmet.{lacks, unmet_in, is_above}
+use Rattle.rpm_check.specs.inner.Memos.{Knows}
 use Rattle.rpm_check.specs.inner.Rounds.{IsFirst}
 use Rattle.rpm_check.proofs.Enumerating.{not_lacking, first_lacking}
 use Rattle.rpm_check.proofs.Glancing.{glances_then}
@@ -44,7 +44,7 @@ loop-place-preserved g c =
       faults = omega (arith, inv.faults, done.cause.later);
       places = omega (arith, inv.places, ap length cons);
       remembers = λ told has.
-          subst (λ (f : Files). HasIndexRows db f.pkg f.idx → Remembers (is_met (packages f.pkg db.store)) c.lacks.new.memo)
+          subst (λ (f : Files). HasIndexRows db f.pkg f.idx → Knows (packages f.pkg db.store) c.lacks.new.memo)
           (inv.looks.untouched told).same (done.remembered told) has;
       told = λ told has.
           let is_lacking = lacks (packages (g.D.Disk.files c.args.disk.now).pkg db.store) in

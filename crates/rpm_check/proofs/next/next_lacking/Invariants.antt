@@ -4,8 +4,8 @@ use Rattle.rpm_db.specs.Database.{Keeps, KeepsIndex}
 use Rattle.rpm_db.specs.State.{packages}
 use Rattle.rpm_select.specs.Reach.{HasIndexRows}
 use Rattle.rpm_check.specs.Answers.{Glances}
-use Rattle.rpm_check.specs.Unmet.{required, is_met, lacks, unmet_in, is_above}
-use Rattle.rpm_check.specs.inner.Memos.{Remembers}
+use Rattle.rpm_check.specs.Unmet.{required, lacks, unmet_in, is_above}
+use Rattle.rpm_check.specs.inner.Memos.{Knows}
 use Rattle.rpm_check.proofs.next.next_lacking.Given as goal
 
 abbrev pub invariant-loop-place : goal.invariant-loop-place
@@ -16,7 +16,7 @@ invariant-loop-place g l = record {
   faults : g.D.Disk.faults l.initial.disk ≤ g.D.Disk.faults l.disk;
   places : l.place + length l.left ≡ length (required l.view);
   remembers : IsTrue g.D.Disk.tells → HasIndexRows l.db (g.D.Disk.files l.initial.disk).pkg (g.D.Disk.files l.initial.disk).idx
-      → Remembers (is_met (packages (g.D.Disk.files l.initial.disk).pkg l.db.store)) l.memo;
+      → Knows (packages (g.D.Disk.files l.initial.disk).pkg l.db.store) l.memo;
   told : IsTrue g.D.Disk.tells → HasIndexRows l.db (g.D.Disk.files l.initial.disk).pkg (g.D.Disk.files l.initial.disk).idx
       → filter (is_above l.n l.i) (unmet_in (lacks (packages (g.D.Disk.files l.initial.disk).pkg l.db.store)) l.number (required l.view) 0)
       ≡ filter (is_above l.n l.i) (unmet_in (lacks (packages (g.D.Disk.files l.initial.disk).pkg l.db.store)) l.number l.left l.place);

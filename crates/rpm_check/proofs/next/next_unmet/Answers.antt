@@ -4,8 +4,8 @@ use Rattle.std.specs.FinMap as finite
 use Rattle.rpm_outside.specs.Files.{Files}
 use Rattle.rpm_db.specs.State.{packages}
 use Rattle.rpm_select.specs.Reach.{HasIndexRows}
-use Rattle.rpm_check.specs.Unmet.{is_met, lacks, is_above}
-use Rattle.rpm_check.specs.inner.Memos.{Remembers}
+use Rattle.rpm_check.specs.Unmet.{lacks, is_above}
+use Rattle.rpm_check.specs.inner.Memos.{Knows}
 use Rattle.rpm_check.specs.inner.Rounds.{unmet_at, IsFirst}
 use Rattle.rpm_check.proofs.Enumerating.{after_in, after_from, found_here, none_here, none_later}
 use Rattle.rpm_check.proofs.Glancing.{glances_none, glances_then}
@@ -22,7 +22,7 @@ loop-number-init g c =
           glances_none g.D.Disk.tells g.D.Disk.files g.D.Disk.left_since g.D.Disk.moment g.D.Disk.bytes_read g.D.Disk.follows g.met.D.Disk.follows_refl
           c.args.disk.now;
       faults = omega arith;
-      remembers = λ told has. c.new-memo.ensures (is_met (packages pkg c.args.db.now.store));
+      remembers = λ told has. c.new-memo.ensures (packages pkg c.args.db.now.store);
       told = λ told has. after_from pkg c.args.db.now c.args.n c.args.i (c.requires.keeps told)
           ∙ ap (turns_above (packages pkg c.args.db.now.store) (after_in (packages pkg c.args.db.now.store) c.args.n c.args.i)) (sym c.saturating_sub-passed.ensures);
     }
@@ -43,7 +43,7 @@ loop-number-preserved g c =
           c.args.disk.now c.loop-number.disk c.next_in.new.disk inv.looks done.looks;
       faults = omega (arith, inv.faults, done.cause.later);
       remembers = λ told has.
-          subst (λ (f : Files). HasIndexRows db f.pkg f.idx → Remembers (is_met (packages f.pkg db.store)) c.next_in.new.memo)
+          subst (λ (f : Files). HasIndexRows db f.pkg f.idx → Knows (packages f.pkg db.store) c.next_in.new.memo)
           (inv.looks.untouched told).same (done.remembered told) has;
       told = λ told has.
           let pkg = (g.D.Disk.files c.args.disk.now).pkg in

@@ -4,8 +4,8 @@ use Rattle.rpm_db.specs.Database.{Keeps, KeepsIndex}
 use Rattle.rpm_db.specs.State.{packages}
 use Rattle.rpm_select.specs.Reach.{HasIndexRows}
 use Rattle.rpm_check.specs.Answers.{Glances}
-use Rattle.rpm_check.specs.Unmet.{is_met, unmet_after}
-use Rattle.rpm_check.specs.inner.Memos.{Remembers}
+use Rattle.rpm_check.specs.Unmet.{unmet_after}
+use Rattle.rpm_check.specs.inner.Memos.{Knows}
 use Rattle.rpm_check.proofs.Enumerating.{after_in}
 use Rattle.rpm_check.proofs.Turning.{turns_above}
 use Rattle.rpm_check.proofs.next.next_unmet.Given as goal
@@ -17,7 +17,7 @@ invariant-loop-number g l = record {
   looks : Glances g.D.Disk.tells g.D.Disk.files g.D.Disk.left_since g.D.Disk.moment g.D.Disk.bytes_read g.D.Disk.follows l.initial.disk l.disk;
   faults : g.D.Disk.faults l.initial.disk ≤ g.D.Disk.faults l.disk;
   remembers : IsTrue g.D.Disk.tells → HasIndexRows l.db (g.D.Disk.files l.initial.disk).pkg (g.D.Disk.files l.initial.disk).idx
-      → Remembers (is_met (packages (g.D.Disk.files l.initial.disk).pkg l.db.store)) l.memo;
+      → Knows (packages (g.D.Disk.files l.initial.disk).pkg l.db.store) l.memo;
   told : IsTrue g.D.Disk.tells → HasIndexRows l.db (g.D.Disk.files l.initial.disk).pkg (g.D.Disk.files l.initial.disk).idx
       → unmet_after (packages (g.D.Disk.files l.initial.disk).pkg l.db.store) l.n l.i
       ≡ turns_above (packages (g.D.Disk.files l.initial.disk).pkg l.db.store)

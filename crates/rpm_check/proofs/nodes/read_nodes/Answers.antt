@@ -7,9 +7,9 @@ use Rattle.rpm_db.specs.State.{Package, packages}
 use Rattle.rpm_graph.specs.declared.graph.Edge.{Edge}
 use Rattle.rpm_select.specs.Reach.{HasIndexRows}
 use Rattle.rpm_check.specs.declared.nodes.Node.{Node}
-use Rattle.rpm_check.specs.Edges.{givers, good_numbers, edges_from}
+use Rattle.rpm_check.specs.Edges.{good_numbers, edges_from}
 use Rattle.rpm_check.specs.inner.Ends.{good_if, good_of, is_good_at}
-use Rattle.rpm_check.specs.inner.GiverMemos.{RemembersGivers}
+use Rattle.rpm_check.specs.inner.GiverMemos.{KnowsGivers}
 use Rattle.rpm_check.specs.inner.Nodes.{AreRising, numbers_of, edges_of}
 use Rattle.rpm_check.proofs.FromOne.{from_one}
 use Rattle.rpm_check.proofs.Gathering.{none_rise}
@@ -31,7 +31,7 @@ loop-next-init g c =
           glances_none g.D.Disk.tells g.D.Disk.files g.D.Disk.left_since g.D.Disk.moment g.D.Disk.bytes_read g.D.Disk.follows g.met.D.Disk.follows_refl
           c.args.disk.now;
       faults = omega arith;
-      remembers = λ told has. c.new-memo.ensures (givers all);
+      remembers = λ told has. c.new-memo.ensures all;
       rising = subst AreRising (sym none) none_rise;
       reached = All-same (λ (n : ℕ). n ≤ 0) (numbers_of c.new-nodes.result.items) [] (ap numbers_of none) (All-nil (λ (n : ℕ). n ≤ 0));
       numbers = λ told.
@@ -67,7 +67,7 @@ loop-next-preserved g c =
           c.args.disk.now c.loop-next.disk c.push_node.new.disk inv.looks done.looks;
       faults = omega (arith, inv.faults, done.cause.later);
       remembers = λ told has.
-          subst (λ (f : Files). HasIndexRows db f.pkg f.idx → RemembersGivers (givers (packages f.pkg db.store)) c.push_node.new.memo)
+          subst (λ (f : Files). HasIndexRows db f.pkg f.idx → KnowsGivers (packages f.pkg db.store) c.push_node.new.memo)
           (inv.looks.untouched told).same (done.remembered told) has;
       rising = done.rising;
       reached = done.reached;

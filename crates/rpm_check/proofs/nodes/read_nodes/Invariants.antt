@@ -5,9 +5,9 @@ use Rattle.rpm_db.specs.Database.{Keeps, KeepsIndex}
 use Rattle.rpm_db.specs.State.{packages}
 use Rattle.rpm_select.specs.Reach.{HasIndexRows}
 use Rattle.rpm_check.specs.Answers.{Glances}
-use Rattle.rpm_check.specs.Edges.{givers, good_numbers, edges_from, all_edges}
+use Rattle.rpm_check.specs.Edges.{good_numbers, edges_from, all_edges}
 use Rattle.rpm_check.specs.inner.Ends.{good_of}
-use Rattle.rpm_check.specs.inner.GiverMemos.{RemembersGivers}
+use Rattle.rpm_check.specs.inner.GiverMemos.{KnowsGivers}
 use Rattle.rpm_check.specs.inner.Nodes.{AreRising, numbers_of, edges_of}
 use Rattle.rpm_check.proofs.Turning.{turns_above}
 use Rattle.rpm_check.proofs.nodes.read_nodes.Given as goal
@@ -19,7 +19,7 @@ invariant-loop-next g l = record {
   looks : Glances g.D.Disk.tells g.D.Disk.files g.D.Disk.left_since g.D.Disk.moment g.D.Disk.bytes_read g.D.Disk.follows l.initial.disk l.disk;
   faults : g.D.Disk.faults l.initial.disk ≤ g.D.Disk.faults l.disk;
   remembers : IsTrue g.D.Disk.tells → HasIndexRows l.db (g.D.Disk.files l.initial.disk).pkg (g.D.Disk.files l.initial.disk).idx
-      → RemembersGivers (givers (packages (g.D.Disk.files l.initial.disk).pkg l.db.store)) l.memo;
+      → KnowsGivers (packages (g.D.Disk.files l.initial.disk).pkg l.db.store) l.memo;
   rising : AreRising l.nodes.items;
   reached : All (λ n. n ≤ l.passed) (numbers_of l.nodes.items);
   numbers : IsTrue g.D.Disk.tells

@@ -5,8 +5,8 @@ use Rattle.rpm_outside.specs.Files.{Files}
 use Rattle.rpm_db.specs.State.{packages}
 use Rattle.rpm_select.specs.Reach.{HasIndexRows}
 use Rattle.rpm_check.specs.declared.list.Unmet.{Unmet}
-use Rattle.rpm_check.specs.Unmet.{is_met, lacks}
-use Rattle.rpm_check.specs.inner.Memos.{Remembers}
+use Rattle.rpm_check.specs.Unmet.{lacks}
+use Rattle.rpm_check.specs.inner.Memos.{Knows}
 use Rattle.rpm_check.specs.inner.Rounds.{unmet_at}
 use Rattle.rpm_check.proofs.FromOne.{from_one}
 use Rattle.rpm_check.proofs.Glancing.{glances_none, glances_then}
@@ -21,7 +21,7 @@ loop-next-init g c = record {
       glances_none g.D.Disk.tells g.D.Disk.files g.D.Disk.left_since g.D.Disk.moment g.D.Disk.bytes_read g.D.Disk.follows g.met.D.Disk.follows_refl
       c.args.disk.now;
   faults = omega arith;
-  remembers = λ told has. c.new-memo.ensures (is_met (packages (g.D.Disk.files c.args.disk.now).pkg c.args.db.now.store));
+  remembers = λ told has. c.new-memo.ensures (packages (g.D.Disk.files c.args.disk.now).pkg c.args.db.now.store);
   told = λ told has.
       let pkg = (g.D.Disk.files c.args.disk.now).pkg in
       let all = packages pkg c.args.db.now.store in
@@ -42,7 +42,7 @@ loop-next-preserved g c =
           c.args.disk.now c.loop-next.disk c.push_unmet.new.disk inv.looks done.looks;
       faults = omega (arith, inv.faults, done.cause.later);
       remembers = λ told has.
-          subst (λ (f : Files). HasIndexRows db f.pkg f.idx → Remembers (is_met (packages f.pkg db.store)) c.push_unmet.new.memo)
+          subst (λ (f : Files). HasIndexRows db f.pkg f.idx → Knows (packages f.pkg db.store) c.push_unmet.new.memo)
           (inv.looks.untouched told).same (done.remembered told) has;
       told = λ told has.
           let pkg = (g.D.Disk.files c.args.disk.now).pkg in

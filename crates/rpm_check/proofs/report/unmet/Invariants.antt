@@ -4,8 +4,8 @@ use Rattle.rpm_db.specs.Database.{Keeps, KeepsIndex}
 use Rattle.rpm_db.specs.State.{packages}
 use Rattle.rpm_select.specs.Reach.{HasIndexRows}
 use Rattle.rpm_check.specs.Answers.{Glances}
-use Rattle.rpm_check.specs.Unmet.{is_met, lacks, unmet}
-use Rattle.rpm_check.specs.inner.Memos.{Remembers}
+use Rattle.rpm_check.specs.Unmet.{lacks, unmet}
+use Rattle.rpm_check.specs.inner.Memos.{Knows}
 use Rattle.rpm_check.proofs.Rounding.{unmet_above}
 use Rattle.rpm_check.proofs.report.unmet.Given as goal
 
@@ -16,7 +16,7 @@ invariant-loop-next g l = record {
   looks : Glances g.D.Disk.tells g.D.Disk.files g.D.Disk.left_since g.D.Disk.moment g.D.Disk.bytes_read g.D.Disk.follows l.initial.disk l.disk;
   faults : g.D.Disk.faults l.initial.disk ≤ g.D.Disk.faults l.disk;
   remembers : IsTrue g.D.Disk.tells → HasIndexRows l.db (g.D.Disk.files l.initial.disk).pkg (g.D.Disk.files l.initial.disk).idx
-      → Remembers (is_met (packages (g.D.Disk.files l.initial.disk).pkg l.db.store)) l.memo;
+      → Knows (packages (g.D.Disk.files l.initial.disk).pkg l.db.store) l.memo;
   told : IsTrue g.D.Disk.tells → HasIndexRows l.db (g.D.Disk.files l.initial.disk).pkg (g.D.Disk.files l.initial.disk).idx
       → l.found.items ++ unmet_above (packages (g.D.Disk.files l.initial.disk).pkg l.db.store)
       (lacks (packages (g.D.Disk.files l.initial.disk).pkg l.db.store)) l.passed
