@@ -10,7 +10,7 @@ use Rattle.rpm_file.specs.List.{Found}
 use Rattle.rpm_change.specs.declared.tally.Tally.{Tally}
 use Rattle.rpm_change.specs.declared.tally.Halt.{Halt}
 use Rattle.rpm_change.specs.declared.tally.Halt.TheVariants as halt
-use Rattle.rpm_change.specs.declared.import.Turn.{Turn}
+use Rattle.rpm_change.specs.declared.turn.Turn.{Turn}
 use Rattle.rpm_db.specs.Lawful.{IsWholeIndex}
 use Rattle.rpm_db.specs.State.{State}
 use Rattle.rpm_change.specs.Endings.{outputs, Done, WholeTurn}

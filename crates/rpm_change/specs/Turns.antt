@@ -7,7 +7,7 @@ use Rattle.rpm_file.specs.List.{Found}
 use Rattle.rpm_change.specs.declared.tally.Tally.{Tally}
 use Rattle.rpm_change.specs.declared.tally.Halt.{Halt}
 use Rattle.rpm_change.specs.declared.tally.Halt.TheVariants as halt
-use Rattle.rpm_change.specs.declared.import.Turn.{Turn}
+use Rattle.rpm_change.specs.declared.turn.Turn.{Turn}
 use Rattle.rpm_change.specs.Steps.{Course, idle}
 use Rattle.rpm_change.specs.Importing.{Listed, place_fails, imported, import_from}
 use Rattle.rpm_change.specs.Texts.{list_text}

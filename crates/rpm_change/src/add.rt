@@ -6,7 +6,8 @@ ghost use Rattle.rpm_outside.specs.Browses.{left};
 ghost use Rattle.rpm_outside.specs.Buffered.{inner};
 ghost use Rattle.rpm_outside.specs.Causes.{HasCauseAt};
 ghost use Rattle.rpm_file.specs.Package.{read_again};
-ghost use Rattle.rpm_db.specs.Changes.{Add, Put, IsServing};
+ghost use Rattle.rpm_db.specs.Changed.{IsReady};
+ghost use Rattle.rpm_db.specs.Changes.{Add, Put};
 ghost use Rattle.rpm_db.specs.Database.{IsIndexed, is_indexed, holds};
 ghost use Rattle.rpm_db.specs.Lawful.{IsWholeIndex};
 ghost use Rattle.rpm_db.specs.Runs.{Runs};
@@ -36,9 +37,7 @@ pub struct Placing {
 
 /// Puts a header under a new number.
 fn add_blob<D: Disk>(alloc: Global, db: &mut Db, disk: &mut D, blob: &[u8]) -> Result<Tally, Halt>
-    requires indexed { is_indexed db.old ≡ true }
-    requires going { db.old.stopped ≡ false }
-    requires serving { IsTrue D.tells → IsServing (D.files disk.old) (D.left_since disk.old (D.moment disk.old)) db.old }
+    requires ready { IsReady D.Disk disk.old db.old }
     requires own { header blob.now ≡ Ok (read_again blob.now) }
     ensures ended { IsTrue D.tells → (out_tells err_tells : Bool) (out err : List ℕ) → Ended (changing (Add blob.now))
         (state (D.files disk.old).pkg db.old.store) (state (D.files disk.new).pkg db.new.store) result
@@ -71,9 +70,7 @@ fn replace_blob<D: Disk>(
     number: u32,
     blob: &[u8],
 ) -> Result<Tally, Halt>
-    requires indexed { is_indexed db.old ≡ true }
-    requires going { db.old.stopped ≡ false }
-    requires serving { IsTrue D.tells → IsServing (D.files disk.old) (D.left_since disk.old (D.moment disk.old)) db.old }
+    requires ready { IsReady D.Disk disk.old db.old }
     requires own { header blob.now ≡ Ok (read_again blob.now) }
     requires held { holds number db.old ≡ true }
     ensures ended { IsTrue D.tells → (out_tells err_tells : Bool) (out err : List ℕ) → Ended (changing (Put number blob.now))
@@ -107,9 +104,7 @@ fn put_blob<D: Disk>(
     number: Option<u32>,
     blob: &[u8],
 ) -> Result<Tally, Halt>
-    requires indexed { is_indexed db.old ≡ true }
-    requires going { db.old.stopped ≡ false }
-    requires serving { IsTrue D.tells → IsServing (D.files disk.old) (D.left_since disk.old (D.moment disk.old)) db.old }
+    requires ready { IsReady D.Disk disk.old db.old }
     requires own { header blob.now ≡ Ok (read_again blob.now) }
     requires held { IfSome number (λ n. holds n db.old ≡ true) }
     ensures ended { IsTrue D.tells → (out_tells err_tells : Bool) (out err : List ℕ) → Ended (changing (change_at number blob.now))
@@ -153,9 +148,7 @@ fn put_opened<D: Disk, S: Shelf, E: Sink + Drop>(
     path: &[u8],
     err: &mut Buffered<E>,
 ) -> Result<Tally, Halt>
-    requires indexed { is_indexed db.old ≡ true }
-    requires going { db.old.stopped ≡ false }
-    requires serving { IsTrue D.tells → IsServing (D.files disk.old) (D.left_since disk.old (D.moment disk.old)) db.old }
+    requires ready { IsReady D.Disk disk.old db.old }
     requires held { IfSome how.number (λ n. holds n db.old ≡ true) }
     ensures ended { IsTrue D.tells → IsTrue S.tells → (j : ℕ) (out_tells : Bool) (out : List ℕ)
         → Ended (put_read how j path.now (left (S.rest shelf.old))) (state (D.files disk.old).pkg db.old.store)
@@ -195,9 +188,7 @@ pub fn put_file<D: Disk, S: Shelf, E: Sink + Drop>(
     path: &str,
     err: &mut Buffered<E>,
 ) -> Result<Tally, Halt>
-    requires indexed { is_indexed db.old ≡ true }
-    requires going { db.old.stopped ≡ false }
-    requires serving { IsTrue D.tells → IsServing (D.files disk.old) (D.left_since disk.old (D.moment disk.old)) db.old }
+    requires ready { IsReady D.Disk disk.old db.old }
     requires held { IfSome how.number (λ n. holds n db.old ≡ true) }
     ensures ended { IsTrue D.tells → IsTrue S.tells → (j : ℕ) (out_tells : Bool) (out : List ℕ)
         → Ended (put_file how (S.paths shelf.old) j path.now) (state (D.files disk.old).pkg db.old.store)
@@ -254,9 +245,7 @@ pub fn add_files<D: Disk, S: Shelf, E: Sink + Drop>(
     err: &mut Buffered<E>,
 ) -> Result<Tally, Halt>
     requires few { length paths.now < 2 ^ 32 }
-    requires indexed { is_indexed db.old ≡ true }
-    requires going { db.old.stopped ≡ false }
-    requires serving { IsTrue D.tells → IsServing (D.files disk.old) (D.left_since disk.old (D.moment disk.old)) db.old }
+    requires ready { IsReady D.Disk disk.old db.old }
     ensures ended { IsTrue D.tells → IsTrue S.tells → (out_tells : Bool) (out : List ℕ)
         → Ended (add_files (S.paths shelf.old) now (state (D.files disk.old).pkg db.old.store) (map (λ path. path.now) paths.now))
         (state (D.files disk.old).pkg db.old.store) (state (D.files disk.new).pkg db.new.store) result
@@ -282,13 +271,9 @@ pub fn add_files<D: Disk, S: Shelf, E: Sink + Drop>(
     let mut failed = 0u32;
     let mut changes = 0u32;
     for path in paths {
-        match put_file(alloc, db, disk, shelf, how, path, err) {
-            Ok(tally) => {
-                failed += tally.failed;
-                changes += tally.changes;
-            }
-            Err(halt) => return Err(halt),
-        }
+        let tally = put_file(alloc, db, disk, shelf, how, path, err)?;
+        failed += tally.failed;
+        changes += tally.changes;
     }
     Ok(Tally { failed, changes })
 }

@@ -3,7 +3,7 @@
 ghost use Rattle.std.specs.Prelude.{◌≡◌, ℕ, ◌+◌, ◌^◌, ◌<◌, Bool, List, [], length, true, false, IsTrue, Err, IfOk, IfErr};
 ghost use Rattle.rpm_outside.specs.Buffered.{inner};
 ghost use Rattle.rpm_outside.specs.Causes.{HasCauseAt};
-ghost use Rattle.rpm_db.specs.Changes.{IsServing};
+ghost use Rattle.rpm_db.specs.Changed.{IsReady};
 ghost use Rattle.rpm_db.specs.Database.{IsIndexed, is_indexed};
 ghost use Rattle.rpm_db.specs.Lawful.{IsWholeIndex};
 ghost use Rattle.rpm_db.specs.Runs.{Runs};
@@ -28,9 +28,7 @@ fn erase_one<D: Disk, E: Sink + Drop>(
     number: u32,
     err: &mut Buffered<E>,
 ) -> Result<Tally, Halt>
-    requires indexed { is_indexed db.old ≡ true }
-    requires going { db.old.stopped ≡ false }
-    requires serving { IsTrue D.tells → IsServing (D.files disk.old) (D.left_since disk.old (D.moment disk.old)) db.old }
+    requires ready { IsReady D.Disk disk.old db.old }
     ensures ended { IsTrue D.tells → (j : ℕ) (out_tells : Bool) (out : List ℕ)
         → Ended (erase_one (state (D.files disk.old).pkg db.old.store) j number) (state (D.files disk.old).pkg db.old.store)
         (state (D.files disk.new).pkg db.new.store) result
@@ -85,9 +83,7 @@ pub fn erase_numbers<D: Disk, E: Sink + Drop>(
     err: &mut Buffered<E>,
 ) -> Result<Tally, Halt>
     requires few { length numbers.now < 2 ^ 32 }
-    requires indexed { is_indexed db.old ≡ true }
-    requires going { db.old.stopped ≡ false }
-    requires serving { IsTrue D.tells → IsServing (D.files disk.old) (D.left_since disk.old (D.moment disk.old)) db.old }
+    requires ready { IsReady D.Disk disk.old db.old }
     ensures ended { IsTrue D.tells → (out_tells : Bool) (out : List ℕ)
         → Ended (erase (state (D.files disk.old).pkg db.old.store) numbers.now) (state (D.files disk.old).pkg db.old.store)
         (state (D.files disk.new).pkg db.new.store) result
@@ -107,13 +103,9 @@ pub fn erase_numbers<D: Disk, E: Sink + Drop>(
     let mut failed = 0u32;
     let mut changes = 0u32;
     for number in numbers {
-        match erase_one(alloc, db, disk, *number, err) {
-            Ok(tally) => {
-                failed += tally.failed;
-                changes += tally.changes;
-            }
-            Err(halt) => return Err(halt),
-        }
+        let tally = erase_one(alloc, db, disk, *number, err)?;
+        failed += tally.failed;
+        changes += tally.changes;
     }
     Ok(Tally { failed, changes })
 }

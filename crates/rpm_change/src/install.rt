@@ -53,8 +53,6 @@ pub fn read_installed<S: Shelf>(
     ensures paths { IsTrue S.tells → S.paths shelf.new ≡ S.paths shelf.old }
     ensures cause { HasCauseAt (result ≡ Err FileFault.ReadFault) (S.faults shelf.old) (S.faults shelf.new) }
 {
-    match read_package(alloc, shelf) {
-        Ok(found) => installed(alloc, &View::of_checked(found.header()), now),
-        Err(fault) => Err(fault),
-    }
+    let found = read_package(alloc, shelf)?;
+    installed(alloc, &View::of_checked(found.header()), now)
 }

@@ -15,6 +15,7 @@ mod places;
 mod rebuilding;
 mod replace;
 mod tally;
+mod turn;
 
 pub use add::add_files;
 pub use erase::erase_numbers;

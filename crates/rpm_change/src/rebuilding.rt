@@ -5,6 +5,7 @@ ghost use Rattle.std.specs.FinMap as finite;
 ghost use Rattle.rpm_outside.specs.Buffered.{inner, holds};
 ghost use Rattle.rpm_outside.specs.Causes.{HasCauseAt};
 ghost use Rattle.rpm_pkgdb.specs.Written.{with_spare};
+ghost use Rattle.rpm_db.specs.Changed.{IsReady};
 ghost use Rattle.rpm_db.specs.Changes.{Erase, apply, IsServing};
 ghost use Rattle.rpm_db.specs.Database as database;
 ghost use Rattle.rpm_db.specs.Database.{IsIndexed, is_indexed};
@@ -68,9 +69,7 @@ fn drop_bad<D: Disk, O: Sink + Drop>(
     out: &mut Buffered<O>,
 ) -> Result<Tally, Halt>
     requires held { database.holds number db.old ≡ true }
-    requires indexed { is_indexed db.old ≡ true }
-    requires going { db.old.stopped ≡ false }
-    requires serving { IsTrue D.tells → IsServing (D.files disk.old) (D.left_since disk.old (D.moment disk.old)) db.old }
+    requires ready { IsReady D.Disk disk.old db.old }
     ensures ended { IsTrue D.tells → (err_tells : Bool) (err : List ℕ)
         → Ended (dropped number Bad) (state (D.files disk.old).pkg db.old.store) (state (D.files disk.new).pkg db.new.store) result
         (outputs O.tells (O.taken (inner out.old)) err_tells err) (outputs O.tells (O.taken (inner out.new)) err_tells err) }
@@ -104,9 +103,7 @@ fn drop_one<D: Disk, O: Sink + Drop>(
     out: &mut Buffered<O>,
 ) -> Result<Tally, Halt>
     requires held { database.holds number db.old ≡ true }
-    requires indexed { is_indexed db.old ≡ true }
-    requires going { db.old.stopped ≡ false }
-    requires serving { IsTrue D.tells → IsServing (D.files disk.old) (D.left_since disk.old (D.moment disk.old)) db.old }
+    requires ready { IsReady D.Disk disk.old db.old }
     ensures ended { IsTrue D.tells → (p : Package) → finite.get (state (D.files disk.old).pkg db.old.store).packages number ≡ Some p
         → (err_tells : Bool) (err : List ℕ)
         → Ended (dropped number p) (state (D.files disk.old).pkg db.old.store) (state (D.files disk.new).pkg db.new.store) result
@@ -142,9 +139,7 @@ fn drop_each<D: Disk, O: Sink + Drop>(
     disk: &mut D,
     out: &mut Buffered<O>,
 ) -> Result<Tally, Halt>
-    requires indexed { is_indexed db.old ≡ true }
-    requires going { db.old.stopped ≡ false }
-    requires serving { IsTrue D.tells → IsServing (D.files disk.old) (D.left_since disk.old (D.moment disk.old)) db.old }
+    requires ready { IsReady D.Disk disk.old db.old }
     ensures ended { IsTrue D.tells → (err_tells : Bool) (err : List ℕ)
         → Ended (rebuild (state (D.files disk.old).pkg db.old.store)) (state (D.files disk.old).pkg db.old.store)
         (state (D.files disk.new).pkg db.new.store) result
@@ -165,14 +160,10 @@ fn drop_each<D: Disk, O: Sink + Drop>(
     let mut failed = 0u32;
     let mut changes = 0u32;
     while let Some(next) = db.next_above(number) {
-        match drop_one(alloc, db, disk, next, out) {
-            Ok(tally) => {
-                number = next;
-                failed += tally.failed;
-                changes += tally.changes;
-            }
-            Err(halt) => return Err(halt),
-        }
+        let tally = drop_one(alloc, db, disk, next, out)?;
+        number = next;
+        failed += tally.failed;
+        changes += tally.changes;
     }
     Ok(Tally { failed, changes })
 }
@@ -202,9 +193,7 @@ pub fn rebuild<D: Disk, O: Sink + Drop>(
     disk: &mut D,
     out: &mut Buffered<O>,
 ) -> Result<Tally, Halt>
-    requires indexed { is_indexed db.old ≡ true }
-    requires going { db.old.stopped ≡ false }
-    requires serving { IsTrue D.tells → IsServing (D.files disk.old) (D.left_since disk.old (D.moment disk.old)) db.old }
+    requires ready { IsReady D.Disk disk.old db.old }
     ensures ended { IsTrue D.tells → (err_tells : Bool) (err : List ℕ)
         → Ended (rebuild (state (D.files disk.old).pkg db.old.store)) (state (D.files disk.old).pkg db.old.store)
         (state (D.files disk.new).pkg db.new.store) result

@@ -3,7 +3,7 @@
 ghost use Rattle.std.specs.Prelude.{◌≡◌, ℕ, ◌+◌, Bool, List, [], Some, true, false, IsTrue, Err, IfOk, IfErr};
 ghost use Rattle.rpm_outside.specs.Buffered.{inner};
 ghost use Rattle.rpm_outside.specs.Causes.{HasCauseAt};
-ghost use Rattle.rpm_db.specs.Changes.{IsServing};
+ghost use Rattle.rpm_db.specs.Changed.{IsReady};
 ghost use Rattle.rpm_db.specs.Database.{IsIndexed, is_indexed, holds};
 ghost use Rattle.rpm_db.specs.Lawful.{IsWholeIndex};
 ghost use Rattle.rpm_db.specs.Runs.{Runs};
@@ -50,9 +50,7 @@ pub fn replace_package<D: Disk, S: Shelf, E: Sink + Drop>(
     now: u32,
     err: &mut Buffered<E>,
 ) -> Result<Tally, Halt>
-    requires indexed { is_indexed db.old ≡ true }
-    requires going { db.old.stopped ≡ false }
-    requires serving { IsTrue D.tells → IsServing (D.files disk.old) (D.left_since disk.old (D.moment disk.old)) db.old }
+    requires ready { IsReady D.Disk disk.old db.old }
     ensures ended { IsTrue D.tells → IsTrue S.tells → (out_tells : Bool) (out : List ℕ)
         → Ended (replace (S.paths shelf.old) now (state (D.files disk.old).pkg db.old.store) number path.now)
         (state (D.files disk.old).pkg db.old.store) (state (D.files disk.new).pkg db.new.store) result

@@ -1,8 +1,8 @@
 -- What stops the exercise, by cases.
 use Rattle.std.proofs.Common.{◌≡◌, ℕ, false, Result, Ok, Err}
 use Rattle.std.specs.Prelude.{IfErr}
-use Rattle.rpm_select.specs.declared.picker.PickFault.{PickFault}
-use Rattle.rpm_select.specs.declared.picker.PickFault.TheVariants as pick
+use Rattle.rpm_select.specs.declared.picked.PickFault.{PickFault}
+use Rattle.rpm_select.specs.declared.picked.PickFault.TheVariants as pick
 use Rattle.rpm_select.specs.Picks.{is_of_index}
 use Rattle.rpm_change.specs.declared.tally.Halt.{Halt}
 use Rattle.rpm_change.specs.declared.tally.Halt.TheVariants as halt

@@ -4,8 +4,8 @@ use Rattle.rpm_outside.specs.Files.{Files}
 use Rattle.rpm_outside.specs.Sinks.{Gained, GainedPart}
 use Rattle.rpm_db.specs.Database.{Database, Keeps, KeepsIndex}
 use Rattle.rpm_db.specs.Reaches.{ReachesMade}
-use Rattle.rpm_select.specs.declared.picker.PickFault.{PickFault}
-use Rattle.rpm_select.specs.declared.picker.PickFault.TheVariants as pick
+use Rattle.rpm_select.specs.declared.picked.PickFault.{PickFault}
+use Rattle.rpm_select.specs.declared.picked.PickFault.TheVariants as pick
 use Rattle.rpm_change.specs.declared.tally.Tally.{Tally}
 use Rattle.rpm_change.specs.declared.tally.Halt.{Halt}
 use Rattle.rpm_change.specs.declared.tally.Halt.TheVariants as halt

@@ -1,17 +1,11 @@
 -- What a part of the exercise asks for of the database, and what the exercise leaves of it.
-use Rattle.std.specs.Prelude.{◌≡◌, true, false, IsTrue}
+use Rattle.std.specs.Prelude.{◌≡◌, true, IsTrue}
 use Rattle.rpm_outside.specs.declared.disk.Disk as disk
-use Rattle.rpm_db.specs.Changes.{IsServing}
+use Rattle.rpm_db.specs.Changed.{IsReady}
 use Rattle.rpm_db.specs.Database.{Database, IsIndexed, is_indexed}
 use Rattle.rpm_change.specs.declared.tally.Halt.{Halt}
 use Rattle.rpm_exercise.specs.Endings.{IsOfExercise}
 use Rattle.rpm_exercise.specs.Rounds.{IsSpent}
-
--- it can be changed: it has an index, wasn't stopped, and is what the disk's files say
-pub record IsReady {D : Type 0} (d : disk.Ghosts D) (at : D) (db : Database) : Type 0 where
-  pub indexed : is_indexed db ≡ true
-  pub going : db.stopped ≡ false
-  pub serving : IsTrue d.tells → IsServing (d.files at) (d.left_since at (d.moment at)) db
 
 -- it can be changed further, and its index holds the rows of its packages
 pub record IsCurrent {D : Type 0} (d : disk.Ghosts D) (at : D) (db : Database) : Type 0 where

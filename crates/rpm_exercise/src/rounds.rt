@@ -9,7 +9,7 @@ ghost use Rattle.rpm_db.specs.State.{state};
 ghost use Rattle.rpm_db.specs.inner.Writes.{SameLog};
 ghost use Rattle.rpm_change.specs.Endings.{IsCarried};
 ghost use Rattle.rpm_change.specs.Limits.{LimitsTurn};
-ghost use Rattle.rpm_exercise.specs.Ready.{IsReady};
+ghost use Rattle.rpm_db.specs.Changed.{IsReady};
 ghost use Rattle.rpm_exercise.specs.Rounds.{made, turn, round_changes, changes, Made, IsOfChanges, IsSpent};
 
 use rpm_change::{Halt, Tally, generated, halt_of};

@@ -16,7 +16,8 @@ ghost use Rattle.rpm_change.specs.Endings.{outputs, Ended, IsCarried};
 ghost use Rattle.rpm_change.specs.Limits.{LimitsTurn};
 ghost use Rattle.rpm_exercise.specs.Endings.{IsReadable, IsTold, IsUnbroken, IsOfReading, IsOfTelling, IsOfExercise, OnceBegun, IsRefused, Renewed};
 ghost use Rattle.rpm_exercise.specs.Exercised.{summary, exercise};
-ghost use Rattle.rpm_exercise.specs.Ready.{IsReady, IsCurrent, IsStop};
+ghost use Rattle.rpm_db.specs.Changed.{IsReady};
+ghost use Rattle.rpm_exercise.specs.Ready.{IsCurrent, IsStop};
 ghost use Rattle.rpm_exercise.specs.Rounds.{changes, IsSpent};
 ghost use Rattle.rpm_change.specs.Hands.{Hand};
 

@@ -1,7 +1,7 @@
 -- Several changes of a store, some of them and then the others.
 use Rattle.std.proofs.Common.{◌≡◌, ℕ, ◌≤◌, List, [], ◌∷◌, ◌++◌, length, Option, Some, None, refl, ap, ◌∙◌, subst, arith}
 use Rattle.std.specs.Option.{option_map, option_and_then}
-use Rattle.rpm_pkgdb.specs.declared.moving.Move.{Move}
+use Rattle.rpm_pkgdb.specs.declared.moved_blocks.Move.{Move}
 use Rattle.rpm_pkgdb.specs.Growing.{pages_after}
 use Rattle.rpm_pkgdb.specs.Placing.{Placement, placed, with_placed}
 use Rattle.rpm_pkgdb.specs.Store.{Store}

@@ -26,8 +26,8 @@ loop-path-init g c =
       limited = λ told shelf_told i rows. limited_start i all s c.args.db.now.store;
       few = refl;
       whole = λ told whole. whole;
-      carried = record { going = c.requires.going; serving = c.requires.serving; index = λ told rows. rows };
-      indexed = c.requires.indexed;
+      carried = record { going = c.requires.ready.going; serving = c.requires.ready.serving; index = λ told rows. rows };
+      indexed = c.requires.ready.indexed;
       runs = runs_none g.D.Disk.tells g.D.Disk.files g.D.Disk.left_since g.D.Disk.moment g.D.Disk.bytes_read g.D.Disk.follows g.met.D.Disk.follows_refl SameLog
           (λ f. refl) c.args.disk.now;
       paths = λ shelf_told. refl;
@@ -42,7 +42,7 @@ loop-path-preserved g c =
     let k = c.loop-path.path-index in
     let xs = c.args.paths.now in
     let inv = c.loop-path.invariant in
-    let done = c.in-Ok.ensures in
+    let done = c.in_ok-tally.ensures in
     let kept = done.carried in
     let ps = g.S.Shelf.paths c.args.shelf.now in
     let each = add_file c.args.now ps in
@@ -55,18 +55,18 @@ loop-path-preserved g c =
     let rest = in_turn each u (k + 1) (map bytes (drop (k + 1) xs)) in
     record {
       goes = λ told shelf_told out_tells out.
-          let ended = subst (λ (qs : Paths). Done (add_file c.args.now qs t k path) t u c.in-Ok.tally (outputs out_tells out g.E.Sink.tells e')
+          let ended = subst (λ (qs : Paths). Done (add_file c.args.now qs t k path) t u c.in_ok-tally.tally (outputs out_tells out g.E.Sink.tells e')
           (outputs out_tells out g.E.Sink.tells e'')) (inv.paths shelf_told) (done.ended told shelf_told k out_tells out) in
           halfway_more out_tells g.E.Sink.tells (in_turn each s 0 (map bytes xs)) (in_turn each t k (map bytes (drop k xs))) (each t k path) rest s t u
           c.loop-path.failed c.loop-path.changes out out out _ e' e'' (path_next each xs k t u (omega arith) ended.state_is)
-          (inv.goes told shelf_told out_tells out) c.in-Ok.tally ended;
+          (inv.goes told shelf_told out_tells out) c.in_ok-tally.tally ended;
       limited = λ told shelf_told i rows.
-          let ended = subst (λ (qs : Paths). Done (add_file c.args.now qs t k path) t u c.in-Ok.tally (outputs true [] g.E.Sink.tells e')
+          let ended = subst (λ (qs : Paths). Done (add_file c.args.now qs t k path) t u c.in_ok-tally.tally (outputs true [] g.E.Sink.tells e')
           (outputs true [] g.E.Sink.tells e'')) (inv.paths shelf_told) (done.ended told shelf_told k true []) in
-          limited_more i _ _ (each t k path) rest _ _ _ _ _ (path_next each xs k t u (omega arith) ended.state_is) (inv.limited told shelf_told i rows) u c.in-Ok.tally
+          limited_more i _ _ (each t k path) rest _ _ _ _ _ (path_next each xs k t u (omega arith) ended.state_is) (inv.limited told shelf_told i rows) u c.in_ok-tally.tally
           ended.state_is (subst (λ (qs : Paths). LimitsTurn i t c.loop-path.db.store c.put_file.new.db.store (g.D.Disk.files c.loop-path.disk)
           (g.D.Disk.files c.put_file.new.disk) (add_file c.args.now qs t k path).changes
-          (Ok c.in-Ok.tally)) (inv.paths shelf_told) (done.limits told shelf_told k i (λ is. inv.carried.index told (rows is))));
+          (Ok c.in_ok-tally.tally)) (inv.paths shelf_told) (done.limits told shelf_told k i (λ is. inv.carried.index told (rows is))));
       few = omega (arith, inv.few, done.one);
       whole = λ told whole. done.whole told (inv.whole told whole);
       carried = record { going = kept.going; serving = kept.serving; index = λ told rows. kept.index told (inv.carried.index told rows) };
@@ -81,14 +81,14 @@ loop-path-preserved g c =
       err_rest = g.met.E.Sink.follows_trans (inner c.args.err.now) (inner c.loop-path.err) (inner c.put_file.new.err) inv.err_rest done.err.goes_on;
     }
 
-pub returns-in-Err-clause-ended : goal.returns-in-Err-clause-ended
-returns-in-Err-clause-ended = stopped.returns-in-Err-clause-ended
+pub returns-in_err-tally-clause-ended : goal.returns-in_err-tally-clause-ended
+returns-in_err-tally-clause-ended = stopped.returns-in_err-tally-clause-ended
 
-pub returns-in-Err-clause-limits : goal.returns-in-Err-clause-limits
-returns-in-Err-clause-limits = stopped.returns-in-Err-clause-limits
+pub returns-in_err-tally-clause-limits : goal.returns-in_err-tally-clause-limits
+returns-in_err-tally-clause-limits = stopped.returns-in_err-tally-clause-limits
 
-pub returns-in-Err-clause-runs : goal.returns-in-Err-clause-runs
-returns-in-Err-clause-runs = stopped.returns-in-Err-clause-runs
+pub returns-in_err-tally-clause-runs : goal.returns-in_err-tally-clause-runs
+returns-in_err-tally-clause-runs = stopped.returns-in_err-tally-clause-runs
 
 pub returns-clause-ended : goal.returns-clause-ended
 returns-clause-ended g c = λ told shelf_told out_tells out.

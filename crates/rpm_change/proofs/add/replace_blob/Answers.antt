@@ -17,16 +17,16 @@ returns-in-Ok-clause-ended g c = λ told out_tells err_tells out err.
       steps = through_none {ot = out_tells} {et = err_tells} out err;
       failed = refl;
       changes = refl;
-      state_is = c.in-Ok.ensures.state told (read_again c.args.blob.now) c.requires.own;
+      state_is = (c.in-Ok.ensures.changed (read_again c.args.blob.now) c.requires.own).state_is told;
     }
 
 pub returns-in-Ok-clause-limits : goal.returns-in-Ok-clause-limits
 returns-in-Ok-clause-limits g c = λ told i rows.
     let done = c.in-Ok.ensures in
     one_made i (state (g.D.Disk.files c.args.disk.now).pkg c.args.db.now.store) (Put c.args.number c.args.blob.now) c.args.db.now.store c.put.new.self.store
-    (record { failed = 0; changes = 1 }) tt done.causes.1.later.0 (done.placed (read_again c.args.blob.now) c.requires.own) done.generation
-    (λ is. done.full told c.requires.going (rows is) (read_again c.args.blob.now) c.requires.own) (done.end told)
-    (λ is. done.reach told (rows is) (read_again c.args.blob.now) c.requires.own)
+    (record { failed = 0; changes = 1 }) tt done.causes.1.later.0 (done.placed (read_again c.args.blob.now) c.requires.own) done.left.generation
+    (λ is. done.full told c.requires.ready.going (rows is) (read_again c.args.blob.now) c.requires.own) (done.end told)
+    (λ is. (done.changed (read_again c.args.blob.now) c.requires.own).reach told (rows is))
 
 pub returns-in-Err-clause-ended : goal.returns-in-Err-clause-ended
 returns-in-Err-clause-ended g c = λ told out_tells err_tells out err.
@@ -38,7 +38,7 @@ returns-in-Err-clause-ended g c = λ told out_tells err_tells out err.
 
 pub returns-in-Err-clause-whole : goal.returns-in-Err-clause-whole
 returns-in-Err-clause-whole g c = λ told whole.
-    rw c.halt_of.ensures (whole_halt (g.D.Disk.files c.put.new.disk).idx c.in-Err.fault (c.in-Err.ensures.whole told whole))
+    rw c.halt_of.ensures (whole_halt (g.D.Disk.files c.put.new.disk).idx c.in-Err.fault (c.in-Err.ensures.left.whole told whole))
 
 pub returns-in-Err-clause-limits : goal.returns-in-Err-clause-limits
 returns-in-Err-clause-limits g c = λ told i rows.
@@ -47,7 +47,7 @@ returns-in-Err-clause-limits g c = λ told i rows.
     (one_refused i s (Put c.args.number c.args.blob.now) c.args.db.now.store c.put.new.self.store c.in-Err.fault
     (put_fault i _ c.args.db.now s c.args.number c.args.blob.now c.args.blob.now c.in-Err.fault c.in-Err.ensures.causes
     (c.in-Err.ensures.placed (read_again c.args.blob.now) c.requires.own)
-    (λ is. c.in-Err.ensures.full told c.requires.going (rows is) (read_again c.args.blob.now) c.requires.own)))
+    (λ is. c.in-Err.ensures.full told c.requires.ready.going (rows is) (read_again c.args.blob.now) c.requires.own)))
 
 pub returns-in-Err-clause-kinds : goal.returns-in-Err-clause-kinds
 returns-in-Err-clause-kinds g c = rw c.halt_of.ensures (put_kinds _ c.args.db.now c.args.number c.args.blob.now c.in-Err.fault c.in-Err.ensures.causes)

@@ -22,8 +22,8 @@ loop-number-init g c = record {
       limited_start i (erase s c.args.numbers.now) s c.args.db.now.store;
   few = refl;
   whole = λ told whole. whole;
-  carried = record { going = c.requires.going; serving = c.requires.serving; index = λ told rows. rows };
-  indexed = c.requires.indexed;
+  carried = record { going = c.requires.ready.going; serving = c.requires.ready.serving; index = λ told rows. rows };
+  indexed = c.requires.ready.indexed;
   runs = runs_none g.D.Disk.tells g.D.Disk.files g.D.Disk.left_since g.D.Disk.moment g.D.Disk.bytes_read g.D.Disk.follows g.met.D.Disk.follows_refl SameLog
       (λ f. refl) c.args.disk.now;
   disk = omega arith;
@@ -36,7 +36,7 @@ loop-number-preserved g c =
     let k = c.loop-number.number-index in
     let xs = c.args.numbers.now in
     let inv = c.loop-number.invariant in
-    let done = c.in-Ok.ensures in
+    let done = c.in_ok-tally.ensures in
     let s = state (g.D.Disk.files c.args.disk.now).pkg c.args.db.now.store in
     let t = state (g.D.Disk.files c.loop-number.disk).pkg c.loop-number.db.store in
     let u = state (g.D.Disk.files c.erase_one.new.disk).pkg c.erase_one.new.db.store in
@@ -47,11 +47,11 @@ loop-number-preserved g c =
           halfway_more out_tells g.E.Sink.tells (erase s xs) (in_turn erase_one t k (drop k xs)) turn (in_turn erase_one u (k + 1) (drop (k + 1) xs)) s t u
           c.loop-number.failed c.loop-number.changes out out out (g.E.Sink.taken (inner c.args.err.now)) (g.E.Sink.taken (inner c.loop-number.err))
           (g.E.Sink.taken (inner c.erase_one.new.err)) (turn_next erase_one xs k 0 t u (omega arith) ended.state_is) (inv.goes told out_tells out)
-          c.in-Ok.tally ended;
+          c.in_ok-tally.tally ended;
       limited = λ told i rows.
           let after = (done.ended told k true []).state_is in
           limited_more i _ _ _ (in_turn erase_one u (k + 1) (drop (k + 1) xs)) _ _ _ _ _ (turn_next erase_one xs k 0 t u (omega arith) after)
-          (inv.limited told i rows) u c.in-Ok.tally after (done.limits told k i (λ is. inv.carried.index told (rows is)));
+          (inv.limited told i rows) u c.in_ok-tally.tally after (done.limits told k i (λ is. inv.carried.index told (rows is)));
       few = omega (arith, inv.few, done.one);
       whole = λ told whole. done.whole told (inv.whole told whole);
       carried = record {
@@ -68,14 +68,14 @@ loop-number-preserved g c =
       err_rest = g.met.E.Sink.follows_trans (inner c.args.err.now) (inner c.loop-number.err) (inner c.erase_one.new.err) inv.err_rest done.err.goes_on;
     }
 
-pub returns-in-Err-clause-ended : goal.returns-in-Err-clause-ended
-returns-in-Err-clause-ended = stopped.returns-in-Err-clause-ended
+pub returns-in_err-tally-clause-ended : goal.returns-in_err-tally-clause-ended
+returns-in_err-tally-clause-ended = stopped.returns-in_err-tally-clause-ended
 
-pub returns-in-Err-clause-limits : goal.returns-in-Err-clause-limits
-returns-in-Err-clause-limits = stopped.returns-in-Err-clause-limits
+pub returns-in_err-tally-clause-limits : goal.returns-in_err-tally-clause-limits
+returns-in_err-tally-clause-limits = stopped.returns-in_err-tally-clause-limits
 
-pub returns-in-Err-clause-runs : goal.returns-in-Err-clause-runs
-returns-in-Err-clause-runs = stopped.returns-in-Err-clause-runs
+pub returns-in_err-tally-clause-runs : goal.returns-in_err-tally-clause-runs
+returns-in_err-tally-clause-runs = stopped.returns-in_err-tally-clause-runs
 
 pub returns-clause-ended : goal.returns-clause-ended
 returns-clause-ended g c = λ told out_tells out.

@@ -27,7 +27,7 @@ returns-in-Ok-clause-ended g c = λ told j out_tells out.
       steps = through_none {ot = out_tells} {et = g.E.Sink.tells} out (g.E.Sink.taken (inner c.args.err.now));
       failed = refl;
       changes = refl;
-      state_is = c.in-Ok.ensures.state told;
+      state_is = c.in-Ok.ensures.changed.state_is told;
     })
 
 pub returns-in-Ok-clause-limits : goal.returns-in-Ok-clause-limits
@@ -39,7 +39,7 @@ returns-in-Ok-clause-limits g c = λ told j i rows.
     (g.D.Disk.files c.erase.new.disk) x.changes (Ok (record { failed = 0; changes = 1 })))
     (sym (erase_held file c.args.db.now j c.args.number done.causes.1))
     (one_made i s (Erase c.args.number) c.args.db.now.store c.erase.new.self.store (record { failed = 0; changes = 1 }) tt done.causes.2.0 done.placed
-    done.generation (λ is. done.full told c.requires.going (rows is)) (omega (arith, done.end told)) (λ is. done.reach told (rows is)))
+    done.left.generation (λ is. done.full told c.requires.ready.going (rows is)) (omega (arith, done.end told)) (λ is. done.changed.reach told (rows is)))
 
 pub returns-in-Err-NoSuch-clause-ended : goal.returns-in-Err-NoSuch-clause-ended
 returns-in-Err-NoSuch-clause-ended g c = λ told j out_tells out.
@@ -47,8 +47,8 @@ returns-in-Err-NoSuch-clause-ended g c = λ told j out_tells out.
     let s = state file c.args.db.now.store in
     let said = rw c.in-Err-NoSuch.field-0-is at c.in-Err-NoSuch.ensures in
     let stays : state (g.D.Disk.files c.erase.new.disk).pkg c.erase.new.self.store ≡ s =
-    state_same (g.D.Disk.files c.args.disk.now) (g.D.Disk.files c.erase.new.disk) c.args.db.now c.erase.new.self ((said.same tt).reads_as told)
-    (said.refused tt) in
+    state_same (g.D.Disk.files c.args.disk.now) (g.D.Disk.files c.erase.new.disk) c.args.db.now c.erase.new.self ((said.left.same tt).reads_as told)
+    (said.left.refused tt) in
     let old = outputs out_tells out g.E.Sink.tells (g.E.Sink.taken (inner c.args.err.now)) in
     let new = outputs out_tells out g.E.Sink.tells (g.E.Sink.taken (inner c.put_missing.new.err)) in
     let line = c.put_missing.ensures.ended j s out_tells out in
@@ -58,7 +58,7 @@ returns-in-Err-NoSuch-clause-ended g c = λ told j out_tells out.
 pub returns-in-Err-NoSuch-clause-whole : goal.returns-in-Err-NoSuch-clause-whole
 returns-in-Err-NoSuch-clause-whole g c = λ told whole.
     let said = rw c.in-Err-NoSuch.field-0-is at c.in-Err-NoSuch.ensures in
-    whole_turn (g.D.Disk.files c.args.disk.now) (g.D.Disk.files c.erase.new.disk) c.put_missing.result ((said.same tt).reads_as told) whole
+    whole_turn (g.D.Disk.files c.args.disk.now) (g.D.Disk.files c.erase.new.disk) c.put_missing.result ((said.left.same tt).reads_as told) whole
     (line_unbroken c.put_missing.result c.put_missing.ensures.kinds)
 
 pub returns-in-Err-NoSuch-clause-limits : goal.returns-in-Err-NoSuch-clause-limits
@@ -70,9 +70,9 @@ returns-in-Err-NoSuch-clause-limits g c = λ told j i rows.
     (g.D.Disk.files c.erase.new.disk) x.changes c.put_missing.result)
     (sym (erase_missing file c.args.db.now j c.args.number said.causes.1))
     (subst (λ (f : Files). LimitsTurn i s c.args.db.now.store c.erase.new.self.store (g.D.Disk.files c.args.disk.now) f [] c.put_missing.result)
-    (sym ((said.same tt).reads_as told))
+    (sym ((said.left.same tt).reads_as told))
     (line_limits i s c.args.db.now.store c.erase.new.self.store c.args.db.now.store.spare c.put_missing.result
-    (ap (λ (db : Database). db.store) (said.refused tt)) c.put_missing.ensures.kinds))
+    (ap (λ (db : Database). db.store) (said.left.refused tt)) c.put_missing.ensures.kinds))
 
 pub returns-in-Err-clause-ended : goal.returns-in-Err-clause-ended
 returns-in-Err-clause-ended g c = λ told j out_tells out.
@@ -84,13 +84,13 @@ returns-in-Err-clause-ended g c = λ told j out_tells out.
 
 pub returns-in-Err-clause-whole : goal.returns-in-Err-clause-whole
 returns-in-Err-clause-whole g c = λ told whole.
-    rw c.halt_of.ensures (whole_halt (g.D.Disk.files c.erase.new.disk).idx c.in-Err.fault (c.in-Err.ensures.whole told whole))
+    rw c.halt_of.ensures (whole_halt (g.D.Disk.files c.erase.new.disk).idx c.in-Err.fault (c.in-Err.ensures.left.whole told whole))
 
 pub returns-in-Err-clause-limits : goal.returns-in-Err-clause-limits
 returns-in-Err-clause-limits g c = λ told j i rows.
     rw c.halt_of.ensures
     (erase_limits i (g.D.Disk.files c.args.disk.now).pkg c.args.db.now j c.args.number c.erase.new.self.store c.in-Err.fault c.in-Err.ensures.causes
-    (λ is. c.in-Err.ensures.full told c.requires.going (rows is)))
+    (λ is. c.in-Err.ensures.full told c.requires.ready.going (rows is)))
 
 pub returns-in-Err-clause-kinds : goal.returns-in-Err-clause-kinds
 returns-in-Err-clause-kinds g c = rw c.halt_of.ensures (erase_kinds c.args.db.now c.args.number c.in-Err.fault c.in-Err.ensures.causes)

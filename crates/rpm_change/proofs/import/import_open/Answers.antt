@@ -42,7 +42,7 @@ loop-is_last-preserved g c =
     let most = c.args.most in
     let k = c.loop-is_last.place in
     let inv = c.loop-is_last.invariant in
-    let done = c.in-Ok.ensures in
+    let done = c.in_ok-turn.ensures in
     let going : c.loop-is_last.is_last ≡ false = cc in
     let s = state (g.D.Disk.files c.args.disk.now).pkg c.args.db.now.store in
     let t = state (g.D.Disk.files c.loop-is_last.disk).pkg c.loop-is_last.db.store in
@@ -50,7 +50,7 @@ loop-is_last-preserved g c =
     let bytes = left (g.S.Shelf.rest c.loop-is_last.shelf) in
     let behind = left (g.S.Shelf.rest c.import_next.new.shelf) in
     let all = import_listed most (listed (left (g.S.Shelf.rest c.args.shelf.now))) in
-    let said = c.in-Ok.turn in
+    let said = c.in_ok-turn.turn in
     record {
       goes = λ told heard out_tells out.
           let ended = done.ended told heard out_tells out in
@@ -84,17 +84,17 @@ loop-is_last-preserved g c =
       err_rest = g.met.E.Sink.follows_trans (inner c.args.err.now) (inner c.loop-is_last.err) (inner c.import_next.new.err) inv.err_rest done.err.goes_on;
     }
 
-pub returns-in-Err-clause-ended : goal.returns-in-Err-clause-ended
-returns-in-Err-clause-ended = stopped.returns-in-Err-clause-ended
+pub returns-in_err-turn-clause-ended : goal.returns-in_err-turn-clause-ended
+returns-in_err-turn-clause-ended = stopped.returns-in_err-turn-clause-ended
 
-pub returns-in-Err-clause-limits : goal.returns-in-Err-clause-limits
-returns-in-Err-clause-limits = stopped.returns-in-Err-clause-limits
+pub returns-in_err-turn-clause-limits : goal.returns-in_err-turn-clause-limits
+returns-in_err-turn-clause-limits = stopped.returns-in_err-turn-clause-limits
 
-pub returns-in-Err-clause-runs : goal.returns-in-Err-clause-runs
-returns-in-Err-clause-runs = stopped.returns-in-Err-clause-runs
+pub returns-in_err-turn-clause-runs : goal.returns-in_err-turn-clause-runs
+returns-in_err-turn-clause-runs = stopped.returns-in_err-turn-clause-runs
 
-pub returns-in-Err-clause-browses : goal.returns-in-Err-clause-browses
-returns-in-Err-clause-browses = stopped.returns-in-Err-clause-browses
+pub returns-in_err-turn-clause-browses : goal.returns-in_err-turn-clause-browses
+returns-in_err-turn-clause-browses = stopped.returns-in_err-turn-clause-browses
 
 pub returns-clause-ended : goal.returns-clause-ended
 returns-clause-ended g c = λ told heard out_tells out.

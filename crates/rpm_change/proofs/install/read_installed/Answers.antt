@@ -2,4 +2,4 @@ use Rattle.std.proofs.Common.{sym}
 use Rattle.rpm_change.proofs.install.read_installed.Goals as goal
 
 pub of_checked-requires : goal.of_checked-requires
-of_checked-requires g c = (c.in-Ok.found, c.header.ensures.again, sym c.header.ensures.value)
+of_checked-requires g c = (c.in_ok-found.found, c.header.ensures.again, sym c.header.ensures.value)

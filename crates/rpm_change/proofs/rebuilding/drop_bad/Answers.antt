@@ -15,14 +15,14 @@ pub returns-in-Ok-erase-clause-ended : goal.returns-in-Ok-erase-clause-ended
 returns-in-Ok-erase-clause-ended g c = λ told err_tells err.
     c.put_dropped.ensures.ended (state (g.D.Disk.files c.args.disk.now).pkg c.args.db.now.store)
     (state (g.D.Disk.files c.erase.new.disk).pkg c.erase.new.self.store)
-    (c.in-Ok-erase.ensures.state told) err_tells err
+    (c.in-Ok-erase.ensures.changed.state_is told) err_tells err
 
 pub returns-in-Ok-erase-clause-limits : goal.returns-in-Ok-erase-clause-limits
 returns-in-Ok-erase-clause-limits g c = λ told i rows.
     let done = c.in-Ok-erase.ensures in
     dropped_limits i (state (g.D.Disk.files c.args.disk.now).pkg c.args.db.now.store) c.args.number c.args.db.now.store c.erase.new.self.store
-    c.put_dropped.result done.causes.2.0 done.placed done.generation
-    (λ is. done.full told c.requires.going (rows is)) c.put_dropped.ensures.kinds (omega (arith, done.end told)) (λ is. done.reach told (rows is))
+    c.put_dropped.result done.causes.2.0 done.placed done.left.generation
+    (λ is. done.full told c.requires.ready.going (rows is)) c.put_dropped.ensures.kinds (omega (arith, done.end told)) (λ is. done.changed.reach told (rows is))
 
 pub returns-clause-ended : goal.returns-clause-ended
 returns-clause-ended g c = λ told err_tells err.
@@ -39,7 +39,7 @@ returns-clause-limits g c = λ told i rows.
     rw c.halt_of.ensures
     (one_refused i s (Erase c.args.number) c.args.db.now.store c.erase.new.self.store c.in-Err.fault
     (erase_fault i c.args.db.now s c.args.number c.in-Err.fault c.in-Err.ensures.causes
-    (λ is. c.in-Err.ensures.full told c.requires.going (rows is))))
+    (λ is. c.in-Err.ensures.full told c.requires.ready.going (rows is))))
 
 pub returns-clause-kinds : goal.returns-clause-kinds
 returns-clause-kinds g c = rw c.halt_of.ensures (drop_kinds c.args.db.now c.args.number c.in-Err.fault c.in-Err.ensures.causes)

@@ -23,8 +23,8 @@ loop-next-init g c = record {
       limited_start i (rebuild s) s c.args.db.now.store;
   same = λ told k over. refl;
   few = omega arith;
-  carried = record { going = c.requires.going; serving = c.requires.serving; index = λ told rows. rows };
-  indexed = c.requires.indexed;
+  carried = record { going = c.requires.ready.going; serving = c.requires.ready.serving; index = λ told rows. rows };
+  indexed = c.requires.ready.indexed;
   runs = runs_none g.D.Disk.tells g.D.Disk.files g.D.Disk.left_since g.D.Disk.moment g.D.Disk.bytes_read g.D.Disk.follows g.met.D.Disk.follows_refl SameLog
       (λ f. refl) c.args.disk.now;
   disk = omega arith;
@@ -37,7 +37,7 @@ loop-next-preserved g c =
     let n = c.loop-next.number in
     let m = c.in-Some.next in
     let inv = c.loop-next.invariant in
-    let done = c.in-Ok.ensures in
+    let done = c.in_ok-tally.ensures in
     let mid = (g.D.Disk.files c.loop-next.disk).pkg in
     let s = state (g.D.Disk.files c.args.disk.now).pkg c.args.db.now.store in
     let t = state mid c.loop-next.db.store in
@@ -52,11 +52,11 @@ loop-next-preserved g c =
           let ended = done.ended told next.0 next.1.0 et e in
           halfway_more g.O.Sink.tells et (rebuild s) (drop_each (above n es)) (dropped m next.0) (drop_each (above m es)) s t u
           c.loop-next.failed c.loop-next.changes o o' o'' e e e next.1.1 (inv.goes told et e)
-          c.in-Ok.tally ended;
+          c.in_ok-tally.tally ended;
       limited = λ told i rows.
           let next = drop_next s.packages t.packages n m (inv.same told) (c.in-Some.ensures.told mid) in
           limited_more i (rebuild s) (drop_each (above n es)) (dropped m next.0) (drop_each (above m es)) s t c.args.db.now.store c.loop-next.db.store
-          c.drop_one.new.db.store next.1.1 (inv.limited told i rows) u c.in-Ok.tally (done.ended told next.0 next.1.0 true []).state_is
+          c.drop_one.new.db.store next.1.1 (inv.limited told i rows) u c.in_ok-tally.tally (done.ended told next.0 next.1.0 true []).state_is
           (done.limits told next.0 next.1.0 i (λ is. inv.carried.index told (rows is)));
       same = λ told.
           let next = drop_next s.packages t.packages n m (inv.same told) (c.in-Some.ensures.told mid) in
@@ -76,14 +76,14 @@ loop-next-preserved g c =
       out_rest = g.met.O.Sink.follows_trans (inner c.args.out.now) (inner c.loop-next.out) (inner c.drop_one.new.out) inv.out_rest done.out.goes_on;
     }
 
-pub returns-in-Err-clause-ended : goal.returns-in-Err-clause-ended
-returns-in-Err-clause-ended = stopped.returns-in-Err-clause-ended
+pub returns-in_err-tally-clause-ended : goal.returns-in_err-tally-clause-ended
+returns-in_err-tally-clause-ended = stopped.returns-in_err-tally-clause-ended
 
-pub returns-in-Err-clause-limits : goal.returns-in-Err-clause-limits
-returns-in-Err-clause-limits = stopped.returns-in-Err-clause-limits
+pub returns-in_err-tally-clause-limits : goal.returns-in_err-tally-clause-limits
+returns-in_err-tally-clause-limits = stopped.returns-in_err-tally-clause-limits
 
-pub returns-in-Err-clause-runs : goal.returns-in-Err-clause-runs
-returns-in-Err-clause-runs = stopped.returns-in-Err-clause-runs
+pub returns-in_err-tally-clause-runs : goal.returns-in_err-tally-clause-runs
+returns-in_err-tally-clause-runs = stopped.returns-in_err-tally-clause-runs
 
 pub returns-clause-ended : goal.returns-clause-ended
 returns-clause-ended g c = λ told et e.

@@ -38,11 +38,11 @@ pub returns-in-Ok-clause-carried : goal.returns-in-Ok-clause-carried
 returns-in-Ok-clause-carried g c =
     let looks = c.in-Ok.ensures.looks in
     record {
-      going = c.requires.going;
+      going = c.requires.ready.going;
       serving = λ told.
           serving_looked (g.D.Disk.files c.args.disk.now) (g.D.Disk.files c.get.new.disk) (g.D.Disk.left_since c.args.disk.now)
           (g.D.Disk.left_since c.get.new.disk) (g.D.Disk.moment c.args.disk.now) (g.D.Disk.moment c.get.new.disk) c.args.db.now (looks.untouched told)
-          looks.moment_stays (c.requires.serving told);
+          looks.moment_stays (c.requires.ready.serving told);
       index = λ told rows. subst (λ (f : Files). IsIndexed f.pkg f.idx c.args.db.now) (sym (looks.untouched told).same) rows;
     }
 
@@ -51,12 +51,17 @@ returns-in-Ok-clause-runs g c =
     runs_looks g.D.Disk.tells g.D.Disk.files g.D.Disk.left_since g.D.Disk.moment g.D.Disk.bytes_read g.D.Disk.follows SameLog (λ f. refl) Pkg
     (cost c.args.number c.args.db.now) c.args.disk.now c.get.new.disk refl c.in-Ok.ensures.looks
 
-pub drop_bad-requires-clause-serving : goal.drop_bad-requires-clause-serving
-drop_bad-requires-clause-serving g c = λ told.
+pub drop_bad-requires-clause-ready : goal.drop_bad-requires-clause-ready
+drop_bad-requires-clause-ready g c =
     let looks = c.get.ensures.looks in
-    serving_looked (g.D.Disk.files c.args.disk.now) (g.D.Disk.files c.get.new.disk) (g.D.Disk.left_since c.args.disk.now)
-    (g.D.Disk.left_since c.get.new.disk) (g.D.Disk.moment c.args.disk.now) (g.D.Disk.moment c.get.new.disk) c.args.db.now (looks.untouched told)
-    looks.moment_stays (c.requires.serving told)
+    record {
+      indexed = c.requires.ready.indexed;
+      going = c.requires.ready.going;
+      serving = λ told.
+          serving_looked (g.D.Disk.files c.args.disk.now) (g.D.Disk.files c.get.new.disk) (g.D.Disk.left_since c.args.disk.now)
+          (g.D.Disk.left_since c.get.new.disk) (g.D.Disk.moment c.args.disk.now) (g.D.Disk.moment c.get.new.disk) c.args.db.now (looks.untouched told)
+          looks.moment_stays (c.requires.ready.serving told);
+    }
 
 pub returns-in-Err-Bad-clause-ended : goal.returns-in-Err-Bad-clause-ended
 returns-in-Err-Bad-clause-ended g c = λ told p is et e.

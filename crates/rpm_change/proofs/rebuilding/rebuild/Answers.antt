@@ -12,18 +12,18 @@ use Rattle.rpm_change.specs.Endings.{outputs, Ended}
 use Rattle.rpm_change.specs.Rebuilding.{rebuild}
 use Rattle.rpm_change.proofs.Courses.{through_none}
 use Rattle.rpm_change.proofs.Erased.{refused_ended}
-use Rattle.rpm_change.proofs.Dropped.{serving_remade, state_remade}
+use Rattle.rpm_change.proofs.Dropped.{state_remade}
 use Rattle.rpm_change.proofs.Rebuilt.{rebuild_kinds, unbuilt_limits, remade_limits, remade_stores, remade_reached, runs_weaker}
 use Rattle.rpm_change.proofs.rebuilding.rebuild.Goals as goal
 
-pub drop_each-requires-clause-serving : goal.drop_each-requires-clause-serving
-drop_each-requires-clause-serving g c = λ told.
-    let said = c.in-Ok.ensures in
-    let made = said.runs.reads_as told in
-    let served = c.requires.serving told in
-    serving_remade (g.D.Disk.files c.args.disk.now) (g.D.Disk.files c.rebuild.new.disk)
-    (g.D.Disk.left_since c.rebuild.new.disk (g.D.Disk.moment c.rebuild.new.disk)) c.args.db.now c.rebuild.new.self made said.store served.keeps
-    (said.rebuilt told).2 (said.pkg told) (said.settled told)
+pub drop_each-requires : goal.drop_each-requires
+drop_each-requires g c = record {
+  ready = record {
+    indexed = c.in-Ok.ensures.still.indexed;
+    going = c.in-Ok.ensures.renewed.going;
+    serving = c.in-Ok.ensures.renewed.serving;
+  };
+}
 
 pub returns-in-Ok-clause-ended : goal.returns-in-Ok-clause-ended
 returns-in-Ok-clause-ended g c = λ told et e.
@@ -31,7 +31,7 @@ returns-in-Ok-clause-ended g c = λ told et e.
     let old = outputs g.O.Sink.tells (g.O.Sink.taken (inner c.args.out.now)) et e in
     let new = outputs g.O.Sink.tells (g.O.Sink.taken (inner c.drop_each.new.out)) et e in
     let same = state_remade (g.D.Disk.files c.args.disk.now) (g.D.Disk.files c.rebuild.new.disk) c.args.db.now c.rebuild.new.self
-    (c.in-Ok.ensures.runs.reads_as told) c.in-Ok.ensures.store in
+    (c.in-Ok.ensures.runs.reads_as told) c.in-Ok.ensures.still.store in
     subst (λ (s : State). Ended (rebuild s) s t c.drop_each.result old new) same (c.drop_each.ensures.ended told et e)
 
 pub returns-in-Ok-clause-limits : goal.returns-in-Ok-clause-limits
@@ -40,19 +40,19 @@ returns-in-Ok-clause-limits g c = λ told.
     let x = c.drop_each.new.db.store in
     let said = c.in-Ok.ensures in
     let same = state_remade (g.D.Disk.files c.args.disk.now) (g.D.Disk.files c.rebuild.new.disk) c.args.db.now c.rebuild.new.self (said.runs.reads_as told)
-    said.store in
+    said.still.store in
     subst (λ (o : Option Halt). StopsAt true o c.drop_each.result)
     (sym (makes_small true s c.args.db.now.store (rebuild s).changes (λ is. (said.rebuilt told).0)))
-    (remade_limits s x c.drop_each.result said.store same (c.drop_each.ensures.limits told true (λ is. (said.rebuilt told).3))).first
+    (remade_limits s x c.drop_each.result said.still.store same (c.drop_each.ensures.limits told true (λ is. (said.rebuilt told).3))).first
 
 pub returns-in-Ok-clause-stores : goal.returns-in-Ok-clause-stores
 returns-in-Ok-clause-stores g c =
     let s = state (g.D.Disk.files c.args.disk.now).pkg c.args.db.now.store in
     let said = c.in-Ok.ensures in
     remade_stores s c.args.db.now.store c.drop_each.new.db.store c.drop_each.result (IsTrue g.D.Disk.tells) (λ told.
-    remade_limits s c.drop_each.new.db.store c.drop_each.result said.store
+    remade_limits s c.drop_each.new.db.store c.drop_each.result said.still.store
     (state_remade (g.D.Disk.files c.args.disk.now) (g.D.Disk.files c.rebuild.new.disk) c.args.db.now c.rebuild.new.self (said.runs.reads_as told)
-    said.store) (c.drop_each.ensures.limits told true (λ is. (said.rebuilt told).3)))
+    said.still.store) (c.drop_each.ensures.limits told true (λ is. (said.rebuilt told).3)))
 
 pub returns-in-Ok-clause-reach : goal.returns-in-Ok-clause-reach
 returns-in-Ok-clause-reach g c =
@@ -61,8 +61,8 @@ returns-in-Ok-clause-reach g c =
     let s = state old.pkg c.args.db.now.store in
     let said = c.in-Ok.ensures in
     remade_reached s c.args.db.now.store c.drop_each.new.db.store old c.drop_each.result (IsTrue g.D.Disk.tells) (λ told. (said.runs.reads_as told).pkg)
-    said.reach (λ told. remade_limits s c.drop_each.new.db.store c.drop_each.result said.store
-    (state_remade old mid c.args.db.now c.rebuild.new.self (said.runs.reads_as told) said.store)
+    said.renewed.reach (λ told. remade_limits s c.drop_each.new.db.store c.drop_each.result said.still.store
+    (state_remade old mid c.args.db.now c.rebuild.new.self (said.runs.reads_as told) said.still.store)
     (c.drop_each.ensures.limits told true (λ is. (said.rebuilt told).3)))
 
 pub returns-in-Ok-clause-runs : goal.returns-in-Ok-clause-runs

@@ -1,5 +1,6 @@
 -- An import that was stopped.
 use Rattle.std.proofs.Common.{◌≡◌, ◌+◌, false, ◌∙◌}
+use Rattle.std.proofs.lemmas.Result.{err_from_is_err_and}
 use Rattle.rpm_outside.specs.Browses.{left}
 use Rattle.rpm_outside.specs.Buffered.{inner}
 use Rattle.rpm_outside.specs.inner.Browsing.{browses_then}
@@ -14,8 +15,8 @@ use Rattle.rpm_change.proofs.Limits.{limited_stop}
 use Rattle.rpm_change.proofs.Listed.{turn_splits, turn_ahead}
 use Rattle.rpm_change.proofs.import.import_open.Goals as goal
 
-pub returns-in-Err-clause-ended : goal.returns-in-Err-clause-ended
-returns-in-Err-clause-ended g c = λ told heard out_tells out.
+pub returns-in_err-turn-clause-ended : goal.returns-in_err-turn-clause-ended
+returns-in_err-turn-clause-ended g c = λ told heard out_tells out.
     let most = c.args.most in
     let k = c.loop-is_last.place in
     let inv = c.loop-is_last.invariant in
@@ -26,14 +27,15 @@ returns-in-Err-clause-ended g c = λ told heard out_tells out.
     let bytes = left (g.S.Shelf.rest c.loop-is_last.shelf) in
     let all = import_listed most (listed (left (g.S.Shelf.rest c.args.shelf.now))) in
     let split = turn_ahead most k (list_head bytes) in
-    halfway_stop out_tells g.E.Sink.tells all (from_place false most k (listed bytes)) (turn most k (list_head bytes))
+    let p = err_from_is_err_and c.from_residual.result c.from_residual.ensures.1 in
+    rw (p.1, p.2) (halfway_stop out_tells g.E.Sink.tells all (from_place false most k (listed bytes)) (turn most k (list_head bytes))
     (from_place split.0 most (k + 1) (listed split.1.0)) s t u c.loop-is_last.failed c.loop-is_last.changes out out out
     (g.E.Sink.taken (inner c.args.err.now)) (g.E.Sink.taken (inner c.loop-is_last.err)) (g.E.Sink.taken (inner c.import_next.new.err))
-    (turn_splits most k bytes split.0 split.1.0 split.1.1) (rw going at (inv.goes told heard out_tells out)) c.in-Err.halt
-    (c.in-Err.ensures.ended told heard out_tells out)
+    (turn_splits most k bytes split.0 split.1.0 split.1.1) (rw going at (inv.goes told heard out_tells out)) c.in_err-turn.field-0.0
+    (c.in_err-turn.ensures.ended told heard out_tells out))
 
-pub returns-in-Err-clause-limits : goal.returns-in-Err-clause-limits
-returns-in-Err-clause-limits g c = λ told heard i rows.
+pub returns-in_err-turn-clause-limits : goal.returns-in_err-turn-clause-limits
+returns-in_err-turn-clause-limits g c = λ told heard i rows.
     let most = c.args.most in
     let k = c.loop-is_last.place in
     let inv = c.loop-is_last.invariant in
@@ -43,18 +45,19 @@ returns-in-Err-clause-limits g c = λ told heard i rows.
     let bytes = left (g.S.Shelf.rest c.loop-is_last.shelf) in
     let all = import_listed most (listed (left (g.S.Shelf.rest c.args.shelf.now))) in
     let split = turn_ahead most k (list_head bytes) in
-    limited_stop i all (from_place false most k (listed bytes)) (turn most k (list_head bytes)) (from_place split.0 most (k + 1) (listed split.1.0)) s t
+    let p = err_from_is_err_and c.from_residual.result c.from_residual.ensures.1 in
+    rw (p.1, p.2) (limited_stop i all (from_place false most k (listed bytes)) (turn most k (list_head bytes)) (from_place split.0 most (k + 1) (listed split.1.0)) s t
     c.args.db.now.store c.loop-is_last.db.store c.import_next.new.db.store (turn_splits most k bytes split.0 split.1.0 split.1.1)
-    (rw going at (inv.limited told heard i rows)) c.in-Err.halt
-    (c.in-Err.ensures.limits told heard i (λ is. inv.carried.index told (rows is)))
+    (rw going at (inv.limited told heard i rows)) c.in_err-turn.field-0.0
+    (c.in_err-turn.ensures.limits told heard i (λ is. inv.carried.index told (rows is))))
 
-pub returns-in-Err-clause-runs : goal.returns-in-Err-clause-runs
-returns-in-Err-clause-runs g c =
+pub returns-in_err-turn-clause-runs : goal.returns-in_err-turn-clause-runs
+returns-in_err-turn-clause-runs g c =
     runs_then g.D.Disk.tells g.D.Disk.files g.D.Disk.left_since g.D.Disk.moment g.D.Disk.bytes_read g.D.Disk.follows g.met.D.Disk.follows_trans
     SameLog SameLog SameLog c.args.disk.now c.loop-is_last.disk c.import_next.new.disk (λ x y log. log) (λ x y z first second. second ∙ first)
-    c.loop-is_last.invariant.runs c.in-Err.ensures.runs
+    c.loop-is_last.invariant.runs c.in_err-turn.ensures.runs
 
-pub returns-in-Err-clause-browses : goal.returns-in-Err-clause-browses
-returns-in-Err-clause-browses g c =
+pub returns-in_err-turn-clause-browses : goal.returns-in_err-turn-clause-browses
+returns-in_err-turn-clause-browses g c =
     browses_then g.S.Shelf.tells g.S.Shelf.paths g.S.Shelf.rest g.S.Shelf.absences g.S.Shelf.faults c.args.shelf.now c.loop-is_last.shelf
-    c.import_next.new.shelf c.loop-is_last.invariant.browses c.in-Err.ensures.browses
+    c.import_next.new.shelf c.loop-is_last.invariant.browses c.in_err-turn.ensures.browses

@@ -1,5 +1,6 @@
 -- Dropping that was stopped.
 use Rattle.std.proofs.Common.{◌∙◌}
+use Rattle.std.proofs.lemmas.Result.{err_from_is_err_and}
 use Rattle.std.specs.FinMap as finite
 use Rattle.rpm_outside.specs.Buffered.{inner}
 use Rattle.rpm_db.specs.State.{state, above}
@@ -11,8 +12,8 @@ use Rattle.rpm_change.proofs.Dropped.{drop_next}
 use Rattle.rpm_change.proofs.Limits.{limited_stop}
 use Rattle.rpm_change.proofs.rebuilding.drop_each.Goals as goal
 
-pub returns-in-Err-clause-ended : goal.returns-in-Err-clause-ended
-returns-in-Err-clause-ended g c = λ told et e.
+pub returns-in_err-tally-clause-ended : goal.returns-in_err-tally-clause-ended
+returns-in_err-tally-clause-ended g c = λ told et e.
     let n = c.loop-next.number in
     let m = c.in-Some.next in
     let inv = c.loop-next.invariant in
@@ -22,13 +23,14 @@ returns-in-Err-clause-ended g c = λ told et e.
     let u = state (g.D.Disk.files c.drop_one.new.disk).pkg c.drop_one.new.db.store in
     let es = finite.entries s.packages in
     let next = drop_next s.packages t.packages n m (inv.same told) (c.in-Some.ensures.told mid) in
-    halfway_stop g.O.Sink.tells et (rebuild s) (drop_each (above n es)) (dropped m next.0) (drop_each (above m es)) s t u
+    let p = err_from_is_err_and c.from_residual.result c.from_residual.ensures.1 in
+    rw (p.1, p.2) (halfway_stop g.O.Sink.tells et (rebuild s) (drop_each (above n es)) (dropped m next.0) (drop_each (above m es)) s t u
     c.loop-next.failed c.loop-next.changes (g.O.Sink.taken (inner c.args.out.now)) (g.O.Sink.taken (inner c.loop-next.out))
-    (g.O.Sink.taken (inner c.drop_one.new.out)) e e e next.1.1 (inv.goes told et e) c.in-Err.halt
-    (c.in-Err.ensures.ended told next.0 next.1.0 et e)
+    (g.O.Sink.taken (inner c.drop_one.new.out)) e e e next.1.1 (inv.goes told et e) c.in_err-tally.field-0.0
+    (c.in_err-tally.ensures.ended told next.0 next.1.0 et e))
 
-pub returns-in-Err-clause-limits : goal.returns-in-Err-clause-limits
-returns-in-Err-clause-limits g c = λ told i rows.
+pub returns-in_err-tally-clause-limits : goal.returns-in_err-tally-clause-limits
+returns-in_err-tally-clause-limits g c = λ told i rows.
     let n = c.loop-next.number in
     let m = c.in-Some.next in
     let inv = c.loop-next.invariant in
@@ -37,12 +39,13 @@ returns-in-Err-clause-limits g c = λ told i rows.
     let t = state mid c.loop-next.db.store in
     let es = finite.entries s.packages in
     let next = drop_next s.packages t.packages n m (inv.same told) (c.in-Some.ensures.told mid) in
-    limited_stop i (rebuild s) (drop_each (above n es)) (dropped m next.0) (drop_each (above m es)) s t c.args.db.now.store c.loop-next.db.store
-    c.drop_one.new.db.store next.1.1 (inv.limited told i rows) c.in-Err.halt
-    (c.in-Err.ensures.limits told next.0 next.1.0 i (λ is. inv.carried.index told (rows is)))
+    let p = err_from_is_err_and c.from_residual.result c.from_residual.ensures.1 in
+    rw (p.1, p.2) (limited_stop i (rebuild s) (drop_each (above n es)) (dropped m next.0) (drop_each (above m es)) s t c.args.db.now.store c.loop-next.db.store
+    c.drop_one.new.db.store next.1.1 (inv.limited told i rows) c.in_err-tally.field-0.0
+    (c.in_err-tally.ensures.limits told next.0 next.1.0 i (λ is. inv.carried.index told (rows is))))
 
-pub returns-in-Err-clause-runs : goal.returns-in-Err-clause-runs
-returns-in-Err-clause-runs g c =
+pub returns-in_err-tally-clause-runs : goal.returns-in_err-tally-clause-runs
+returns-in_err-tally-clause-runs g c =
     runs_then g.D.Disk.tells g.D.Disk.files g.D.Disk.left_since g.D.Disk.moment g.D.Disk.bytes_read g.D.Disk.follows g.met.D.Disk.follows_trans
     SameLog SameLog SameLog c.args.disk.now c.loop-next.disk c.drop_one.new.disk (λ x y log. log) (λ x y z first second. second ∙ first)
-    c.loop-next.invariant.runs c.in-Err.ensures.runs
+    c.loop-next.invariant.runs c.in_err-tally.ensures.runs

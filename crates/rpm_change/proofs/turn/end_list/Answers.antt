@@ -12,7 +12,7 @@ use Rattle.rpm_change.proofs.Courses.{through_none}
 use Rattle.rpm_change.proofs.Unchanged.{line_limits}
 use Rattle.rpm_change.proofs.Turned.{line_most, line_kinds, lines_only, of_list, stop_ended, stop_limits, stop_kinds, stop_err, stop_read}
 use Rattle.rpm_change.proofs.Imported.{any_ok}
-use Rattle.rpm_change.proofs.import.end_list.Goals as goal
+use Rattle.rpm_change.proofs.turn.end_list.Goals as goal
 
 -- the command stops
 

@@ -14,9 +14,9 @@ use Rattle.rpm_change.specs.Turns.{Leaves}
 use Rattle.rpm_change.specs.inner.Single.{none_made}
 use Rattle.rpm_change.proofs.Taken.{at_end, nothing_done, ending_kinds, ending_disk}
 use Rattle.rpm_change.proofs.Turned.{turn_kinds, turn_cause, no_shelf, turn_last}
-use Rattle.rpm_change.proofs.import.import_next.Answers.Front as front
-use Rattle.rpm_change.proofs.import.import_next.Answers.Fault as fault
-use Rattle.rpm_change.proofs.import.import_next.Goals as goal
+use Rattle.rpm_change.proofs.turn.import_next.Answers.Front as front
+use Rattle.rpm_change.proofs.turn.import_next.Answers.Fault as fault
+use Rattle.rpm_change.proofs.turn.import_next.Goals as goal
 
 -- a header stands in front
 

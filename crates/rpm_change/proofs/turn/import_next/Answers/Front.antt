@@ -12,7 +12,7 @@ use Rattle.rpm_change.specs.Steps.{Course}
 use Rattle.rpm_change.specs.Turns.{Leaves}
 use Rattle.rpm_change.proofs.Taken.{at_header}
 use Rattle.rpm_change.proofs.Turned.{turn_ok, turn_leaves, at_most}
-use Rattle.rpm_change.proofs.import.import_next.Goals as goal
+use Rattle.rpm_change.proofs.turn.import_next.Goals as goal
 
 pub returns-in-Ok-Some-clause-ended : goal.returns-in-Ok-Some-clause-ended
 returns-in-Ok-Some-clause-ended g c = λ told heard ot o.

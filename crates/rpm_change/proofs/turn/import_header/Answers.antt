@@ -16,7 +16,7 @@ use Rattle.rpm_change.proofs.Imported.{imported_good, state_room, indexed_room, 
 use Rattle.rpm_change.specs.inner.Single.{one_made}
 use Rattle.rpm_change.proofs.Unchanged.{line_limits}
 use Rattle.rpm_change.proofs.Wholes.{whole_turn, whole_halt, line_unbroken}
-use Rattle.rpm_change.proofs.import.import_header.Goals as goal
+use Rattle.rpm_change.proofs.turn.import_header.Goals as goal
 
 pub returns-in-Ok-clause-ended : goal.returns-in-Ok-clause-ended
 returns-in-Ok-clause-ended g c = λ told out_tells out.
@@ -30,7 +30,7 @@ returns-in-Ok-clause-ended g c = λ told out_tells out.
       steps = through_none {ot = out_tells} {et = g.E.Sink.tells} out (g.E.Sink.taken (inner c.args.err.now));
       failed = refl;
       changes = refl;
-      state_is = c.in-Ok.ensures.state told put.own put.read;
+      state_is = (c.in-Ok.ensures.changed put.own put.read).state_is told;
     })
 
 pub returns-in-Ok-clause-limits : goal.returns-in-Ok-clause-limits
@@ -44,15 +44,15 @@ returns-in-Ok-clause-limits g c = λ told i rows.
     (sym (imported_good c.args.place c.args.blob.now put.own put.read))
     (one_made i s (Add put.own.blob) c.args.db.now.store c.add.new.self.store (record { failed = 0; changes = 1 })
     (λ is. done.causes.0 (sym (next-state file c.args.db.now.store) ∙ is)) put.later.0 (done.placed put.own put.read)
-    done.generation (λ is. done.full told c.requires.going (rows is) put.own put.read) (done.end told)
-    (λ is. done.reach told (rows is) put.own put.read))
+    done.left.generation (λ is. done.full told c.requires.going (rows is) put.own put.read) (done.end told)
+    (λ is. (done.changed put.own put.read).reach told (rows is)))
 
 pub returns-in-Err-BadHeader-clause-ended : goal.returns-in-Err-BadHeader-clause-ended
 returns-in-Err-BadHeader-clause-ended g c = λ told out_tells out.
     let s = state (g.D.Disk.files c.args.disk.now).pkg c.args.db.now.store in
     let said = rw c.in-Err-BadHeader.field-0-is at c.in-Err-BadHeader.ensures in
-    let stays = state_room (g.D.Disk.files c.args.disk.now) (g.D.Disk.files c.add.new.disk) c.args.db.now c.add.new.self ((said.same tt).reads_as told)
-    (said.refused tt) in
+    let stays = state_room (g.D.Disk.files c.args.disk.now) (g.D.Disk.files c.add.new.disk) c.args.db.now c.add.new.self ((said.left.same tt).reads_as told)
+    (said.left.refused tt) in
     let old = outputs out_tells out g.E.Sink.tells (g.E.Sink.taken (inner c.args.err.now)) in
     let new = outputs out_tells out g.E.Sink.tells (g.E.Sink.taken (inner c.put_bad_header.new.err)) in
     let line = c.put_bad_header.ensures.ended s out_tells out in
@@ -62,7 +62,7 @@ returns-in-Err-BadHeader-clause-ended g c = λ told out_tells out.
 pub returns-in-Err-BadHeader-clause-whole : goal.returns-in-Err-BadHeader-clause-whole
 returns-in-Err-BadHeader-clause-whole g c = λ told whole.
     let said = rw c.in-Err-BadHeader.field-0-is at c.in-Err-BadHeader.ensures in
-    whole_turn (g.D.Disk.files c.args.disk.now) (g.D.Disk.files c.add.new.disk) c.put_bad_header.result ((said.same tt).reads_as told) whole
+    whole_turn (g.D.Disk.files c.args.disk.now) (g.D.Disk.files c.add.new.disk) c.put_bad_header.result ((said.left.same tt).reads_as told) whole
     (line_unbroken c.put_bad_header.result c.put_bad_header.ensures.kinds)
 
 pub returns-in-Err-BadHeader-clause-limits : goal.returns-in-Err-BadHeader-clause-limits
@@ -73,9 +73,9 @@ returns-in-Err-BadHeader-clause-limits g c = λ told i rows.
     (g.D.Disk.files c.add.new.disk) x.changes c.put_bad_header.result)
     (sym (ap (imported c.args.place) said.causes.1))
     (subst (λ (f : Files). LimitsTurn i s c.args.db.now.store c.add.new.self.store (g.D.Disk.files c.args.disk.now) f [] c.put_bad_header.result)
-    (sym ((said.same tt).reads_as told))
+    (sym ((said.left.same tt).reads_as told))
     (line_limits i s c.args.db.now.store c.add.new.self.store c.add.new.self.store.spare c.put_bad_header.result
-    (ap (λ (db : Database). db.store) (said.refused tt)) c.put_bad_header.ensures.kinds))
+    (ap (λ (db : Database). db.store) (said.left.refused tt)) c.put_bad_header.ensures.kinds))
 
 pub returns-in-Err-BadHeader-clause-carried : goal.returns-in-Err-BadHeader-clause-carried
 returns-in-Err-BadHeader-clause-carried g c =
@@ -83,11 +83,11 @@ returns-in-Err-BadHeader-clause-carried g c =
     any_ok c.put_bad_header.result (IsCarried g.D.Disk.tells (g.D.Disk.files c.args.disk.now) (g.D.Disk.files c.add.new.disk)
     (g.D.Disk.left_since c.add.new.disk (g.D.Disk.moment c.add.new.disk)) c.args.db.now c.add.new.self)
     (record {
-      going = ap (λ (d : Database). d.stopped) (said.refused tt) ∙ c.requires.going;
-      serving = λ told. said.serving (λ e. cc) c.requires.going told;
+      going = ap (λ (d : Database). d.stopped) (said.left.refused tt) ∙ c.requires.going;
+      serving = λ told. said.left.serving (λ e. cc) c.requires.going told;
       index = λ told rows.
-          indexed_room (g.D.Disk.files c.args.disk.now) (g.D.Disk.files c.add.new.disk) c.args.db.now c.add.new.self ((said.same tt).reads_as told)
-          (said.refused tt) rows;
+          indexed_room (g.D.Disk.files c.args.disk.now) (g.D.Disk.files c.add.new.disk) c.args.db.now c.add.new.self ((said.left.same tt).reads_as told)
+          (said.left.refused tt) rows;
     })
 
 pub returns-in-Err-clause-ended : goal.returns-in-Err-clause-ended
@@ -101,7 +101,7 @@ returns-in-Err-clause-ended g c = λ told out_tells out.
 
 pub returns-in-Err-clause-whole : goal.returns-in-Err-clause-whole
 returns-in-Err-clause-whole g c = λ told whole.
-    rw c.halt_of.ensures (whole_halt (g.D.Disk.files c.add.new.disk).idx c.in-Err.fault (c.in-Err.ensures.whole told whole))
+    rw c.halt_of.ensures (whole_halt (g.D.Disk.files c.add.new.disk).idx c.in-Err.fault (c.in-Err.ensures.left.whole told whole))
 
 pub returns-in-Err-clause-limits : goal.returns-in-Err-clause-limits
 returns-in-Err-clause-limits g c = λ told i rows.

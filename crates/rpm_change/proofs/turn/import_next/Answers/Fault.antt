@@ -7,7 +7,7 @@ use Rattle.rpm_change.specs.declared.tally.Tally.{Tally}
 use Rattle.rpm_change.specs.Endings.{IsCarried}
 use Rattle.rpm_change.proofs.Taken.{any_turn, ending_shelf, ending_leaves, ending_whole}
 use Rattle.rpm_change.proofs.Turned.{turn_ok}
-use Rattle.rpm_change.proofs.import.import_next.Goals as goal
+use Rattle.rpm_change.proofs.turn.import_next.Goals as goal
 
 pub returns-in-Err-clause-ended : goal.returns-in-Err-clause-ended
 returns-in-Err-clause-ended g c = λ told heard ot o.

@@ -3,7 +3,7 @@ use Rattle.std.proofs.lemmas.Bool.Decides.{nat_tests}
 use Rattle.rpm_db.specs.State.{state}
 use Rattle.rpm_change.proofs.Unchanged.{line_limits}
 use Rattle.rpm_change.proofs.Wholes.{whole_turn, line_unbroken}
-use Rattle.rpm_change.proofs.import.import_within.Goals as goal
+use Rattle.rpm_change.proofs.turn.import_within.Goals as goal
 
 pub returns-then-most-place-clause-ended : goal.returns-then-most-place-clause-ended
 returns-then-most-place-clause-ended g c = λ told out_tells out.
