@@ -9,8 +9,8 @@ use Rattle.rpm_pkgdb.specs.Costs.{cost_to, cost_to_more, cost_to-cost_all}
 use Rattle.rpm_qfparse.specs.Tree.{Tree}
 use Rattle.rpm_qfeval.specs.Meaning.{meaning}
 use Rattle.rpm_db.specs.State.{Package, Good, Bad, above}
-use Rattle.rpm_select.specs.declared.picker.Picked.{Picked}
-use Rattle.rpm_select.specs.declared.picker.Picked.TheVariants as pick
+use Rattle.rpm_select.specs.declared.picked.Picked.{Picked}
+use Rattle.rpm_select.specs.declared.picked.Picked.TheVariants as pick
 use Rattle.rpm_select.specs.Picks.{entry_in, number_in}
 use Rattle.rpm_tool.specs.declared.step.Stop.{Stop}
 use Rattle.rpm_change.specs.Steps.{Bearer, bearer, Step, is_out}

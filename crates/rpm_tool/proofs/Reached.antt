@@ -3,8 +3,8 @@ use Rattle.std.proofs.Common.{◌≡◌, ℕ, ◌+◌, ◌-◌, ◌<◌, ◌≤�
 use Rattle.std.specs.Prelude.{IfOk, IfSome}
 use Rattle.rpm_db.specs.State.{packages}
 use Rattle.rpm_db.specs.Database.{Database}
-use Rattle.rpm_select.specs.declared.picker.Picked.{Picked}
-use Rattle.rpm_select.specs.declared.picker.Picked.TheVariants as pick
+use Rattle.rpm_select.specs.declared.picked.Picked.{Picked}
+use Rattle.rpm_select.specs.declared.picked.Picked.TheVariants as pick
 use Rattle.rpm_select.specs.Picks.{entry_in, number_in}
 use Rattle.rpm_select.specs.inner.Costing.{reach_up, reach_some}
 use Rattle.rpm_select.specs.Reach.{Reach, Serves, HasIndexRows, reach_to, reach_all}

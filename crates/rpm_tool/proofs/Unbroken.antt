@@ -1,7 +1,7 @@
 -- Answers that don't say that the index is malformed.
 use Rattle.std.proofs.Common.{◌≡◌, ℕ, List, Bool, false, Result, Ok, Err, Option, Some, refl}
-use Rattle.rpm_select.specs.declared.picker.PickFault.{PickFault}
-use Rattle.rpm_select.specs.declared.picker.PickFault.TheVariants as pick
+use Rattle.rpm_select.specs.declared.picked.PickFault.{PickFault}
+use Rattle.rpm_select.specs.declared.picked.PickFault.TheVariants as pick
 use Rattle.rpm_select.specs.Picks.{is_of_index}
 use Rattle.rpm_select.specs.Candidates.{keys_asked}
 use Rattle.rpm_select.specs.Reach.{IsBroken}

@@ -26,8 +26,8 @@ use Rattle.rpm_qfparse.specs.declared.fault.FormatFault.{FormatFault}
 use Rattle.rpm_qfparse.specs.declared.fault.FormatKind.TheVariants as wrong
 use Rattle.rpm_qfparse.specs.Tree.{Tree}
 use Rattle.rpm_select.specs.Reach.{Reach, Everything}
-use Rattle.rpm_select.specs.declared.picker.PickFault.{PickFault}
-use Rattle.rpm_select.specs.declared.picker.PickFault.TheVariants as pick
+use Rattle.rpm_select.specs.declared.picked.PickFault.{PickFault}
+use Rattle.rpm_select.specs.declared.picked.PickFault.TheVariants as pick
 use Rattle.rpm_tool.specs.declared.step.Stop.{Stop}
 use Rattle.rpm_tool.specs.declared.step.Stop.TheVariants as stop
 use Rattle.rpm_tool.specs.declared.picked.PrintedPackages.{PrintedPackages}

@@ -81,7 +81,8 @@ pub fn answer_unindexed<D: Disk, O: Sink + Drop, E: Sink + Drop>(
         Ok(db) => answer_opened(alloc, &db, disk, words, ask, format, out, err),
         Err(DbOpenFault::Damaged(damage)) => Why::Damaged(damage),
         Err(DbOpenFault::DiskFault) => Why::DiskFault,
+        Err(DbOpenFault::NoMemory) => Why::NoMemory,
         // No index is made, and so none is full.
-        Err(DbOpenFault::IndexFull { .. } | DbOpenFault::NoMemory) => Why::NoMemory,
+        Err(DbOpenFault::IndexFull { .. }) => unreachable!(),
     }
 }

@@ -102,8 +102,8 @@ fn verify_one<D: Disk, O: Sink + Drop>(
     match db.verify(alloc, disk, number) {
         Ok(said) => tell_verdict(out, number, said),
         Err(GetFault::NoSuch) => unreachable!(),
-        // It doesn't come.
-        Err(GetFault::Bad) => tell_verdict(out, number, Verdict::BadHeader),
+        // A header that is none is a verdict.
+        Err(GetFault::Bad) => unreachable!(),
         Err(GetFault::DiskFault) => Err(Stop::ReadFault),
         Err(GetFault::NoMemory) => Err(Stop::NoMemory),
     }

@@ -66,7 +66,7 @@ pub returns-in-Ok-make_blank-clause-from_one : goal.returns-in-Ok-make_blank-cla
 returns-in-Ok-make_blank-clause-from_one g c = λ told.
     sym (is_there (g.D.Disk.files c.make_blank.new.disk).pkg c.make_blank.new.db 0)
     ∙ ap (λ (s : State). is_some (finite.get s.packages 0)) (c.in-Ok-make_blank.ensures.state told)
-    ∙ is_there (g.D.Disk.files c.open.new.disk).pkg c.in-Ok.db 0 ∙ c.in-Ok.ensures.from_one
+    ∙ is_there (g.D.Disk.files c.open.new.disk).pkg c.in-Ok.db 0 ∙ c.in-Ok.ensures.fresh.from_one
 
 pub returns-in-Ok-make_blank-clause-begun : goal.returns-in-Ok-make_blank-clause-begun
 returns-in-Ok-make_blank-clause-begun g c = λ told.

@@ -13,6 +13,3 @@ returns-in-Ok-clause-went g c = λ told err_tells err.
     (outputs g.O.Sink.tells (g.O.Sink.taken (inner c.args.out.now)) err_tells err)
     (outputs g.O.Sink.tells (g.O.Sink.taken (inner c.tell_verdict.new.out)) err_tells err) (λ for. for ≡ bearer 0 c.args.number))
     (sym (c.in-Ok.ensures.told told)) (c.tell_verdict.ensures.part err_tells err)
-
-pub returns-in-Err-Bad-clause-went : goal.returns-in-Err-Bad-clause-went
-returns-in-Err-Bad-clause-went g c = λ told err_tells err. absurd (rw c.in-Err-Bad.field-0-is at (c.in-Err-Bad.ensures.told told))
