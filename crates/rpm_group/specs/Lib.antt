@@ -10,6 +10,7 @@ pub mod Settled
 pub mod Loaded
 pub mod Counts
 pub mod Groups
+pub mod Frame
 pub mod Orders
 pub mod Commits
 pub mod inner

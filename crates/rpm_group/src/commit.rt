@@ -2,20 +2,20 @@
 
 ghost use Rattle.std.specs.Prelude.{◌≡◌, ◌⊎◌, ◌↔◌, ℕ, ◌+◌, ◌-◌, ◌*◌, ◌/◌, ◌%◌, ◌<◌, ◌≤◌, ◌^◌, IsTrue, length, Ok, Err, OnOk, OnErr, IfOk, IfErr, List};
 ghost use Rattle.rpm_outside.specs.Files.{Files, file_of, with_file};
-ghost use Rattle.rpm_outside.specs.Crash.{LeavesOnly, Untouched};
+ghost use Rattle.rpm_outside.specs.Crash.{Untouched};
 ghost use Rattle.rpm_outside.specs.Causes.{HasCause, HasCauseAt};
-ghost use Rattle.rpm_outside.specs.Changed.{ChangedIn, LeavesChanged};
+ghost use Rattle.rpm_outside.specs.Changed.{ChangedIn};
 ghost use Rattle.rpm_outside.specs.Logs.{Entry, Closed, Open, log_state, unlogged, with_entries, reopened};
 ghost use Rattle.rpm_outside.specs.Changes.{AreSettled, IsSettled};
-ghost use Rattle.rpm_group.specs.LogReads.{ReadsNothing, ReadsLog};
 ghost use Rattle.rpm_group.specs.inner.Logged.{CoversHeld};
 ghost use Rattle.rpm_group.specs.Orders.{IsLogged};
 ghost use Rattle.rpm_group.specs.inner.Behind.{KeepsBehind};
 ghost use Rattle.rpm_group.specs.inner.Leavings.{WasWithin};
-ghost use Rattle.rpm_group.specs.Groups.{runs_of, units_of_log, needed, longest_log, BeforeOrAfter, Unwritten};
+ghost use Rattle.rpm_group.specs.Groups.{runs_of, units_of_log, needed, longest_log, BeforeOrAfter};
 ghost use Rattle.rpm_group.specs.inner.Grouped.{with_held, IsGroup, IsTail};
 ghost use Rattle.rpm_group.specs.Commits.{IsFull, CommitSays};
 ghost use Rattle.rpm_group.specs.Layers.{laid_files};
+ghost use Rattle.rpm_group.specs.Frame.{images, LeavesIn, LeavesChanged, ReadsLog, ReadsNothing, Unwritten};
 
 use crate::group::{Tail, apply_runs, log_runs};
 use crate::layers::Layers;
@@ -28,14 +28,16 @@ use rpm_outside::{Disk, Failed, File};
 /// Writes the entries of both files to the log after the commit record, and settles it.
 fn log_held<D: Disk>(disk: &mut D, held: &Layers, buffer: &mut Buffer) -> Result<Tail, Failed>
     requires room { needed held.now ≤ 2 ^ 28 }
-    requires settled { IsTrue D.tells → AreSettled (D.files disk.old) (D.left_since disk.old (D.moment disk.old)) }
+    requires settled { IsTrue D.tells → AreSettled (D.files disk.old) (images D.Disk disk.old) }
     ensures entries { IfOk result (λ tail. tail.entries ≡ runs_of held.now.pkg + runs_of held.now.idx) }
     ensures at { IfOk result (λ tail. tail.at ≡ needed held.now) }
-    ensures logged { IfOk result (λ tail. IsTrue D.tells → (entries : List Entry) × IsGroup entries held.now × IsTail entries tail (D.files disk.new).log) }
-    ensures changed { OnOk result (IsTrue D.tells → ChangedIn File.Log 1 (2 ^ 28) (D.files disk.old) (D.files disk.new)) }
-    ensures settled { OnOk result (IsTrue D.tells → AreSettled (D.files disk.new) (D.left_since disk.new (D.moment disk.new))) }
-    ensures images { IsTrue D.tells → LeavesChanged D.moment D.left_since File.Log 1 (2 ^ 28) disk.old disk.new }
-    ensures reads { ReadsNothing D.moment D.bytes_read D.follows disk.old disk.new }
+    ensures logged { IfOk result (λ tail. IsTrue D.tells
+        → (entries : List Entry) × IsGroup entries held.now × IsTail entries tail (D.files disk.new).log) }
+    ensures changed { OnOk result (IsTrue D.tells → ChangedIn File.Log 1 (2 ^ 28) (D.files disk.old)
+        (D.files disk.new)) }
+    ensures settled { OnOk result (IsTrue D.tells → AreSettled (D.files disk.new) (images D.Disk disk.new)) }
+    ensures images { IsTrue D.tells → LeavesChanged D.Disk File.Log 1 (2 ^ 28) disk.old disk.new }
+    ensures reads { ReadsNothing D.Disk disk.old disk.new }
     ensures cause { HasCause (D.faults disk.old) (D.faults disk.new) result }
 {
     let start = Tail { at: 1, entries: 0 };
@@ -53,18 +55,18 @@ fn open_log<D: Disk>(disk: &mut D, tail: Tail) -> Result<(), Failed>
     requires some { 0 < tail.entries }
     requires place { 1 < tail.at }
     requires small { tail.at ≤ 2 ^ 28 }
-    requires settled { IsTrue D.tells → AreSettled (D.files disk.old) (D.left_since disk.old (D.moment disk.old)) }
+    requires settled { IsTrue D.tells → AreSettled (D.files disk.old) (images D.Disk disk.old) }
     requires closed { IsTrue D.tells → log_state (D.files disk.old).log ≡ Closed }
     ensures open { OnOk result (IsTrue D.tells → (entries : List Entry) → IsTail entries tail (D.files disk.old).log
         → log_state (D.files disk.new).log ≡ Open entries) }
     ensures same { IsTrue D.tells → unlogged (D.files disk.new) ≡ unlogged (D.files disk.old) }
     ensures long { IsTrue D.tells → length (D.files disk.old).log ≤ length (D.files disk.new).log }
     ensures behind { OnOk result (IsTrue D.tells → KeepsBehind (D.files disk.old).log (D.files disk.new).log) }
-    ensures settled { OnOk result (IsTrue D.tells → AreSettled (D.files disk.new) (D.left_since disk.new (D.moment disk.new))) }
+    ensures settled { OnOk result (IsTrue D.tells → AreSettled (D.files disk.new) (images D.Disk disk.new)) }
     ensures images { IsTrue D.tells → (entries : List Entry) → IsTail entries tail (D.files disk.old).log
-        → LeavesOnly D.moment D.left_since disk.old disk.new
-        (BeforeOrAfter (unlogged (D.files disk.old)) (with_entries entries (unlogged (D.files disk.old)))) }
-    ensures reads { ReadsNothing D.moment D.bytes_read D.follows disk.old disk.new }
+        → LeavesIn D.Disk disk.old disk.new (BeforeOrAfter (unlogged (D.files disk.old))
+        (with_entries entries (unlogged (D.files disk.old)))) }
+    ensures reads { ReadsNothing D.Disk disk.old disk.new }
     ensures cause { HasCause (D.faults disk.old) (D.faults disk.new) result }
 {
     let gate = unit_of(MAGIC, 1, tail.entries, (tail.at - 1) as u32);
@@ -76,11 +78,11 @@ fn open_log<D: Disk>(disk: &mut D, tail: Tail) -> Result<(), Failed>
 /// Writes what is held of both files to them, and settles them.
 fn apply_held<D: Disk>(disk: &mut D, held: &Layers, buffer: &mut Buffer) -> Result<(), Failed>
     ensures written { OnOk result (IsTrue D.tells → D.files disk.new ≡ with_held held.now (D.files disk.old)) }
-    ensures pkg { OnOk result (IsTrue D.tells → IsSettled File.Pkg (D.files disk.new) (D.left_since disk.new (D.moment disk.new))) }
-    ensures idx { OnOk result (IsTrue D.tells → IsSettled File.Idx (D.files disk.new) (D.left_since disk.new (D.moment disk.new))) }
+    ensures pkg { OnOk result (IsTrue D.tells → IsSettled File.Pkg (D.files disk.new) (images D.Disk disk.new)) }
+    ensures idx { OnOk result (IsTrue D.tells → IsSettled File.Idx (D.files disk.new) (images D.Disk disk.new)) }
     ensures images { IsTrue D.tells → (entries : List Entry) → IsGroup entries held.now
-        → LeavesOnly D.moment D.left_since disk.old disk.new (WasWithin entries (D.left_since disk.old (D.moment disk.old))) }
-    ensures reads { ReadsLog D.moment D.bytes_read D.follows disk.old disk.new }
+        → LeavesIn D.Disk disk.old disk.new (WasWithin entries (images D.Disk disk.old)) }
+    ensures reads { ReadsLog D.Disk disk.old disk.new }
     ensures cause { HasCause (D.faults disk.old) (D.faults disk.new) result }
 {
     apply_runs(disk, &held.pkg, File::Pkg, buffer)?;
@@ -92,16 +94,16 @@ fn apply_held<D: Disk>(disk: &mut D, held: &Layers, buffer: &mut Buffer) -> Resu
 fn write_group<D: Disk>(disk: &mut D, held: &Layers) -> Result<(), Failed>
     requires room { needed held.now ≤ 2 ^ 28 }
     requires some { 1 < needed held.now }
-    requires settled { IsTrue D.tells → AreSettled (D.files disk.old) (D.left_since disk.old (D.moment disk.old)) }
+    requires settled { IsTrue D.tells → AreSettled (D.files disk.old) (images D.Disk disk.old) }
     requires closed { IsTrue D.tells → log_state (D.files disk.old).log ≡ Closed }
-    ensures files { OnOk result (IsTrue D.tells → unlogged (D.files disk.new) ≡ unlogged (with_held held.now (D.files disk.old))) }
+    ensures files { OnOk result (IsTrue D.tells → unlogged (D.files disk.new)
+        ≡ unlogged (with_held held.now (D.files disk.old))) }
     ensures closed { OnOk result (IsTrue D.tells → log_state (D.files disk.new).log ≡ Closed) }
     ensures logged { OnOk result (IsTrue D.tells → IsLogged held.now (D.files disk.new).log) }
-    ensures settled { OnOk result (IsTrue D.tells → AreSettled (D.files disk.new) (D.left_since disk.new (D.moment disk.new))) }
-    ensures images { IsTrue D.tells
-        → LeavesOnly D.moment D.left_since disk.old disk.new
+    ensures settled { OnOk result (IsTrue D.tells → AreSettled (D.files disk.new) (images D.Disk disk.new)) }
+    ensures images { IsTrue D.tells → LeavesIn D.Disk disk.old disk.new
         (BeforeOrAfter (unlogged (D.files disk.old)) (unlogged (with_held held.now (D.files disk.old)))) }
-    ensures reads { ReadsLog D.moment D.bytes_read D.follows disk.old disk.new }
+    ensures reads { ReadsLog D.Disk disk.old disk.new }
     ensures cause { HasCause (D.faults disk.old) (D.faults disk.new) result }
 {
     let mut buffer = [0u8; 65_536];
@@ -124,20 +126,20 @@ pub enum CommitFault {
 fn write_held<D: Disk>(disk: &mut D, held: &Layers, limit: u64) -> Result<(), CommitFault>
     requires some { 0 < limit }
     requires limit { limit ≤ 2 ^ 28 }
-    requires settled { IsTrue D.tells → AreSettled (D.files disk.old) (D.left_since disk.old (D.moment disk.old)) }
+    requires settled { IsTrue D.tells → AreSettled (D.files disk.old) (images D.Disk disk.old) }
     requires closed { IsTrue D.tells → log_state (D.files disk.old).log ≡ Closed }
-    ensures files { OnOk result (IsTrue D.tells → unlogged (D.files disk.new) ≡ unlogged (with_held held.now (D.files disk.old))) }
+    ensures files { OnOk result (IsTrue D.tells → unlogged (D.files disk.new)
+        ≡ unlogged (with_held held.now (D.files disk.old))) }
     ensures closed { OnOk result (IsTrue D.tells → log_state (D.files disk.new).log ≡ Closed) }
     ensures logged { OnOk result (IsTrue D.tells → IsLogged held.now (D.files disk.new).log) }
-    ensures settled { OnOk result (IsTrue D.tells → AreSettled (D.files disk.new) (D.left_since disk.new (D.moment disk.new))) }
-    ensures images { IsTrue D.tells
-        → LeavesOnly D.moment D.left_since disk.old disk.new
+    ensures settled { OnOk result (IsTrue D.tells → AreSettled (D.files disk.new) (images D.Disk disk.new)) }
+    ensures images { IsTrue D.tells → LeavesIn D.Disk disk.old disk.new
         (BeforeOrAfter (unlogged (D.files disk.old)) (unlogged (with_held held.now (D.files disk.old)))) }
     ensures says { CommitSays limit (needed held.now) result }
     ensures full { limit < needed held.now → IsFull (needed held.now) result }
-    ensures idle { needed held.now ≡ 1 → Unwritten D.tells D.files D.left_since D.moment D.bytes_read disk.old disk.new }
-    ensures unwritten { IsFull (needed held.now) result → Unwritten D.tells D.files D.left_since D.moment D.bytes_read disk.old disk.new }
-    ensures reads { ReadsLog D.moment D.bytes_read D.follows disk.old disk.new }
+    ensures idle { needed held.now ≡ 1 → Unwritten D.Disk disk.old disk.new }
+    ensures unwritten { IsFull (needed held.now) result → Unwritten D.Disk disk.old disk.new }
+    ensures reads { ReadsLog D.Disk disk.old disk.new }
     ensures cause { HasCauseAt (result ≡ Err CommitFault.DiskFault) (D.faults disk.old) (D.faults disk.new) }
 {
     let pkg = extent(&held.pkg.table, held.pkg.end as usize);
@@ -166,59 +168,68 @@ impl<D: Disk> Overlay<D> {
         requires some { 0 < limit }
         requires limit { limit ≤ 2 ^ 28 }
         requires starved { overlay_starved self ≡ 0 }
-        requires settled { IsTrue D.tells → AreSettled (D.files (overlay_below self)) (D.left_since (overlay_below self) (D.moment (overlay_below self))) }
+        requires settled { IsTrue D.tells → AreSettled (D.files (overlay_below self))
+            (images D.Disk (overlay_below self)) }
         requires closed { IsTrue D.tells → log_state (D.files (overlay_below self)).log ≡ Closed }
         ensures files { OnOk result.1 (IsTrue D.tells
             → unlogged (D.files result.0) ≡ unlogged (laid_files (overlay_held self) (D.files (overlay_below self)))) }
         ensures closed { OnOk result.1 (IsTrue D.tells → log_state (D.files result.0).log ≡ Closed) }
         ensures logged { OnOk result.1 (IsTrue D.tells → IsLogged (overlay_held self) (D.files result.0).log) }
-        ensures settled { OnOk result.1 (IsTrue D.tells → AreSettled (D.files result.0) (D.left_since result.0 (D.moment result.0))) }
-        ensures images { IsTrue D.tells → LeavesOnly D.moment D.left_since (overlay_below self) result.0
-            (BeforeOrAfter (unlogged (D.files (overlay_below self))) (unlogged (laid_files (overlay_held self) (D.files (overlay_below self))))) }
+        ensures settled { OnOk result.1 (IsTrue D.tells → AreSettled (D.files result.0) (images D.Disk result.0)) }
+        ensures images { IsTrue D.tells → LeavesIn D.Disk (overlay_below self) result.0
+            (BeforeOrAfter (unlogged (D.files (overlay_below self)))
+            (unlogged (laid_files (overlay_held self) (D.files (overlay_below self))))) }
         ensures says { CommitSays limit (needed (overlay_held self)) result.1 }
         ensures full { limit < needed (overlay_held self) → IsFull (needed (overlay_held self)) result.1 }
-        ensures idle { needed (overlay_held self) ≡ 1 → Unwritten D.tells D.files D.left_since D.moment D.bytes_read (overlay_below self) result.0 }
-        ensures unwritten { IsFull (needed (overlay_held self)) result.1 → Unwritten D.tells D.files D.left_since D.moment D.bytes_read
-            (overlay_below self) result.0 }
-        ensures reads { ReadsLog D.moment D.bytes_read D.follows (overlay_below self) result.0 }
-        ensures cause { HasCauseAt (result.1 ≡ Err CommitFault.DiskFault) (D.faults (overlay_below self)) (D.faults result.0) }
+        ensures idle { needed (overlay_held self) ≡ 1 → Unwritten D.Disk (overlay_below self) result.0 }
+        ensures unwritten { IsFull (needed (overlay_held self)) result.1
+            → Unwritten D.Disk (overlay_below self) result.0 }
+        ensures reads { ReadsLog D.Disk (overlay_below self) result.0 }
+        ensures cause { HasCauseAt (result.1 ≡ Err CommitFault.DiskFault) (D.faults (overlay_below self))
+            (D.faults result.0) }
     {
         let (mut below, held) = self.into_parts();
         let answer = write_held(&mut below, &held, limit);
         (below, answer)
     }
 
-    /// Makes what is held of the two files one change of the disk below, and hands that back. What is held of the log is dropped.
+    /// Makes what is held of the two files one change of the disk below, and hands that back. What is held of the log
+    /// is dropped.
     ///
-    /// Each run of held units is one entry of the log, those of `Packages.db` first. It takes no memory, writes each unit twice, up to
-    /// 64 KiB at a time, and syncs five times: the log after its entries and after its commit record, both files, and the log after
-    /// zeros in the place of the commit record. Where nothing is held it does nothing.
+    /// Each run of held units is one entry of the log, those of `Packages.db` first. It takes no memory, writes each
+    /// unit twice, up to 64 KiB at a time, and syncs five times: the log after its entries and after its commit
+    /// record, both files, and the log after zeros in the place of the commit record. Where nothing is held it does
+    /// nothing.
     ///
     /// # Errors
     ///
-    /// `LogFull` exactly where the log would be longer than a file can be, which takes two files of the overlay that together have
-    /// half as many units; nothing is written then. `DiskFault` only where the
-    /// count of faults of the disk below rose; the disk stands then for its files before or for those of the overlay, as does each
-    /// image that a crash since the start may leave, and none of them has a malformed log.
+    /// `LogFull` exactly where the log would be longer than a file can be, which takes two files of the overlay that
+    /// together have half as many units; nothing is written then. `DiskFault` only where the count of faults of the
+    /// disk below rose; the disk stands then for its files before or for those of the overlay, as does each image
+    /// that a crash since the start may leave, and none of them has a malformed log.
     pub fn commit(self) -> (D, Result<(), CommitFault>)
         requires starved { overlay_starved self ≡ 0 }
-        requires settled { IsTrue D.tells → AreSettled (D.files (overlay_below self)) (D.left_since (overlay_below self) (D.moment (overlay_below self))) }
+        requires settled { IsTrue D.tells → AreSettled (D.files (overlay_below self))
+            (images D.Disk (overlay_below self)) }
         requires closed { IsTrue D.tells → log_state (D.files (overlay_below self)).log ≡ Closed }
         ensures files { OnOk result.1 (IsTrue D.tells
             → unlogged (D.files result.0) ≡ unlogged (laid_files (overlay_held self) (D.files (overlay_below self)))) }
         ensures closed { OnOk result.1 (IsTrue D.tells → log_state (D.files result.0).log ≡ Closed) }
         ensures logged { OnOk result.1 (IsTrue D.tells → IsLogged (overlay_held self) (D.files result.0).log) }
-        ensures settled { OnOk result.1 (IsTrue D.tells → AreSettled (D.files result.0) (D.left_since result.0 (D.moment result.0))) }
-        ensures images { IsTrue D.tells → LeavesOnly D.moment D.left_since (overlay_below self) result.0
-            (BeforeOrAfter (unlogged (D.files (overlay_below self))) (unlogged (laid_files (overlay_held self) (D.files (overlay_below self))))) }
+        ensures settled { OnOk result.1 (IsTrue D.tells → AreSettled (D.files result.0) (images D.Disk result.0)) }
+        ensures images { IsTrue D.tells → LeavesIn D.Disk (overlay_below self) result.0
+            (BeforeOrAfter (unlogged (D.files (overlay_below self)))
+            (unlogged (laid_files (overlay_held self) (D.files (overlay_below self))))) }
         ensures says { CommitSays (2 ^ 28) (needed (overlay_held self)) result.1 }
         ensures full { 2 ^ 28 < needed (overlay_held self) → IsFull (needed (overlay_held self)) result.1 }
-        ensures longest { needed (overlay_held self) ≤ longest_log (laid_files (overlay_held self) (D.files (overlay_below self))) }
-        ensures idle { needed (overlay_held self) ≡ 1 → Unwritten D.tells D.files D.left_since D.moment D.bytes_read (overlay_below self) result.0 }
-        ensures unwritten { IsFull (needed (overlay_held self)) result.1 → Unwritten D.tells D.files D.left_since D.moment D.bytes_read
-            (overlay_below self) result.0 }
-        ensures reads { ReadsLog D.moment D.bytes_read D.follows (overlay_below self) result.0 }
-        ensures cause { HasCauseAt (result.1 ≡ Err CommitFault.DiskFault) (D.faults (overlay_below self)) (D.faults result.0) }
+        ensures longest { needed (overlay_held self) ≤ longest_log
+            (laid_files (overlay_held self) (D.files (overlay_below self))) }
+        ensures idle { needed (overlay_held self) ≡ 1 → Unwritten D.Disk (overlay_below self) result.0 }
+        ensures unwritten { IsFull (needed (overlay_held self)) result.1
+            → Unwritten D.Disk (overlay_below self) result.0 }
+        ensures reads { ReadsLog D.Disk (overlay_below self) result.0 }
+        ensures cause { HasCauseAt (result.1 ≡ Err CommitFault.DiskFault) (D.faults (overlay_below self))
+            (D.faults result.0) }
     {
         self.commit_within(MOST)
     }

@@ -2,17 +2,17 @@
 
 ghost use Rattle.std.specs.Prelude.{◌≡◌, ◌⊎◌, ℕ, ◌+◌, ◌-◌, ◌*◌, ◌/◌, ◌%◌, ◌<◌, ◌≤◌, ◌^◌, IsTrue, length, OnOk, OnErr, IfOk, IfErr, List, Err};
 ghost use Rattle.rpm_outside.specs.Files.{Files, file_of, with_file};
-ghost use Rattle.rpm_outside.specs.Crash.{LeavesOnly, Untouched};
+ghost use Rattle.rpm_outside.specs.Crash.{Untouched};
 ghost use Rattle.rpm_outside.specs.Causes.{HasCause, HasCauseAt};
-ghost use Rattle.rpm_outside.specs.Changed.{ChangedIn, LeavesChanged};
+ghost use Rattle.rpm_outside.specs.Changed.{ChangedIn};
 ghost use Rattle.rpm_outside.specs.Logs.{Entry, Closed, log_state, unlogged, with_entries, reopened};
 ghost use Rattle.rpm_outside.specs.LogWrites.{EntriesIn};
 ghost use Rattle.rpm_group.specs.Held.{laid};
 ghost use Rattle.rpm_group.specs.Counts.{begins_run, count_below, log_units};
 ghost use Rattle.rpm_group.specs.Orders.{HeadsEndInZeros};
-ghost use Rattle.rpm_group.specs.LogReads.{ReadsNothing};
 ghost use Rattle.rpm_group.specs.inner.Logged.{Logged, CoversHeld};
 ghost use Rattle.rpm_group.specs.inner.Leavings.{WasWithin};
+ghost use Rattle.rpm_group.specs.Frame.{images, LeavesIn, LeavesChanged, ReadsNothing};
 
 use crate::pages::Pages;
 use crate::scan::next_unit;
@@ -38,12 +38,16 @@ pub fn log_runs<D: Disk>(
     requires room { tail.at + log_units pages.now.table.items pages.now.end ≤ 2 ^ 28 }
     requires few { tail.entries ≤ tail.at }
     ensures at { IfOk result (λ next. next.at ≡ tail.at + log_units pages.now.table.items pages.now.end) }
-    ensures entries { IfOk result (λ next. next.entries ≡ tail.entries + count_below (begins_run pages.now.table.items) pages.now.end) }
-    ensures logged { IfOk result (λ next. IsTrue D.tells → (entries : List Entry) × Logged entries file pages.now.table.items pages.now.end
-        × EntriesIn entries tail.at next.at (D.files disk.new).log × HeadsEndInZeros entries tail.at (D.files disk.new).log) }
-    ensures changed { OnOk result (IsTrue D.tells → ChangedIn File.Log tail.at (2 ^ 28) (D.files disk.old) (D.files disk.new)) }
-    ensures images { IsTrue D.tells → LeavesChanged D.moment D.left_since File.Log tail.at (2 ^ 28) disk.old disk.new }
-    ensures reads { ReadsNothing D.moment D.bytes_read D.follows disk.old disk.new }
+    ensures entries { IfOk result (λ next. next.entries
+        ≡ tail.entries + count_below (begins_run pages.now.table.items) pages.now.end) }
+    ensures logged { IfOk result (λ next. IsTrue D.tells
+        → (entries : List Entry) × Logged entries file pages.now.table.items pages.now.end
+        × EntriesIn entries tail.at next.at (D.files disk.new).log
+        × HeadsEndInZeros entries tail.at (D.files disk.new).log) }
+    ensures changed { OnOk result (IsTrue D.tells → ChangedIn File.Log tail.at (2 ^ 28) (D.files disk.old)
+        (D.files disk.new)) }
+    ensures images { IsTrue D.tells → LeavesChanged D.Disk File.Log tail.at (2 ^ 28) disk.old disk.new }
+    ensures reads { ReadsNothing D.Disk disk.old disk.new }
     ensures cause { HasCause (D.faults disk.old) (D.faults disk.new) result }
 {
     let end = pages.end as usize;
@@ -71,11 +75,13 @@ pub fn apply_runs<D: Disk>(
     file: File,
     buffer: &mut Buffer,
 ) -> Result<(), Failed>
-    ensures written { OnOk result (IsTrue D.tells
-        → D.files disk.new ≡ with_file file (laid pages.now.table.items pages.now.end (file_of file (D.files disk.old))) (D.files disk.old)) }
-    ensures images { IsTrue D.tells → (entries : List Entry) → CoversHeld entries file pages.now.table.items pages.now.end
-        → LeavesOnly D.moment D.left_since disk.old disk.new (WasWithin entries (D.left_since disk.old (D.moment disk.old))) }
-    ensures reads { ReadsNothing D.moment D.bytes_read D.follows disk.old disk.new }
+    ensures written { OnOk result (IsTrue D.tells → D.files disk.new
+        ≡ with_file file (laid pages.now.table.items pages.now.end (file_of file (D.files disk.old)))
+        (D.files disk.old)) }
+    ensures images { IsTrue D.tells → (entries : List Entry)
+        → CoversHeld entries file pages.now.table.items pages.now.end
+        → LeavesIn D.Disk disk.old disk.new (WasWithin entries (images D.Disk disk.old)) }
+    ensures reads { ReadsNothing D.Disk disk.old disk.new }
     ensures cause { HasCause (D.faults disk.old) (D.faults disk.new) result }
 {
     let end = pages.end as usize;

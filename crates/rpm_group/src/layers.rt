@@ -54,8 +54,8 @@ impl Layers {
         requires some { 0 < length bytes.now }
         requires whole { length bytes.now % 16 ≡ 0 }
         requires room { unit + length bytes.now / 16 ≤ 2 ^ 28 }
-        ensures ok { OnOk result ((files : Files)
-            → laid_files self.new files ≡ with_file file (put unit (units_of bytes.now) (file_of file (laid_files self.old files)))
+        ensures ok { OnOk result ((files : Files) → laid_files self.new files
+            ≡ with_file file (put unit (units_of bytes.now) (file_of file (laid_files self.old files)))
             (laid_files self.old files)) }
         ensures err { OnErr result ((files : Files) → laid_files self.new files ≡ laid_files self.old files) }
     {

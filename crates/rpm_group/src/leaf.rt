@@ -43,9 +43,8 @@ pub fn hold(leaf: &mut Leaf, k: usize, at: usize, bytes: &[u8])
     ensures pages { LeafKeeps leaf.old leaf.new }
 {
     if k < leaf.len()
-        && let Some(mut page) = leaf[k].take()
+        && let Some(page) = &mut leaf[k]
     {
         page.hold(at, bytes);
-        leaf[k] = Some(page);
     }
 }

@@ -7,9 +7,9 @@ ghost use Rattle.rpm_outside.specs.Logs.{log_state, with_entries, reopened};
 ghost use Rattle.rpm_group.specs.Readings.{entries_of, IsOpen};
 ghost use Rattle.rpm_group.specs.inner.LogReadings.{heads_behind};
 ghost use Rattle.rpm_outside.specs.declared.disk.File.TheVariants.{Log};
-ghost use Rattle.rpm_outside.specs.Looks.{LooksAt};
 ghost use Rattle.rpm_group.specs.Layers.{laid_files};
 ghost use Rattle.rpm_group.specs.Loads.{LoadSays, IsOutside};
+ghost use Rattle.rpm_group.specs.Frame.{LooksAt};
 
 use crate::layers::{Layers, no_layers};
 use crate::log::{Gate, Reading, read_head, read_log};
@@ -43,10 +43,11 @@ fn hold_piece<D: Disk>(
     requires within { IsTrue D.tells → from + length bytes.old / 16 ≤ length (D.files disk.old).log }
     requires room { at + length bytes.old / 16 ≤ 2 ^ 28 }
     ensures held { OnOk result (IsTrue D.tells → (files : Files)
-        → laid_files held.new files ≡ with_file file (put at (take (length bytes.old / 16) (drop from (D.files disk.old).log))
+        → laid_files held.new files ≡ with_file file
+        (put at (take (length bytes.old / 16) (drop from (D.files disk.old).log))
         (file_of file (laid_files held.old files))) (laid_files held.old files)) }
     ensures fault { IfErr result IsOutside }
-    ensures looks { LooksAt D.tells D.files D.left_since D.moment D.bytes_read D.follows Log disk.old disk.new }
+    ensures looks { LooksAt D.Disk Log disk.old disk.new }
     ensures cause { HasCauseAt (result ≡ Err LoadFault.DiskFault) (D.faults disk.old) (D.faults disk.new) }
 {
     let Ok(()) = disk.read_at(File::Log, from, bytes) else {
@@ -74,9 +75,10 @@ fn hold_units<D: Disk>(
     requires place { from ≤ 2 ^ 32 }
     ensures held { OnOk result (IsTrue D.tells → (files : Files)
         → laid_files held.new files ≡ with_file file
-        (put at (take count (drop from (D.files disk.old).log)) (file_of file (laid_files held.old files))) (laid_files held.old files)) }
+        (put at (take count (drop from (D.files disk.old).log)) (file_of file (laid_files held.old files)))
+        (laid_files held.old files)) }
     ensures fault { IfErr result IsOutside }
-    ensures looks { LooksAt D.tells D.files D.left_since D.moment D.bytes_read D.follows Log disk.old disk.new }
+    ensures looks { LooksAt D.Disk Log disk.old disk.new }
     ensures cause { HasCauseAt (result ≡ Err LoadFault.DiskFault) (D.faults disk.old) (D.faults disk.new) }
 {
     let mut page = [0u8; 4096];
@@ -103,9 +105,10 @@ fn hold_entries<D: Disk>(
     requires last { IsTrue D.tells → gate.last < length (D.files disk.old).log }
     requires open { IsTrue D.tells → IsOpen (heads_behind gate (D.files disk.old).log) }
     ensures held { OnOk result (IsTrue D.tells → (files : Files)
-        → laid_files held.new files ≡ with_entries (entries_of (heads_behind gate (D.files disk.old).log)) (laid_files held.old files)) }
+        → laid_files held.new files ≡ with_entries (entries_of (heads_behind gate (D.files disk.old).log))
+        (laid_files held.old files)) }
     ensures fault { IfErr result (λ fault. IsTrue D.tells → IsOutside fault) }
-    ensures looks { LooksAt D.tells D.files D.left_since D.moment D.bytes_read D.follows Log disk.old disk.new }
+    ensures looks { LooksAt D.Disk Log disk.old disk.new }
     ensures cause { HasCauseAt (result ≡ Err LoadFault.DiskFault) (D.faults disk.old) (D.faults disk.new) }
 {
     let mut p = 1u64;
@@ -128,12 +131,12 @@ fn hold_entries<D: Disk>(
 /// Holds the entries of an open log, and none of a closed one.
 pub fn hold_log<D: Disk>(alloc: Global, disk: &mut D, held: &mut Layers) -> Result<(), LoadFault>
     requires { (files : Files) → laid_files held.old files ≡ files }
-    ensures held { OnOk result (IsTrue D.tells → laid_files held.new (D.files disk.old) ≡ with_file File.Log (D.files disk.old).log
-        (reopened (D.files disk.old))) }
+    ensures held { OnOk result (IsTrue D.tells → laid_files held.new (D.files disk.old)
+        ≡ with_file File.Log (D.files disk.old).log (reopened (D.files disk.old))) }
     ensures entries { OnOk result (IsTrue D.tells → (files : Files)
         → laid_files held.new files ≡ with_entries (entries_of (log_state (D.files disk.old).log)) files) }
     ensures says { IsTrue D.tells → LoadSays (log_state (D.files disk.old).log) result }
-    ensures looks { LooksAt D.tells D.files D.left_since D.moment D.bytes_read D.follows Log disk.old disk.new }
+    ensures looks { LooksAt D.Disk Log disk.old disk.new }
     ensures cause { HasCauseAt (result ≡ Err LoadFault.DiskFault) (D.faults disk.old) (D.faults disk.new) }
 {
     let Ok(reading) = read_log(disk) else {
@@ -163,16 +166,18 @@ impl<D: Disk> Overlay<D> {
     ///
     /// # Errors
     ///
-    /// The disk comes back with the reason: `BadLog` where the log is malformed, with the unit; `DiskFault` only where the count
-    /// of faults rose; `NoMemory`.
+    /// The disk comes back with the reason: `BadLog` where the log is malformed, with the unit; `DiskFault` only
+    /// where the count of faults rose; `NoMemory`.
     pub fn load(alloc: Global, disk: D) -> Result<Overlay<D>, LoadRefused<D>>
         ensures loaded { IfOk result (λ overlay. IsLoaded overlay) }
-        ensures files { IfOk result (λ overlay. IsTrue D.tells → laid_files (overlay_held overlay) (D.files (overlay_below overlay))
+        ensures files { IfOk result (λ overlay. IsTrue D.tells
+            → laid_files (overlay_held overlay) (D.files (overlay_below overlay))
             ≡ with_file File.Log (D.files disk).log (reopened (D.files disk))) }
-        ensures entries { IfOk result (λ overlay. IsTrue D.tells → (files : Files) → laid_files (overlay_held overlay) files
+        ensures entries { IfOk result (λ overlay. IsTrue D.tells → (files : Files)
+            → laid_files (overlay_held overlay) files
             ≡ with_entries (entries_of (log_state (D.files disk).log)) files) }
         ensures says { IsTrue D.tells → LoadedSays (log_state (D.files disk).log) result }
-        ensures looks { LooksAt D.tells D.files D.left_since D.moment D.bytes_read D.follows Log disk (disk_after result) }
+        ensures looks { LooksAt D.Disk Log disk (disk_after result) }
         ensures cause { HasCauseAt (IsDiskFault result) (D.faults disk) (D.faults (disk_after result)) }
     {
         let mut disk = disk;

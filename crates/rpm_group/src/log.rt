@@ -6,7 +6,7 @@ ghost use Rattle.rpm_outside.specs.Causes.{HasCause};
 ghost use Rattle.rpm_outside.specs.Logs.{word, is_gate, is_head};
 ghost use Rattle.rpm_group.specs.inner.LogReadings.{GateSays, LogSays, IsHead, HeadSays, HeadsSay, heads_behind};
 ghost use Rattle.rpm_outside.specs.declared.disk.File.TheVariants.{Log};
-ghost use Rattle.rpm_outside.specs.Looks.{LooksAt};
+ghost use Rattle.rpm_group.specs.Frame.{LooksAt};
 
 use crate::words::{is_blank, word};
 use rpm_outside::{Disk, Failed, File};
@@ -41,7 +41,7 @@ const MAGIC: u32 = 0x4c6d_7052;
 pub fn read_unit<D: Disk>(disk: &mut D, at: u64) -> Result<[u8; 16], Failed>
     requires { IsTrue D.tells → at < length (D.files disk.old).log }
     ensures unit { IfOk result (λ unit. IsTrue D.tells → unit ≡ unit_at (D.files disk.old).log at) }
-    ensures looks { LooksAt D.tells D.files D.left_since D.moment D.bytes_read D.follows Log disk.old disk.new }
+    ensures looks { LooksAt D.Disk Log disk.old disk.new }
     ensures cause { HasCause (D.faults disk.old) (D.faults disk.new) result }
 {
     let mut unit = [0u8; 16];
@@ -84,7 +84,7 @@ fn is_head(last: u32, p: u64, head: &[u8]) -> bool
 /// `Failed` only where the count of faults rose.
 pub fn read_gate<D: Disk>(disk: &mut D) -> Result<Reading, Failed>
     ensures says { IfOk result (λ reading. IsTrue D.tells → GateSays reading (D.files disk.old).log) }
-    ensures looks { LooksAt D.tells D.files D.left_since D.moment D.bytes_read D.follows Log disk.old disk.new }
+    ensures looks { LooksAt D.Disk Log disk.old disk.new }
     ensures cause { HasCause (D.faults disk.old) (D.faults disk.new) result }
 {
     let units = disk.len(File::Log)?;
@@ -113,7 +113,7 @@ pub fn read_head<D: Disk>(disk: &mut D, last: u32, p: u64) -> Result<Option<Head
     requires { IsTrue D.tells → last < length (D.files disk.old).log }
     ensures head { IfOk result (λ head. IfSome head (λ h. IsHead last p h)) }
     ensures says { IfOk result (λ head. IsTrue D.tells → HeadSays last p (D.files disk.old).log head) }
-    ensures looks { LooksAt D.tells D.files D.left_since D.moment D.bytes_read D.follows Log disk.old disk.new }
+    ensures looks { LooksAt D.Disk Log disk.old disk.new }
     ensures cause { HasCause (D.faults disk.old) (D.faults disk.new) result }
 {
     if p > last as u64 {
@@ -152,7 +152,7 @@ fn head_of(unit: &[u8]) -> Head
 pub fn check_heads<D: Disk>(disk: &mut D, gate: Gate) -> Result<Option<u64>, Failed>
     requires { IsTrue D.tells → gate.last < length (D.files disk.old).log }
     ensures says { IfOk result (λ fault. IsTrue D.tells → HeadsSay (heads_behind gate (D.files disk.old).log) fault) }
-    ensures looks { LooksAt D.tells D.files D.left_since D.moment D.bytes_read D.follows Log disk.old disk.new }
+    ensures looks { LooksAt D.Disk Log disk.old disk.new }
     ensures cause { HasCause (D.faults disk.old) (D.faults disk.new) result }
 {
     let mut p = 1u64;
@@ -175,7 +175,7 @@ pub fn check_heads<D: Disk>(disk: &mut D, gate: Gate) -> Result<Option<u64>, Fai
 /// `Failed` only where the count of faults rose.
 pub fn read_log<D: Disk>(disk: &mut D) -> Result<Reading, Failed>
     ensures says { IfOk result (λ reading. IsTrue D.tells → LogSays reading (D.files disk.old).log) }
-    ensures looks { LooksAt D.tells D.files D.left_since D.moment D.bytes_read D.follows Log disk.old disk.new }
+    ensures looks { LooksAt D.Disk Log disk.old disk.new }
     ensures cause { HasCause (D.faults disk.old) (D.faults disk.new) result }
 {
     match read_gate(disk)? {

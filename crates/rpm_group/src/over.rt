@@ -4,11 +4,11 @@ ghost use Rattle.std.specs.Prelude.{◌≡◌, ℕ, ◌+◌, ◌-◌, ◌*◌, �
 ghost use Rattle.rpm_outside.specs.Files.{Files, Units, file_of, units_of, unit_at};
 ghost use Rattle.rpm_outside.specs.Causes.{HasCause, RoseBy};
 ghost use Rattle.rpm_outside.specs.Crash.{Untouched, bytes_for};
-ghost use Rattle.rpm_outside.specs.Looks.{Looks};
 ghost use Rattle.rpm_group.specs.Held.{unit_in};
 ghost use Rattle.rpm_group.specs.Counts.{is_held};
 ghost use Rattle.rpm_group.specs.Layers.{laid_files};
 ghost use Rattle.rpm_group.specs.Spared.{CountsRead};
+ghost use Rattle.rpm_group.specs.Frame.{Looks};
 
 use crate::layers::Layers;
 use crate::pages::Pages;
@@ -18,10 +18,13 @@ use rpm_outside::{Disk, Failed, File};
 /// Reads units, or none.
 fn read_some<D: Disk>(below: &mut D, file: File, unit: u64, into: &mut [u8]) -> Result<(), Failed>
     requires whole { length into.old % 16 ≡ 0 }
-    requires within { IsTrue D.tells → 0 < length into.old → unit + length into.old / 16 ≤ length (file_of file (D.files below.old)) }
-    ensures units { OnOk result (IsTrue D.tells → units_of into.new ≡ take (length into.old / 16) (drop unit (file_of file (D.files below.old)))) }
-    ensures looks { Looks D.tells D.files D.left_since D.moment D.bytes_read D.follows file (length into.old) below.old below.new }
-    ensures reads { (f : File) → RoseBy (D.bytes_read below.old f) (bytes_for file f (length into.old)) (D.bytes_read below.new f) }
+    requires within { IsTrue D.tells → 0 < length into.old
+        → unit + length into.old / 16 ≤ length (file_of file (D.files below.old)) }
+    ensures units { OnOk result (IsTrue D.tells → units_of into.new
+        ≡ take (length into.old / 16) (drop unit (file_of file (D.files below.old)))) }
+    ensures looks { Looks D.Disk file (length into.old) below.old below.new }
+    ensures reads { (f : File) → RoseBy (D.bytes_read below.old f) (bytes_for file f (length into.old))
+        (D.bytes_read below.new f) }
     ensures cause { HasCause (D.faults below.old) (D.faults below.new) result }
 {
     if into.is_empty() {
@@ -37,7 +40,8 @@ fn available(unit: u64, length: u64, count: usize) -> usize
     length.saturating_sub(unit).min(count as u64) as usize
 }
 
-/// Reads units below, which are zeros past the end. A function of its own, so that a read of a file of which nothing is held stays short.
+/// Reads units below, which are zeros past the end. A function of its own, so that a read of a file of which nothing
+/// is held stays short.
 #[inline(never)]
 fn read_below<D: Disk>(
     below: &mut D,
@@ -49,9 +53,9 @@ fn read_below<D: Disk>(
 ) -> Result<(), Failed>
     requires whole { length into.old % 16 ≡ 0 }
     requires end { IsTrue D.tells → end ≡ length (file_of file (D.files below.old)) }
-    ensures units { OnOk result (IsTrue D.tells → (k : ℕ) → k < length into.old / 16 → unit_in into.new k ≡ unit_at (file_of file (D.files below.old))
-        (unit + k)) }
-    ensures looks { Looks D.tells D.files D.left_since D.moment D.bytes_read D.follows file (length into.old) below.old below.new }
+    ensures units { OnOk result (IsTrue D.tells → (k : ℕ) → k < length into.old / 16
+        → unit_in into.new k ≡ unit_at (file_of file (D.files below.old)) (unit + k)) }
+    ensures looks { Looks D.Disk file (length into.old) below.old below.new }
     ensures reads { CountsRead D.bytes_read file (length into.old) below.old below.new spared.old spared.new }
     ensures cause { HasCause (D.faults below.old) (D.faults below.new) result }
 {
@@ -71,10 +75,11 @@ fn read_partly<D: Disk>(
     into: &mut [u8],
 ) -> Result<(), Failed>
     requires whole { length into.old % 16 ≡ 0 }
-    requires within { IsTrue D.tells → unit + length into.old / 16 ≤ length (file_of file (laid_files layers.now (D.files below.old))) }
-    ensures units { OnOk result (IsTrue D.tells
-        → units_of into.new ≡ take (length into.old / 16) (drop unit (file_of file (laid_files layers.now (D.files below.old))))) }
-    ensures looks { Looks D.tells D.files D.left_since D.moment D.bytes_read D.follows file (length into.old) below.old below.new }
+    requires within { IsTrue D.tells → unit + length into.old / 16 ≤ length
+        (file_of file (laid_files layers.now (D.files below.old))) }
+    ensures units { OnOk result (IsTrue D.tells → units_of into.new
+        ≡ take (length into.old / 16) (drop unit (file_of file (laid_files layers.now (D.files below.old))))) }
+    ensures looks { Looks D.Disk file (length into.old) below.old below.new }
     ensures reads { CountsRead D.bytes_read file (length into.old) below.old below.new spared.old spared.new }
     ensures cause { HasCause (D.faults below.old) (D.faults below.new) result }
 {
@@ -97,7 +102,36 @@ fn read_partly<D: Disk>(
     Ok(())
 }
 
-/// Reads units over those below, of which nothing is asked where all of these units are held.
+/// Reads units over those below, of which nothing is asked where all of these units are held. A function of its own,
+/// so that a read of one held unit stays short.
+#[inline(never)]
+fn read_units<D: Disk>(
+    layers: &Layers,
+    below: &mut D,
+    spared: &mut Spared,
+    file: File,
+    unit: u64,
+    into: &mut [u8],
+) -> Result<(), Failed>
+    requires whole { length into.old % 16 ≡ 0 }
+    requires within { IsTrue D.tells → unit + length into.old / 16 ≤ length
+        (file_of file (laid_files layers.now (D.files below.old))) }
+    ensures units { OnOk result (IsTrue D.tells → units_of into.new
+        ≡ take (length into.old / 16) (drop unit (file_of file (laid_files layers.now (D.files below.old))))) }
+    ensures looks { Looks D.Disk file (length into.old) below.old below.new }
+    ensures reads { CountsRead D.bytes_read file (length into.old) below.old below.new spared.old spared.new }
+    ensures cause { HasCause (D.faults below.old) (D.faults below.new) result }
+{
+    let pages = layers.file(file);
+    if pages.covers(unit, into.len() as u64 / 16) {
+        spared.add(file, into.len());
+        pages.lay(unit as usize, into);
+        return Ok(());
+    }
+    read_partly(layers, below, spared, file, unit, into)
+}
+
+/// Reads units over those below: one held unit, as most reads do, or any.
 pub fn read_over<D: Disk>(
     layers: &Layers,
     below: &mut D,
@@ -107,22 +141,17 @@ pub fn read_over<D: Disk>(
     into: &mut [u8],
 ) -> Result<(), Failed>
     requires whole { length into.old % 16 ≡ 0 }
-    requires within { IsTrue D.tells → unit + length into.old / 16 ≤ length (file_of file (laid_files layers.now (D.files below.old))) }
-    ensures units { OnOk result (IsTrue D.tells
-        → units_of into.new ≡ take (length into.old / 16) (drop unit (file_of file (laid_files layers.now (D.files below.old))))) }
-    ensures looks { Looks D.tells D.files D.left_since D.moment D.bytes_read D.follows file (length into.old) below.old below.new }
+    requires within { IsTrue D.tells → unit + length into.old / 16 ≤ length
+        (file_of file (laid_files layers.now (D.files below.old))) }
+    ensures units { OnOk result (IsTrue D.tells → units_of into.new
+        ≡ take (length into.old / 16) (drop unit (file_of file (laid_files layers.now (D.files below.old))))) }
+    ensures looks { Looks D.Disk file (length into.old) below.old below.new }
     ensures reads { CountsRead D.bytes_read file (length into.old) below.old below.new spared.old spared.new }
     ensures cause { HasCause (D.faults below.old) (D.faults below.new) result }
 {
-    let pages = layers.file(file);
-    if pages.copy_held(unit, into) {
+    if layers.file(file).copy_held(unit, into) {
         spared.add(file, into.len());
         return Ok(());
     }
-    if pages.covers(unit, into.len() as u64 / 16) {
-        spared.add(file, into.len());
-        pages.lay(unit as usize, into);
-        return Ok(());
-    }
-    read_partly(layers, below, spared, file, unit, into)
+    read_units(layers, below, spared, file, unit, into)
 }

@@ -13,8 +13,8 @@ use std::alloc::Global;
 
 /// A disk whose writes are held in memory, over a disk that it only reads.
 ///
-/// What is held costs its pages of 4 KiB and a mark a unit, 8 bytes for each page of a MiB of which something is held, and 24 bytes for each
-/// MiB of a file as far as its last held unit.
+/// What is held costs its pages of 4 KiB and a mark a unit, 8 bytes for each page of a MiB of which something is
+/// held, and 24 bytes for each MiB of a file as far as its last held unit.
 #[derive(Drop)]
 pub struct Overlay<D: Disk> {
     alloc: Global,
@@ -109,8 +109,8 @@ impl<D: Disk> Disk for Overlay<D> {
 
     ghost faults = { λ disk. D.faults disk.below + disk.starved };
 
-    ghost follows = { λ old new. KeepsBelow D.tells D.files D.moment D.left_since D.bytes_read D.follows D.faults old.below new.below
-        (overlay_read D.bytes_read old) (overlay_read D.bytes_read new) };
+    ghost follows = { λ old new. KeepsBelow D.tells D.files D.moment D.left_since D.bytes_read D.follows D.faults
+        old.below new.below (overlay_read D.bytes_read old) (overlay_read D.bytes_read new) };
 
     ghost outcome = { StarvesOrHolds };
 
@@ -118,11 +118,13 @@ impl<D: Disk> Disk for Overlay<D> {
 
     ghost earlier = { λ disk s t image told le below left. left };
 
-    ghost follows_refl = { λ disk. keeps_refl D.tells D.files D.moment D.left_since D.bytes_read D.follows D.faults disk.below
-        (overlay_read D.bytes_read disk) (D.follows_refl disk.below) };
+    ghost follows_refl = { λ disk. keeps_refl D.tells D.files D.moment D.left_since D.bytes_read D.follows D.faults
+        disk.below (overlay_read D.bytes_read disk) (D.follows_refl disk.below) };
 
-    ghost follows_trans = { λ a b c f g. keeps_trans D.tells D.files D.moment D.left_since D.bytes_read D.follows D.faults D.follows_trans a.below b.below
-        c.below (overlay_read D.bytes_read a) (overlay_read D.bytes_read b) (overlay_read D.bytes_read c) f g };
+    ghost follows_trans = { λ a b c f g.
+        keeps_trans D.tells D.files D.moment D.left_since D.bytes_read D.follows D.faults D.follows_trans
+        a.below b.below c.below (overlay_read D.bytes_read a) (overlay_read D.bytes_read b)
+        (overlay_read D.bytes_read c) f g };
 
     fn len(&mut self, file: File) -> Result<u64, Failed> {
         let below = self.below.len(file)?;

@@ -40,9 +40,10 @@ impl Pages {
         requires some { 0 < length bytes.now }
         requires whole { length bytes.now % 16 ≡ 0 }
         requires room { unit + length bytes.now / 16 ≤ 2 ^ 28 }
-        ensures ok { OnOk result ((file : Units) → laid self.new.table.items self.new.end file ≡ put unit (units_of bytes.now)
-            (laid self.old.table.items self.old.end file)) }
-        ensures err { OnErr result ((file : Units) → laid self.new.table.items self.new.end file ≡ laid self.old.table.items self.old.end file) }
+        ensures ok { OnOk result ((file : Units) → laid self.new.table.items self.new.end file
+            ≡ put unit (units_of bytes.now) (laid self.old.table.items self.old.end file)) }
+        ensures err { OnErr result ((file : Units)
+            → laid self.new.table.items self.new.end file ≡ laid self.old.table.items self.old.end file) }
     {
         let end = unit + bytes.len() as u64 / 16;
         hold_all(alloc, &mut self.table, unit as usize, bytes)?;
@@ -50,7 +51,7 @@ impl Pages {
         Ok(())
     }
 
-    /// Copies units of one page over others, where all of them are held, as those of most reads are.
+    /// Copies a unit over another, if there is one to be copied, as in most reads, and it is held.
     pub fn copy_held(&self, unit: u64, into: &mut [u8]) -> bool
         requires { length into.old % 16 ≡ 0 }
         ensures within { IsTrue result → unit + length into.old / 16 ≤ self.now.end }

@@ -2,12 +2,9 @@
 
 ghost use Rattle.std.specs.Prelude.{◌≡◌, ◌↔◌, ℕ, ◌+◌, ◌*◌, ◌/◌, ◌%◌, ◌<◌, ◌≤◌, ◌^◌, IsTrue, length, take, drop, Ok, Err, None, true, OnOk, IfOk, IfErr};
 ghost use Rattle.rpm_outside.specs.Files.{Files, file_of, with_file, put, unit_at};
-ghost use Rattle.rpm_outside.specs.Crash.{LeavesOnly};
 ghost use Rattle.rpm_outside.specs.Causes.{HasCause, HasCauseAt};
-ghost use Rattle.rpm_outside.specs.Changed.{LeavesChanged};
 ghost use Rattle.rpm_outside.specs.Entries.{Within};
 ghost use Rattle.rpm_outside.specs.Logs.{Closed, log_state, unlogged, with_entries, reopened};
-ghost use Rattle.rpm_group.specs.LogReads.{ReadsLog};
 ghost use Rattle.rpm_group.specs.Readings.{entries_of, IsOpen};
 ghost use Rattle.rpm_group.specs.inner.LogReadings.{IsHead, heads_behind};
 ghost use Rattle.rpm_group.specs.Settled.{ReopensAs, ReopensAsOneOf, RecoverSays, RecoverKeeps};
@@ -16,6 +13,7 @@ ghost use Rattle.rpm_group.specs.inner.Leavings.{WasWithin};
 ghost use Rattle.rpm_outside.specs.declared.disk.File.TheVariants.{Log};
 ghost use Rattle.rpm_outside.specs.Looks.{LooksAt};
 ghost use Rattle.rpm_outside.specs.Changes.{AreSettled, IsSettled};
+ghost use Rattle.rpm_group.specs.Frame.{images, LeavesIn, LeavesChanged, ReadsLog};
 
 use crate::log::{Gate, Reading, read_head, read_log};
 use rpm_outside::{Disk, Failed, File};
@@ -32,9 +30,9 @@ pub enum RecoverFault {
 /// Settles all three files.
 pub fn settle<D: Disk>(disk: &mut D) -> Result<(), Failed>
     ensures same { IsTrue D.tells → D.files disk.new ≡ D.files disk.old }
-    ensures settled { OnOk result (IsTrue D.tells → AreSettled (D.files disk.new) (D.left_since disk.new (D.moment disk.new))) }
-    ensures images { IsTrue D.tells → LeavesOnly D.moment D.left_since disk.old disk.new (D.left_since disk.old (D.moment disk.old)) }
-    ensures reads { ReadsLog D.moment D.bytes_read D.follows disk.old disk.new }
+    ensures settled { OnOk result (IsTrue D.tells → AreSettled (D.files disk.new) (images D.Disk disk.new)) }
+    ensures images { IsTrue D.tells → LeavesIn D.Disk disk.old disk.new (images D.Disk disk.old) }
+    ensures reads { ReadsLog D.Disk disk.old disk.new }
     ensures cause { HasCause (D.faults disk.old) (D.faults disk.new) result }
 {
     settle_files(disk)?;
@@ -44,10 +42,10 @@ pub fn settle<D: Disk>(disk: &mut D) -> Result<(), Failed>
 /// Settles the two files that the log is for.
 pub fn settle_files<D: Disk>(disk: &mut D) -> Result<(), Failed>
     ensures same { IsTrue D.tells → D.files disk.new ≡ D.files disk.old }
-    ensures pkg { OnOk result (IsTrue D.tells → IsSettled File.Pkg (D.files disk.new) (D.left_since disk.new (D.moment disk.new))) }
-    ensures idx { OnOk result (IsTrue D.tells → IsSettled File.Idx (D.files disk.new) (D.left_since disk.new (D.moment disk.new))) }
-    ensures images { IsTrue D.tells → LeavesOnly D.moment D.left_since disk.old disk.new (D.left_since disk.old (D.moment disk.old)) }
-    ensures reads { ReadsLog D.moment D.bytes_read D.follows disk.old disk.new }
+    ensures pkg { OnOk result (IsTrue D.tells → IsSettled File.Pkg (D.files disk.new) (images D.Disk disk.new)) }
+    ensures idx { OnOk result (IsTrue D.tells → IsSettled File.Idx (D.files disk.new) (images D.Disk disk.new)) }
+    ensures images { IsTrue D.tells → LeavesIn D.Disk disk.old disk.new (images D.Disk disk.old) }
+    ensures reads { ReadsLog D.Disk disk.old disk.new }
     ensures cause { HasCause (D.faults disk.old) (D.faults disk.new) result }
 {
     disk.sync(File::Pkg)?;
@@ -70,8 +68,8 @@ fn copy_piece<D: Disk>(
     ensures written { OnOk result (IsTrue D.tells
         → D.files disk.new ≡ with_file file (put at (take (length bytes.old / 16) (drop from (D.files disk.old).log))
         (file_of file (D.files disk.old))) (D.files disk.old)) }
-    ensures images { IsTrue D.tells → LeavesChanged D.moment D.left_since file at (at + length bytes.old / 16) disk.old disk.new }
-    ensures reads { ReadsLog D.moment D.bytes_read D.follows disk.old disk.new }
+    ensures images { IsTrue D.tells → LeavesChanged D.Disk file at (at + length bytes.old / 16) disk.old disk.new }
+    ensures reads { ReadsLog D.Disk disk.old disk.new }
     ensures cause { HasCause (D.faults disk.old) (D.faults disk.new) result }
 {
     disk.read_at(File::Log, from, bytes)?;
@@ -92,10 +90,11 @@ fn copy_units<D: Disk>(
     requires within { IsTrue D.tells → from + count ≤ length (D.files disk.old).log }
     requires room { at + count ≤ 2 ^ 28 }
     requires place { from ≤ 2 ^ 32 }
-    ensures written { OnOk result (IsTrue D.tells
-        → D.files disk.new ≡ with_file file (put at (take count (drop from (D.files disk.old).log)) (file_of file (D.files disk.old))) (D.files disk.old)) }
-    ensures images { IsTrue D.tells → LeavesChanged D.moment D.left_since file at (at + count) disk.old disk.new }
-    ensures reads { ReadsLog D.moment D.bytes_read D.follows disk.old disk.new }
+    ensures written { OnOk result (IsTrue D.tells → D.files disk.new
+        ≡ with_file file (put at (take count (drop from (D.files disk.old).log)) (file_of file (D.files disk.old)))
+        (D.files disk.old)) }
+    ensures images { IsTrue D.tells → LeavesChanged D.Disk file at (at + count) disk.old disk.new }
+    ensures reads { ReadsLog D.Disk disk.old disk.new }
     ensures cause { HasCause (D.faults disk.old) (D.faults disk.new) result }
 {
     let mut page = [0u8; 4096];
@@ -109,18 +108,17 @@ fn copy_units<D: Disk>(
     Ok(())
 }
 
-/// Writes the entries after a commit record to their files. A head that isn't right any more gives its unit, which no disk that tells
-/// its contents has.
+/// Writes the entries after a commit record to their files. A head that isn't right any more gives its unit, which no
+/// disk that tells its contents has.
 fn copy_entries<D: Disk>(disk: &mut D, gate: Gate) -> Result<Option<u64>, Failed>
     requires last { IsTrue D.tells → gate.last < length (D.files disk.old).log }
     requires open { IsTrue D.tells → IsOpen (heads_behind gate (D.files disk.old).log) }
     ensures none { IfOk result (λ fault. IsTrue D.tells → fault ≡ None) }
-    ensures written { OnOk result (IsTrue D.tells → D.files disk.new ≡ with_entries (entries_of (heads_behind gate (D.files disk.old).log))
-        (D.files disk.old)) }
-    ensures images { IsTrue D.tells
-        → LeavesOnly D.moment D.left_since disk.old disk.new
-        (WasWithin (entries_of (heads_behind gate (D.files disk.old).log)) (D.left_since disk.old (D.moment disk.old))) }
-    ensures reads { ReadsLog D.moment D.bytes_read D.follows disk.old disk.new }
+    ensures written { OnOk result (IsTrue D.tells → D.files disk.new
+        ≡ with_entries (entries_of (heads_behind gate (D.files disk.old).log)) (D.files disk.old)) }
+    ensures images { IsTrue D.tells → LeavesIn D.Disk disk.old disk.new
+        (WasWithin (entries_of (heads_behind gate (D.files disk.old).log)) (images D.Disk disk.old)) }
+    ensures reads { ReadsLog D.Disk disk.old disk.new }
     ensures cause { HasCause (D.faults disk.old) (D.faults disk.new) result }
 {
     let mut p = 1u64;
@@ -138,15 +136,14 @@ fn copy_entries<D: Disk>(disk: &mut D, gate: Gate) -> Result<Option<u64>, Failed
 fn apply_entries<D: Disk>(disk: &mut D, gate: Gate) -> Result<Option<u64>, Failed>
     requires last { IsTrue D.tells → gate.last < length (D.files disk.old).log }
     requires open { IsTrue D.tells → IsOpen (heads_behind gate (D.files disk.old).log) }
-    requires settled { IsTrue D.tells → AreSettled (D.files disk.old) (D.left_since disk.old (D.moment disk.old)) }
+    requires settled { IsTrue D.tells → AreSettled (D.files disk.old) (images D.Disk disk.old) }
     ensures none { IfOk result (λ fault. IsTrue D.tells → fault ≡ None) }
-    ensures written { OnOk result (IsTrue D.tells → D.files disk.new ≡ with_entries (entries_of (heads_behind gate (D.files disk.old).log))
-        (D.files disk.old)) }
-    ensures settled { OnOk result (IsTrue D.tells → AreSettled (D.files disk.new) (D.left_since disk.new (D.moment disk.new))) }
-    ensures images { IsTrue D.tells
-        → LeavesOnly D.moment D.left_since disk.old disk.new
-        (WasWithin (entries_of (heads_behind gate (D.files disk.old).log)) (D.left_since disk.old (D.moment disk.old))) }
-    ensures reads { ReadsLog D.moment D.bytes_read D.follows disk.old disk.new }
+    ensures written { OnOk result (IsTrue D.tells → D.files disk.new
+        ≡ with_entries (entries_of (heads_behind gate (D.files disk.old).log)) (D.files disk.old)) }
+    ensures settled { OnOk result (IsTrue D.tells → AreSettled (D.files disk.new) (images D.Disk disk.new)) }
+    ensures images { IsTrue D.tells → LeavesIn D.Disk disk.old disk.new
+        (WasWithin (entries_of (heads_behind gate (D.files disk.old).log)) (images D.Disk disk.old)) }
+    ensures reads { ReadsLog D.Disk disk.old disk.new }
     ensures cause { HasCause (D.faults disk.old) (D.faults disk.new) result }
 {
     let fault = copy_entries(disk, gate)?;
@@ -157,15 +154,16 @@ fn apply_entries<D: Disk>(disk: &mut D, gate: Gate) -> Result<Option<u64>, Faile
 /// Makes the commit record zeros, and settles the log.
 pub fn close_log<D: Disk>(disk: &mut D) -> Result<(), Failed>
     requires some { IsTrue D.tells → 0 < length (D.files disk.old).log }
-    requires settled { IsTrue D.tells → AreSettled (D.files disk.old) (D.left_since disk.old (D.moment disk.old)) }
+    requires settled { IsTrue D.tells → AreSettled (D.files disk.old) (images D.Disk disk.old) }
     requires open { IsTrue D.tells → IsOpen (log_state (D.files disk.old).log) }
-    requires done { IsTrue D.tells → with_entries (entries_of (log_state (D.files disk.old).log)) (unlogged (D.files disk.old)) ≡ unlogged (D.files disk.old) }
+    requires done { IsTrue D.tells → with_entries (entries_of (log_state (D.files disk.old).log))
+        (unlogged (D.files disk.old)) ≡ unlogged (D.files disk.old) }
     ensures closed { OnOk result (IsTrue D.tells → log_state (D.files disk.new).log ≡ Closed) }
     ensures behind { OnOk result (IsTrue D.tells → KeepsBehind (D.files disk.old).log (D.files disk.new).log) }
     ensures same { IsTrue D.tells → unlogged (D.files disk.new) ≡ unlogged (D.files disk.old) }
-    ensures settled { OnOk result (IsTrue D.tells → AreSettled (D.files disk.new) (D.left_since disk.new (D.moment disk.new))) }
-    ensures images { IsTrue D.tells → LeavesOnly D.moment D.left_since disk.old disk.new (ReopensAs (unlogged (D.files disk.old))) }
-    ensures reads { ReadsLog D.moment D.bytes_read D.follows disk.old disk.new }
+    ensures settled { OnOk result (IsTrue D.tells → AreSettled (D.files disk.new) (images D.Disk disk.new)) }
+    ensures images { IsTrue D.tells → LeavesIn D.Disk disk.old disk.new (ReopensAs (unlogged (D.files disk.old))) }
+    ensures reads { ReadsLog D.Disk disk.old disk.new }
     ensures cause { HasCause (D.faults disk.old) (D.faults disk.new) result }
 {
     disk.write_at(File::Log, 0, &[0u8; 16])?;
@@ -178,14 +176,14 @@ fn finish<D: Disk>(disk: &mut D, gate: Gate) -> Result<bool, RecoverFault>
     requires last { IsTrue D.tells → gate.last < length (D.files disk.old).log }
     requires state { IsTrue D.tells → log_state (D.files disk.old).log ≡ heads_behind gate (D.files disk.old).log }
     requires open { IsTrue D.tells → IsOpen (log_state (D.files disk.old).log) }
-    requires settled { IsTrue D.tells → AreSettled (D.files disk.old) (D.left_since disk.old (D.moment disk.old)) }
+    requires settled { IsTrue D.tells → AreSettled (D.files disk.old) (images D.Disk disk.old) }
     ensures done { IfOk result (λ was_open. was_open ≡ true) }
     ensures fault { IfErr result (λ fault. IsTrue D.tells → fault ≡ RecoverFault.DiskFault) }
     ensures closed { OnOk result (IsTrue D.tells → log_state (D.files disk.new).log ≡ Closed) }
     ensures files { OnOk result (IsTrue D.tells → unlogged (D.files disk.new) ≡ reopened (D.files disk.old)) }
-    ensures settled { OnOk result (IsTrue D.tells → AreSettled (D.files disk.new) (D.left_since disk.new (D.moment disk.new))) }
-    ensures images { IsTrue D.tells → LeavesOnly D.moment D.left_since disk.old disk.new (ReopensAs (reopened (D.files disk.old))) }
-    ensures reads { ReadsLog D.moment D.bytes_read D.follows disk.old disk.new }
+    ensures settled { OnOk result (IsTrue D.tells → AreSettled (D.files disk.new) (images D.Disk disk.new)) }
+    ensures images { IsTrue D.tells → LeavesIn D.Disk disk.old disk.new (ReopensAs (reopened (D.files disk.old))) }
+    ensures reads { ReadsLog D.Disk disk.old disk.new }
     ensures cause { HasCauseAt (result ≡ Err RecoverFault.DiskFault) (D.faults disk.old) (D.faults disk.new) }
 {
     let Ok(fault) = apply_entries(disk, gate) else {
@@ -206,18 +204,19 @@ fn finish<D: Disk>(disk: &mut D, gate: Gate) -> Result<bool, RecoverFault>
 ///
 /// # Errors
 ///
-/// `BadLog` where the log is malformed, with the unit. `DiskFault` only where the count of faults rose. Whatever the answer, the
-/// disk stands for what it stood for at the start, and each image that a crash since the start may leave for what one of the start
-/// stood for; its log is malformed only where that one's was. A malformed log is left as it is.
+/// `BadLog` where the log is malformed, with the unit. `DiskFault` only where the count of faults rose. Whatever the
+/// answer, the disk stands for what it stood for at the start, and each image that a crash since the start may leave
+/// for what one of the start stood for; its log is malformed only where that one's was. A malformed log is left as it
+/// is.
 pub fn recover<D: Disk>(disk: &mut D) -> Result<bool, RecoverFault>
     ensures says { IsTrue D.tells → RecoverSays (log_state (D.files disk.old).log) result }
     ensures kept { IsTrue D.tells → RecoverKeeps (D.files disk.old) (D.files disk.new) result }
     ensures closed { OnOk result (IsTrue D.tells → log_state (D.files disk.new).log ≡ Closed) }
     ensures files { OnOk result (IsTrue D.tells → unlogged (D.files disk.new) ≡ reopened (D.files disk.old)) }
-    ensures settled { OnOk result (IsTrue D.tells → AreSettled (D.files disk.new) (D.left_since disk.new (D.moment disk.new))) }
+    ensures settled { OnOk result (IsTrue D.tells → AreSettled (D.files disk.new) (images D.Disk disk.new)) }
     ensures stands { IsTrue D.tells → reopened (D.files disk.new) ≡ reopened (D.files disk.old) }
-    ensures images { IsTrue D.tells → LeavesOnly D.moment D.left_since disk.old disk.new (ReopensAsOneOf (D.left_since disk.old (D.moment disk.old))) }
-    ensures reads { ReadsLog D.moment D.bytes_read D.follows disk.old disk.new }
+    ensures images { IsTrue D.tells → LeavesIn D.Disk disk.old disk.new (ReopensAsOneOf (images D.Disk disk.old)) }
+    ensures reads { ReadsLog D.Disk disk.old disk.new }
     ensures cause { HasCauseAt (result ≡ Err RecoverFault.DiskFault) (D.faults disk.old) (D.faults disk.new) }
 {
     let Ok(()) = settle(disk) else {

@@ -22,7 +22,8 @@ fn next_in(table: &Table, q: usize, from: usize, end: usize, held: bool) -> usiz
     }
 }
 
-/// The first of these units that isn't in an absent page, or the end, where held ones are looked for. Of a large file few leaves are there.
+/// The first of these units that isn't in an absent page, or the end, where held ones are looked for. Of a large file
+/// few leaves are there.
 fn skip_absent(table: &Table, from: usize, end: usize, held: bool) -> usize
     requires ordered { from ≤ end }
     requires small { end ≤ 2 ^ 28 }
@@ -66,7 +67,8 @@ pub fn next_unit(table: &Table, from: usize, end: usize, held: bool) -> usize
     end
 }
 
-/// The first unit from this one on that isn't held, or the end. A function of its own, so that a read past all that is held stays short.
+/// The first unit from this one on that isn't held, or the end. A function of its own, so that a read past all that
+/// is held stays short.
 #[inline(never)]
 pub fn next_absent(table: &Table, from: usize, end: usize) -> usize
     requires ordered { from ≤ end }

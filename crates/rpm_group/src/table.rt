@@ -1,7 +1,8 @@
 //! The pages of a file by number. A page that isn't there holds nothing.
 //!
-//! A table in two levels, as a page table of an operating system: leaves of 256 pages by number, 1 MiB of the file each, and in each its pages.
-//! It finds a page without a comparison, and goes through them in order. A leaf of which nothing is held costs 24 bytes.
+//! A table in two levels, as a page table of an operating system: leaves of 256 pages by number, 1 MiB of the file
+//! each, and in each its pages. It finds a page without a comparison, and goes through them in order. A leaf of which
+//! nothing is held costs 24 bytes.
 
 ghost use Rattle.std.specs.Prelude.{◌≡◌, ℕ, ◌+◌, ◌-◌, ◌*◌, ◌/◌, ◌%◌, ◌<◌, ◌≤◌, ◌^◌, true, None, length, is_some, OnOk, MatchOption, IsTrue};
 ghost use Rattle.rpm_group.specs.Held.{in_page, page_at, held_at};
@@ -84,8 +85,8 @@ pub fn hold(table: &mut Table, unit: usize, bytes: &[u8])
 
 /// The page of a number, if it is there.
 pub fn page_of(table: &Table, q: usize) -> Option<&Page>
-    ensures { MatchOption result ((k : ℕ) → k < 256 → held_at table.now.items (256 * q + k) ≡ None) (λ page. (k : ℕ) → k < 256
-        → held_at table.now.items (256 * q + k) ≡ in_page page.now k) }
+    ensures { MatchOption result ((k : ℕ) → k < 256 → held_at table.now.items (256 * q + k) ≡ None) (λ page. (k : ℕ)
+        → k < 256 → held_at table.now.items (256 * q + k) ≡ in_page page.now k) }
 {
     if q / 256 >= table.len() {
         return None;
@@ -100,7 +101,8 @@ pub fn page_of(table: &Table, q: usize) -> Option<&Page>
     }
 }
 
-/// How many pages from this one on aren't there, as far as a look at its leaf or at itself tells: none where it is there.
+/// How many pages from this one on aren't there, as far as a look at its leaf or at itself tells: none where it is
+/// there.
 pub fn absent(table: &Table, q: usize) -> usize
     ensures most { result ≤ 256 }
     ensures none { (i : ℕ) → 256 * q ≤ i → i < 256 * (q + result) → held_at table.now.items i ≡ None }
@@ -114,7 +116,7 @@ pub fn absent(table: &Table, q: usize) -> usize
     }
 }
 
-/// Copies units of one page over others, where all of them are held.
+/// Copies a unit over another, if there is one to be copied and it is held.
 pub fn copy_held(table: &Table, unit: usize, into: &mut [u8]) -> bool
     requires whole { length into.old % 16 ≡ 0 }
     requires room { unit + length into.old / 16 < 2 ^ 64 }
@@ -139,7 +141,8 @@ fn lay_in(table: &Table, q: usize, at: usize, into: &mut [u8])
     }
 }
 
-/// Copies the held ones of the units from this one on over others. A function of its own, so that a read of what isn't held stays short.
+/// Copies the held ones of the units from this one on over others. A function of its own, so that a read of what
+/// isn't held stays short.
 #[inline(never)]
 pub fn lay(table: &Table, unit: usize, into: &mut [u8])
     requires whole { length into.old % 16 ≡ 0 }

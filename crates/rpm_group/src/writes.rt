@@ -3,12 +3,11 @@
 ghost use Rattle.std.specs.Prelude.{◌≡◌, ℕ, ◌+◌, ◌-◌, ◌*◌, ◌/◌, ◌%◌, ◌<◌, ◌≤◌, ◌^◌, IsTrue, true, length, OnOk, ◌∷◌, List};
 ghost use Rattle.rpm_outside.specs.Files.{Files, file_of, with_file, units_of, put};
 ghost use Rattle.rpm_outside.specs.Causes.{HasCause};
-ghost use Rattle.rpm_outside.specs.Changed.{LeavesChanged};
 ghost use Rattle.rpm_outside.specs.Logs.{word};
 ghost use Rattle.rpm_outside.specs.LogWrites.{number_of};
 ghost use Rattle.rpm_group.specs.inner.HeldUnits.{units_held, AreHeld};
-ghost use Rattle.rpm_group.specs.LogReads.{ReadsNothing};
 ghost use Rattle.rpm_group.specs.inner.Words.{IsUnitOf, IsHeadOf};
+ghost use Rattle.rpm_group.specs.Frame.{LeavesChanged, ReadsNothing};
 
 use crate::table::{Table, lay};
 use rpm_outside::{Disk, Failed, File};
@@ -57,9 +56,10 @@ fn write_piece<D: Disk>(
     requires room { at + length bytes.old / 16 ≤ 2 ^ 28 }
     requires small { from + length bytes.old / 16 ≤ 2 ^ 28 }
     ensures written { OnOk result (IsTrue D.tells → D.files disk.new
-        ≡ with_file file (put at (units_held table.now.items from (length bytes.old / 16)) (file_of file (D.files disk.old))) (D.files disk.old)) }
-    ensures images { IsTrue D.tells → LeavesChanged D.moment D.left_since file at (at + length bytes.old / 16) disk.old disk.new }
-    ensures reads { ReadsNothing D.moment D.bytes_read D.follows disk.old disk.new }
+        ≡ with_file file (put at (units_held table.now.items from (length bytes.old / 16))
+        (file_of file (D.files disk.old))) (D.files disk.old)) }
+    ensures images { IsTrue D.tells → LeavesChanged D.Disk file at (at + length bytes.old / 16) disk.old disk.new }
+    ensures reads { ReadsNothing D.Disk disk.old disk.new }
     ensures cause { HasCause (D.faults disk.old) (D.faults disk.new) result }
 {
     lay(table, from, bytes);
@@ -67,7 +67,8 @@ fn write_piece<D: Disk>(
     Ok(())
 }
 
-/// Writes held units to a file from unit `at` on, as many at a time as the buffer takes, in which they are gathered from their pages.
+/// Writes held units to a file from unit `at` on, as many at a time as the buffer takes, in which they are gathered
+/// from their pages.
 pub fn write_run<D: Disk>(
     disk: &mut D,
     table: &Table,
@@ -81,10 +82,11 @@ pub fn write_run<D: Disk>(
     requires held { AreHeld table.now.items from end }
     requires room { at + (end - from) ≤ 2 ^ 28 }
     requires small { end ≤ 2 ^ 28 }
-    ensures written { OnOk result (IsTrue D.tells
-        → D.files disk.new ≡ with_file file (put at (units_held table.now.items from (end - from)) (file_of file (D.files disk.old))) (D.files disk.old)) }
-    ensures images { IsTrue D.tells → LeavesChanged D.moment D.left_since file at (at + (end - from)) disk.old disk.new }
-    ensures reads { ReadsNothing D.moment D.bytes_read D.follows disk.old disk.new }
+    ensures written { OnOk result (IsTrue D.tells → D.files disk.new
+        ≡ with_file file (put at (units_held table.now.items from (end - from)) (file_of file (D.files disk.old)))
+        (D.files disk.old)) }
+    ensures images { IsTrue D.tells → LeavesChanged D.Disk file at (at + (end - from)) disk.old disk.new }
+    ensures reads { ReadsNothing D.Disk disk.old disk.new }
     ensures cause { HasCause (D.faults disk.old) (D.faults disk.new) result }
 {
     let mut done = from;
@@ -112,9 +114,10 @@ pub fn log_run<D: Disk>(
     requires room { at + 1 + (end - from) ≤ 2 ^ 28 }
     requires small { end ≤ 2 ^ 28 }
     ensures written { OnOk result (IsTrue D.tells → (head : List ℕ) × IsHeadOf file from (end - from) head
-        × (D.files disk.new ≡ with_file File.Log (put at (head ∷ units_held table.now.items from (end - from)) (D.files disk.old).log) (D.files disk.old))) }
-    ensures images { IsTrue D.tells → LeavesChanged D.moment D.left_since File.Log at (at + 1 + (end - from)) disk.old disk.new }
-    ensures reads { ReadsNothing D.moment D.bytes_read D.follows disk.old disk.new }
+        × (D.files disk.new ≡ with_file File.Log (put at (head ∷ units_held table.now.items from (end - from))
+        (D.files disk.old).log) (D.files disk.old))) }
+    ensures images { IsTrue D.tells → LeavesChanged D.Disk File.Log at (at + 1 + (end - from)) disk.old disk.new }
+    ensures reads { ReadsNothing D.Disk disk.old disk.new }
     ensures cause { HasCause (D.faults disk.old) (D.faults disk.new) result }
 {
     let head = head_of(file, from as u32, (end - from) as u32);

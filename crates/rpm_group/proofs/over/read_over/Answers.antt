@@ -13,7 +13,7 @@ returns-then-copy_held-clause-units g c = λ told.
     let files : Files = g.D.Disk.files c.args.below.now in
     let unit = c.args.unit in
     let n = length c.args.into.now / 16 in
-    let pages = c.file-pages.result.now in
+    let pages = c.file.result.now in
     let file : Units = file_of c.args.file files in
     let held : AreHeld pages.table.items unit (unit + n) = c.if-copy_held.ensures.held refl in
     read_laid pages.table.items pages.end file unit n c.args.into.now c.copy_held.new.into pages.past
@@ -21,29 +21,9 @@ returns-then-copy_held-clause-units g c = λ told.
     (omega (arith, length-laid pages.table.items pages.end file, c.if-copy_held.ensures.within refl))
     (λ k below unheld. absurd (let e : true ≡ false = sym (held (unit + k) (omega arith) (omega arith)) ∙ unheld in cc))
     (c.if-copy_held.ensures.lays refl)
-    ∙ ap (λ (p : Pages). take n (drop unit (laid_file p file))) c.file-pages.ensures
-    ∙ ap (λ (us : Units). take n (drop unit us)) (sym (file_of-laid c.args.file c.args.layers.now files))
-
-pub returns-then-covers-clause-units : goal.returns-then-covers-clause-units
-returns-then-covers-clause-units g c = λ told.
-    let files : Files = g.D.Disk.files c.args.below.now in
-    let unit = c.args.unit in
-    let n = length c.args.into.now / 16 in
-    let pages = c.file-pages.result.now in
-    let file : Units = file_of c.args.file files in
-    let held : AreHeld pages.table.items unit (unit + n) = λ i low high. c.if-covers.ensures.held refl i low (omega (arith, c.copy_held.auto.into, high)) in
-    read_laid pages.table.items pages.end file unit n c.copy_held.new.into c.lay.new.into pages.past
-    (omega (arith, c.copy_held.auto.into, c.lay.auto.into)) (sym c.lay.auto.into)
-    (omega (arith, c.copy_held.auto.into, length-laid pages.table.items pages.end file, c.if-covers.ensures.within refl))
-    (λ k below unheld. absurd (let e : true ≡ false = sym (held (unit + k) (omega arith) (omega arith)) ∙ unheld in cc))
-    c.lay.ensures
-    ∙ ap (λ (p : Pages). take n (drop unit (laid_file p file))) c.file-pages.ensures
+    ∙ ap (λ (p : Pages). take n (drop unit (laid_file p file))) c.file.ensures
     ∙ ap (λ (us : Units). take n (drop unit us)) (sym (file_of-laid c.args.file c.args.layers.now files))
 
 pub returns-then-copy_held-clause-reads : goal.returns-then-copy_held-clause-reads
 returns-then-copy_held-clause-reads g c = counts_spared g.D.Disk.bytes_read c.args.file _ _ c.args.below.now c.args.below.now c.args.spared.now
     c.add.new.self c.copy_held.auto.into (λ f. refl) c.add.ensures
-
-pub returns-then-covers-clause-reads : goal.returns-then-covers-clause-reads
-returns-then-covers-clause-reads g c = counts_spared g.D.Disk.bytes_read c.args.file _ _ c.args.below.now c.args.below.now c.args.spared.now
-    c.add-then-covers.new.self c.copy_held.auto.into (λ f. refl) c.add-then-covers.ensures

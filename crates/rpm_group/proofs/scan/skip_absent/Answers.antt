@@ -19,7 +19,8 @@ loop-q-preserved c = record {
 }
 
 pub returns-then-gap-eq0-clause-between : goal.returns-then-gap-eq0-clause-between
-returns-then-gap-eq0-clause-between c = λ i low high. c.loop-q.invariant.between i low (omega (arith, low, high, c.max.ensures)) ∙ ap not (sym c.if-not-held.false)
+returns-then-gap-eq0-clause-between c = λ i low high.
+    c.loop-q.invariant.between i low (omega (arith, low, high, c.max.ensures)) ∙ ap not (sym c.if-not-held.false)
 
 pub returns-clause-between : goal.returns-clause-between
 returns-clause-between c = λ i low high. c.loop-q.invariant.between i low (omega (arith, high, c.loop-q-test.false)) ∙ ap not (sym c.if-not-held.false)

@@ -50,8 +50,11 @@ loop-done-preserved g c =
     let place = c.args.at + (done - c.args.from) in
     let mid : Files = D.files c.loop-done.disk in
     let k = piece_count n c.loop-done.buffer inv.long (omega (arith, c.min-n.ensures)) in
+    let within : 0 + 16 * n ≤ length c.loop-done.buffer = omega (arith, inv.long, c.min-n.ensures) in
+    let same : length c.write_piece.new.bytes ≡ 16 * n =
+    omega (arith, c.write_piece.auto.bytes, length-take (16 * n) c.loop-done.buffer, inv.long, c.min-n.ensures) in
     record {
-      long = length-put_mid 0 (16 * n) c.loop-done.buffer c.write_piece.new.bytes (omega (arith, c.write_piece.auto.bytes, length-take (16 * n) c.loop-done.buffer, inv.long, c.min-n.ensures)) (omega (arith, inv.long, c.min-n.ensures)) ∙ inv.long;
+      long = length-put_mid 0 (16 * n) c.loop-done.buffer c.write_piece.new.bytes same within ∙ inv.long;
       from = omega (arith, inv.from);
       end = omega (arith, c.min-n.ensures);
       files = λ told.
