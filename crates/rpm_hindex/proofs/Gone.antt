@@ -15,6 +15,7 @@ use Rattle.rpm_hindex.specs.Sizes.{live_of, record_units}
 use Rattle.rpm_hindex.specs.Index.{Index, index_in, chain, row_at, places_of, all_places}
 use Rattle.rpm_hindex.specs.Refusals.{DropsMore, IsBadFor}
 use Rattle.rpm_hindex.specs.inner.Changes.{Drops, is_kept, if_kept, kept_in, IsChainFault, HasGone, CountsLess, IsShort, IsFresh}
+use Rattle.rpm_hindex.specs.inner.Ongoing.{IsDropFault}
 use Rattle.rpm_hindex.proofs.Counts.{times-append, times_one, times_none}
 use Rattle.rpm_hindex.proofs.Tallies.{tally}
 use Rattle.rpm_hindex.proofs.Drafting.{live_push}
@@ -138,3 +139,7 @@ pub bad_for : (drops : List Row) (c : Change) (file : Units) (e : PrepareFault) 
     → IsShort drops c (index_in c.extent.buckets file) e → IsBadFor drops c.extent.buckets file e
 bad_for drops c file e is fresh short = subst (IsBadFor drops c.extent.buckets file) (sym is)
     (inr (refl, drops_counted drops c file fresh (subst (IsShort drops c (index_in c.extent.buckets file)) is short)))
+
+-- a fault for want of memory names no unit
+pub drop_memory : (file : Units) (drops : List Row) (c : Change) (e : PrepareFault) → e ≡ NoMemory → IsDropFault file drops c e
+drop_memory file drops c e is = subst (IsDropFault file drops c) (sym is) (record { short = λ none. tt; bad = λ honest. tt })

@@ -17,6 +17,10 @@ pub if_err : {T E : Type 0} (r : Result T E) (P Q : E → Type 0) → ((e : E) �
 if_err (Ok t) P Q f p = tt
 if_err (Err e) P Q f p = f e p
 
-pub if_ok_three : {T E : Type 0} (r : Result T E) (P Q R S : T → Type 0) → ((t : T) → P t → Q t → R t → S t) → IfOk r P → IfOk r Q → IfOk r R → IfOk r S
-if_ok_three (Ok t) P Q R S f p q r = f t p q r
-if_ok_three (Err e) P Q R S f p q r = tt
+pub if_ok_two : {T E : Type 0} (r : Result T E) (P Q R : T → Type 0) → ((t : T) → P t → Q t → R t) → IfOk r P → IfOk r Q → IfOk r R
+if_ok_two (Ok t) P Q R f p q = f t p q
+if_ok_two (Err e) P Q R f p q = tt
+
+pub if_err_two : {T E : Type 0} (r : Result T E) (P Q R : E → Type 0) → ((e : E) → P e → Q e → R e) → IfErr r P → IfErr r Q → IfErr r R
+if_err_two (Ok t) P Q R f p q = tt
+if_err_two (Err e) P Q R f p q = f e p q

@@ -6,12 +6,15 @@ use Rattle.std.specs.BTreeSet.{contains}
 use Rattle.rpm_outside.specs.Files.{Units}
 use Rattle.rpm_hindex.specs.declared.chain.Extent.{Extent}
 use Rattle.rpm_hindex.specs.declared.change.Change.{Change}
+use Rattle.rpm_hindex.specs.declared.faults.PrepareFault.{PrepareFault}
+use Rattle.rpm_hindex.specs.declared.faults.PrepareFault.TheVariants.{IndexFull, BadIndex, DiskFault, NoMemory}
 use Rattle.rpm_hindex.specs.Rows.{Row, times}
 use Rattle.rpm_hindex.specs.Index.{Index, index_in, records, rows_of, places_of}
 use Rattle.rpm_hindex.specs.Padding.{AddsPadded}
 use Rattle.rpm_hindex.specs.Whole.{IsWellFormed}
 use Rattle.rpm_hindex.specs.Costs.{chains_bytes}
-use Rattle.rpm_hindex.specs.inner.Changes.{IsCut, changing, HasLess, kept_of, is_kept}
+use Rattle.rpm_hindex.specs.Refusals.{IsTooLargeFor}
+use Rattle.rpm_hindex.specs.inner.Changes.{IsCut, IsOther, changing, HasLess, kept_of, is_kept}
 use Rattle.rpm_hindex.specs.inner.Records.{IsOpen}
 use Rattle.rpm_hindex.proofs.Cuts.{rows_cut}
 use Rattle.rpm_hindex.proofs.Cutting.{but}
@@ -78,3 +81,10 @@ pub drops_cost : (drops : List Row) (file : Units) (n buckets old new : ℕ) →
     → (IsWellFormed n file → new ≤ old + chains_bytes (index_in n file) drops)
     → new ≤ old + chains_bytes (index_in buckets file) drops
 drops_cost drops file n buckets old new is whole cost = subst (λ (m : ℕ). IsWellFormed m file → new ≤ old + chains_bytes (index_in m file) drops) is cost whole
+
+-- a fault of another kind doesn't say that the index is full
+pub other_large : (drops adds old : List Row) (e : PrepareFault) → IsOther e → IsTooLargeFor drops adds old e
+other_large drops adds old (BadIndex unit) other = tt
+other_large drops adds old (IndexFull needed) other = absurd other
+other_large drops adds old DiskFault other = tt
+other_large drops adds old NoMemory other = tt

@@ -11,4 +11,5 @@ pub mod State
 pub mod Images
 pub mod Answers
 pub mod Refusals
+pub mod Prepared
 pub mod inner

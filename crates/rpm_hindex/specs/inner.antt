@@ -2,6 +2,7 @@
 pub mod Changes
 pub mod Drafts
 pub mod Making
+pub mod Ongoing
 pub mod Packed
 pub mod Records
 pub mod Spots

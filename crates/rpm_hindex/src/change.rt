@@ -11,12 +11,11 @@ ghost use Rattle.rpm_outside.specs.Looks.{Looks, LooksAt};
 ghost use Rattle.rpm_hindex.specs.inner.Records.{IsOpen};
 ghost use Rattle.rpm_hindex.specs.Rows.{hash_of, row_nth};
 ghost use Rattle.rpm_hindex.specs.Sizes.{record_units, first_record};
-ghost use Rattle.rpm_hindex.specs.inner.Changes.{CanGo, AddsRows, IsCut, IsHonest, IsChainFault, IsBadSoFar, HasNoFault, HasGone, IsShort, changing, IsOther, Puts, Drops, HasLess, kept_of, is_kept};
-ghost use Rattle.rpm_hindex.specs.inner.Starts.{AreStarts, StandWithin};
+ghost use Rattle.rpm_hindex.specs.inner.Changes.{CanGo, IsHonest, IsChainFault, IsOther, Puts, Drops, is_kept};
+ghost use Rattle.rpm_hindex.specs.inner.Ongoing.{CanStart, DropsRows, GoesOn, Grows, HasAdded, IsDropFault, one_row};
 ghost use Rattle.rpm_hindex.specs.Refusals.{IsFaulty};
 ghost use Rattle.rpm_hindex.specs.Index.{index_in, chain, units_at};
 ghost use Rattle.rpm_hindex.specs.Answers.{IsFaultOf, ChainCosts};
-ghost use Rattle.rpm_hindex.specs.Whole.{IsWellFormed, IsWhole};
 
 use crate::bucket::bucket_of;
 use crate::chain::{Extent, is_link};
@@ -121,31 +120,16 @@ impl Change {
         requires go { CanGo self.old }
         requires short { length row.key.now < 2 ^ 28 }
         requires open { IsTrue D.tells → IsOpen self.old.extent (D.files disk.old).idx }
-        requires stand { StandWithin self.old.extent.buckets self.old.extent.used (λ b. get nat_cmp starts.old b) }
-        requires starts { IsTrue D.tells → AreStarts (index_in self.old.extent.buckets (D.files disk.old).idx)
-            (is_kept (λ p. contains nat_cmp self.old.dropped p)) (λ b. get nat_cmp starts.old b) }
-        ensures go { OnOk result (CanGo self.new) }
+        requires starts { CanStart D.Disk disk.old self.old.extent (is_kept (λ p. contains nat_cmp self.old.dropped p))
+            (λ b. get nat_cmp starts.old b) }
+        ensures keeps { OnOk result (GoesOn self.old self.new) }
         ensures other { IfErr result (λ e. IsOther e) }
-        ensures extent { OnOk result (self.new.extent ≡ self.old.extent) }
-        ensures tail { OnOk result (self.new.tail ≡ self.old.tail) }
-        ensures stand { OnOk result (StandWithin self.old.extent.buckets self.old.extent.used (λ b. get nat_cmp starts.new b)) }
-        ensures starts { OnOk result (IsTrue D.tells → AreStarts (index_in self.old.extent.buckets (D.files disk.old).idx)
+        ensures starts { OnOk result (CanStart D.Disk disk.old self.old.extent
             (is_kept (λ p. contains nat_cmp self.new.dropped p)) (λ b. get nat_cmp starts.new b)) }
-        ensures less { OnOk result (IsTrue D.tells → IsWellFormed self.old.extent.buckets (D.files disk.old).idx
-            → HasLess ((record { kind = row.entry.kind; key = row.entry.key.now; number = row.entry.number; place = row.entry.place }) ∷ [])
-            (kept_of (index_in self.old.extent.buckets (D.files disk.old).idx) (is_kept (λ p. contains nat_cmp self.old.dropped p)))
-            (kept_of (index_in self.old.extent.buckets (D.files disk.old).idx) (is_kept (λ p. contains nat_cmp self.new.dropped p)))) }
-        ensures cuts { OnOk result (IsTrue D.tells → IsWellFormed self.old.extent.buckets (D.files disk.old).idx → length self.old.tail.items ≡ 0
-            → IsCut self.old (D.files disk.old).idx → IsCut self.new (D.files disk.old).idx) }
-        ensures honest { OnOk result (IsTrue D.tells → IsHonest self.old (D.files disk.old).idx → IsHonest self.new (D.files disk.old).idx) }
-        ensures gone { OnOk result (IsTrue D.tells → HasNoFault (index_in self.old.extent.buckets (D.files disk.old).idx)
-            → HasGone ((record { kind = row.entry.kind; key = row.entry.key.now; number = row.entry.number; place = row.entry.place }) ∷ [])
-            self.old self.new (index_in self.old.extent.buckets (D.files disk.old).idx)) }
-        ensures short { IfErr result (λ e. IsTrue D.tells → HasNoFault (index_in self.old.extent.buckets (D.files disk.old).idx)
-            → IsShort ((record { kind = row.entry.kind; key = row.entry.key.now; number = row.entry.number; place = row.entry.place }) ∷ [])
-            self.old (index_in self.old.extent.buckets (D.files disk.old).idx) e) }
-        ensures bad { IfErr result (λ e. IsTrue D.tells → IsHonest self.old (D.files disk.old).idx → IsBadSoFar self.old.extent.buckets (D.files disk.old).idx
-            e) }
+        ensures dropped { OnOk result (IsTrue D.tells → DropsRows (D.files disk.old).idx
+            (one_row row.entry.kind row.entry.key.now row.entry.number row.entry.place) self.old self.new) }
+        ensures refused { IfErr result (λ e. IsTrue D.tells → IsDropFault (D.files disk.old).idx
+            (one_row row.entry.kind row.entry.key.now row.entry.number row.entry.place) self.old e) }
         ensures cost { IsTrue D.tells → ChainCosts (chain (index_in self.old.extent.buckets (D.files disk.old).idx)
             (hash_of row.entry.kind row.entry.key.now % self.old.extent.buckets)) (units_at (unit_at (D.files disk.old).idx))
             (D.bytes_read disk.old Idx + 16) (D.bytes_read disk.new Idx) }
@@ -192,21 +176,12 @@ impl Change {
         requires room { self.old.extent.used + length self.old.tail.items / 16 + record_units (length row.key.now) ≤ 2 ^ 28 }
         requires count { self.old.records < 2 * self.old.extent.buckets }
         requires open { IsTrue D.tells → IsOpen self.old.extent (D.files disk.old).idx }
-        ensures go { OnOk result (CanGo self.new) }
+        ensures grows { OnOk result (Grows self.old self.new 1 (record_units (length row.entry.key.now))) }
         ensures other { IfErr result (λ e. IsOther e) }
-        ensures extent { OnOk result (self.new.extent ≡ self.old.extent) }
-        ensures tail { OnOk result (length self.new.tail.items / 16 ≡ length self.old.tail.items / 16 + record_units (length row.entry.key.now)) }
-        ensures records { OnOk result (self.new.records ≡ self.old.records + 1) }
-        ensures live { OnOk result (self.new.live ≡ self.old.live + record_units (length row.entry.key.now)) }
-        ensures adds { OnOk result (IsTrue D.tells → IsWhole self.old.records self.old.live (changing self.old (D.files disk.old).idx)
-            → AddsRows self.old self.new (D.files disk.old).idx ((record {
-              kind = row.entry.kind;
-              key = row.entry.key.now;
-              number = row.entry.number;
-              place = row.entry.place;
-            }) ∷ [])) }
-        ensures honest { OnOk result (IsTrue D.tells → IsHonest self.old (D.files disk.old).idx → IsHonest self.new (D.files disk.old).idx) }
-        ensures bad { IfErr result (λ e. IsTrue D.tells → IsHonest self.old (D.files disk.old).idx → IsFaulty self.old.extent.buckets (D.files disk.old).idx e) }
+        ensures added { OnOk result (IsTrue D.tells → HasAdded (D.files disk.old).idx
+            (one_row row.entry.kind row.entry.key.now row.entry.number row.entry.place) self.old self.new) }
+        ensures bad { IfErr result (λ e. IsTrue D.tells → IsHonest self.old (D.files disk.old).idx
+            → IsFaulty self.old.extent.buckets (D.files disk.old).idx e) }
         ensures looks { Looks D.tells D.files D.left_since D.moment D.bytes_read D.follows Idx 16 disk.old disk.new }
         ensures cause { HasCauseAt (result ≡ Err PrepareFault.DiskFault) (D.faults disk.old) (D.faults disk.new) }
     {

@@ -1,13 +1,12 @@
 //! The rows that a change drops.
 
 ghost use Rattle.std.specs.Prelude.{◌≡◌, ◌+◌, ◌*◌, ◌/◌, ◌%◌, ◌^◌, ◌≤◌, ◌<◌, IsTrue, true, false, length, ◌++◌, OnOk, IfErr, Err};
-ghost use Rattle.std.specs.Ordering.{nat_cmp};
-ghost use Rattle.std.specs.BTreeSet.{contains};
 ghost use Rattle.rpm_outside.specs.Causes.{HasCauseAt};
 ghost use Rattle.rpm_outside.specs.declared.disk.File.TheVariants.{Idx};
 ghost use Rattle.rpm_outside.specs.Looks.{LooksAt};
 ghost use Rattle.rpm_hindex.specs.inner.Records.{IsOpen};
-ghost use Rattle.rpm_hindex.specs.inner.Changes.{CanGo, IsCut, IsHonest, IsBadSoFar, IsShort, IsFresh, HasNoFault, HasFault, IsOther, HasLess, kept_of, is_kept};
+ghost use Rattle.rpm_hindex.specs.inner.Changes.{CanGo, IsHonest, IsFresh, HasNoFault, HasFault, IsOther};
+ghost use Rattle.rpm_hindex.specs.inner.Ongoing.{DropsRows, GoesOn, IsDropFault};
 ghost use Rattle.rpm_hindex.specs.Refusals.{IsBad, IsBadFor};
 ghost use Rattle.rpm_hindex.specs.Index.{index_in};
 ghost use Rattle.rpm_hindex.specs.Costs.{chains_bytes};
@@ -32,21 +31,11 @@ fn drop_each<D: Disk>(
 ) -> Result<(), PrepareFault>
     requires go { CanGo change.old }
     requires open { IsTrue D.tells → IsOpen change.old.extent (D.files disk.old).idx }
-    ensures go { OnOk result (CanGo change.new) }
+    ensures keeps { OnOk result (GoesOn change.old change.new) }
     ensures other { IfErr result (λ e. IsOther e) }
-    ensures extent { OnOk result (change.new.extent ≡ change.old.extent) }
-    ensures tail { OnOk result (change.new.tail ≡ change.old.tail) }
     ensures none { OnOk result (length rows.now ≡ 0 → change.new ≡ change.old) }
-    ensures less { OnOk result (IsTrue D.tells → IsWellFormed change.old.extent.buckets (D.files disk.old).idx → HasLess rows.now
-        (kept_of (index_in change.old.extent.buckets (D.files disk.old).idx) (is_kept (λ p. contains nat_cmp change.old.dropped p)))
-        (kept_of (index_in change.old.extent.buckets (D.files disk.old).idx) (is_kept (λ p. contains nat_cmp change.new.dropped p)))) }
-    ensures cuts { OnOk result (IsTrue D.tells → IsWellFormed change.old.extent.buckets (D.files disk.old).idx → length change.old.tail.items ≡ 0
-        → IsCut change.old (D.files disk.old).idx → IsCut change.new (D.files disk.old).idx) }
-    ensures honest { OnOk result (IsTrue D.tells → IsHonest change.old (D.files disk.old).idx → IsHonest change.new (D.files disk.old).idx) }
-    ensures short { IfErr result (λ e. IsTrue D.tells → HasNoFault (index_in change.old.extent.buckets (D.files disk.old).idx)
-        → IsShort rows.now change.old (index_in change.old.extent.buckets (D.files disk.old).idx) e) }
-    ensures bad { IfErr result (λ e. IsTrue D.tells → IsHonest change.old (D.files disk.old).idx
-        → IsBadSoFar change.old.extent.buckets (D.files disk.old).idx e) }
+    ensures dropped { OnOk result (IsTrue D.tells → DropsRows (D.files disk.old).idx rows.now change.old change.new) }
+    ensures refused { IfErr result (λ e. IsTrue D.tells → IsDropFault (D.files disk.old).idx rows.now change.old e) }
     ensures cost { IsTrue D.tells → IsWellFormed change.old.extent.buckets (D.files disk.old).idx → D.bytes_read disk.new Idx ≤ D.bytes_read disk.old
         Idx + chains_bytes (index_in change.old.extent.buckets (D.files disk.old).idx) rows.now }
     ensures looks { LooksAt D.tells D.files D.left_since D.moment D.bytes_read D.follows Idx disk.old disk.new }
@@ -102,18 +91,12 @@ pub fn drop_rows<D: Disk>(
 ) -> Result<(), PrepareFault>
     requires go { CanGo change.old }
     requires open { IsTrue D.tells → IsOpen change.old.extent (D.files disk.old).idx }
-    ensures go { OnOk result (CanGo change.new) }
+    ensures keeps { OnOk result (GoesOn change.old change.new) }
     ensures other { IfErr result (λ e. IsOther e) }
-    ensures extent { OnOk result (change.new.extent ≡ change.old.extent) }
-    ensures tail { OnOk result (change.new.tail ≡ change.old.tail) }
     ensures none { OnOk result (length rows.now ≡ 0 → change.new ≡ change.old) }
-    ensures less { OnOk result (IsTrue D.tells → IsWellFormed change.old.extent.buckets (D.files disk.old).idx → HasLess rows.now
-        (kept_of (index_in change.old.extent.buckets (D.files disk.old).idx) (is_kept (λ p. contains nat_cmp change.old.dropped p)))
-        (kept_of (index_in change.old.extent.buckets (D.files disk.old).idx) (is_kept (λ p. contains nat_cmp change.new.dropped p)))) }
-    ensures cuts { OnOk result (IsTrue D.tells → IsWellFormed change.old.extent.buckets (D.files disk.old).idx → length change.old.tail.items ≡ 0
-        → IsCut change.old (D.files disk.old).idx → IsCut change.new (D.files disk.old).idx) }
-    ensures honest { OnOk result (IsTrue D.tells → IsHonest change.old (D.files disk.old).idx → IsHonest change.new (D.files disk.old).idx) }
-    ensures bad { IfErr result (λ e. IsTrue D.tells → IsHonest change.old (D.files disk.old).idx → IsBad change.old.extent.buckets (D.files disk.old).idx e) }
+    ensures dropped { OnOk result (IsTrue D.tells → DropsRows (D.files disk.old).idx rows.now change.old change.new) }
+    ensures bad { IfErr result (λ e. IsTrue D.tells → IsHonest change.old (D.files disk.old).idx
+        → IsBad change.old.extent.buckets (D.files disk.old).idx e) }
     ensures counts { IfErr result (λ e. IsTrue D.tells → IsFresh change.old (D.files disk.old).idx → IsHonest change.old (D.files disk.old).idx
         → IsBadFor rows.now change.old.extent.buckets (D.files disk.old).idx e) }
     ensures cost { IsTrue D.tells → IsWellFormed change.old.extent.buckets (D.files disk.old).idx → IsHonest change.old (D.files disk.old).idx

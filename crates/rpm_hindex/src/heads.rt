@@ -9,7 +9,7 @@ ghost use Rattle.rpm_hindex.specs.Rows.{hash_of};
 ghost use Rattle.rpm_hindex.specs.Index.{index_in, follow, is_placed, is_sound, row_at, length_at, units_at};
 ghost use Rattle.rpm_hindex.specs.Answers.{IsFaultOf, has_key, is_wanted};
 ghost use Rattle.rpm_hindex.specs.inner.Records.{IsOpen};
-ghost use Rattle.rpm_hindex.specs.inner.Spots.{IsHead, IsAhead, IsMet, IsNext};
+ghost use Rattle.rpm_hindex.specs.inner.Spots.{FallsTo, IsHead, IsAhead, IsMet};
 
 use crate::bucket::bucket_of;
 use crate::chain::{Extent, is_placed};
@@ -50,8 +50,7 @@ pub fn read_head<D: Disk>(disk: &mut D, extent: Extent, at: u32) -> Result<Ahead
     requires some_at { 0 < at }
     requires within { at < extent.used }
     ensures here { IfOk result (λ a. a.head.at ≡ at) }
-    ensures falls { IfOk result (λ a. a.next < at) }
-    ensures linked { IfOk result (λ a. IsNext extent.buckets extent.used a.next) }
+    ensures next { IfOk result (λ a. FallsTo extent.buckets extent.used at a.next) }
     ensures ahead { IfOk result (λ a. IsTrue D.tells → IsAhead (index_in extent.buckets (D.files disk.old).idx) at a) }
     ensures fault { IfErr result (λ e. IsTrue D.tells → (b : ℕ) → IsFaultOf (follow (index_in extent.buckets (D.files disk.old).idx) b at at) e) }
     ensures looks { Looks D.tells D.files D.left_since D.moment D.bytes_read D.follows Idx 16 disk.old disk.new }
@@ -171,8 +170,7 @@ pub fn meet<D: Disk>(
     requires within { at < extent.used }
     requires bucket { hash_of kind key.now % extent.buckets ≡ bucket }
     ensures here { IfOk result (λ m. m.head.at ≡ at) }
-    ensures falls { IfOk result (λ m. m.next < at) }
-    ensures linked { IfOk result (λ m. IsNext extent.buckets extent.used m.next) }
+    ensures next { IfOk result (λ m. FallsTo extent.buckets extent.used at m.next) }
     ensures met { IfOk result (λ m. IsTrue D.tells → IsMet (index_in extent.buckets (D.files disk.old).idx) at (is_wanted kind key.now only) m) }
     ensures sound { IfOk result (λ m. IsTrue D.tells → (only ≡ None) ⊎ (m.is_wanted ≡ true)
         → is_sound (index_in extent.buckets (D.files disk.old).idx) bucket at ≡ true) }

@@ -10,12 +10,11 @@ ghost use Rattle.rpm_outside.specs.declared.disk.File.TheVariants.{Idx};
 ghost use Rattle.rpm_outside.specs.Looks.{Looks, LooksAt};
 ghost use Rattle.rpm_hindex.specs.inner.Records.{IsOpen};
 ghost use Rattle.rpm_hindex.specs.Sizes.{first_record, live_of};
-ghost use Rattle.rpm_hindex.specs.Plans.{LeavesOrder, CanWrite, second_after};
-ghost use Rattle.rpm_hindex.specs.State.{EndsInZero};
-ghost use Rattle.rpm_hindex.specs.inner.Changes.{CanGo, AddsRows, IsHonest, changing, IsOther, IsTooLarge, IsWorkOf, IsScratchOf, kept_of, is_kept, patch_of};
+ghost use Rattle.rpm_hindex.specs.Plans.{CanWrite};
+ghost use Rattle.rpm_hindex.specs.inner.Ongoing.{Grows, HasAdded, LeavesWhole};
+ghost use Rattle.rpm_hindex.specs.inner.Changes.{CanGo, IsHonest, IsOther, IsTooLarge, IsWorkOf, IsScratchOf, kept_of, is_kept, patch_of};
 ghost use Rattle.rpm_hindex.specs.Refusals.{IsFaulty};
 ghost use Rattle.rpm_hindex.specs.Index.{index_in};
-ghost use Rattle.rpm_hindex.specs.Whole.{IsWhole};
 
 use crate::chain::Extent;
 use crate::change::{Change, prepare_fault, row_ref};
@@ -66,15 +65,11 @@ pub fn add_rows<D: Disk>(disk: &mut D, change: &mut Change, rows: &Rows) -> Resu
     requires count { change.old.records + length rows.now ≤ 2 * change.old.extent.buckets }
     requires room { change.old.extent.used + live_of rows.now ≤ 2 ^ 28 }
     requires open { IsTrue D.tells → IsOpen change.old.extent (D.files disk.old).idx }
-    ensures go { OnOk result (CanGo change.new) }
+    ensures grows { OnOk result (Grows change.old change.new (length rows.now) (live_of rows.now)) }
     ensures other { IfErr result (λ e. IsOther e) }
-    ensures extent { OnOk result (change.new.extent ≡ change.old.extent) }
-    ensures tail { OnOk result (length change.new.tail.items / 16 ≡ live_of rows.now) }
-    ensures live { OnOk result (change.new.live ≡ change.old.live + live_of rows.now) }
-    ensures adds { OnOk result (IsTrue D.tells → IsWhole change.old.records change.old.live (changing change.old (D.files disk.old).idx)
-        → AddsRows change.old change.new (D.files disk.old).idx rows.now) }
-    ensures honest { OnOk result (IsTrue D.tells → IsHonest change.old (D.files disk.old).idx → IsHonest change.new (D.files disk.old).idx) }
-    ensures bad { IfErr result (λ e. IsTrue D.tells → IsHonest change.old (D.files disk.old).idx → IsFaulty change.old.extent.buckets (D.files disk.old).idx e) }
+    ensures added { OnOk result (IsTrue D.tells → HasAdded (D.files disk.old).idx rows.now change.old change.new) }
+    ensures bad { IfErr result (λ e. IsTrue D.tells → IsHonest change.old (D.files disk.old).idx
+        → IsFaulty change.old.extent.buckets (D.files disk.old).idx e) }
     ensures looks { Looks D.tells D.files D.left_since D.moment D.bytes_read D.follows Idx (16 * length rows.now) disk.old disk.new }
     ensures cause { HasCauseAt (result ≡ Err PrepareFault.DiskFault) (D.faults disk.old) (D.faults disk.new) }
 {
@@ -200,9 +195,7 @@ pub fn from_scratch<D: Disk>(
 ) -> Result<IndexPlan, PrepareFault>
     requires few { change.now.extent.buckets ≤ 2 ^ 28 }
     requires open { IsTrue D.tells → IsOpen change.now.extent (D.files disk.old).idx }
-    ensures can { IfOk result (λ plan. (units : ℕ) → CanWrite units plan.work) }
-    ensures ordered { IfOk result (λ plan. LeavesOrder plan.work) }
-    ensures zero { IfOk result (λ plan. EndsInZero (second_after plan.work)) }
+    ensures leaves { IfOk result (λ plan. LeavesWhole plan.work) }
     ensures full { IfErr result (λ e. IsTrue D.tells → IsTooLarge (reverse (kept_of (index_in change.now.extent.buckets
         (D.files disk.old).idx) (is_kept (λ p. contains nat_cmp change.now.dropped p))) ++ adds.now) e) }
     ensures made { IfOk result (λ plan. IsTrue D.tells → IsScratchOf (reverse (kept_of (index_in change.now.extent.buckets

@@ -9,11 +9,11 @@ ghost use Rattle.rpm_hindex.specs.Sizes.{is_bucket_count};
 ghost use Rattle.rpm_outside.specs.declared.disk.File.TheVariants.{Idx};
 ghost use Rattle.rpm_outside.specs.Looks.{LooksAt};
 ghost use Rattle.rpm_hindex.specs.inner.Records.{IsOpen};
-ghost use Rattle.rpm_hindex.specs.State.{Keeps, EndsInZero, is_in_order, buckets_of};
-ghost use Rattle.rpm_hindex.specs.Plans.{LeavesOrder, CanWrite, IsPlanFor, IsPaddedPlan, IsSizedFor, ReachesFor, second_after};
+ghost use Rattle.rpm_hindex.specs.State.{Keeps, is_in_order, buckets_of};
+ghost use Rattle.rpm_hindex.specs.Plans.{CanWrite};
+ghost use Rattle.rpm_hindex.specs.Prepared.{IsPrepared, IsUnprepared};
 ghost use Rattle.rpm_hindex.specs.inner.Changes.{CanGo, IsStarted, IsHonest, IsFresh, is_kept};
-ghost use Rattle.rpm_hindex.specs.Refusals.{IsBad, IsBadFor, IsTooLargeFor, HasRoomFor};
-ghost use Rattle.rpm_hindex.specs.Index.{index_in, records};
+ghost use Rattle.rpm_hindex.specs.Index.{index_in};
 ghost use Rattle.rpm_hindex.specs.Costs.{chains_bytes, StaysWithin, StaysInPlace};
 ghost use Rattle.rpm_hindex.specs.Whole.{IsWellFormed};
 
@@ -61,22 +61,8 @@ impl Hindex {
         requires order { is_in_order self.now ≡ true }
         requires keeps { IsTrue D.tells → Keeps (D.files disk.old).idx self.now }
         ensures can { IfOk result (λ plan. CanWrite self.now.units plan.work) }
-        ensures ordered { IfOk result (λ plan. LeavesOrder plan.work) }
-        ensures zero { IfOk result (λ plan. EndsInZero (second_after plan.work)) }
-        ensures full { IfErr result (λ e. IsTrue D.tells → IsWellFormed (buckets_of self.now.first) (D.files disk.old).idx → IsTooLargeFor drops.now
-            adds.now (records (buckets_of self.now.first) (D.files disk.old).idx) e) }
-        ensures room { IfOk result (λ plan. IsTrue D.tells → IsWellFormed (buckets_of self.now.first) (D.files disk.old).idx → HasRoomFor drops.now
-            adds.now (records (buckets_of self.now.first) (D.files disk.old).idx)) }
-        ensures reach { IfOk result (λ plan. IsTrue D.tells → IsWellFormed (buckets_of self.now.first) (D.files disk.old).idx → ReachesFor drops.now
-            adds.now (records (buckets_of self.now.first) (D.files disk.old).idx) self.now.units plan.work) }
-        ensures size { IfOk result (λ plan. IsTrue D.tells → IsWellFormed (buckets_of self.now.first) (D.files disk.old).idx → IsSizedFor drops.now
-            adds.now (records (buckets_of self.now.first) (D.files disk.old).idx) plan.work) }
-        ensures bad { IfErr result (λ e. IsTrue D.tells → IsBad (buckets_of self.now.first) (D.files disk.old).idx e) }
-        ensures counts { IfErr result (λ e. IsTrue D.tells → IsBadFor drops.now (buckets_of self.now.first) (D.files disk.old).idx e) }
-        ensures makes { IfOk result (λ plan. IsTrue D.tells → IsWellFormed (buckets_of self.now.first) (D.files disk.old).idx → IsPlanFor drops.now
-            adds.now (buckets_of self.now.first) (D.files disk.old).idx plan.work) }
-        ensures padded { IfOk result (λ plan. IsTrue D.tells → IsWellFormed (buckets_of self.now.first) (D.files disk.old).idx → IsPaddedPlan
-            (buckets_of self.now.first) (D.files disk.old).idx plan.work) }
+        ensures prepared { IfOk result (λ plan. IsPrepared D.Disk disk.old self.now drops.now adds.now plan.work) }
+        ensures refused { IfErr result (IsUnprepared D.Disk disk.old self.now drops.now adds.now) }
         ensures cost { IsTrue D.tells → IsWellFormed (buckets_of self.now.first) (D.files disk.old).idx → StaysWithin limit drops.now adds.now
             (buckets_of self.now.first) (D.files disk.old).idx → D.bytes_read disk.new Idx ≤ D.bytes_read disk.old Idx + chains_bytes
             (index_in (buckets_of self.now.first) (D.files disk.old).idx) drops.now + 16 * length adds.now }
@@ -126,22 +112,8 @@ impl Hindex {
         requires order { is_in_order self.now ≡ true }
         requires keeps { IsTrue D.tells → Keeps (D.files disk.old).idx self.now }
         ensures can { IfOk result (λ plan. CanWrite self.now.units plan.work) }
-        ensures ordered { IfOk result (λ plan. LeavesOrder plan.work) }
-        ensures zero { IfOk result (λ plan. EndsInZero (second_after plan.work)) }
-        ensures full { IfErr result (λ e. IsTrue D.tells → IsWellFormed (buckets_of self.now.first) (D.files disk.old).idx → IsTooLargeFor drops.now
-            adds.now (records (buckets_of self.now.first) (D.files disk.old).idx) e) }
-        ensures room { IfOk result (λ plan. IsTrue D.tells → IsWellFormed (buckets_of self.now.first) (D.files disk.old).idx → HasRoomFor drops.now
-            adds.now (records (buckets_of self.now.first) (D.files disk.old).idx)) }
-        ensures reach { IfOk result (λ plan. IsTrue D.tells → IsWellFormed (buckets_of self.now.first) (D.files disk.old).idx → ReachesFor drops.now
-            adds.now (records (buckets_of self.now.first) (D.files disk.old).idx) self.now.units plan.work) }
-        ensures size { IfOk result (λ plan. IsTrue D.tells → IsWellFormed (buckets_of self.now.first) (D.files disk.old).idx → IsSizedFor drops.now
-            adds.now (records (buckets_of self.now.first) (D.files disk.old).idx) plan.work) }
-        ensures bad { IfErr result (λ e. IsTrue D.tells → IsBad (buckets_of self.now.first) (D.files disk.old).idx e) }
-        ensures counts { IfErr result (λ e. IsTrue D.tells → IsBadFor drops.now (buckets_of self.now.first) (D.files disk.old).idx e) }
-        ensures makes { IfOk result (λ plan. IsTrue D.tells → IsWellFormed (buckets_of self.now.first) (D.files disk.old).idx → IsPlanFor drops.now
-            adds.now (buckets_of self.now.first) (D.files disk.old).idx plan.work) }
-        ensures padded { IfOk result (λ plan. IsTrue D.tells → IsWellFormed (buckets_of self.now.first) (D.files disk.old).idx → IsPaddedPlan
-            (buckets_of self.now.first) (D.files disk.old).idx plan.work) }
+        ensures prepared { IfOk result (λ plan. IsPrepared D.Disk disk.old self.now drops.now adds.now plan.work) }
+        ensures refused { IfErr result (IsUnprepared D.Disk disk.old self.now drops.now adds.now) }
         ensures cost { IsTrue D.tells → IsWellFormed (buckets_of self.now.first) (D.files disk.old).idx → StaysInPlace drops.now adds.now
             (buckets_of self.now.first) (D.files disk.old).idx → D.bytes_read disk.new Idx ≤ D.bytes_read disk.old Idx + chains_bytes
             (index_in (buckets_of self.now.first) (D.files disk.old).idx) drops.now + 16 * length adds.now }

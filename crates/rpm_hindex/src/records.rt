@@ -39,6 +39,8 @@ pub fn push_record(
         number,
         place,
     );
+    // its first unit, its key, and at most 15 zeros
+    bytes.reserve(key.len() + 31)?;
     bytes.extend_from_slice(&head)?;
     push_key(bytes, key)
 }

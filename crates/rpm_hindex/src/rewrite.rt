@@ -4,17 +4,16 @@ ghost use Rattle.std.specs.Prelude.{◌≡◌, ℕ, ◌+◌, ◌*◌, ◌/◌, �
 ghost use Rattle.rpm_outside.specs.Files.{Files, Units, units_of, unit_at, blank, put};
 ghost use Rattle.rpm_outside.specs.Causes.{HasCause, HasCauseAt};
 ghost use Rattle.rpm_hindex.specs.Rows.{Row, SameRows};
-ghost use Rattle.rpm_hindex.specs.Words.{word};
 ghost use Rattle.rpm_hindex.specs.Sizes.{bucket_count, units_for};
-ghost use Rattle.rpm_hindex.specs.State.{State, Keeps, EndsInZero, is_ordered};
+ghost use Rattle.rpm_hindex.specs.State.{State, Keeps, is_ordered};
 ghost use Rattle.rpm_hindex.specs.Index.{index_in, records};
 ghost use Rattle.rpm_hindex.specs.Padding.{ArePadded};
 ghost use Rattle.rpm_hindex.specs.Whole.{IsWellFormed};
-ghost use Rattle.rpm_hindex.specs.inner.Drafts.{IsImage, Holds};
+ghost use Rattle.rpm_hindex.specs.inner.Drafts.{IsImage, IsReplaced, Holds};
 ghost use Rattle.rpm_outside.specs.declared.disk.File.TheVariants.{Idx};
 ghost use Rattle.rpm_outside.specs.Changes.{Changes, IsSettled};
 ghost use Rattle.rpm_hindex.specs.Images.{SameSeal, VoidOrSame};
-ghost use Rattle.rpm_hindex.specs.Rewrites.{IsFull, IsRefused};
+ghost use Rattle.rpm_hindex.specs.Rewrites.{IsFull, IsRefused, IsRewritten};
 
 use crate::faults::{IndexDiskFault, RewriteFault};
 use crate::image::Image;
@@ -64,11 +63,8 @@ impl Hindex {
     ) -> Result<(), RewriteFault>
         requires keeps { IsTrue D.tells → Keeps (D.files disk.old).idx self.old }
         ensures full { IsFull (units_for rows.now) result }
-        ensures pending { OnOk result (self.new.pending ≡ bucket_count (length rows.now)) }
-        ensures voided { OnOk result (self.new.first ≡ blank) }
-        ensures size { OnOk result (word 0 self.new.second ≡ units_for rows.now) }
+        ensures value { OnOk result (IsRewritten rows.now self.new) }
         ensures grows { OnOk result (self.new.units ≤ max self.old.units (units_for rows.now)) }
-        ensures zero { OnOk result (EndsInZero self.new.second) }
         ensures ordered { OnOk result (is_ordered self.new.pending self.new.second self.new.units ≡ true) }
         ensures kept { OnOk result (IsTrue D.tells → Keeps (D.files disk.new).idx self.new) }
         ensures whole { OnOk result (IsTrue D.tells → IsWellFormed self.new.pending (D.files disk.new).idx) }
@@ -95,11 +91,7 @@ impl Hindex {
         requires units { length image.now.bytes.items % 16 ≡ 0 }
         requires room { 1 + length image.now.bytes.items / 16 ≤ 2 ^ 28 }
         requires keeps { IsTrue D.tells → Keeps (D.files disk.old).idx self.old }
-        ensures pending { OnOk result (self.new.pending ≡ image.now.buckets) }
-        ensures voided { OnOk result (self.new.first ≡ blank) }
-        ensures second { OnOk result (self.new.second ≡ take 16 image.now.bytes.items) }
-        ensures units { OnOk result (1 + length image.now.bytes.items / 16 ≤ self.new.units) }
-        ensures grows { OnOk result (self.new.units ≤ max self.old.units (1 + length image.now.bytes.items / 16)) }
+        ensures value { OnOk result (IsReplaced self.old self.new image.now.buckets image.now.bytes.items) }
         ensures kept { OnOk result (IsTrue D.tells → Keeps (D.files disk.new).idx self.new) }
         ensures written { OnOk result (IsTrue D.tells → (D.files disk.new).idx ≡ put 1 (units_of image.now.bytes.items)
             (put 0 (blank ∷ []) (D.files disk.old).idx)) }

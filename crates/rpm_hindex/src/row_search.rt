@@ -14,7 +14,8 @@ ghost use Rattle.rpm_hindex.specs.Answers.{IsFaultOf, IsOutside, ChainCosts};
 ghost use Rattle.rpm_hindex.specs.inner.Records.{IsOpen};
 ghost use Rattle.rpm_hindex.specs.inner.Changes.{is_kept};
 ghost use Rattle.rpm_hindex.specs.inner.Spots.{IsNext, IsPath, PathCosts, IsWithin, IsLinked, IsSoundSpot, IsFoundFrom, IsFound};
-ghost use Rattle.rpm_hindex.specs.inner.Starts.{IsStart, AreStarts, StandsWithin, StandWithin};
+ghost use Rattle.rpm_hindex.specs.inner.Ongoing.{CanStart};
+ghost use Rattle.rpm_hindex.specs.inner.Starts.{IsStart, StandsWithin, StandWithin};
 
 use crate::chain::{Extent, read_bucket};
 use crate::faults::FindFault;
@@ -163,8 +164,7 @@ pub fn find_row<D: Disk>(
     requires few { extent.buckets ≤ 2 ^ 28 }
     requires bucket { bucket < extent.buckets }
     requires open { IsTrue D.tells → IsOpen extent (D.files disk.old).idx }
-    requires stand { StandWithin extent.buckets extent.used (λ b. get nat_cmp starts.now b) }
-    requires starts { IsTrue D.tells → AreStarts (index_in extent.buckets (D.files disk.old).idx) (is_kept (λ p. contains nat_cmp dropped.now p))
+    requires starts { CanStart D.Disk disk.old extent (is_kept (λ p. contains nat_cmp dropped.now p))
         (λ b. get nat_cmp starts.now b) }
     requires mine { hash_of row.kind row.key.now % extent.buckets ≡ bucket }
     ensures words { IfOk result (λ f. IsTrue D.tells → f.words ≡ unit_at (D.files disk.old).idx (bucket_unit bucket)) }

@@ -33,6 +33,11 @@ pub record IsMet (x : Index) (at : ℕ) (wanted : Row → Bool) (m : Met) : Type
 abbrev pub IsNext : ℕ → ℕ → ℕ → Type 0
 IsNext buckets used at = 0 < at → (first_record buckets ≤ at) × (at < used)
 
+-- the next of a record stands before it
+pub record FallsTo (buckets used at next : ℕ) : Type 0 where
+  pub falls : next < at
+  pub linked : IsNext buckets used next
+
 -- the records from a place to another, which is the next of the last
 abbrev pub IsPath : Index → ℕ → ℕ → List ℕ → ℕ → Type 0
 IsPath x bucket from [] to = from ≡ to

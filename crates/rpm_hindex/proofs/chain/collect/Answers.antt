@@ -81,7 +81,7 @@ loop-at-preserved g c =
     let b = hash_of c.args.kind c.args.key.now % B in
     let file : Files = g.D.Disk.files c.args.disk.now in
     record {
-      within = λ some. (c.in-Ok.ensures.linked some).1;
+      within = λ some. (c.in-Ok.ensures.next.linked some).1;
       looks = looks_at_then _ _ _ _ _ _ Idx g.met.D.Disk.follows_trans c.args.disk.now l.disk c.meet.new.disk l.invariant.looks
           c.meet.ensures.looks;
       faults = omega (arith, l.invariant.faults, c.meet.ensures.cause.later);

@@ -8,7 +8,7 @@ use Rattle.rpm_hindex.specs.declared.change.Change.{Change}
 use Rattle.rpm_hindex.specs.Rows.{Row, hash_of, row_nth, times}
 use Rattle.rpm_hindex.specs.Index.{Index, index_in, chain, units_at}
 use Rattle.rpm_hindex.specs.Whole.{IsWellFormed}
-use Rattle.rpm_hindex.specs.inner.Changes.{HasLess, HasNoFault, HasGone, IsShort, IsCut, IsHonest, IsBadSoFar, kept_of, is_kept}
+use Rattle.rpm_hindex.specs.inner.Changes.{HasLess, HasNoFault, HasGone, IsShort, IsCut, IsHonest, IsBadSoFar, kept_of, kept_in, is_kept}
 use Rattle.rpm_outside.specs.declared.disk.File.TheVariants.{Idx}
 use Rattle.rpm_outside.specs.inner.Looking.{looks_at_none, looks_at_then}
 use Rattle.rpm_hindex.specs.Answers.{ChainCosts}
@@ -74,16 +74,15 @@ starts_here files later first e d kept starts same extent are =
     subst (λ (x : Extent). AreStarts (index_in x.buckets (files first).idx) kept starts) extent
     (subst (λ (f : Files). AreStarts (index_in e.buckets f.idx) kept starts) same are)
 
-pub drop_row-requires-clause-stand : goal.drop_row-requires-clause-stand
-drop_row-requires-clause-stand g c =
-    let l = c.loop-left in
-    subst (λ (e : Extent). StandWithin e.buckets e.used (λ b. get nat_cmp l.starts b)) (sym l.invariant.extent) l.invariant.stand
-
 pub drop_row-requires-clause-starts : goal.drop_row-requires-clause-starts
-drop_row-requires-clause-starts g c = λ told.
+drop_row-requires-clause-starts g c =
     let l = c.loop-left in
-    starts_here g.D.Disk.files c.args.disk.now l.disk c.args.change.now.extent l.change.extent (is_kept (λ p. contains nat_cmp l.change.dropped p))
-    (λ b. get nat_cmp l.starts b) (sym ((l.invariant.looks.untouched told).same)) (sym l.invariant.extent) (l.invariant.starts told)
+    record {
+      stand = subst (λ (e : Extent). StandWithin e.buckets e.used (λ b. get nat_cmp l.starts b)) (sym l.invariant.extent) l.invariant.stand;
+      starts' = λ told. starts_here g.D.Disk.files c.args.disk.now l.disk c.args.change.now.extent l.change.extent
+          (is_kept (λ p. contains nat_cmp l.change.dropped p))
+          (λ b. get nat_cmp l.starts b) (sym ((l.invariant.looks.untouched told).same)) (sym l.invariant.extent) (l.invariant.starts told);
+    }
 
 pub loop-left-preserved : goal.loop-left-preserved
 loop-left-preserved g c =
@@ -93,15 +92,16 @@ loop-left-preserved g c =
     let lt : i < length rows = omega (arith, c.loop-left-test.true, l.invariant.few) in
     let next : l.left ≡ i + 1 = omega (arith, c.loop-left-test.true) in
     record {
-      go = c.in_default.ensures.go;
-      extent = c.in_default.ensures.extent ∙ l.invariant.extent;
-      tail = c.in_default.ensures.tail ∙ l.invariant.tail;
+      go = c.in_default.ensures.keeps.go;
+      extent = c.in_default.ensures.keeps.extent ∙ l.invariant.extent;
+      tail = c.in_default.ensures.keeps.tail ∙ l.invariant.tail;
       few = omega (arith, lt);
       none = λ e. absurd (omega (arith, e, lt));
-      stand = subst (λ (e : Extent). StandWithin e.buckets e.used (λ b. get nat_cmp c.drop_row.new.starts b)) l.invariant.extent c.in_default.ensures.stand;
+      stand = subst (λ (e : Extent). StandWithin e.buckets e.used (λ b. get nat_cmp c.drop_row.new.starts b)) l.invariant.extent
+          c.in_default.ensures.starts.stand;
       starts = λ told. starts_here g.D.Disk.files l.disk c.args.disk.now l.change.extent c.args.change.now.extent
           (is_kept (λ p. contains nat_cmp c.drop_row.new.self.dropped p)) (λ b. get nat_cmp c.drop_row.new.starts b)
-          ((l.invariant.looks.untouched told).same) l.invariant.extent (c.in_default.ensures.starts told);
+          ((l.invariant.looks.untouched told).same) l.invariant.extent (c.in_default.ensures.starts.starts' told);
       less = λ told whole.
           let first : Change = c.args.change.now in
           let file : Files = g.D.Disk.files c.args.disk.now in
@@ -111,7 +111,7 @@ loop-left-preserved g c =
           (of f l.change.extent l.change) (of f l.change.extent c.drop_row.new.self)) same
           (subst (λ (r : Row). IsWellFormed l.change.extent.buckets (g.D.Disk.files l.disk).idx → HasLess (r ∷ [])
           (of (g.D.Disk.files l.disk) l.change.extent l.change) (of (g.D.Disk.files l.disk) l.change.extent c.drop_row.new.self))
-          c.row_ref.ensures.row (c.in_default.ensures.less told)) in
+          c.row_ref.ensures.row (c.in_default.ensures.dropped told).less) in
           let there = subst (λ (e : Extent). IsWellFormed e.buckets file.idx → HasLess (row_nth rows i ∷ []) (of file e l.change)
           (of file e c.drop_row.new.self)) l.invariant.extent here in
           subst (λ (rs : List Row). HasLess rs (of file first.extent first) (of file first.extent c.drop_row.new.self)) (sym (rows_from rows i l.left lt next))
@@ -123,18 +123,18 @@ loop-left-preserved g c =
           (index_here g.D.Disk.files l.disk c.args.disk.now l.change.extent first.extent ((l.invariant.looks.untouched told).same) l.invariant.extent)
           (subst (λ (r : Row). HasNoFault (index_in l.change.extent.buckets (g.D.Disk.files l.disk).idx)
           → HasGone (r ∷ []) l.change last (index_in l.change.extent.buckets (g.D.Disk.files l.disk).idx)) c.row_ref.ensures.row
-          (c.in_default.ensures.gone told)) in
+          (c.in_default.ensures.dropped told).gone) in
           let x : Index = index_in first.extent.buckets (g.D.Disk.files c.args.disk.now).idx in
           subst (λ (rs : List Row). HasGone rs first last x) (sym (rows_from rows i l.left lt next))
           (gone_before (row_nth rows i) (drop l.left rows) first l.change last x (l.invariant.gone told none) (here none));
       cuts = λ told whole none cut.
           let same = (l.invariant.looks.untouched told).same in
           let here = subst (λ (f : Files). IsWellFormed l.change.extent.buckets f.idx → length l.change.tail.items ≡ 0 → IsCut l.change f.idx
-          → IsCut c.drop_row.new.self f.idx) same (c.in_default.ensures.cuts told) in
+          → IsCut c.drop_row.new.self f.idx) same (c.in_default.ensures.dropped told).cuts in
           let wells = subst (λ (e : Extent). IsWellFormed e.buckets (g.D.Disk.files c.args.disk.now).idx) (sym l.invariant.extent) whole in
           here wells (ap (λ (t : Vec ℕ Global). length t.items) l.invariant.tail ∙ none) (l.invariant.cuts told whole none cut);
       honest = λ told is. subst (λ (f : Files). IsHonest l.change f.idx → IsHonest c.drop_row.new.self f.idx)
-          ((l.invariant.looks.untouched told).same) (c.in_default.ensures.honest told) (l.invariant.honest told is);
+          ((l.invariant.looks.untouched told).same) (c.in_default.ensures.dropped told).honest (l.invariant.honest told is);
       cost = λ told whole. chain_more c.args.change.now.extent.buckets (g.D.Disk.files c.args.disk.now).idx whole c.requires.go.some rows i l.left _ _ _ lt next
           (l.invariant.cost told whole)
           (cost_here g.D.Disk.files l.disk c.args.disk.now l.change.extent c.args.change.now.extent _ (row_nth rows i) _ _
@@ -157,15 +157,8 @@ returns-in-Err-clause-cost g c = λ told whole.
     ((l.invariant.looks.untouched told).same) l.invariant.extent c.row_ref.ensures.row (c.in-Err.ensures.cost told)) in
     omega (arith, more, chains_drop B file whole c.requires.go.some rows i)
 
-pub returns-in-Err-clause-bad : goal.returns-in-Err-clause-bad
-returns-in-Err-clause-bad g c = λ told is.
-    let l = c.loop-left in
-    let here = subst (λ (f : Files). IsHonest l.change f.idx → IsBadSoFar l.change.extent.buckets f.idx c.in-Err.fault)
-    ((l.invariant.looks.untouched told).same) (c.in-Err.ensures.bad told) (l.invariant.honest told is) in
-    subst (λ (e : Extent). IsBadSoFar e.buckets (g.D.Disk.files c.args.disk.now).idx c.in-Err.fault) l.invariant.extent here
-
-pub returns-in-Err-clause-short : goal.returns-in-Err-clause-short
-returns-in-Err-clause-short g c = λ told none.
+pub returns-in-Err-clause-refused : goal.returns-in-Err-clause-refused
+returns-in-Err-clause-refused g c = λ told.
     let l = c.loop-left in
     let rows = c.args.rows.now in
     let i = l.left - 1 in
@@ -173,11 +166,39 @@ returns-in-Err-clause-short g c = λ told none.
     let next : l.left ≡ i + 1 = omega (arith, c.loop-left-test.true) in
     let first : Change = c.args.change.now in
     let x : Index = index_in first.extent.buckets (g.D.Disk.files c.args.disk.now).idx in
-    let here = subst (λ (y : Index). HasNoFault y → IsShort (row_nth rows i ∷ []) l.change y c.in-Err.fault)
-    (index_here g.D.Disk.files l.disk c.args.disk.now l.change.extent first.extent ((l.invariant.looks.untouched told).same) l.invariant.extent)
-    (subst (λ (r : Row). HasNoFault (index_in l.change.extent.buckets (g.D.Disk.files l.disk).idx)
-    → IsShort (r ∷ []) l.change (index_in l.change.extent.buckets (g.D.Disk.files l.disk).idx) c.in-Err.fault) c.row_ref.ensures.row
-    (c.in-Err.ensures.short told)) in
-    short_before (row_nth rows i) (drop l.left rows) rows first l.change x
-    (λ r. omega (arith, times_drop r rows i, ap (times r) (rows_from rows i l.left lt next)))
-    (l.invariant.gone told none) c.in-Err.fault (here none)
+    let fault = c.in-Err.ensures.refused told in
+    record {
+      short = λ none.
+          let here = subst (λ (y : Index). HasNoFault y → IsShort (row_nth rows i ∷ []) l.change y c.in-Err.fault)
+          (index_here g.D.Disk.files l.disk c.args.disk.now l.change.extent first.extent ((l.invariant.looks.untouched told).same) l.invariant.extent)
+          (subst (λ (r : Row). HasNoFault (index_in l.change.extent.buckets (g.D.Disk.files l.disk).idx)
+          → IsShort (r ∷ []) l.change (index_in l.change.extent.buckets (g.D.Disk.files l.disk).idx) c.in-Err.fault) c.row_ref.ensures.row
+          fault.short) in
+          short_before (row_nth rows i) (drop l.left rows) rows first l.change x
+          (λ r. omega (arith, times_drop r rows i, ap (times r) (rows_from rows i l.left lt next)))
+          (l.invariant.gone told none) c.in-Err.fault (here none);
+      bad = λ is.
+          let here = subst (λ (f : Files). IsHonest l.change f.idx → IsBadSoFar l.change.extent.buckets f.idx c.in-Err.fault)
+          ((l.invariant.looks.untouched told).same) fault.bad (l.invariant.honest told is) in
+          subst (λ (e : Extent). IsBadSoFar e.buckets (g.D.Disk.files c.args.disk.now).idx c.in-Err.fault) l.invariant.extent here;
+    }
+
+pub returns-clause-keeps : goal.returns-clause-keeps
+returns-clause-keeps g c =
+    let i = c.loop-left.invariant in
+    record { go = i.go; extent = i.extent; tail = i.tail }
+
+pub returns-clause-dropped : goal.returns-clause-dropped
+returns-clause-dropped g c = λ told.
+    let l = c.loop-left in
+    let first : Change = c.args.change.now in
+    let file : Files = g.D.Disk.files c.args.disk.now in
+    let x : Index = index_in first.extent.buckets file.idx in
+    let done : l.left ≡ 0 = omega (arith, c.loop-left-test.false) in
+    let all : drop l.left c.args.rows.now ≡ c.args.rows.now = ap (λ (n : ℕ). drop n c.args.rows.now) done in
+    record {
+      less = λ whole. subst (λ (rs : List Row). HasLess rs (kept_in x first) (kept_in x l.change)) all (l.invariant.less told whole);
+      cuts = l.invariant.cuts told;
+      honest = l.invariant.honest told;
+      gone = λ none. subst (λ (rs : List Row). HasGone rs first l.change x) all (l.invariant.gone told none);
+    }

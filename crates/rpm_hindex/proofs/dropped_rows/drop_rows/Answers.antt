@@ -13,21 +13,21 @@ returns-then-not-is_count_fault-clause-bad g c = λ told honest.
     let B = c.args.change.now.extent.buckets in
     let file : Files = g.D.Disk.files c.args.disk.now in
     faulty_bad B file.idx c.in-Err.fault
-    (bad_other B file.idx c.in-Err.fault (c.is_count_fault.ensures.no c.if-not-is_count_fault.true) (c.in-Err.ensures.bad told honest))
+    (bad_other B file.idx c.in-Err.fault (c.is_count_fault.ensures.no c.if-not-is_count_fault.true) ((c.in-Err.ensures.refused told).bad honest))
 
 pub returns-then-not-is_count_fault-clause-counts : goal.returns-then-not-is_count_fault-clause-counts
 returns-then-not-is_count_fault-clause-counts g c = λ told fresh honest.
     let B = c.args.change.now.extent.buckets in
     let file : Files = g.D.Disk.files c.args.disk.now in
     faulty_for c.args.rows.now B file.idx c.in-Err.fault
-    (bad_other B file.idx c.in-Err.fault (c.is_count_fault.ensures.no c.if-not-is_count_fault.true) (c.in-Err.ensures.bad told honest))
+    (bad_other B file.idx c.in-Err.fault (c.is_count_fault.ensures.no c.if-not-is_count_fault.true) ((c.in-Err.ensures.refused told).bad honest))
 
 pub returns-in-Ok-clause-bad : goal.returns-in-Ok-clause-bad
 returns-in-Ok-clause-bad g c = λ told honest.
     let B = c.args.change.now.extent.buckets in
     let file : Files = g.D.Disk.files c.args.disk.now in
     let none = subst (λ (f : Files). HasNoFault (index_in B f.idx)) ((c.drop_each.ensures.looks.untouched told).same) (c.in-Ok.ensures.none told) in
-    bad_so_far B file.idx c.in-Err.fault none (c.in-Err.ensures.bad told honest)
+    bad_so_far B file.idx c.in-Err.fault none ((c.in-Err.ensures.refused told).bad honest)
 
 pub returns-in-Err-check_chains-clause-bad : goal.returns-in-Err-check_chains-clause-bad
 returns-in-Err-check_chains-clause-bad g c = λ told honest.
@@ -52,7 +52,7 @@ returns-in-Ok-clause-counts g c = λ told fresh honest.
     let file : Files = g.D.Disk.files c.args.disk.now in
     let none = subst (λ (f : Files). HasNoFault (index_in B f.idx)) ((c.drop_each.ensures.looks.untouched told).same) (c.in-Ok.ensures.none told) in
     bad_for c.args.rows.now c.args.change.now file.idx c.in-Err.fault (c.is_count_fault.ensures.yes c.if-not-is_count_fault.false) fresh
-    (c.in-Err.ensures.short told none)
+    ((c.in-Err.ensures.refused told).short none)
 
 pub returns-in-Err-check_chains-clause-looks : goal.returns-in-Err-check_chains-clause-looks
 returns-in-Err-check_chains-clause-looks g c =
@@ -69,11 +69,11 @@ returns-in-Ok-clause-cost g c = λ told whole honest.
     let B = c.args.change.now.extent.buckets in
     let file : Files = g.D.Disk.files c.args.disk.now in
     absurd (not_bad B file.idx whole (subst (IsBadSoFar B file.idx) (c.is_count_fault.ensures.yes c.if-not-is_count_fault.false)
-    (c.in-Err.ensures.bad told honest)))
+    ((c.in-Err.ensures.refused told).bad honest)))
 
 pub returns-in-Err-check_chains-clause-cost : goal.returns-in-Err-check_chains-clause-cost
 returns-in-Err-check_chains-clause-cost g c = λ told whole honest.
     let B = c.args.change.now.extent.buckets in
     let file : Files = g.D.Disk.files c.args.disk.now in
     absurd (not_bad B file.idx whole (subst (IsBadSoFar B file.idx) (c.is_count_fault.ensures.yes c.if-not-is_count_fault.false)
-    (c.in-Err.ensures.bad told honest)))
+    ((c.in-Err.ensures.refused told).bad honest)))

@@ -12,19 +12,17 @@ returns-then-not-is_placed-clause-fault g c = λ told b.
     let bad = sym (c.is_placed.ensures x refl (c.requires.open told).used (c.in-Ok.ensures.unit told)) ∙ c.if-not-is_placed.true in
     follow_bad x b c.args.at c.args.at c.requires.some_at (omega arith) (unsound_place x b c.args.at bad)
 
-pub returns-clause-falls : goal.returns-clause-falls
-returns-clause-falls g c =
+pub returns-clause-next : goal.returns-clause-next
+returns-clause-next g c =
     let x : Index = alone c.args.extent.buckets c.args.extent.used c.in-Ok.unit in
     let placed = placed_parts x c.args.at (sym (c.is_placed.ensures x refl refl refl) ∙ c.if-not-is_placed.false) in
-    omega (arith, placed.falls, c.word-4.ensures)
-
-pub returns-clause-linked : goal.returns-clause-linked
-returns-clause-linked g c = λ some.
-    let x : Index = alone c.args.extent.buckets c.args.extent.used c.in-Ok.unit in
-    let placed = placed_parts x c.args.at (sym (c.is_placed.ensures x refl refl refl) ∙ c.if-not-is_placed.false) in
-    let next : ℕ = word 0 c.in-Ok.unit in
-    let positive : 0 < next = omega (arith, some, c.word-4.ensures) in
-    (omega (arith, behind_front x next placed.link positive, c.word-4.ensures), omega (arith, within x next placed.link positive, c.word-4.ensures))
+    record {
+      falls = omega (arith, placed.falls, c.word-4.ensures);
+      linked = λ some.
+          let next : ℕ = word 0 c.in-Ok.unit in
+          let positive : 0 < next = omega (arith, some, c.word-4.ensures) in
+          (omega (arith, behind_front x next placed.link positive, c.word-4.ensures), omega (arith, within x next placed.link positive, c.word-4.ensures));
+    }
 
 pub returns-clause-ahead : goal.returns-clause-ahead
 returns-clause-ahead g c = λ told.

@@ -66,7 +66,7 @@ loop-at-preserved g c =
     let looks = looks_at_then _ _ _ _ _ _ Idx g.met.D.Disk.follows_trans c.args.disk.now l.disk c.read_head.new.disk l.invariant.looks
     (looks_at_from _ _ _ _ _ _ Idx 16 l.disk c.read_head.new.disk c.read_head.ensures.looks) in
     record {
-      linked = c.in-Ok.ensures.linked;
+      linked = c.in-Ok.ensures.next.linked;
       looks = looks_at_then _ _ _ _ _ _ Idx g.met.D.Disk.follows_trans c.args.disk.now c.read_head.new.disk c.push_row.new.disk looks
           (looks_at_from _ _ _ _ _ _ Idx (16 * ((c.in-Ok.ahead.head.size % 2 ^ 28 + 15) / 16)) c.read_head.new.disk c.push_row.new.disk
           c.push_row.ensures.looks);

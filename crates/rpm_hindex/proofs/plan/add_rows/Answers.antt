@@ -1,5 +1,6 @@
-use Rattle.std.proofs.Common.{◌+◌, ◌*◌, ◌<◌, length, take, ap, ◌∙◌, arith, refl, sym, subst, ◌∷◌, []}
-use Rattle.rpm_hindex.specs.Sizes.{record_units}
+use Rattle.std.proofs.Common.{◌≡◌, ◌+◌, ◌*◌, ◌<◌, List, length, take, ap, ◌∙◌, arith, refl, sym, subst, ◌∷◌, []}
+use Rattle.std.proofs.lemmas.List.{take_all}
+use Rattle.rpm_hindex.specs.Sizes.{record_units, live_of}
 use Rattle.rpm_hindex.specs.Rows.{Row, row_nth}
 use Rattle.rpm_hindex.specs.declared.chain.Extent.{Extent}
 use Rattle.rpm_outside.specs.declared.disk.File.TheVariants.{Idx}
@@ -48,25 +49,47 @@ loop-i-preserved g c =
     let lt : i < length rows = omega (arith, c.loop-i-test.true, c.len-i-end.ensures) in
     let size = ap (λ (r : Row). record_units (length r.key)) c.row_ref.ensures.row in
     record {
-      go = c.in_default.ensures.go;
-      extent = c.in_default.ensures.extent ∙ c.loop-i.invariant.extent;
-      tail = omega (arith, c.in_default.ensures.tail, c.loop-i.invariant.tail, live_next rows i lt, size);
-      records = omega (arith, c.in_default.ensures.records, c.loop-i.invariant.records);
-      live = omega (arith, c.in_default.ensures.live, c.loop-i.invariant.live, live_next rows i lt, size);
+      go = c.in_default.ensures.grows.go;
+      extent = c.in_default.ensures.grows.extent ∙ c.loop-i.invariant.extent;
+      tail = omega (arith, c.in_default.ensures.grows.tail, c.loop-i.invariant.tail, live_next rows i lt, size);
+      records = omega (arith, c.in_default.ensures.grows.records, c.loop-i.invariant.records);
+      live = omega (arith, c.in_default.ensures.grows.live, c.loop-i.invariant.live, live_next rows i lt, size);
       adds = λ told whole.
           let file : Files = g.D.Disk.files c.args.disk.now in
           let more = subst (λ (f : Files). IsWhole c.loop-i.change.records c.loop-i.change.live (changing c.loop-i.change f.idx)
           → AddsRows c.loop-i.change c.add_row.new.self f.idx (row_nth rows i ∷ [])) ((c.loop-i.invariant.looks.untouched told).same)
           (subst (λ (r : Row). IsWhole c.loop-i.change.records c.loop-i.change.live (changing c.loop-i.change (g.D.Disk.files c.loop-i.disk).idx)
           → AddsRows c.loop-i.change c.add_row.new.self (g.D.Disk.files c.loop-i.disk).idx (r ∷ [])) c.row_ref.ensures.row
-          (c.in_default.ensures.adds told)) in
+          (c.in_default.ensures.added told).adds') in
           subst (AddsRows c.args.change.now c.add_row.new.self file.idx) (sym (next_rows rows i lt)) (rows_then c.args.change.now c.loop-i.change
           c.add_row.new.self file.idx (take i rows) (row_nth rows i) (c.loop-i.invariant.adds told whole) more);
       honest = λ told is. subst (λ (f : Files). IsHonest c.loop-i.change f.idx → IsHonest c.add_row.new.self f.idx)
-          ((c.loop-i.invariant.looks.untouched told).same) (c.in_default.ensures.honest told) (c.loop-i.invariant.honest told is);
+          ((c.loop-i.invariant.looks.untouched told).same) (c.in_default.ensures.added told).honest (c.loop-i.invariant.honest told is);
       looks = looks_then _ _ _ _ _ _ Idx g.met.D.Disk.follows_trans (16 * i) 16 (16 * (i + 1)) _ _ _ (omega arith) c.loop-i.invariant.looks
           c.add_row.ensures.looks;
       faults = omega (arith, c.loop-i.invariant.faults, c.add_row.ensures.cause.later);
+    }
+
+pub returns-clause-grows : goal.returns-clause-grows
+returns-clause-grows g c =
+    let i = c.loop-i.invariant in
+    let rows = c.args.rows.now in
+    let all : take c.loop-i.i rows ≡ rows = take_all c.loop-i.i rows (omega (arith, c.loop-i-test.false, c.len-i-end.ensures)) in
+    record {
+      go = i.go;
+      extent = i.extent;
+      tail = omega (arith, i.tail, ap live_of all, c.requires.none);
+      records = omega (arith, i.records, ap (λ (rs : List Row). length rs) all, c.loop-i-test.false, c.len-i-end.ensures);
+      live = omega (arith, i.live, ap live_of all);
+    }
+
+pub returns-clause-added : goal.returns-clause-added
+returns-clause-added g c = λ told.
+    let rows = c.args.rows.now in
+    let all : take c.loop-i.i rows ≡ rows = take_all c.loop-i.i rows (omega (arith, c.loop-i-test.false, c.len-i-end.ensures)) in
+    record {
+      adds' = λ whole. subst (AddsRows c.args.change.now c.loop-i.change (g.D.Disk.files c.args.disk.now).idx) all (c.loop-i.invariant.adds told whole);
+      honest = c.loop-i.invariant.honest told;
     }
 
 pub returns-in-Err-clause-looks : goal.returns-in-Err-clause-looks

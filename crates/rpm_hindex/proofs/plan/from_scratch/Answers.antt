@@ -5,15 +5,16 @@ use Rattle.rpm_hindex.proofs.Drafting.{length-le-live}
 use Rattle.rpm_hindex.proofs.Scratch.{image_ordered, image_zero}
 use Rattle.rpm_hindex.proofs.plan.from_scratch.Goals as goal
 
-pub returns-in-Ok-image_of-clause-ordered : goal.returns-in-Ok-image_of-clause-ordered
-returns-in-Ok-image_of-clause-ordered g c = λ units fits.
+pub returns-in-Ok-image_of-clause-leaves : goal.returns-in-Ok-image_of-clause-leaves
+returns-in-Ok-image_of-clause-leaves g c =
     let rows = c.append_rows.new.rows in
     let image = c.in-Ok-image_of.image in
+    let made = c.in-Ok-image_of.ensures.made in
     let room : first_record (bucket_count (length rows)) + live_of rows ≤ 2 ^ 28 = omega (arith, c.in-Ok-image_of.ensures.full) in
     let few_rows : length rows ≤ 2 ^ 28 = omega (arith, length-le-live rows, room) in
-    ap (λ (b : ℕ). is_ordered b (take 16 image.bytes.items) units) c.in-Ok-image_of.ensures.buckets
-    ∙ image_ordered rows image.bytes.items units c.in-Ok-image_of.ensures.made room few_rows fits
-
-pub returns-in-Ok-image_of-clause-zero : goal.returns-in-Ok-image_of-clause-zero
-returns-in-Ok-image_of-clause-zero g c =
-    image_zero c.append_rows.new.rows (bucket_count (length c.append_rows.new.rows)) c.in-Ok-image_of.image.bytes.items c.in-Ok-image_of.ensures.made
+    record {
+      can = λ units. (omega (arith, made.long), made.whole_units, omega (arith, made.long, room));
+      ordered = λ units fits. ap (λ (b : ℕ). is_ordered b (take 16 image.bytes.items) units) c.in-Ok-image_of.ensures.buckets
+          ∙ image_ordered rows image.bytes.items units made room few_rows fits;
+      zero = image_zero rows (bucket_count (length rows)) image.bytes.items made;
+    }

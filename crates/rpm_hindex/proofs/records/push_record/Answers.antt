@@ -28,4 +28,5 @@ laid old new key next kind number place e =
 pub returns : goal.returns
 returns c = on_ok c.push_key.result _ _ (λ e. laid c.args.bytes.now.items c.push_key.new.bytes.items c.args.key.now c.args.next c.args.kind
     c.args.number c.args.place (e ∙ ap (λ (bs : List ℕ). bs ++ c.args.key.now ++ padding (length c.args.key.now))
-    (c.in_ok-extend_from_slice.ensures.items ∙ ap (λ (bs : List ℕ). c.args.bytes.now.items ++ bs) c.unit_of_words-head.ensures))) c.push_key.ensures
+    (c.in_ok-extend_from_slice.ensures.items ∙ ap (λ (bs : List ℕ). bs ++ c.unit_of_words-head.result) c.in_ok-reserve.ensures.items
+    ∙ ap (λ (bs : List ℕ). c.args.bytes.now.items ++ bs) c.unit_of_words-head.ensures))) c.push_key.ensures

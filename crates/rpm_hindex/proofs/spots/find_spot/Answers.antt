@@ -128,7 +128,7 @@ loop-at-preserved g c =
     let here = c.in-Ok.ensures.here in
     let kept_now = c.last_kept-before in
     record {
-      linked = c.in-Ok.ensures.linked;
+      linked = c.in-Ok.ensures.next.linked;
       before = within_last c.args.extent.used (kept met.head.at) met.head l.before kept_now.result kept_now.ensures l.invariant.before
           (omega (arith, some, here)) (omega (arith, (l.invariant.linked some).1, here));
       front = front_last B (kept met.head.at) met.head l.before kept_now.result kept_now.ensures l.invariant.front

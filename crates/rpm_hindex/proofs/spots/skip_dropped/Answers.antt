@@ -74,7 +74,7 @@ loop-at-preserved g c =
     let B = c.args.extent.buckets in
     let file : Files = g.D.Disk.files c.args.disk.now in
     record {
-      linked = c.in-Ok.ensures.linked;
+      linked = c.in-Ok.ensures.next.linked;
       looks = looks_at_then _ _ _ _ _ _ Idx g.met.D.Disk.follows_trans c.args.disk.now l.disk c.read_head.new.disk l.invariant.looks
           (looks_at_from _ _ _ _ _ _ Idx 16 l.disk c.read_head.new.disk c.read_head.ensures.looks);
       faults = omega (arith, l.invariant.faults, c.read_head.ensures.cause.later);

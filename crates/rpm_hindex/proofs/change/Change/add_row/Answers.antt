@@ -8,11 +8,11 @@ use Rattle.rpm_outside.specs.Files.{Files}
 use Rattle.rpm_hindex.specs.Words.{word}
 use Rattle.rpm_hindex.specs.Index.{is_link}
 use Rattle.rpm_hindex.specs.inner.Changes.{changing}
-use Rattle.rpm_hindex.proofs.Results.{on_ok, ok_of, if_err}
+use Rattle.rpm_hindex.proofs.Results.{on_ok, if_err}
 use Rattle.rpm_hindex.proofs.change.Change.add_row.Goals as goal
 
-pub returns-clause-go : goal.returns-clause-go
-returns-clause-go g c =
+pub returns-clause-grows : goal.returns-clause-grows
+returns-clause-grows g c =
     let s = c.args.self.now in
     let go = c.requires.go in
     let row = c.args.row in
@@ -27,23 +27,21 @@ returns-clause-go g c =
       records = s.records + 1;
       live = s.live + c.record_units.result;
     } in
-    on_ok c.put_unit.result _ _ (λ put. go_on s d go refl (bucket_within s go c.bucket_of-bucket.result c.bucket_of-bucket.ensures.within _ _ put)
-    (omega (arith, long, go.whole)) (omega (arith, long, go.whole, c.requires.room)) (omega (arith, long, go.whole, go.live, c.record_units.ensures))
-    (omega (arith, c.requires.count))) c.put_unit.ensures.put
+    on_ok c.put_unit.result _ _ (λ put. record {
+      go = go_on s d go refl (bucket_within s go c.bucket_of-bucket.result c.bucket_of-bucket.ensures.within _ _ put)
+          (omega (arith, long, go.whole)) (omega (arith, long, go.whole, c.requires.room)) (omega (arith, long, go.whole, go.live, c.record_units.ensures))
+          (omega (arith, c.requires.count));
+      extent = refl;
+      tail = omega (arith, long, go.whole);
+      records = refl;
+      live = ap (λ (n : ℕ). s.live + n) c.record_units.ensures;
+    }) c.put_unit.ensures.put
 
-pub returns-clause-tail : goal.returns-clause-tail
-returns-clause-tail g c =
+pub returns-clause-added : goal.returns-clause-added
+returns-clause-added g c = on_ok c.put_unit.result _ _ (λ put told.
     let s = c.args.self.now in
     let row = c.args.row in
-    let long = ap length c.in-Ok-push_record.ensures
-    ∙ length-append s.tail.items _
-    ∙ ap (λ (n : ℕ). length s.tail.items + n) (length-bytes c.word-next.result row.kind row.key.now row.number row.place) in
-    ok_of c.put_unit.result _ (omega (arith, long, c.requires.go.whole))
-
-pub returns-clause-adds : goal.returns-clause-adds
-returns-clause-adds g c = on_ok c.put_unit.result _ _ (λ put told whole.
-    let s = c.args.self.now in
-    let row = c.args.row in
+    let file : Files = g.D.Disk.files c.args.disk.now in
     let d : Change = record {
       extent = s.extent;
       units = c.put_unit.new.units;
@@ -52,25 +50,21 @@ returns-clause-adds g c = on_ok c.put_unit.result _ _ (λ put told whole.
       records = s.records + 1;
       live = s.live + c.record_units.result;
     } in
-    row_added s d (g.D.Disk.files c.args.disk.now).idx c.requires.go row.kind row.key.now row.number row.place c.bucket_of-bucket.result
-    c.used-used.result c.word-next.result c.in-Ok.words c.with_word.result
-    c.bucket_of-bucket.ensures.bucket c.bucket_of-bucket.ensures.within (c.in-Ok.ensures.words told) c.used-used.ensures c.with_word.ensures put
-    c.word-next.ensures
-    c.in-Ok-push_record.ensures refl refl (ap (λ (n : ℕ). s.live + n) c.record_units.ensures) c.requires.kind c.requires.short
-    (omega (arith, c.ranges.row)) (omega (arith, c.ranges.row)) whole) c.put_unit.ensures.put
-
-pub returns-clause-honest : goal.returns-clause-honest
-returns-clause-honest g c = on_ok c.put_unit.result _ _ (λ put told honest.
-    let s = c.args.self.now in
-    let row = c.args.row in
     let long = ap length c.in-Ok-push_record.ensures
     ∙ length-append s.tail.items _
     ∙ ap (λ (n : ℕ). length s.tail.items + n) (length-bytes c.word-next.result row.kind row.key.now row.number row.place) in
     let longer : length s.tail.items / 16 < length c.push_record.new.bytes.items / 16 = omega (arith, long, c.requires.go.whole) in
-    adds_honest s (g.D.Disk.files c.args.disk.now).idx c.requires.go c.bucket_of-bucket.result c.bucket_of-bucket.ensures.within c.put_unit.new.units
-    c.push_record.new.bytes c.record_units.result
-    c.in-Ok.words c.with_word.result c.used-used.result (c.in-Ok.ensures.words told) c.used-used.ensures c.with_word.ensures put longer honest)
-    c.put_unit.ensures.put
+    record {
+      adds' = λ whole. row_added s d file.idx c.requires.go row.kind row.key.now row.number row.place c.bucket_of-bucket.result
+          c.used-used.result c.word-next.result c.in-Ok.words c.with_word.result
+          c.bucket_of-bucket.ensures.bucket c.bucket_of-bucket.ensures.within (c.in-Ok.ensures.words told) c.used-used.ensures c.with_word.ensures put
+          c.word-next.ensures
+          c.in-Ok-push_record.ensures refl refl (ap (λ (n : ℕ). s.live + n) c.record_units.ensures) c.requires.kind c.requires.short
+          (omega (arith, c.ranges.row)) (omega (arith, c.ranges.row)) whole;
+      honest = λ honest. adds_honest s file.idx c.requires.go c.bucket_of-bucket.result c.bucket_of-bucket.ensures.within c.put_unit.new.units
+          c.push_record.new.bytes c.record_units.result
+          c.in-Ok.words c.with_word.result c.used-used.result (c.in-Ok.ensures.words told) c.used-used.ensures c.with_word.ensures put longer honest;
+    }) c.put_unit.ensures.put
 
 pub returns-clause-bad : goal.returns-clause-bad
 returns-clause-bad g c = if_err c.put_unit.result _ _ (λ e is told honest. bad_memory c.args.self.now.extent.buckets

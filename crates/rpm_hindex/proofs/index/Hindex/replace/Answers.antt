@@ -4,6 +4,7 @@ use Rattle.rpm_outside.specs.inner.Puts.{put_inside}
 use Rattle.rpm_outside.specs.declared.disk.File.TheVariants.{Idx}
 use Rattle.rpm_outside.specs.inner.Changing.{changes_between}
 use Rattle.rpm_hindex.specs.Images.{VoidOrSame, SameSeal}
+use Rattle.rpm_hindex.specs.State.{State}
 use Rattle.rpm_hindex.proofs.Seals.{image_held}
 use Rattle.rpm_hindex.proofs.index.Hindex.replace.Goals as goal
 
@@ -29,3 +30,15 @@ returns-clause-changes g c =
 
 pub returns-clause-held : goal.returns-clause-held
 returns-clause-held g c = λ told k lt. image_held c.args.image.now.bytes.items _ _ (c.in-Ok-write_image.ensures.written told) k lt
+
+pub returns-clause-value : goal.returns-clause-value
+returns-clause-value g c =
+    let was = c.in-Ok.ensures.state in
+    let is = c.in-Ok-write_image.ensures.state in
+    record {
+      pending = ap (λ (s : State). s.pending) is;
+      voided = ap (λ (s : State). s.first) is ∙ ap (λ (s : State). s.first) was;
+      second = ap (λ (s : State). s.second) is;
+      units = omega (arith, ap (λ (s : State). s.units) is);
+      grows = omega (arith, ap (λ (s : State). s.units) is, ap (λ (s : State). s.units) was);
+    }
