@@ -49,8 +49,8 @@ fn rows_before<D: Disk>(
     let mut rows = Rows::new(alloc);
     match n {
         None => Ok(rows),
-        Some(m) => match push_package(alloc, disk, store, &mut rows, m) {
-            Ok(()) => Ok(rows),
+        Some(m) => match push_package(alloc, disk, store, &mut rows, m, Vec::new(alloc)) {
+            Ok(_) => Ok(rows),
             Err(RewriteFault::DiskFault) => Err(ChangeFault::DiskFault),
             Err(RewriteFault::NoMemory) => Err(ChangeFault::NoMemory),
             Err(RewriteFault::IndexFull { .. }) => unreachable!(),

@@ -88,7 +88,24 @@ impl Db {
         ensures looks { Looks D.tells D.files D.left_since D.moment D.bytes_read D.follows Pkg (cost n self.now) disk.old disk.new }
         ensures cause { HasCauseAt (result ≡ Err GetFault.DiskFault) (D.faults disk.old) (D.faults disk.new) }
     {
-        let blob = self.read(alloc, disk, n)?;
+        self.get_in(disk, n, Vec::new(alloc))
+    }
+
+    /// A Good header's own bytes, as `get` gives them, in a vector of the caller's, whatever it holds.
+    ///
+    /// # Errors
+    ///
+    /// Those of `get`, with the same causes.
+    pub fn get_in<D: Disk>(&self, disk: &mut D, n: u32, room: Vec<u8>) -> Result<Vec<u8>, GetFault>
+        requires keeps { IsTrue D.tells → Keeps (D.files disk.old).pkg self.now }
+        requires runs { self.now.stopped ≡ false }
+        ensures kept { IsTrue D.tells → Keeps (D.files disk.new).pkg self.now }
+        ensures told { IsTrue D.tells → GetIs (finite.get (state (D.files disk.old).pkg self.now.store).packages n) result }
+        ensures absent { (result ≡ Err GetFault.NoSuch) ↔ (holds n self.now ≡ false) }
+        ensures looks { Looks D.tells D.files D.left_since D.moment D.bytes_read D.follows Pkg (cost n self.now) disk.old disk.new }
+        ensures cause { HasCauseAt (result ≡ Err GetFault.DiskFault) (D.faults disk.old) (D.faults disk.new) }
+    {
+        let blob = self.read_in(disk, n, room)?;
         cut_header(blob)
     }
 }

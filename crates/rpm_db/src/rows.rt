@@ -82,14 +82,15 @@ fn push_blob(rows: &mut Rows, blob: &[u8], number: u32) -> Result<(), AllocError
     }
 }
 
-/// Adds the rows of a number's package. Reads its blocks, each once.
+/// Adds the rows of a number's package. Reads its blocks, each once, into a vector of the caller's, and gives one that can be read into again.
 pub fn push_package<D: Disk>(
     alloc: Global,
     disk: &mut D,
     store: &PkgDb,
     rows: &mut Rows,
     number: u32,
-) -> Result<(), RewriteFault>
+    room: Vec<u8>,
+) -> Result<Vec<u8>, RewriteFault>
     requires keeps { IsTrue D.tells → Keeps (D.files disk.old).pkg store.now }
     ensures kept { IsTrue D.tells → Keeps (D.files disk.new).pkg store.now }
     ensures rows { OnOk result (IsTrue D.tells → rows.new ≡ rows.old ++ rows_at number
@@ -98,13 +99,13 @@ pub fn push_package<D: Disk>(
     ensures looks { Looks D.tells D.files D.left_since D.moment D.bytes_read D.follows Pkg (cost number store.now) disk.old disk.new }
     ensures cause { HasCauseAt (result ≡ Err RewriteFault.DiskFault) (D.faults disk.old) (D.faults disk.new) }
 {
-    match store.get(alloc, disk, number) {
-        Err(GetFault::NoSuch) => Ok(()),
-        Err(GetFault::Bad) => Ok(()),
+    match store.get_in(disk, number, room) {
+        Err(GetFault::NoSuch) => Ok(Vec::new(alloc)),
+        Err(GetFault::Bad) => Ok(Vec::new(alloc)),
         Err(GetFault::DiskFault) => Err(RewriteFault::DiskFault),
         Err(GetFault::NoMemory) => Err(RewriteFault::NoMemory),
         Ok(blob) => match push_blob(rows, &blob, number) {
-            Ok(()) => Ok(()),
+            Ok(()) => Ok(blob),
             Err(_) => Err(RewriteFault::NoMemory),
         },
     }
@@ -121,9 +122,10 @@ pub fn rows_of<D: Disk>(alloc: Global, disk: &mut D, store: &PkgDb) -> Result<Ro
     ensures cause { HasCauseAt (result ≡ Err RewriteFault.DiskFault) (D.faults disk.old) (D.faults disk.new) }
 {
     let mut rows = Rows::new(alloc);
+    let mut room = Vec::new(alloc);
     let mut passed = 0;
     while let Some(number) = store.next_above(passed) {
-        push_package(alloc, disk, store, &mut rows, number)?;
+        room = push_package(alloc, disk, store, &mut rows, number, room)?;
         passed = number;
     }
     Ok(rows)

@@ -16,7 +16,7 @@ use Rattle.rpm_db.proofs.preparing.prepare_rows.Goals as goal
 pub returns-in-Ok-clause-whole : goal.returns-in-Ok-clause-whole
 returns-in-Ok-clause-whole g c = λ told whole.
     whole_plan c.args.drops.now c.args.adds.now c.args.index.now.first (g.D.Disk.files c.args.disk.now).idx c.in-Ok.plan.work
-    (c.requires.keeps told).first (c.in-Ok.ensures.makes told) whole
+    (c.requires.keeps told).first (λ well. (c.in-Ok.ensures.prepared.change told well).makes) whole
 
 pub returns-in-Ok-clause-full : goal.returns-in-Ok-clause-full
 returns-in-Ok-clause-full g c = λ told old new has changed.
@@ -25,7 +25,7 @@ returns-in-Ok-clause-full g c = λ told old new has changed.
     let drops = c.args.drops.now in
     let adds = c.args.adds.now in
     let whole = subst (λ (u : List ℕ). IsWellFormed (buckets_of u) idx) (sym first) has.whole in
-    let room = subst (λ (u : List ℕ). HasRoomFor drops adds (records (buckets_of u) idx)) first (c.in-Ok.ensures.room told whole) in
+    let room = subst (λ (u : List ℕ). HasRoomFor drops adds (records (buckets_of u) idx)) first (c.in-Ok.ensures.prepared.change told whole).room in
     room (rows new) (of_records drops adds old new idx has changed)
 
 pub returns-in-Err-IndexFull-clause-full : goal.returns-in-Err-IndexFull-clause-full
@@ -35,7 +35,7 @@ returns-in-Err-IndexFull-clause-full g c = λ told old new has changed.
     let drops = c.args.drops.now in
     let adds = c.args.adds.now in
     let whole = subst (λ (u : List ℕ). IsWellFormed (buckets_of u) idx) (sym first) has.whole in
-    let large = rw c.in-Err-IndexFull.field-0-is at (c.in-Err-IndexFull.ensures.full told whole) in
+    let large = rw c.in-Err-IndexFull.field-0-is at (c.in-Err-IndexFull.ensures.refused.full told whole) in
     let is =
     large.1 (rows new)
     (subst (λ (u : List ℕ). HasChanged drops adds (records (buckets_of u) idx) (rows new)) (sym first)
@@ -47,14 +47,14 @@ returns-in-Err-BadIndex-clause-full g c = λ told old new has changed.
     let idx = (g.D.Disk.files c.args.disk.now).idx in
     let first = (c.requires.keeps told).first in
     let whole = subst (λ (u : List ℕ). IsWellFormed (buckets_of u) idx) (sym first) has.whole in
-    let bad = rw c.in-Err-BadIndex.field-0-is at (c.in-Err-BadIndex.ensures.bad told) in
+    let bad = rw c.in-Err-BadIndex.field-0-is at (c.in-Err-BadIndex.ensures.refused.bad told) in
     absurd (never_bad (buckets_of c.args.index.now.first) c.in-Err-BadIndex.unit idx whole bad)
 
 pub returns-in-Err-BadIndex-clause-bad : goal.returns-in-Err-BadIndex-clause-bad
 returns-in-Err-BadIndex-clause-bad g c = λ told.
     let idx = (g.D.Disk.files c.args.disk.now).idx in
     subst (λ (u : List ℕ). IsBad (buckets_of u) idx (BadIndex c.in-Err-BadIndex.unit)) (c.requires.keeps told).first
-    (rw c.in-Err-BadIndex.field-0-is at (c.in-Err-BadIndex.ensures.bad told))
+    (rw c.in-Err-BadIndex.field-0-is at (c.in-Err-BadIndex.ensures.refused.bad told))
 
 pub returns-in-Ok-clause-runs : goal.returns-in-Ok-clause-runs
 returns-in-Ok-clause-runs g c =
@@ -102,7 +102,7 @@ pub returns-in-Err-NoMemory-clause-unread : goal.returns-in-Err-NoMemory-clause-
 returns-in-Err-NoMemory-clause-unread g c = omega (arith, c.in-Err-NoMemory.ensures.looks.reads.pkg)
 
 pub returns-in-Ok-clause-change : goal.returns-in-Ok-clause-change
-returns-in-Ok-clause-change g c = record { can = c.in-Ok.ensures.can; ordered = c.in-Ok.ensures.ordered }
+returns-in-Ok-clause-change g c = record { can = c.in-Ok.ensures.can; ordered = c.in-Ok.ensures.prepared.ordered }
 
 pub returns-in-Ok-clause-leads : goal.returns-in-Ok-clause-leads
 returns-in-Ok-clause-leads g c = λ old new changed.
@@ -114,11 +114,11 @@ returns-in-Ok-clause-leads g c = λ old new changed.
           (let first = (c.requires.keeps told).first in
           let whole = subst (λ (u : List ℕ). IsWellFormed (buckets_of u) idx) (sym first) has.whole in
           writes_rows drops adds old new idx has changed c.in-Ok.plan.work
-          (subst (λ (u : List ℕ). IsPlanFor drops adds (buckets_of u) idx c.in-Ok.plan.work) first (c.in-Ok.ensures.makes told whole)));
+          (subst (λ (u : List ℕ). IsPlanFor drops adds (buckets_of u) idx c.in-Ok.plan.work) first (c.in-Ok.ensures.prepared.change told whole).makes));
       reach = λ told has.
           (let first = (c.requires.keeps told).first in
           let whole = subst (λ (u : List ℕ). IsWellFormed (buckets_of u) idx) (sym first) has.whole in
           let reach = subst (λ (u : List ℕ). ReachesFor drops adds (records (buckets_of u) idx) c.args.index.now.units c.in-Ok.plan.work) first
-          (c.in-Ok.ensures.reach told whole) in
+          (c.in-Ok.ensures.prepared.change told whole).reach in
           reach (rows new) (of_records drops adds old new idx has changed));
     }

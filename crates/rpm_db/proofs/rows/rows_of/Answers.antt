@@ -31,7 +31,7 @@ loop-number-preserved g c =
     let k = c.loop-number.passed in
     let m = c.in-Some.number in
     let inv = c.loop-number.invariant in
-    let e = c.in_ok-push_package.ensures in
+    let e = c.in_ok-room.ensures in
     let file = (g.D.Disk.files c.args.disk.now).pkg in
     record {
       keeps = e.kept;
@@ -45,14 +45,14 @@ loop-number-preserved g c =
           (inv.looks.untouched told).same (e.rows told));
     }
 
-pub returns-in_err-push_package-clause-looks : goal.returns-in_err-push_package-clause-looks
-returns-in_err-push_package-clause-looks g c =
+pub returns-in_err-room-clause-looks : goal.returns-in_err-room-clause-looks
+returns-in_err-room-clause-looks g c =
     let store = c.args.store.now in
     let k = c.loop-number.passed in
     let m = c.in-Some.number in
     looks_then g.D.Disk.tells g.D.Disk.files g.D.Disk.left_since g.D.Disk.moment g.D.Disk.bytes_read g.D.Disk.follows Pkg g.met.D.Disk.follows_trans
     (cost_to k store) (cost m store) (cost_all store) c.args.disk.now c.loop-number.disk c.push_package.new.disk
-    (omega (arith, cost_to_more store k m c.in-Some.ensures.0, cost_to-cost_all store m)) c.loop-number.invariant.looks c.in_err-push_package.ensures.looks
+    (omega (arith, cost_to_more store k m c.in-Some.ensures.0, cost_to-cost_all store m)) c.loop-number.invariant.looks c.in_err-room.ensures.looks
 
 pub returns-clause-looks : goal.returns-clause-looks
 returns-clause-looks g c =
