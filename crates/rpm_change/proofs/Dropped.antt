@@ -1,5 +1,6 @@
 -- The packages that rebuilding drops, by rising number.
-use Rattle.std.proofs.Common.{◌≡◌, ℕ, ◌<◌, true, false, Option, Some, None, is_some, refl, sym, ap, ◌∙◌, subst, arith, nat_eq}
+use Rattle.std.proofs.Common.{◌≡◌, ℕ, ◌<◌, true, false, Option, Some, None, is_some, refl, sym, ap, ◌∙◌, subst, arith, nat_eq, Err, Result}
+use Rattle.rpm_outside.specs.declared.disk.Disk as disk
 use Rattle.std.specs.Ordering.{nat_cmp, eq_by_cmp}
 use Rattle.std.specs.FinMap as finite
 use Rattle.std.specs.Cmp.{unsigned_tied}
@@ -13,12 +14,22 @@ use Rattle.rpm_pkgdb.specs.Quiet.{IsQuiet}
 use Rattle.rpm_pkgdb.specs.Store as pkgdb
 use Rattle.rpm_pkgdb.specs.Store.{Store}
 use Rattle.rpm_db.specs.Changes.{IsServing}
-use Rattle.rpm_db.specs.Database.{Database, IsNext, Keeps, KeepsIndex}
+use Rattle.rpm_db.specs.Database.{Database, IsNext, Keeps, KeepsIndex, IsIndexed}
 use Rattle.rpm_db.specs.Lawful.{Remade}
 use Rattle.rpm_db.specs.State.{State, Package, Good, Bad, state, above}
 use Rattle.rpm_db.specs.inner.Above.{none_is, next_above, nothing_above}
 use Rattle.rpm_change.specs.Steps.{joined, idle, apply_all}
 use Rattle.rpm_change.specs.Rebuilding.{dropped, drop_each}
+use Rattle.rpm_change.specs.inner.Leaving.{carried_any}
+use Rattle.rpm_change.specs.Went.{LeftOn}
+use Rattle.rpm_db.specs.Changed.{IsReady}
+use Rattle.rpm_db.specs.inner.Running.{runs_looks}
+use Rattle.rpm_db.specs.inner.Writes.{SameLog}
+use Rattle.rpm_outside.specs.Causes.{HasCauseAt}
+use Rattle.rpm_outside.specs.Looks.{Looks}
+use Rattle.rpm_change.specs.declared.tally.Tally.{Tally}
+use Rattle.rpm_change.specs.declared.tally.Halt.{Halt}
+use Rattle.rpm_change.specs.declared.tally.Halt.TheVariants as halt
 
 -- ---- the next number
 
@@ -78,6 +89,22 @@ serving_looked old new past since before now db u moment s =
       quiet = λ image left. s.quiet image (here image left);
       settled = λ image left. s.settled image (here image left);
     })
+
+pub left_looked : {D : Type 0} (d : disk.Ghosts D) (most : ℕ) (old new : D) (db : Database) → IsReady d old db
+    → Looks d.tells d.files d.left_since d.moment d.bytes_read d.follows Pkg most old new → (r : Result Tally Halt)
+    → HasCauseAt (r ≡ Err halt.DiskFault) (d.faults old) (d.faults new) → LeftOn d old new db db r
+left_looked d most old new db ready looks r cause = record {
+  carried = carried_any d old new db db (record {
+    going = ready.going;
+    serving = λ told.
+        serving_looked (d.files old) (d.files new) (d.left_since old) (d.left_since new) (d.moment old) (d.moment new) db (looks.untouched told)
+        looks.moment_stays (ready.serving told);
+    index = λ told rows. subst (λ (f : Files). IsIndexed f.pkg f.idx db) (sym (looks.untouched told).same) rows;
+  }) r;
+  indexed = ready.indexed;
+  runs = runs_looks d.tells d.files d.left_since d.moment d.bytes_read d.follows SameLog (λ f. refl) Pkg most old new refl looks;
+  disk = cause;
+}
 
 -- and after the index was rebuilt
 pub serving_remade : (old new : Files) (images : Files → Type 0) (before after : Database) → Remade old new → after.store ≡ before.store

@@ -1,6 +1,6 @@
 -- What dropping one package is: its change, and its line.
 use Rattle.std.proofs.Common.{◌≡◌, ◌≢◌, ℕ, ◌+◌, ◌^◌, ◌≤◌, Bool, List, [], ◌++◌, take, Option, Some, Result, Ok, Err, refl, sym, ap, ◌∙◌, subst, true}
-use Rattle.std.specs.Prelude.{IsTrue, IfOk, IfErr}
+use Rattle.std.specs.Prelude.{IfErr}
 use Rattle.std.proofs.lemmas.List.{append-nil}
 use Rattle.rpm_outside.specs.Files.{Files}
 use Rattle.rpm_outside.specs.Sinks.{Gained, GainedPart}
@@ -8,7 +8,7 @@ use Rattle.rpm_outside.specs.inner.Taken.{gained_none}
 use Rattle.rpm_db.specs.declared.change_fault.ChangeFault.{ChangeFault}
 use Rattle.rpm_db.specs.declared.change_fault.ChangeFault.TheVariants as fault
 use Rattle.rpm_db.specs.Changes.{Erase, apply}
-use Rattle.rpm_db.specs.Database.{Database, IsIndexed}
+use Rattle.rpm_db.specs.Database.{Database}
 use Rattle.rpm_db.specs.Reaches.{Reaches}
 use Rattle.rpm_db.specs.Refusals.{EraseCause}
 use Rattle.rpm_db.specs.Room.{next_store}
@@ -20,7 +20,7 @@ use Rattle.rpm_change.specs.declared.tally.Tally.{Tally}
 use Rattle.rpm_change.specs.declared.tally.Halt.{Halt}
 use Rattle.rpm_change.specs.declared.tally.Halt.TheVariants as halt
 use Rattle.rpm_change.specs.Steps.{Course, ToOut, bearer}
-use Rattle.rpm_change.specs.Endings.{Outputs, outputs, Through, ThroughSome, Done, Ended, IsCarried, halt_of}
+use Rattle.rpm_change.specs.Endings.{Outputs, outputs, Through, ThroughSome, Done, Ended, halt_of}
 use Rattle.rpm_change.specs.Limits.{needed, LimitsTurn}
 use Rattle.rpm_change.specs.Rebuilding.{dropped_line, dropped, IsOfRebuilding}
 use Rattle.rpm_change.specs.inner.Single.{one_made, none_made, other_stop}
@@ -97,12 +97,6 @@ module _ (n : ℕ) (p : Package) (o : Option Package) (bytes : List ℕ) (s : St
       subst (λ (q : Package). LimitsTurn i s v v files files (dropped n q).changes (Ok (record { failed = 0; changes = 0 }))) (sym (good_is o p bytes good is))
       (none_made i s v v v.spare (record { failed = 0; changes = 0 }) refl)
 
--- what is carried from files that are as they were
-pub carried_from : (tells : Bool) (old mid new : Files) (images : Files → Type 0) (before after : Database) → (IsTrue tells → mid ≡ old)
-    → (r : Result Tally Halt) → IfOk r (λ _tally. IsCarried tells mid new images before after) → IfOk r (λ _tally. IsCarried tells old new images before after)
-carried_from tells old mid new images before after same (Ok tally) c = record {
-  going = c.going;
-  serving = c.serving;
-  index = λ told rows. c.index told (subst (λ (f : Files). IsIndexed f.pkg f.idx before) (sym (same told)) rows);
-}
-carried_from tells old mid new images before after same (Err h) c = tt
+pub out_only : (r : Result Tally Halt) → IfErr r (λ h. h ≡ halt.OutFault) → r ≡ Err halt.DiskFault → ⊥
+out_only (Ok tally) kinds is = cc
+out_only (Err h) kinds is = (let same : h ≡ halt.DiskFault = cc in cc)

@@ -5,7 +5,7 @@ use Rattle.rpm_outside.specs.Files.{Units, Files}
 use Rattle.rpm_db.specs.declared.change_fault.ChangeFault.{ChangeFault}
 use Rattle.rpm_db.specs.declared.change_fault.ChangeFault.TheVariants as fault
 use Rattle.rpm_db.specs.Changes.{Erase}
-use Rattle.rpm_db.specs.Database.{Database, holds}
+use Rattle.rpm_db.specs.Database.{Database, IsIndexed, holds}
 use Rattle.rpm_db.specs.Refusals.{EraseCause, FullCause}
 use Rattle.rpm_db.specs.State.{State, Package, state, packages}
 use Rattle.rpm_pkgdb.specs.Store.{Store}
@@ -35,6 +35,10 @@ erase_missing file db j n not = none_missing (finite.get (packages file db.store
 -- nothing changed
 pub state_same : (f g : Files) (a b : Database) → g ≡ f → b ≡ a → state g.pkg b.store ≡ state f.pkg a.store
 state_same f g a b files same = rw (files, same) refl
+
+pub indexed_same : (f g : Files) (a b : Database) → g ≡ f → b ≡ a → IsIndexed f.pkg f.idx a → IsIndexed g.pkg g.idx b
+indexed_same f g a b files same i =
+    subst (λ (x : Files). IsIndexed x.pkg x.idx b) (sym files) (subst (λ (d : Database). IsIndexed f.pkg f.idx d) (sym same) i)
 
 -- ---- a change that is refused
 
@@ -87,27 +91,3 @@ module _ {old new : Files} (i : Bool) (file : Units) (db : Database) (j n : ℕ)
   erase_limits (fault.BadHeader why) cause full = none_met halt.NoMemory refl
   erase_limits fault.NoSuch cause full = none_met halt.NoMemory refl
   erase_limits fault.Stopped cause full = none_met halt.NoMemory refl
-
-pub of_disk : (f : ChangeFault) → halt_of f ≡ halt.DiskFault → f ≡ fault.DiskFault
-of_disk fault.NumbersSpent is = absurd cc
-of_disk fault.GenerationSpent is = absurd cc
-of_disk fault.StoreFull is = absurd cc
-of_disk (fault.IndexFull needed) is = absurd cc
-of_disk (fault.BadIndex unit) is = absurd cc
-of_disk fault.DiskFault is = refl
-of_disk fault.NoMemory is = absurd cc
-of_disk (fault.BadHeader why) is = absurd cc
-of_disk fault.NoSuch is = absurd cc
-of_disk fault.Stopped is = absurd cc
-
-pub not_of_err : (f : ChangeFault) → halt_of f ≡ halt.ErrFault → ⊥
-not_of_err fault.NumbersSpent is = cc
-not_of_err fault.GenerationSpent is = cc
-not_of_err fault.StoreFull is = cc
-not_of_err (fault.IndexFull needed) is = cc
-not_of_err (fault.BadIndex unit) is = cc
-not_of_err fault.DiskFault is = cc
-not_of_err fault.NoMemory is = cc
-not_of_err (fault.BadHeader why) is = cc
-not_of_err fault.NoSuch is = cc
-not_of_err fault.Stopped is = cc

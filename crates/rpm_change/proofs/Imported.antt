@@ -2,6 +2,7 @@
 use Rattle.std.proofs.Common.{◌≡◌, ℕ, Bool, true, List, Option, Some, None, Result, Ok, Err, refl, sym, ap, ◌∙◌, subst, min, codes}
 use Rattle.std.specs.Prelude.{IfOk}
 use Rattle.rpm_header.specs.Header.{Header, header}
+use Rattle.rpm_outside.specs.declared.disk.Disk as disk
 use Rattle.rpm_outside.specs.Files.{Units, Files}
 use Rattle.rpm_outside.specs.Browses.{left}
 use Rattle.rpm_pkgdb.specs.Blobs.{blobs}
@@ -23,6 +24,8 @@ use Rattle.rpm_change.specs.Importing.{imported, once, import_listed, import_lis
 use Rattle.rpm_change.specs.Texts.{absent_line}
 use Rattle.rpm_change.specs.Limits.{needed, LimitsTurn}
 use Rattle.rpm_change.specs.Turns.{counted_once, IsOfHeaders}
+use Rattle.rpm_change.specs.Went.{LeftOn}
+use Rattle.rpm_change.specs.inner.Leaving.{left_counted}
 use Rattle.rpm_change.specs.inner.Single.{one_refused, other_stop, add_fault}
 
 -- ---- room in memory is nothing that a file says
@@ -114,6 +117,12 @@ pub limits_once : {old new : Files} (i : Bool) (changes : List Change) (s : Stat
     → LimitsTurn i s v w old new changes r → LimitsTurn i s v w old new changes (counted_once r)
 limits_once i changes s v w (Ok tally) p = record { first = p.first; stores = p.stores; raised = p.raised; reached = p.reached }
 limits_once i changes s v w (Err h) p = p
+
+pub left_once : {D : Type 0} (d : disk.Ghosts D) (old new : D) (before after : Database) (r : Result Tally Halt)
+    → LeftOn d old new before after r → LeftOn d old new before after (counted_once r)
+left_once d old new before after (Ok tally) left =
+    left_counted d old new before after tally (record { failed = min 1 tally.failed; changes = tally.changes }) left
+left_once d old new before after (Err h) left = left
 
 -- ---- the path that is opened
 

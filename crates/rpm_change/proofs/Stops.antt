@@ -40,6 +40,9 @@ stop_ended course s halt.DiskFault old new kind none = absurd kind
 stop_ended course s halt.OutFault old new kind none = absurd kind
 stop_ended course s halt.ErrFault old new kind none = absurd kind
 
+pub stop_disk : (h : Halt) → IsOfReading h → h ≡ halt.DiskFault → ⊥
+stop_disk h kind is = subst IsOfReading is kind
+
 -- ---- of a line
 
 pub lines_putting : (number : Option ℕ) (r : Result Tally Halt) → IfErr r IsOfLines → IfErr r (IsOfPutting number)

@@ -1,5 +1,5 @@
 -- What was taken from the front of a list.
-use Rattle.std.proofs.Common.{◌≡◌, ℕ, Bool, true, List, Option, Some, None, Result, Ok, Err, sym, ap, subst, refl, ◌∙◌, arith}
+use Rattle.std.proofs.Common.{◌≡◌, ℕ, Bool, true, List, Option, Some, None, Result, Ok, Err, sym, ap, subst, refl, ◌∙◌}
 use Rattle.std.specs.Prelude.{IsTrue, IfOk, IfErr, OnOk}
 use Rattle.rpm_outside.specs.Causes.{HasCauseAt}
 use Rattle.rpm_outside.specs.Files.{Units}
@@ -48,7 +48,7 @@ ending_kind halt.ShelfFault k = tt
 ending_kind halt.ErrFault k = tt
 ending_kind halt.NoMemory k = tt
 
-kind_at : (w : Result Tally Halt) (h : Halt) → IfErr w IsOfEnding → w ≡ Err h → IsOfEnding h
+pub kind_at : (w : Result Tally Halt) (h : Halt) → IfErr w IsOfEnding → w ≡ Err h → IsOfEnding h
 kind_at (Ok t) h k is = absurd cc
 kind_at (Err e) h k is = (let same : e ≡ h = cc in subst IsOfEnding same k)
 
@@ -59,12 +59,6 @@ ending_of (Err h) k = ending_kind h k
 module _ (r : Result Turn Halt) (w : Result Tally Halt) (value : tally_of r ≡ w) (kinds : IfErr w IsOfEnding) where
   pub ending_kinds : IfErr r IsOfImporting
   ending_kinds = ending_of r (subst (λ (x : Result Tally Halt). IfErr x IsOfEnding) (sym value) kinds)
-
-  pub ending_disk : (before : ℕ) → HasCauseAt (r ≡ Err halt.DiskFault) before before
-  ending_disk before = record {
-    later = omega arith;
-    rose = λ is. absurd (kind_at w halt.DiskFault kinds (sym value ∙ ap tally_of is));
-  }
 
   -- the shelf failed where its read did
   pub ending_shelf : {X : Type 0} (found : Result X ListFault) (fault : ListFault) (before now : ℕ) → found ≡ Err fault
@@ -98,7 +92,3 @@ pub ending_leaves : (r : Result Turn Halt) (w : Result Tally Halt) → tally_of 
 ending_leaves (Ok t) (Ok s) value last tells most k head left fault is leaves = λ told. rw last (leaves most head (is told) left)
 ending_leaves (Ok t) (Err h) value last tells most k head left fault is leaves = absurd cc
 ending_leaves (Err h) w value last tells most k head left fault is leaves = tt
-
-pub any_turn : (r : Result Turn Halt) (C : Type 0) → C → IfOk r (λ t. C)
-any_turn (Ok t) C p = p
-any_turn (Err h) C p = tt

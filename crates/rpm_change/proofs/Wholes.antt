@@ -72,6 +72,11 @@ whole_halt idx (fault.BadHeader why) cause = tt
 whole_halt idx fault.NoSuch cause = tt
 whole_halt idx fault.Stopped cause = tt
 
+-- a change was made, and its line may not be written
+pub whole_out : (idx : Units) (r : Result Tally Halt) → IfErr r (λ h. h ≡ halt.OutFault) → IsWholeIndex idx → WholeTurn idx r
+whole_out idx (Ok tally) kinds whole = whole
+whole_out idx (Err h) kinds whole = rw kinds tt
+
 -- however many arguments failed
 pub whole_once : (idx : Units) (r : Result Tally Halt) → WholeTurn idx r → WholeTurn idx (counted_once r)
 whole_once idx (Ok tally) turn = turn

@@ -11,4 +11,5 @@ pub mod Rebuilding
 pub mod Steps
 pub mod Texts
 pub mod Turns
+pub mod Went
 pub mod inner

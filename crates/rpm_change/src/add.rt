@@ -1,23 +1,17 @@
 //! Adding package files.
 
-ghost use Rattle.std.specs.Prelude.{◌≡◌, ℕ, ◌+◌, ◌^◌, ◌<◌, Bool, List, [], ◌∷◌, Some, None, length, map, true, false, IsTrue, Ok, Err, IfOk, IfErr, IfSome};
+ghost use Rattle.std.specs.Prelude.{◌≡◌, ℕ, ◌+◌, ◌^◌, ◌<◌, Some, None, length, map, true, IsTrue, Ok, Err, IfOk, IfErr, IfSome};
 ghost use Rattle.rpm_header.specs.Header.{header};
 ghost use Rattle.rpm_outside.specs.Browses.{left};
-ghost use Rattle.rpm_outside.specs.Buffered.{inner};
 ghost use Rattle.rpm_outside.specs.Causes.{HasCauseAt};
 ghost use Rattle.rpm_file.specs.Package.{read_again};
 ghost use Rattle.rpm_db.specs.Changed.{IsReady};
 ghost use Rattle.rpm_db.specs.Changes.{Add, Put};
-ghost use Rattle.rpm_db.specs.Database.{IsIndexed, is_indexed, holds};
-ghost use Rattle.rpm_db.specs.Lawful.{IsWholeIndex};
-ghost use Rattle.rpm_db.specs.Runs.{Runs};
-ghost use Rattle.rpm_db.specs.State.{state};
-ghost use Rattle.rpm_db.specs.inner.Writes.{SameLog};
-ghost use Rattle.rpm_change.specs.Adding.{change_at, put_read, put_file, adding, add_files, stop_in, IsOfPlacing, IsOfPutting};
-ghost use Rattle.rpm_change.specs.Endings.{outputs, Ended, IsCarried, WholeTurn};
-ghost use Rattle.rpm_change.specs.Limits.{LimitsTurn};
+ghost use Rattle.rpm_db.specs.Database.{holds};
+ghost use Rattle.rpm_change.specs.Adding.{change_at, put_read, put_file, add_files, stop_in, IsOfPlacing, IsOfPutting};
 ghost use Rattle.rpm_change.specs.Steps.{changing};
 ghost use Rattle.rpm_change.specs.Hands.{Hand};
+ghost use Rattle.rpm_change.specs.Went.{EndedQuietly, EndedOnErr, state_on, Went};
 
 use crate::faults::{put_absent, put_refused};
 use crate::install::read_installed;
@@ -27,8 +21,8 @@ use rpm_file::FileFault;
 use rpm_outside::{Absent, Buffered, Disk, Shelf, Sink};
 use std::alloc::Global;
 
-/// How a package file goes into the database: in place of a number's package, or for `None` under a new number; and at which moment, in
-/// seconds since 1970.
+/// How a package file goes into the database: in place of a number's package, or for `None` under a new number; and at
+/// which moment, in seconds since 1970.
 #[derive(Clone, Copy)]
 pub struct Placing {
     pub number: Option<u32>,
@@ -39,19 +33,10 @@ pub struct Placing {
 fn add_blob<D: Disk>(alloc: Global, db: &mut Db, disk: &mut D, blob: &[u8]) -> Result<Tally, Halt>
     requires ready { IsReady D.Disk disk.old db.old }
     requires own { header blob.now ≡ Ok (read_again blob.now) }
-    ensures ended { IsTrue D.tells → (out_tells err_tells : Bool) (out err : List ℕ) → Ended (changing (Add blob.now))
-        (state (D.files disk.old).pkg db.old.store) (state (D.files disk.new).pkg db.new.store) result
-        (outputs out_tells out err_tells err) (outputs out_tells out err_tells err) }
-    ensures limits { IsTrue D.tells → (indexed : Bool) → (indexed ≡ true → IsIndexed (D.files disk.old).pkg (D.files disk.old).idx db.old)
-        → LimitsTurn indexed (state (D.files disk.old).pkg db.old.store) db.old.store db.new.store (D.files disk.old) (D.files disk.new) (Add blob.now ∷ []) result }
+    ensures went { Went D.Disk (IsTrue D.tells) disk.old disk.new db.old db.new result
+        EndedQuietly (changing (Add blob.now)) }
     ensures one { IfOk result (λ tally. tally.failed + tally.changes ≡ 1) }
-    ensures whole { IsTrue D.tells → IsWholeIndex (D.files disk.old).idx → WholeTurn (D.files disk.new).idx result }
-    ensures carried { IfOk result (λ _tally. IsCarried D.tells (D.files disk.old) (D.files disk.new) (D.left_since disk.new (D.moment disk.new))
-        db.old db.new) }
-    ensures indexed { is_indexed db.new ≡ true }
     ensures kinds { IfErr result (IsOfPlacing None) }
-    ensures runs { Runs D.tells D.files D.left_since D.moment D.bytes_read D.follows SameLog disk.old disk.new }
-    ensures disk { HasCauseAt (result ≡ Err Halt.DiskFault) (D.faults disk.old) (D.faults disk.new) }
 {
     match db.add(alloc, disk, blob) {
         Ok(_) => Ok(Tally {
@@ -73,19 +58,10 @@ fn replace_blob<D: Disk>(
     requires ready { IsReady D.Disk disk.old db.old }
     requires own { header blob.now ≡ Ok (read_again blob.now) }
     requires held { holds number db.old ≡ true }
-    ensures ended { IsTrue D.tells → (out_tells err_tells : Bool) (out err : List ℕ) → Ended (changing (Put number blob.now))
-        (state (D.files disk.old).pkg db.old.store) (state (D.files disk.new).pkg db.new.store) result
-        (outputs out_tells out err_tells err) (outputs out_tells out err_tells err) }
-    ensures limits { IsTrue D.tells → (indexed : Bool) → (indexed ≡ true → IsIndexed (D.files disk.old).pkg (D.files disk.old).idx db.old)
-        → LimitsTurn indexed (state (D.files disk.old).pkg db.old.store) db.old.store db.new.store (D.files disk.old) (D.files disk.new) (Put number blob.now ∷ []) result }
+    ensures went { Went D.Disk (IsTrue D.tells) disk.old disk.new db.old db.new result
+        EndedQuietly (changing (Put number blob.now)) }
     ensures one { IfOk result (λ tally. tally.failed + tally.changes ≡ 1) }
-    ensures whole { IsTrue D.tells → IsWholeIndex (D.files disk.old).idx → WholeTurn (D.files disk.new).idx result }
-    ensures carried { IfOk result (λ _tally. IsCarried D.tells (D.files disk.old) (D.files disk.new) (D.left_since disk.new (D.moment disk.new))
-        db.old db.new) }
-    ensures indexed { is_indexed db.new ≡ true }
     ensures kinds { IfErr result (IsOfPlacing (Some number)) }
-    ensures runs { Runs D.tells D.files D.left_since D.moment D.bytes_read D.follows SameLog disk.old disk.new }
-    ensures disk { HasCauseAt (result ≡ Err Halt.DiskFault) (D.faults disk.old) (D.faults disk.new) }
 {
     match db.put(alloc, disk, number, blob) {
         Ok(()) => Ok(Tally {
@@ -107,19 +83,10 @@ fn put_blob<D: Disk>(
     requires ready { IsReady D.Disk disk.old db.old }
     requires own { header blob.now ≡ Ok (read_again blob.now) }
     requires held { IfSome number (λ n. holds n db.old ≡ true) }
-    ensures ended { IsTrue D.tells → (out_tells err_tells : Bool) (out err : List ℕ) → Ended (changing (change_at number blob.now))
-        (state (D.files disk.old).pkg db.old.store) (state (D.files disk.new).pkg db.new.store) result
-        (outputs out_tells out err_tells err) (outputs out_tells out err_tells err) }
-    ensures limits { IsTrue D.tells → (indexed : Bool) → (indexed ≡ true → IsIndexed (D.files disk.old).pkg (D.files disk.old).idx db.old)
-        → LimitsTurn indexed (state (D.files disk.old).pkg db.old.store) db.old.store db.new.store (D.files disk.old) (D.files disk.new) (change_at number blob.now ∷ []) result }
+    ensures went { Went D.Disk (IsTrue D.tells) disk.old disk.new db.old db.new result
+        EndedQuietly (changing (change_at number blob.now)) }
     ensures one { IfOk result (λ tally. tally.failed + tally.changes ≡ 1) }
-    ensures whole { IsTrue D.tells → IsWholeIndex (D.files disk.old).idx → WholeTurn (D.files disk.new).idx result }
-    ensures carried { IfOk result (λ _tally. IsCarried D.tells (D.files disk.old) (D.files disk.new) (D.left_since disk.new (D.moment disk.new))
-        db.old db.new) }
-    ensures indexed { is_indexed db.new ≡ true }
     ensures kinds { IfErr result (IsOfPlacing number) }
-    ensures runs { Runs D.tells D.files D.left_since D.moment D.bytes_read D.follows SameLog disk.old disk.new }
-    ensures disk { HasCauseAt (result ≡ Err Halt.DiskFault) (D.faults disk.old) (D.faults disk.new) }
 {
     match number {
         None => add_blob(alloc, db, disk, blob),
@@ -150,22 +117,11 @@ fn put_opened<D: Disk, S: Shelf, E: Sink + Drop>(
 ) -> Result<Tally, Halt>
     requires ready { IsReady D.Disk disk.old db.old }
     requires held { IfSome how.number (λ n. holds n db.old ≡ true) }
-    ensures ended { IsTrue D.tells → IsTrue S.tells → (j : ℕ) (out_tells : Bool) (out : List ℕ)
-        → Ended (put_read how j path.now (left (S.rest shelf.old))) (state (D.files disk.old).pkg db.old.store)
-        (state (D.files disk.new).pkg db.new.store) result
-        (outputs out_tells out E.tells (E.taken (inner err.old))) (outputs out_tells out E.tells (E.taken (inner err.new))) }
-    ensures limits { IsTrue D.tells → IsTrue S.tells → (j : ℕ)
-        → (indexed : Bool) → (indexed ≡ true → IsIndexed (D.files disk.old).pkg (D.files disk.old).idx db.old)
-        → LimitsTurn indexed (state (D.files disk.old).pkg db.old.store) db.old.store db.new.store (D.files disk.old) (D.files disk.new) (put_read how j path.now (left (S.rest shelf.old))).changes result }
+    ensures went { (j : ℕ) → Went D.Disk (IsTrue D.tells × IsTrue S.tells) disk.old disk.new db.old db.new result
+        (EndedOnErr E.Sink err.old err.new) (put_read how j path.now (left (S.rest shelf.old))) }
     ensures one { IfOk result (λ tally. tally.failed + tally.changes ≡ 1) }
-    ensures whole { IsTrue D.tells → IsWholeIndex (D.files disk.old).idx → WholeTurn (D.files disk.new).idx result }
-    ensures carried { IfOk result (λ _tally. IsCarried D.tells (D.files disk.old) (D.files disk.new) (D.left_since disk.new (D.moment disk.new))
-        db.old db.new) }
-    ensures indexed { is_indexed db.new ≡ true }
     ensures kinds { IfErr result (IsOfPutting how.number) }
-    ensures runs { Runs D.tells D.files D.left_since D.moment D.bytes_read D.follows SameLog disk.old disk.new }
     ensures paths { IsTrue S.tells → S.paths shelf.new ≡ S.paths shelf.old }
-    ensures disk { HasCauseAt (result ≡ Err Halt.DiskFault) (D.faults disk.old) (D.faults disk.new) }
     ensures shelf { HasCauseAt (result ≡ Err Halt.ShelfFault) (S.faults shelf.old) (S.faults shelf.new) }
     ensures err { Hand E.Sink (result ≡ Err Halt.ErrFault) err.old err.new }
 {
@@ -190,22 +146,11 @@ pub fn put_file<D: Disk, S: Shelf, E: Sink + Drop>(
 ) -> Result<Tally, Halt>
     requires ready { IsReady D.Disk disk.old db.old }
     requires held { IfSome how.number (λ n. holds n db.old ≡ true) }
-    ensures ended { IsTrue D.tells → IsTrue S.tells → (j : ℕ) (out_tells : Bool) (out : List ℕ)
-        → Ended (put_file how (S.paths shelf.old) j path.now) (state (D.files disk.old).pkg db.old.store)
-        (state (D.files disk.new).pkg db.new.store) result
-        (outputs out_tells out E.tells (E.taken (inner err.old))) (outputs out_tells out E.tells (E.taken (inner err.new))) }
-    ensures limits { IsTrue D.tells → IsTrue S.tells → (j : ℕ)
-        → (indexed : Bool) → (indexed ≡ true → IsIndexed (D.files disk.old).pkg (D.files disk.old).idx db.old)
-        → LimitsTurn indexed (state (D.files disk.old).pkg db.old.store) db.old.store db.new.store (D.files disk.old) (D.files disk.new) (put_file how (S.paths shelf.old) j path.now).changes result }
+    ensures went { (j : ℕ) → Went D.Disk (IsTrue D.tells × IsTrue S.tells) disk.old disk.new db.old db.new result
+        (EndedOnErr E.Sink err.old err.new) (put_file how (S.paths shelf.old) j path.now) }
     ensures one { IfOk result (λ tally. tally.failed + tally.changes ≡ 1) }
-    ensures whole { IsTrue D.tells → IsWholeIndex (D.files disk.old).idx → WholeTurn (D.files disk.new).idx result }
-    ensures carried { IfOk result (λ _tally. IsCarried D.tells (D.files disk.old) (D.files disk.new) (D.left_since disk.new (D.moment disk.new))
-        db.old db.new) }
-    ensures indexed { is_indexed db.new ≡ true }
     ensures kinds { IfErr result (IsOfPutting how.number) }
-    ensures runs { Runs D.tells D.files D.left_since D.moment D.bytes_read D.follows SameLog disk.old disk.new }
     ensures paths { IsTrue S.tells → S.paths shelf.new ≡ S.paths shelf.old }
-    ensures disk { HasCauseAt (result ≡ Err Halt.DiskFault) (D.faults disk.old) (D.faults disk.new) }
     ensures shelf { HasCauseAt (result ≡ Err Halt.ShelfFault) (S.faults shelf.old) (S.faults shelf.new) }
     ensures err { Hand E.Sink (result ≡ Err Halt.ErrFault) err.old err.new }
 {
@@ -215,20 +160,24 @@ pub fn put_file<D: Disk, S: Shelf, E: Sink + Drop>(
     }
 }
 
-/// Adds the package files under these paths, one after the other, each under a new number: its header with the signature's entries, and
-/// with `INSTALLTIME` and `INSTALLTID`, both `now` in seconds since 1970. A path that can't be opened has a line on `err`, and so has a file
-/// that is refused; its argument fails. The path `-` is the standard input. One header at a time is kept in memory.
+/// Adds the package files under these paths, one after the other, each under a new number: its header with the
+/// signature's entries, and with `INSTALLTIME` and `INSTALLTID`, both `now` in seconds since 1970. A path that can't be
+/// opened has a line on `err`, and so has a file that is refused; its argument fails. The path `-` is the standard
+/// input. One header at a time is kept in memory.
 ///
-/// The disk may be an overlay: then all changes can be committed as one. After an `Err` the database isn't to be used further.
+/// The disk may be an overlay: then all changes can be committed as one. After an `Err` the database isn't to be used
+/// further.
 ///
 /// # Errors
 ///
-/// Going through the files in order, the first whose header is refused decides, and of it the first of these four limits that it meets:
+/// Going through the files in order, the first whose header is refused decides, and of it the first of these four
+/// limits that it meets:
 ///
 /// - `NumbersSpent` where the next number is 4294967295.
 /// - `GenerationSpent` where the generation is 4294967295; each file that is added raises it by one.
 /// - `StoreFull` where the header, or a package in the way of its slot page, fits nowhere below 4 GiB.
-/// - `IndexFull` where the rows after it need more than 268435456 units, with that number: so where the index held the rows at the start.
+/// - `IndexFull` where the rows after it need more than 268435456 units, with that number: so where the index held the
+///   rows at the start.
 ///
 /// And besides:
 ///
@@ -246,21 +195,11 @@ pub fn add_files<D: Disk, S: Shelf, E: Sink + Drop>(
 ) -> Result<Tally, Halt>
     requires few { length paths.now < 2 ^ 32 }
     requires ready { IsReady D.Disk disk.old db.old }
-    ensures ended { IsTrue D.tells → IsTrue S.tells → (out_tells : Bool) (out : List ℕ)
-        → Ended (add_files (S.paths shelf.old) now (state (D.files disk.old).pkg db.old.store) (map (λ path. path.now) paths.now))
-        (state (D.files disk.old).pkg db.old.store) (state (D.files disk.new).pkg db.new.store) result
-        (outputs out_tells out E.tells (E.taken (inner err.old))) (outputs out_tells out E.tells (E.taken (inner err.new))) }
-    ensures whole { IsTrue D.tells → IsWholeIndex (D.files disk.old).idx → WholeTurn (D.files disk.new).idx result }
-    ensures carried { IfOk result (λ _tally. IsCarried D.tells (D.files disk.old) (D.files disk.new) (D.left_since disk.new (D.moment disk.new))
-        db.old db.new) }
-    ensures indexed { is_indexed db.new ≡ true }
-    ensures limits { IsTrue D.tells → IsTrue S.tells → (indexed : Bool) → (indexed ≡ true → IsIndexed (D.files disk.old).pkg (D.files disk.old).idx db.old)
-        → LimitsTurn indexed (state (D.files disk.old).pkg db.old.store) db.old.store db.new.store (D.files disk.old) (D.files disk.new)
-        (add_files (S.paths shelf.old) now (state (D.files disk.old).pkg db.old.store) (map (λ path. path.now) paths.now)).changes result }
+    ensures went { Went D.Disk (IsTrue D.tells × IsTrue S.tells) disk.old disk.new db.old db.new result
+        (EndedOnErr E.Sink err.old err.new)
+        (add_files (S.paths shelf.old) now (state_on D.Disk disk.old db.old) (map (λ path. path.now) paths.now)) }
     ensures kinds { IfErr result (IsOfPutting None) }
-    ensures runs { Runs D.tells D.files D.left_since D.moment D.bytes_read D.follows SameLog disk.old disk.new }
     ensures paths { IsTrue S.tells → S.paths shelf.new ≡ S.paths shelf.old }
-    ensures disk { HasCauseAt (result ≡ Err Halt.DiskFault) (D.faults disk.old) (D.faults disk.new) }
     ensures shelf { HasCauseAt (result ≡ Err Halt.ShelfFault) (S.faults shelf.old) (S.faults shelf.new) }
     ensures err { Hand E.Sink (result ≡ Err Halt.ErrFault) err.old err.new }
 {

@@ -158,9 +158,10 @@ fn lay_out(alloc: Global, builder: &Builder) -> Result<Vec<u8>, AllocError>
     }
 }
 
-/// The header `i` of the exercise with the leading number `m`, laid out without a region: it is named `pkgI`, has the version
-/// `m.(i mod 10)`, provides itself and one of seven capabilities, requires the next of these, and has one file. Read again it has
-/// exactly these entries. Takes a few small buffers, and one of the header's length, which is below 512 bytes.
+/// The header `i` of the exercise with the leading number `m`, laid out without a region: it is named `pkgI`, has the
+/// version `m.(i mod 10)`, provides itself and one of seven capabilities, requires the next of these, and has one file.
+/// Read again it has exactly these entries. Takes a few small buffers, and one of the header's length, which is below
+/// 512 bytes.
 ///
 /// # Errors
 ///
@@ -168,7 +169,8 @@ fn lay_out(alloc: Global, builder: &Builder) -> Result<Vec<u8>, AllocError>
 pub fn generated(alloc: Global, i: u32, m: u32) -> Result<Vec<u8>, AllocError>
     requires { i < 4294967295 }
     ensures laid { IfOk result (λ blob. blob.items ≡ laid false (generated i m)) }
-    ensures again { IfOk result (λ blob. header blob.items ≡ Ok (record { blob = blob.items; entries = generated i m })) }
+    ensures again { IfOk result (λ blob.
+        header blob.items ≡ Ok (record { blob = blob.items; entries = generated i m })) }
 {
     let builder = entries(alloc, i, m)?;
     lay_out(alloc, &builder)

@@ -1,13 +1,12 @@
 //! What is told of package files that aren't read.
 
-ghost use Rattle.std.specs.Prelude.{◌≡◌, ◌++◌, ℕ, Bool, List, [], Err, IfOk, IfErr};
-ghost use Rattle.rpm_outside.specs.Buffered.{inner};
-ghost use Rattle.rpm_outside.specs.Causes.{HasCauseAt};
+ghost use Rattle.std.specs.Prelude.{◌≡◌, ◌++◌, ℕ, Err, IfOk, IfErr};
 ghost use Rattle.rpm_db.specs.State.{State};
 ghost use Rattle.rpm_change.specs.Steps.{ToErr, whole, failing};
-ghost use Rattle.rpm_change.specs.Endings.{outputs, Ended, IsOfLines};
+ghost use Rattle.rpm_change.specs.Endings.{IsOfLines};
 ghost use Rattle.rpm_change.specs.Texts.{at_entry, header_text, file_text, refused_line, absent_line};
 ghost use Rattle.rpm_change.specs.Hands.{Hand};
+ghost use Rattle.rpm_change.specs.Went.{EndedOnErr};
 
 use crate::lines::put_failing;
 use crate::tally::{Halt, Tally};
@@ -49,8 +48,8 @@ pub fn push_header_text(text: &mut Vec<u8>, fault: HeaderFault) -> Result<(), Al
     }
 }
 
-/// Adds what is told of a fault of a package file: of one of its headers the header and its fault. `ReadFault` and `NoMemory` are no
-/// faults of a file, and add nothing.
+/// Adds what is told of a fault of a package file: of one of its headers the header and its fault. `ReadFault` and
+/// `NoMemory` are no faults of a file, and add nothing.
 ///
 /// # Errors
 ///
@@ -115,8 +114,8 @@ pub fn put_refused<E: Sink + Drop>(
     path: &[u8],
     fault: FileFault,
 ) -> Result<Tally, Halt>
-    ensures ended { (j : ℕ) (s : State) (out_tells : Bool) (out : List ℕ) → Ended (failing (ToErr (whole j) (refused_line path.now fault))) s s result
-        (outputs out_tells out E.tells (E.taken (inner err.old))) (outputs out_tells out E.tells (E.taken (inner err.new))) }
+    ensures ended { (j : ℕ) (s : State) → EndedOnErr E.Sink err.old err.new
+        (failing (ToErr (whole j) (refused_line path.now fault))) s s result }
     ensures one { IfOk result (λ tally. tally ≡ record { failed = 1; changes = 0 }) }
     ensures kinds { IfErr result IsOfLines }
     ensures err { Hand E.Sink (result ≡ Err Halt.ErrFault) err.old err.new }
@@ -133,8 +132,8 @@ pub fn put_absent<E: Sink + Drop>(
     err: &mut Buffered<E>,
     path: &[u8],
 ) -> Result<Tally, Halt>
-    ensures ended { (j : ℕ) (s : State) (out_tells : Bool) (out : List ℕ) → Ended (failing (ToErr (whole j) (absent_line path.now))) s s result
-        (outputs out_tells out E.tells (E.taken (inner err.old))) (outputs out_tells out E.tells (E.taken (inner err.new))) }
+    ensures ended { (j : ℕ) (s : State) → EndedOnErr E.Sink err.old err.new
+        (failing (ToErr (whole j) (absent_line path.now))) s s result }
     ensures one { IfOk result (λ tally. tally ≡ record { failed = 1; changes = 0 }) }
     ensures kinds { IfErr result IsOfLines }
     ensures err { Hand E.Sink (result ≡ Err Halt.ErrFault) err.old err.new }

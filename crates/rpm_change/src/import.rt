@@ -1,21 +1,14 @@
 //! Importing a list of headers.
 
-ghost use Rattle.std.specs.Prelude.{◌≡◌, ℕ, ◌+◌, ◌^◌, ◌<◌, Bool, List, codes, true, false, IsTrue, Result, Ok, Err, IfOk, IfErr};
+ghost use Rattle.std.specs.Prelude.{◌≡◌, ◌^◌, ◌<◌, codes, IsTrue, Err, IfErr};
 ghost use Rattle.rpm_outside.specs.Browses.{left, Browses};
-ghost use Rattle.rpm_outside.specs.Buffered.{inner};
 ghost use Rattle.rpm_outside.specs.Causes.{HasCauseAt};
 ghost use Rattle.rpm_outside.specs.Shelves.{bytes_at};
-ghost use Rattle.rpm_db.specs.Changes.{IsServing};
-ghost use Rattle.rpm_db.specs.Database.{IsIndexed, is_indexed};
-ghost use Rattle.rpm_db.specs.Lawful.{IsWholeIndex};
-ghost use Rattle.rpm_db.specs.Runs.{Runs};
-ghost use Rattle.rpm_db.specs.State.{state};
-ghost use Rattle.rpm_db.specs.inner.Writes.{SameLog};
-ghost use Rattle.rpm_change.specs.Endings.{outputs, Ended, IsCarried, WholeTurn};
 ghost use Rattle.rpm_change.specs.Importing.{import_listed, import_list, listed, max_headers};
-ghost use Rattle.rpm_change.specs.Limits.{LimitsTurn};
 ghost use Rattle.rpm_change.specs.Turns.{counted_once, IsOfImporting};
 ghost use Rattle.rpm_change.specs.Hands.{Hand};
+ghost use Rattle.rpm_db.specs.Changed.{IsReady};
+ghost use Rattle.rpm_change.specs.Went.{EndedOnErr, Went};
 
 use crate::lines::put_failing;
 use crate::tally::{Halt, Tally};
@@ -37,25 +30,11 @@ fn import_open<D: Disk, S: Shelf, E: Sink + Drop>(
     err: &mut Buffered<E>,
 ) -> Result<Tally, Halt>
     requires few { most < 2 ^ 31 }
-    requires indexed { is_indexed db.old ≡ true }
-    requires going { db.old.stopped ≡ false }
-    requires serving { IsTrue D.tells → IsServing (D.files disk.old) (D.left_since disk.old (D.moment disk.old)) db.old }
-    ensures ended { IsTrue D.tells → IsTrue S.tells → (out_tells : Bool) (out : List ℕ)
-        → Ended (import_listed most (listed (left (S.rest shelf.old)))) (state (D.files disk.old).pkg db.old.store)
-        (state (D.files disk.new).pkg db.new.store) result
-        (outputs out_tells out E.tells (E.taken (inner err.old))) (outputs out_tells out E.tells (E.taken (inner err.new))) }
-    ensures whole { IsTrue D.tells → IsWholeIndex (D.files disk.old).idx → WholeTurn (D.files disk.new).idx result }
-    ensures carried { IfOk result (λ _tally. IsCarried D.tells (D.files disk.old) (D.files disk.new) (D.left_since disk.new (D.moment disk.new))
-        db.old db.new) }
-    ensures indexed { is_indexed db.new ≡ true }
-    ensures limits { IsTrue D.tells → IsTrue S.tells
-        → (indexed : Bool) → (indexed ≡ true → IsIndexed (D.files disk.old).pkg (D.files disk.old).idx db.old)
-        → LimitsTurn indexed (state (D.files disk.old).pkg db.old.store) db.old.store db.new.store (D.files disk.old) (D.files disk.new)
-        (import_listed most (listed (left (S.rest shelf.old)))).changes result }
+    requires ready { IsReady D.Disk disk.old db.old }
+    ensures went { Went D.Disk (IsTrue D.tells × IsTrue S.tells) disk.old disk.new db.old db.new result
+        (EndedOnErr E.Sink err.old err.new) (import_listed most (listed (left (S.rest shelf.old)))) }
     ensures kinds { IfErr result IsOfImporting }
-    ensures runs { Runs D.tells D.files D.left_since D.moment D.bytes_read D.follows SameLog disk.old disk.new }
     ensures browses { Browses S.tells S.paths S.rest S.absences S.faults shelf.old shelf.new }
-    ensures disk { HasCauseAt (result ≡ Err Halt.DiskFault) (D.faults disk.old) (D.faults disk.new) }
     ensures shelf { HasCauseAt (result ≡ Err Halt.ShelfFault) (S.faults shelf.old) (S.faults shelf.new) }
     ensures err { Hand E.Sink (result ≡ Err Halt.ErrFault) err.old err.new }
 {
@@ -85,8 +64,8 @@ fn counted_once(done: Result<Tally, Halt>) -> Result<Tally, Halt>
     })
 }
 
-/// Imports the list under the path `-` as [`import_list`] does, of at most `most` headers, which are below 2^31: a header after them ends the
-/// list with a line of its own.
+/// Imports the list under the path `-` as [`import_list`] does, of at most `most` headers, which are below 2^31: a
+/// header after them ends the list with a line of its own.
 pub fn import_most<D: Disk, S: Shelf, E: Sink + Drop>(
     alloc: Global,
     db: &mut Db,
@@ -96,25 +75,11 @@ pub fn import_most<D: Disk, S: Shelf, E: Sink + Drop>(
     err: &mut Buffered<E>,
 ) -> Result<Tally, Halt>
     requires few { most < 2 ^ 31 }
-    requires indexed { is_indexed db.old ≡ true }
-    requires going { db.old.stopped ≡ false }
-    requires serving { IsTrue D.tells → IsServing (D.files disk.old) (D.left_since disk.old (D.moment disk.old)) db.old }
-    ensures ended { IsTrue D.tells → IsTrue S.tells → (out_tells : Bool) (out : List ℕ)
-        → Ended (import_list most (bytes_at (S.paths shelf.old) (codes "-"))) (state (D.files disk.old).pkg db.old.store)
-        (state (D.files disk.new).pkg db.new.store) result
-        (outputs out_tells out E.tells (E.taken (inner err.old))) (outputs out_tells out E.tells (E.taken (inner err.new))) }
-    ensures whole { IsTrue D.tells → IsWholeIndex (D.files disk.old).idx → WholeTurn (D.files disk.new).idx result }
-    ensures carried { IfOk result (λ _tally. IsCarried D.tells (D.files disk.old) (D.files disk.new) (D.left_since disk.new (D.moment disk.new))
-        db.old db.new) }
-    ensures indexed { is_indexed db.new ≡ true }
-    ensures limits { IsTrue D.tells → IsTrue S.tells
-        → (indexed : Bool) → (indexed ≡ true → IsIndexed (D.files disk.old).pkg (D.files disk.old).idx db.old)
-        → LimitsTurn indexed (state (D.files disk.old).pkg db.old.store) db.old.store db.new.store (D.files disk.old) (D.files disk.new)
-        (import_list most (bytes_at (S.paths shelf.old) (codes "-"))).changes result }
+    requires ready { IsReady D.Disk disk.old db.old }
+    ensures went { Went D.Disk (IsTrue D.tells × IsTrue S.tells) disk.old disk.new db.old db.new result
+        (EndedOnErr E.Sink err.old err.new) (import_list most (bytes_at (S.paths shelf.old) (codes "-"))) }
     ensures kinds { IfErr result IsOfImporting }
-    ensures runs { Runs D.tells D.files D.left_since D.moment D.bytes_read D.follows SameLog disk.old disk.new }
     ensures paths { IsTrue S.tells → S.paths shelf.new ≡ S.paths shelf.old }
-    ensures disk { HasCauseAt (result ≡ Err Halt.DiskFault) (D.faults disk.old) (D.faults disk.new) }
     ensures shelf { HasCauseAt (result ≡ Err Halt.ShelfFault) (S.faults shelf.old) (S.faults shelf.new) }
     ensures err { Hand E.Sink (result ≡ Err Halt.ErrFault) err.old err.new }
 {
@@ -124,21 +89,25 @@ pub fn import_most<D: Disk, S: Shelf, E: Sink + Drop>(
     }
 }
 
-/// Imports the header list under the path `-`, the standard input: each of its headers is added as it is, one at a time, with nothing but
-/// the present one in memory, in a vector that is kept from one to the next and is as long as the longest so far. A header that is none has
-/// a line on `err` and is passed over. A fault of the list has a line and ends it, and so has one header too many: at most 16777215 are
-/// taken. An absent `-` has a line too. The command counts as one argument, which fails once, however many lines there are.
+/// Imports the header list under the path `-`, the standard input: each of its headers is added as it is, one at a
+/// time, with nothing but the present one in memory, in a vector that is kept from one to the next and is as long as
+/// the longest so far. A header that is none has a line on `err` and is passed over. A fault of the list has a line and
+/// ends it, and so has one header too many: at most 16777215 are taken. An absent `-` has a line too. The command
+/// counts as one argument, which fails once, however many lines there are.
 ///
-/// The disk may be an overlay: then all changes can be committed as one. After an `Err` the database isn't to be used further.
+/// The disk may be an overlay: then all changes can be committed as one. After an `Err` the database isn't to be used
+/// further.
 ///
 /// # Errors
 ///
-/// Going through the headers in order, the first that is refused decides, and of it the first of these four limits that it meets:
+/// Going through the headers in order, the first that is refused decides, and of it the first of these four limits that
+/// it meets:
 ///
 /// - `NumbersSpent` where the next number is 4294967295.
 /// - `GenerationSpent` where the generation is 4294967295; each header that is added raises it by one.
 /// - `StoreFull` where it, or a package in the way of its slot page, fits nowhere below 4 GiB.
-/// - `IndexFull` where the rows after it need more than 268435456 units, with that number: so where the index held the rows at the start.
+/// - `IndexFull` where the rows after it need more than 268435456 units, with that number: so where the index held the
+///   rows at the start.
 ///
 /// And besides:
 ///
@@ -152,24 +121,11 @@ pub fn import_list<D: Disk, S: Shelf, E: Sink + Drop>(
     shelf: &mut S,
     err: &mut Buffered<E>,
 ) -> Result<Tally, Halt>
-    requires indexed { is_indexed db.old ≡ true }
-    requires going { db.old.stopped ≡ false }
-    requires serving { IsTrue D.tells → IsServing (D.files disk.old) (D.left_since disk.old (D.moment disk.old)) db.old }
-    ensures ended { IsTrue D.tells → IsTrue S.tells → (out_tells : Bool) (out : List ℕ)
-        → Ended (import_list max_headers (bytes_at (S.paths shelf.old) (codes "-"))) (state (D.files disk.old).pkg db.old.store)
-        (state (D.files disk.new).pkg db.new.store) result
-        (outputs out_tells out E.tells (E.taken (inner err.old))) (outputs out_tells out E.tells (E.taken (inner err.new))) }
-    ensures whole { IsTrue D.tells → IsWholeIndex (D.files disk.old).idx → WholeTurn (D.files disk.new).idx result }
-    ensures carried { IfOk result (λ _tally. IsCarried D.tells (D.files disk.old) (D.files disk.new) (D.left_since disk.new (D.moment disk.new))
-        db.old db.new) }
-    ensures indexed { is_indexed db.new ≡ true }
-    ensures limits { IsTrue D.tells → IsTrue S.tells → (indexed : Bool) → (indexed ≡ true → IsIndexed (D.files disk.old).pkg (D.files disk.old).idx db.old)
-        → LimitsTurn indexed (state (D.files disk.old).pkg db.old.store) db.old.store db.new.store (D.files disk.old) (D.files disk.new)
-        (import_list max_headers (bytes_at (S.paths shelf.old) (codes "-"))).changes result }
+    requires ready { IsReady D.Disk disk.old db.old }
+    ensures went { Went D.Disk (IsTrue D.tells × IsTrue S.tells) disk.old disk.new db.old db.new result
+        (EndedOnErr E.Sink err.old err.new) (import_list max_headers (bytes_at (S.paths shelf.old) (codes "-"))) }
     ensures kinds { IfErr result IsOfImporting }
-    ensures runs { Runs D.tells D.files D.left_since D.moment D.bytes_read D.follows SameLog disk.old disk.new }
     ensures paths { IsTrue S.tells → S.paths shelf.new ≡ S.paths shelf.old }
-    ensures disk { HasCauseAt (result ≡ Err Halt.DiskFault) (D.faults disk.old) (D.faults disk.new) }
     ensures shelf { HasCauseAt (result ≡ Err Halt.ShelfFault) (S.faults shelf.old) (S.faults shelf.new) }
     ensures err { Hand E.Sink (result ≡ Err Halt.ErrFault) err.old err.new }
 {

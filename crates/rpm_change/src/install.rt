@@ -23,7 +23,8 @@ fn install_entries(alloc: Global, now: u32) -> Result<Builder, AllocError>
     Ok(extra)
 }
 
-/// A package's header with `INSTALLTIME` and `INSTALLTID` after its entries, both `now` in seconds since 1970. Copies the header once.
+/// A package's header with `INSTALLTIME` and `INSTALLTID` after its entries, both `now` in seconds since 1970. Copies
+/// the header once.
 ///
 /// # Errors
 ///
@@ -48,7 +49,8 @@ pub fn read_installed<S: Shelf>(
     shelf: &mut S,
     now: u32,
 ) -> Result<Vec<u8>, FileFault>
-    ensures gives { IsTrue S.tells → GivesInstalled (as_installed now (package_header (left (S.rest shelf.old)))) result }
+    ensures gives { IsTrue S.tells
+        → GivesInstalled (as_installed now (package_header (left (S.rest shelf.old)))) result }
     ensures own { IfOk result (λ blob. header blob.items ≡ Ok (read_again blob.items)) }
     ensures paths { IsTrue S.tells → S.paths shelf.new ≡ S.paths shelf.old }
     ensures cause { HasCauseAt (result ≡ Err FileFault.ReadFault) (S.faults shelf.old) (S.faults shelf.new) }

@@ -1,13 +1,12 @@
 //! Lines for which an argument fails.
 
-ghost use Rattle.std.specs.Prelude.{◌≡◌, ℕ, Bool, List, [], Err, IfOk, IfErr};
-ghost use Rattle.rpm_outside.specs.Buffered.{inner};
-ghost use Rattle.rpm_outside.specs.Causes.{HasCauseAt};
+ghost use Rattle.std.specs.Prelude.{◌≡◌, ℕ, Err, IfOk, IfErr};
 ghost use Rattle.rpm_db.specs.State.{State};
 ghost use Rattle.rpm_change.specs.Steps.{Bearer, ToErr, failing};
-ghost use Rattle.rpm_change.specs.Endings.{outputs, Ended, IsOfLines};
+ghost use Rattle.rpm_change.specs.Endings.{IsOfLines};
 ghost use Rattle.rpm_change.specs.Erasing.{missing_line, missing};
 ghost use Rattle.rpm_change.specs.Hands.{Hand};
+ghost use Rattle.rpm_change.specs.Went.{EndedOnErr};
 
 use crate::tally::{Halt, Tally};
 use itoa::Buffer;
@@ -16,8 +15,8 @@ use std::alloc::{AllocError, Global};
 
 /// Writes a line to err; then the argument fails.
 pub fn put_failing<E: Sink + Drop>(err: &mut Buffered<E>, line: &[u8]) -> Result<Tally, Halt>
-    ensures ended { (for : Bearer) (s : State) (out_tells : Bool) (out : List ℕ) → Ended (failing (ToErr for line.now)) s s result
-        (outputs out_tells out E.tells (E.taken (inner err.old))) (outputs out_tells out E.tells (E.taken (inner err.new))) }
+    ensures ended { (for : Bearer) (s : State)
+        → EndedOnErr E.Sink err.old err.new (failing (ToErr for line.now)) s s result }
     ensures one { IfOk result (λ tally. tally ≡ record { failed = 1; changes = 0 }) }
     ensures kinds { IfErr result IsOfLines }
     ensures err { Hand E.Sink (result ≡ Err Halt.ErrFault) err.old err.new }
@@ -51,8 +50,7 @@ pub fn put_missing<E: Sink + Drop>(
     err: &mut Buffered<E>,
     number: u32,
 ) -> Result<Tally, Halt>
-    ensures ended { (j : ℕ) (s : State) (out_tells : Bool) (out : List ℕ) → Ended (missing j number) s s result
-        (outputs out_tells out E.tells (E.taken (inner err.old))) (outputs out_tells out E.tells (E.taken (inner err.new))) }
+    ensures ended { (j : ℕ) (s : State) → EndedOnErr E.Sink err.old err.new (missing j number) s s result }
     ensures one { IfOk result (λ tally. tally ≡ record { failed = 1; changes = 0 }) }
     ensures kinds { IfErr result IsOfLines }
     ensures err { Hand E.Sink (result ≡ Err Halt.ErrFault) err.old err.new }

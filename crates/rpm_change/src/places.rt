@@ -1,13 +1,12 @@
 //! Lines of the headers of a list.
 
-ghost use Rattle.std.specs.Prelude.{◌≡◌, ◌++◌, ℕ, Bool, List, [], Err, IfOk, IfErr};
-ghost use Rattle.rpm_outside.specs.Buffered.{inner};
-ghost use Rattle.rpm_outside.specs.Causes.{HasCauseAt};
+ghost use Rattle.std.specs.Prelude.{◌≡◌, Err, IfOk, IfErr};
 ghost use Rattle.rpm_db.specs.State.{State};
-ghost use Rattle.rpm_change.specs.Endings.{outputs, Ended, IsOfLines};
+ghost use Rattle.rpm_change.specs.Endings.{IsOfLines};
 ghost use Rattle.rpm_change.specs.Importing.{place_fails};
 ghost use Rattle.rpm_change.specs.Texts.{header_text, list_text, place_line};
 ghost use Rattle.rpm_change.specs.Hands.{Hand};
+ghost use Rattle.rpm_change.specs.Went.{EndedOnErr};
 
 use crate::faults::push_header_text;
 use crate::lines::put_failing;
@@ -54,8 +53,7 @@ pub fn put_place<E: Sink + Drop>(
     place: u32,
     text: &[u8],
 ) -> Result<Tally, Halt>
-    ensures ended { (s : State) (out_tells : Bool) (out : List ℕ) → Ended (place_fails place text.now) s s result
-        (outputs out_tells out E.tells (E.taken (inner err.old))) (outputs out_tells out E.tells (E.taken (inner err.new))) }
+    ensures ended { (s : State) → EndedOnErr E.Sink err.old err.new (place_fails place text.now) s s result }
     ensures one { IfOk result (λ tally. tally ≡ record { failed = 1; changes = 0 }) }
     ensures kinds { IfErr result IsOfLines }
     ensures err { Hand E.Sink (result ≡ Err Halt.ErrFault) err.old err.new }
@@ -73,8 +71,8 @@ pub fn put_bad_header<E: Sink + Drop>(
     place: u32,
     fault: HeaderFault,
 ) -> Result<Tally, Halt>
-    ensures ended { (s : State) (out_tells : Bool) (out : List ℕ) → Ended (place_fails place (header_text fault)) s s result
-        (outputs out_tells out E.tells (E.taken (inner err.old))) (outputs out_tells out E.tells (E.taken (inner err.new))) }
+    ensures ended { (s : State)
+        → EndedOnErr E.Sink err.old err.new (place_fails place (header_text fault)) s s result }
     ensures one { IfOk result (λ tally. tally ≡ record { failed = 1; changes = 0 }) }
     ensures kinds { IfErr result IsOfLines }
     ensures err { Hand E.Sink (result ≡ Err Halt.ErrFault) err.old err.new }

@@ -1,28 +1,28 @@
 //! Making the index anew, and dropping the packages that can't be read.
 
-ghost use Rattle.std.specs.Prelude.{◌≡◌, ℕ, ◌+◌, ◌≤◌, Bool, List, [], ◌∷◌, true, false, IsTrue, Some, Err, IfOk, IfErr, OnOk};
+ghost use Rattle.std.specs.Prelude.{◌≡◌, ◌+◌, ◌≤◌, true, IsTrue, Some, Err, IfOk, IfErr, OnOk};
 ghost use Rattle.std.specs.FinMap as finite;
-ghost use Rattle.rpm_outside.specs.Buffered.{inner, holds};
 ghost use Rattle.rpm_outside.specs.Causes.{HasCauseAt};
 ghost use Rattle.rpm_pkgdb.specs.Written.{with_spare};
 ghost use Rattle.rpm_db.specs.Changed.{IsReady};
-ghost use Rattle.rpm_db.specs.Changes.{Erase, apply, IsServing};
+ghost use Rattle.rpm_db.specs.Changes.{Erase, apply};
 ghost use Rattle.rpm_db.specs.Database as database;
-ghost use Rattle.rpm_db.specs.Database.{IsIndexed, is_indexed};
+ghost use Rattle.rpm_db.specs.Database.{is_indexed};
 ghost use Rattle.rpm_db.specs.Runs.{Runs};
-ghost use Rattle.rpm_db.specs.State.{State, Package, Bad, state};
+ghost use Rattle.rpm_db.specs.State.{State, Package, Bad};
 ghost use Rattle.rpm_db.specs.inner.Writes.{SameLog};
-ghost use Rattle.rpm_change.specs.Endings.{outputs, Ended, IsCarried};
-ghost use Rattle.rpm_change.specs.Limits.{first_limit, next_stores, StopsAt, LimitsTurn};
+ghost use Rattle.rpm_change.specs.Limits.{first_limit, next_stores, StopsAt};
 ghost use Rattle.rpm_change.specs.Reaches.{ReachedAnew};
 ghost use Rattle.rpm_change.specs.Rebuilding.{dropped_line, dropped, rebuild, IsOfRebuilding};
 ghost use Rattle.rpm_change.specs.Hands.{Hand};
+ghost use Rattle.rpm_change.specs.Went.{EndedOnOut, state_on, IsCurrent, Went};
 
 use crate::tally::{Halt, Tally, halt_of};
 use itoa::Buffer;
 use rpm_db::{ChangeFault, Db, GetFault};
 use rpm_outside::{Buffered, Disk, Sink, put_and_flush};
 use std::alloc::{AllocError, Global};
+use std::mem;
 
 /// The line of a package that is dropped.
 #[tactic(auto, unfolding(crate::specs::Rebuilding::dropped_line))]
@@ -44,8 +44,8 @@ fn put_dropped<O: Sink + Drop>(
     line: &[u8],
 ) -> Result<Tally, Halt>
     requires line { line.now ≡ dropped_line number }
-    ensures ended { (s t : State) → t ≡ apply (Erase number) s → (err_tells : Bool) (err : List ℕ) → Ended (dropped number Bad) s t result
-        (outputs O.tells (O.taken (inner out.old)) err_tells err) (outputs O.tells (O.taken (inner out.new)) err_tells err) }
+    ensures ended { (s t : State) → t ≡ apply (Erase number) s
+        → EndedOnOut O.Sink out.old out.new (dropped number Bad) s t result }
     ensures one { IfOk result (λ tally. tally ≡ record { failed = 0; changes = 1 }) }
     ensures kinds { IfErr result (λ halt. halt ≡ Halt.OutFault) }
     ensures out { Hand O.Sink (result ≡ Err Halt.OutFault) out.old out.new }
@@ -70,19 +70,10 @@ fn drop_bad<D: Disk, O: Sink + Drop>(
 ) -> Result<Tally, Halt>
     requires held { database.holds number db.old ≡ true }
     requires ready { IsReady D.Disk disk.old db.old }
-    ensures ended { IsTrue D.tells → (err_tells : Bool) (err : List ℕ)
-        → Ended (dropped number Bad) (state (D.files disk.old).pkg db.old.store) (state (D.files disk.new).pkg db.new.store) result
-        (outputs O.tells (O.taken (inner out.old)) err_tells err) (outputs O.tells (O.taken (inner out.new)) err_tells err) }
+    ensures went { Went D.Disk (IsTrue D.tells) disk.old disk.new db.old db.new result
+        (EndedOnOut O.Sink out.old out.new) (dropped number Bad) }
     ensures one { IfOk result (λ tally. tally ≡ record { failed = 0; changes = 1 }) }
-    ensures carried { IfOk result (λ _tally. IsCarried D.tells (D.files disk.old) (D.files disk.new) (D.left_since disk.new (D.moment disk.new))
-        db.old db.new) }
-    ensures indexed { is_indexed db.new ≡ true }
-    ensures limits { IsTrue D.tells
-        → (indexed : Bool) → (indexed ≡ true → IsIndexed (D.files disk.old).pkg (D.files disk.old).idx db.old)
-        → LimitsTurn indexed (state (D.files disk.old).pkg db.old.store) db.old.store db.new.store (D.files disk.old) (D.files disk.new) (dropped number Bad).changes result }
     ensures kinds { IfErr result IsOfRebuilding }
-    ensures runs { Runs D.tells D.files D.left_since D.moment D.bytes_read D.follows SameLog disk.old disk.new }
-    ensures disk { HasCauseAt (result ≡ Err Halt.DiskFault) (D.faults disk.old) (D.faults disk.new) }
     ensures out { Hand O.Sink (result ≡ Err Halt.OutFault) out.old out.new }
 {
     let Ok(line) = dropped_line(alloc, number) else {
@@ -94,37 +85,33 @@ fn drop_bad<D: Disk, O: Sink + Drop>(
     }
 }
 
-/// Drops a package where it is Bad.
+/// Drops a package where it is Bad. It is read into `room`.
 fn drop_one<D: Disk, O: Sink + Drop>(
     alloc: Global,
     db: &mut Db,
     disk: &mut D,
     number: u32,
+    room: &mut Vec<u8>,
     out: &mut Buffered<O>,
 ) -> Result<Tally, Halt>
     requires held { database.holds number db.old ≡ true }
     requires ready { IsReady D.Disk disk.old db.old }
-    ensures ended { IsTrue D.tells → (p : Package) → finite.get (state (D.files disk.old).pkg db.old.store).packages number ≡ Some p
-        → (err_tells : Bool) (err : List ℕ)
-        → Ended (dropped number p) (state (D.files disk.old).pkg db.old.store) (state (D.files disk.new).pkg db.new.store) result
-        (outputs O.tells (O.taken (inner out.old)) err_tells err) (outputs O.tells (O.taken (inner out.new)) err_tells err) }
+    ensures went { (p : Package) → Went D.Disk
+        (IsTrue D.tells × (finite.get (state_on D.Disk disk.old db.old).packages number ≡ Some p))
+        disk.old disk.new db.old db.new result (EndedOnOut O.Sink out.old out.new) (dropped number p) }
     ensures one { IfOk result (λ tally. tally.failed + tally.changes ≤ 1) }
-    ensures carried { IfOk result (λ _tally. IsCarried D.tells (D.files disk.old) (D.files disk.new) (D.left_since disk.new (D.moment disk.new))
-        db.old db.new) }
-    ensures indexed { is_indexed db.new ≡ true }
-    ensures limits { IsTrue D.tells → (p : Package) → finite.get (state (D.files disk.old).pkg db.old.store).packages number ≡ Some p
-        → (indexed : Bool) → (indexed ≡ true → IsIndexed (D.files disk.old).pkg (D.files disk.old).idx db.old)
-        → LimitsTurn indexed (state (D.files disk.old).pkg db.old.store) db.old.store db.new.store (D.files disk.old) (D.files disk.new) (dropped number p).changes result }
     ensures kinds { IfErr result IsOfRebuilding }
-    ensures runs { Runs D.tells D.files D.left_since D.moment D.bytes_read D.follows SameLog disk.old disk.new }
-    ensures disk { HasCauseAt (result ≡ Err Halt.DiskFault) (D.faults disk.old) (D.faults disk.new) }
     ensures out { Hand O.Sink (result ≡ Err Halt.OutFault) out.old out.new }
 {
-    match db.get(alloc, disk, number) {
-        Ok(_good) => Ok(Tally {
-            failed: 0,
-            changes: 0,
-        }),
+    let held = mem::replace(room, Vec::new(alloc));
+    match db.get_in(disk, number, held) {
+        Ok(good) => {
+            *room = good;
+            Ok(Tally {
+                failed: 0,
+                changes: 0,
+            })
+        }
         Err(GetFault::Bad) => drop_bad(alloc, db, disk, number, out),
         Err(GetFault::DiskFault) => Err(Halt::DiskFault),
         Err(GetFault::NoMemory) => Err(Halt::NoMemory),
@@ -140,27 +127,17 @@ fn drop_each<D: Disk, O: Sink + Drop>(
     out: &mut Buffered<O>,
 ) -> Result<Tally, Halt>
     requires ready { IsReady D.Disk disk.old db.old }
-    ensures ended { IsTrue D.tells → (err_tells : Bool) (err : List ℕ)
-        → Ended (rebuild (state (D.files disk.old).pkg db.old.store)) (state (D.files disk.old).pkg db.old.store)
-        (state (D.files disk.new).pkg db.new.store) result
-        (outputs O.tells (O.taken (inner out.old)) err_tells err) (outputs O.tells (O.taken (inner out.new)) err_tells err) }
-    ensures carried { IfOk result (λ _tally. IsCarried D.tells (D.files disk.old) (D.files disk.new) (D.left_since disk.new (D.moment disk.new))
-        db.old db.new) }
-    ensures indexed { is_indexed db.new ≡ true }
-    ensures limits { IsTrue D.tells
-        → (indexed : Bool) → (indexed ≡ true → IsIndexed (D.files disk.old).pkg (D.files disk.old).idx db.old)
-        → LimitsTurn indexed (state (D.files disk.old).pkg db.old.store) db.old.store db.new.store (D.files disk.old) (D.files disk.new)
-        (rebuild (state (D.files disk.old).pkg db.old.store)).changes result }
+    ensures went { Went D.Disk (IsTrue D.tells) disk.old disk.new db.old db.new result
+        (EndedOnOut O.Sink out.old out.new) (rebuild (state_on D.Disk disk.old db.old)) }
     ensures kinds { IfErr result IsOfRebuilding }
-    ensures runs { Runs D.tells D.files D.left_since D.moment D.bytes_read D.follows SameLog disk.old disk.new }
-    ensures disk { HasCauseAt (result ≡ Err Halt.DiskFault) (D.faults disk.old) (D.faults disk.new) }
     ensures out { Hand O.Sink (result ≡ Err Halt.OutFault) out.old out.new }
 {
     let mut number = 0u32;
     let mut failed = 0u32;
     let mut changes = 0u32;
+    let mut room = Vec::new(alloc);
     while let Some(next) = db.next_above(number) {
-        let tally = drop_one(alloc, db, disk, next, out)?;
+        let tally = drop_one(alloc, db, disk, next, &mut room, out)?;
         number = next;
         failed += tally.failed;
         changes += tally.changes;
@@ -168,16 +145,18 @@ fn drop_each<D: Disk, O: Sink + Drop>(
     Ok(Tally { failed, changes })
 }
 
-/// Makes the index anew, whatever it was, and then erases each package that is Bad, by rising number: each has a line on `out`, for which
-/// nothing fails. Reads the blocks of each package twice, and those of one that is erased once more; but for the rows of the index nothing
-/// but the present package is in memory.
+/// Makes the index anew, whatever it was, and then erases each package that is Bad, by rising number: each has a line
+/// on `out`, for which nothing fails. Reads the blocks of each package twice, and those of one that is erased once
+/// more; but for the rows of the index nothing but the present package is in memory.
 ///
-/// The disk may be an overlay: then all changes can be committed as one. After an `Err` the database isn't to be used further.
+/// The disk may be an overlay: then all changes can be committed as one. After an `Err` the database isn't to be used
+/// further.
 ///
 /// # Errors
 ///
-/// `IndexFull` comes before all else where the rows of the packages as they are need more than 268435456 units, with that number. Then, going
-/// through the packages that are Bad by rising number, the first that is refused decides, and of it the first of these two limits:
+/// `IndexFull` comes before all else where the rows of the packages as they are need more than 268435456 units, with
+/// that number. Then, going through the packages that are Bad by rising number, the first that is refused decides, and
+/// of it the first of these two limits:
 ///
 /// - `GenerationSpent` where the generation is 4294967295; each package that is erased raises it by one.
 /// - `IndexFull` where the rows after it need more than 268435456 units, with that number.
@@ -194,20 +173,16 @@ pub fn rebuild<D: Disk, O: Sink + Drop>(
     out: &mut Buffered<O>,
 ) -> Result<Tally, Halt>
     requires ready { IsReady D.Disk disk.old db.old }
-    ensures ended { IsTrue D.tells → (err_tells : Bool) (err : List ℕ)
-        → Ended (rebuild (state (D.files disk.old).pkg db.old.store)) (state (D.files disk.old).pkg db.old.store)
-        (state (D.files disk.new).pkg db.new.store) result
-        (outputs O.tells (O.taken (inner out.old)) err_tells err) (outputs O.tells (O.taken (inner out.new)) err_tells err) }
-    ensures limits { IsTrue D.tells → StopsAt true (first_limit true (state (D.files disk.old).pkg db.old.store) db.old.store
-        (rebuild (state (D.files disk.old).pkg db.old.store)).changes) result }
-    ensures going { IfOk result (λ _tally. db.new.stopped ≡ false) }
-    ensures serving { IfOk result (λ _tally. IsTrue D.tells → IsServing (D.files disk.new) (D.left_since disk.new (D.moment disk.new)) db.new) }
-    ensures index { IfOk result (λ _tally. IsTrue D.tells → IsIndexed (D.files disk.new).pkg (D.files disk.new).idx db.new) }
+    ensures ended { IsTrue D.tells → EndedOnOut O.Sink out.old out.new (rebuild (state_on D.Disk disk.old db.old))
+        (state_on D.Disk disk.old db.old) (state_on D.Disk disk.new db.new) result }
+    ensures limits { IsTrue D.tells → StopsAt true (first_limit true (state_on D.Disk disk.old db.old) db.old.store
+        (rebuild (state_on D.Disk disk.old db.old)).changes) result }
+    ensures current { IfOk result (λ _tally. IsCurrent D.Disk disk.new db.new) }
     ensures indexed { is_indexed db.new ≡ true }
-    ensures stores { OnOk result (IsTrue D.tells → next_stores (rebuild (state (D.files disk.old).pkg db.old.store)).changes db.old.store
-        ≡ Some (with_spare db.old.store.spare db.new.store)) }
-    ensures reach { OnOk result (IsTrue D.tells → ReachedAnew (state (D.files disk.old).pkg db.old.store) db.old.store
-        (rebuild (state (D.files disk.old).pkg db.old.store)).changes (D.files disk.old) (D.files disk.new)) }
+    ensures stores { OnOk result (IsTrue D.tells → next_stores (rebuild (state_on D.Disk disk.old db.old)).changes
+        db.old.store ≡ Some (with_spare db.old.store.spare db.new.store)) }
+    ensures reach { OnOk result (IsTrue D.tells → ReachedAnew (state_on D.Disk disk.old db.old) db.old.store
+        (rebuild (state_on D.Disk disk.old db.old)).changes (D.files disk.old) (D.files disk.new)) }
     ensures kinds { IfErr result IsOfRebuilding }
     ensures runs { Runs D.tells D.files D.left_since D.moment D.bytes_read D.follows SameLog disk.old disk.new }
     ensures disk { HasCauseAt (result ≡ Err Halt.DiskFault) (D.faults disk.old) (D.faults disk.new) }

@@ -1,18 +1,12 @@
 //! A package file in place of a package.
 
-ghost use Rattle.std.specs.Prelude.{◌≡◌, ℕ, ◌+◌, Bool, List, [], Some, true, false, IsTrue, Err, IfOk, IfErr};
-ghost use Rattle.rpm_outside.specs.Buffered.{inner};
+ghost use Rattle.std.specs.Prelude.{◌≡◌, ◌+◌, Some, false, IsTrue, Err, IfOk, IfErr};
 ghost use Rattle.rpm_outside.specs.Causes.{HasCauseAt};
 ghost use Rattle.rpm_db.specs.Changed.{IsReady};
-ghost use Rattle.rpm_db.specs.Database.{IsIndexed, is_indexed, holds};
-ghost use Rattle.rpm_db.specs.Lawful.{IsWholeIndex};
-ghost use Rattle.rpm_db.specs.Runs.{Runs};
-ghost use Rattle.rpm_db.specs.State.{state};
-ghost use Rattle.rpm_db.specs.inner.Writes.{SameLog};
+ghost use Rattle.rpm_db.specs.Database.{holds};
 ghost use Rattle.rpm_change.specs.Adding.{replace, IsOfPutting};
-ghost use Rattle.rpm_change.specs.Endings.{outputs, Ended, IsCarried, WholeTurn};
-ghost use Rattle.rpm_change.specs.Limits.{LimitsTurn};
 ghost use Rattle.rpm_change.specs.Hands.{Hand};
+ghost use Rattle.rpm_change.specs.Went.{EndedOnErr, state_on, Went};
 
 use crate::add::{Placing, put_file};
 use crate::lines::put_missing;
@@ -21,9 +15,9 @@ use rpm_db::Db;
 use rpm_outside::{Buffered, Disk, Shelf, Sink};
 use std::alloc::Global;
 
-/// Puts the package file under a path in place of the package that a number has, Good or Bad, with the entries that `add_files` gives it.
-/// Where no package has the number, that has a line on `err`, and the file isn't opened. A path that can't be opened has a line, and so has
-/// a file that is refused.
+/// Puts the package file under a path in place of the package that a number has, Good or Bad, with the entries that
+/// `add_files` gives it. Where no package has the number, that has a line on `err`, and the file isn't opened. A path
+/// that can't be opened has a line, and so has a file that is refused.
 ///
 /// The disk may be an overlay. After an `Err` the database isn't to be used further.
 ///
@@ -33,7 +27,8 @@ use std::alloc::Global;
 ///
 /// - `GenerationSpent` where the generation is 4294967295.
 /// - `StoreFull` where the header, as it replaces the old one, fits nowhere below 4 GiB.
-/// - `IndexFull` where the rows after it need more than 268435456 units, with that number: so where the index held the rows at the start.
+/// - `IndexFull` where the rows after it need more than 268435456 units, with that number: so where the index held the
+///   rows at the start.
 ///
 /// And besides:
 ///
@@ -51,23 +46,13 @@ pub fn replace_package<D: Disk, S: Shelf, E: Sink + Drop>(
     err: &mut Buffered<E>,
 ) -> Result<Tally, Halt>
     requires ready { IsReady D.Disk disk.old db.old }
-    ensures ended { IsTrue D.tells → IsTrue S.tells → (out_tells : Bool) (out : List ℕ)
-        → Ended (replace (S.paths shelf.old) now (state (D.files disk.old).pkg db.old.store) number path.now)
-        (state (D.files disk.old).pkg db.old.store) (state (D.files disk.new).pkg db.new.store) result
-        (outputs out_tells out E.tells (E.taken (inner err.old))) (outputs out_tells out E.tells (E.taken (inner err.new))) }
+    ensures went { Went D.Disk (IsTrue D.tells × IsTrue S.tells) disk.old disk.new db.old db.new result
+        (EndedOnErr E.Sink err.old err.new)
+        (replace (S.paths shelf.old) now (state_on D.Disk disk.old db.old) number path.now) }
     ensures one { IfOk result (λ tally. tally.failed + tally.changes ≡ 1) }
-    ensures whole { IsTrue D.tells → IsWholeIndex (D.files disk.old).idx → WholeTurn (D.files disk.new).idx result }
-    ensures carried { IfOk result (λ _tally. IsCarried D.tells (D.files disk.old) (D.files disk.new) (D.left_since disk.new (D.moment disk.new))
-        db.old db.new) }
-    ensures indexed { is_indexed db.new ≡ true }
-    ensures limits { IsTrue D.tells → IsTrue S.tells → (indexed : Bool) → (indexed ≡ true → IsIndexed (D.files disk.old).pkg (D.files disk.old).idx db.old)
-        → LimitsTurn indexed (state (D.files disk.old).pkg db.old.store) db.old.store db.new.store (D.files disk.old) (D.files disk.new)
-        (replace (S.paths shelf.old) now (state (D.files disk.old).pkg db.old.store) number path.now).changes result }
     ensures kinds { IfErr result (IsOfPutting (Some number)) }
-    ensures runs { Runs D.tells D.files D.left_since D.moment D.bytes_read D.follows SameLog disk.old disk.new }
     ensures untried { holds number db.old ≡ false → shelf.new ≡ shelf.old }
     ensures paths { IsTrue S.tells → S.paths shelf.new ≡ S.paths shelf.old }
-    ensures disk { HasCauseAt (result ≡ Err Halt.DiskFault) (D.faults disk.old) (D.faults disk.new) }
     ensures shelf { HasCauseAt (result ≡ Err Halt.ShelfFault) (S.faults shelf.old) (S.faults shelf.new) }
     ensures err { Hand E.Sink (result ≡ Err Halt.ErrFault) err.old err.new }
 {

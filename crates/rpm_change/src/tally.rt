@@ -37,8 +37,8 @@ pub enum Halt {
     NoMemory,
 }
 
-/// What a fault of a change makes of a command. Of the last three none comes of a header that was read, under a number that is there, on a
-/// disk that keeps what it is given.
+/// What a fault of a change makes of a command. Of the last three none comes of a header that was read, under a number
+/// that is there, on a disk that keeps what it is given.
 pub fn halt_of(fault: ChangeFault) -> Halt
     ensures { result ≡ halt_of fault }
 {

@@ -1,26 +1,21 @@
 //! One step through a list of headers.
 
-ghost use Rattle.std.specs.Prelude.{◌≡◌, ℕ, ◌+◌, ◌<◌, ◌≤◌, Bool, List, true, false, IsTrue, Option, Result, Ok, Err, IfOk, IfErr, OnOk};
+ghost use Rattle.std.specs.Prelude.{◌≡◌, ℕ, ◌+◌, ◌<◌, ◌≤◌, Bool, List, true, IsTrue, Option, Result, Err, IfOk, IfErr, OnOk};
 ghost use Rattle.rpm_header.specs.Header.{header};
 ghost use Rattle.rpm_outside.specs.Files.{Files};
 ghost use Rattle.rpm_outside.specs.Browses.{left, Browses};
-ghost use Rattle.rpm_outside.specs.Buffered.{inner};
 ghost use Rattle.rpm_outside.specs.Causes.{HasCauseAt};
 ghost use Rattle.rpm_file.specs.declared.fault.ListFault.{ListFault};
 ghost use Rattle.rpm_file.specs.Answers.{IsListFault};
 ghost use Rattle.rpm_file.specs.List.{Found, list_head};
-ghost use Rattle.rpm_db.specs.Changes.{IsServing};
-ghost use Rattle.rpm_db.specs.Database.{IsIndexed, is_indexed};
-ghost use Rattle.rpm_db.specs.Lawful.{IsWholeIndex};
-ghost use Rattle.rpm_db.specs.Runs.{Runs};
-ghost use Rattle.rpm_db.specs.State.{State, state};
+ghost use Rattle.rpm_db.specs.State.{State};
 ghost use Rattle.rpm_pkgdb.specs.Store.{Store};
-ghost use Rattle.rpm_db.specs.inner.Writes.{SameLog};
-ghost use Rattle.rpm_change.specs.Endings.{outputs, Ended, IsCarried, WholeTurn};
 ghost use Rattle.rpm_change.specs.Importing.{imported};
 ghost use Rattle.rpm_change.specs.Limits.{LimitsTurn};
 ghost use Rattle.rpm_change.specs.Turns.{turn, turn_found, Leaves, StopIs, tally_of, IsOfHeaders, IsOfEnding, IsOfImporting};
 ghost use Rattle.rpm_change.specs.Hands.{Hand};
+ghost use Rattle.rpm_db.specs.Changed.{IsReady};
+ghost use Rattle.rpm_change.specs.Went.{EndedOnErr, Went};
 
 use crate::places::{list_text, put_bad_header, put_place};
 use crate::tally::{Halt, Tally, halt_of};
@@ -68,23 +63,11 @@ fn import_header<D: Disk, E: Sink + Drop>(
     blob: &[u8],
     err: &mut Buffered<E>,
 ) -> Result<Tally, Halt>
-    requires indexed { is_indexed db.old ≡ true }
-    requires going { db.old.stopped ≡ false }
-    requires serving { IsTrue D.tells → IsServing (D.files disk.old) (D.left_since disk.old (D.moment disk.old)) db.old }
-    ensures ended { IsTrue D.tells → (out_tells : Bool) (out : List ℕ)
-        → Ended (imported place (header blob.now)) (state (D.files disk.old).pkg db.old.store) (state (D.files disk.new).pkg db.new.store) result
-        (outputs out_tells out E.tells (E.taken (inner err.old))) (outputs out_tells out E.tells (E.taken (inner err.new))) }
+    requires ready { IsReady D.Disk disk.old db.old }
+    ensures went { Went D.Disk (IsTrue D.tells) disk.old disk.new db.old db.new result
+        (EndedOnErr E.Sink err.old err.new) (imported place (header blob.now)) }
     ensures one { IfOk result (λ tally. tally.failed + tally.changes ≡ 1) }
-    ensures whole { IsTrue D.tells → IsWholeIndex (D.files disk.old).idx → WholeTurn (D.files disk.new).idx result }
-    ensures carried { IfOk result (λ _tally. IsCarried D.tells (D.files disk.old) (D.files disk.new) (D.left_since disk.new (D.moment disk.new))
-        db.old db.new) }
-    ensures indexed { is_indexed db.new ≡ true }
-    ensures limits { IsTrue D.tells
-        → (indexed : Bool) → (indexed ≡ true → IsIndexed (D.files disk.old).pkg (D.files disk.old).idx db.old)
-        → LimitsTurn indexed (state (D.files disk.old).pkg db.old.store) db.old.store db.new.store (D.files disk.old) (D.files disk.new) (imported place (header blob.now)).changes result }
     ensures kinds { IfErr result IsOfHeaders }
-    ensures runs { Runs D.tells D.files D.left_since D.moment D.bytes_read D.follows SameLog disk.old disk.new }
-    ensures disk { HasCauseAt (result ≡ Err Halt.DiskFault) (D.faults disk.old) (D.faults disk.new) }
     ensures err { Hand E.Sink (result ≡ Err Halt.ErrFault) err.old err.new }
 {
     match db.add(alloc, disk, blob) {
@@ -107,24 +90,11 @@ fn import_within<D: Disk, E: Sink + Drop>(
     blob: &[u8],
     err: &mut Buffered<E>,
 ) -> Result<Tally, Halt>
-    requires indexed { is_indexed db.old ≡ true }
-    requires going { db.old.stopped ≡ false }
-    requires serving { IsTrue D.tells → IsServing (D.files disk.old) (D.left_since disk.old (D.moment disk.old)) db.old }
-    ensures ended { IsTrue D.tells → (out_tells : Bool) (out : List ℕ)
-        → Ended (turn_found most place blob.now) (state (D.files disk.old).pkg db.old.store)
-        (state (D.files disk.new).pkg db.new.store) result
-        (outputs out_tells out E.tells (E.taken (inner err.old))) (outputs out_tells out E.tells (E.taken (inner err.new))) }
+    requires ready { IsReady D.Disk disk.old db.old }
+    ensures went { Went D.Disk (IsTrue D.tells) disk.old disk.new db.old db.new result
+        (EndedOnErr E.Sink err.old err.new) (turn_found most place blob.now) }
     ensures one { IfOk result (λ tally. tally.failed + tally.changes ≡ 1) }
-    ensures whole { IsTrue D.tells → IsWholeIndex (D.files disk.old).idx → WholeTurn (D.files disk.new).idx result }
-    ensures carried { IfOk result (λ _tally. IsCarried D.tells (D.files disk.old) (D.files disk.new) (D.left_since disk.new (D.moment disk.new))
-        db.old db.new) }
-    ensures indexed { is_indexed db.new ≡ true }
-    ensures limits { IsTrue D.tells
-        → (indexed : Bool) → (indexed ≡ true → IsIndexed (D.files disk.old).pkg (D.files disk.old).idx db.old)
-        → LimitsTurn indexed (state (D.files disk.old).pkg db.old.store) db.old.store db.new.store (D.files disk.old) (D.files disk.new) (turn_found most place blob.now).changes result }
     ensures kinds { IfErr result IsOfHeaders }
-    ensures runs { Runs D.tells D.files D.left_since D.moment D.bytes_read D.follows SameLog disk.old disk.new }
-    ensures disk { HasCauseAt (result ≡ Err Halt.DiskFault) (D.faults disk.old) (D.faults disk.new) }
     ensures err { Hand E.Sink (result ≡ Err Halt.ErrFault) err.old err.new }
 {
     if most < place {
@@ -141,13 +111,13 @@ fn end_list<E: Sink + Drop>(
     fault: ListFault,
     err: &mut Buffered<E>,
 ) -> Result<Tally, Halt>
-    ensures ended { (most : ℕ) (head : Result (Option Found) ListFault) → IsListFault head fault → (s : State) (out_tells : Bool) (out : List ℕ)
-        → Ended (turn most place head) s s result
-        (outputs out_tells out E.tells (E.taken (inner err.old))) (outputs out_tells out E.tells (E.taken (inner err.new))) }
-    ensures limits { (most : ℕ) (head : Result (Option Found) ListFault) → IsListFault head fault → (s : State) (store : Store) (files : Files)
-        (indexed : Bool) → LimitsTurn indexed s store store files files (turn most place head).changes result }
-    ensures leaves { OnOk result ((most : ℕ) (head : Result (Option Found) ListFault) → IsListFault head fault → (bytes : List ℕ)
-        → Leaves most place head true bytes) }
+    ensures ended { (most : ℕ) (head : Result (Option Found) ListFault) → IsListFault head fault
+        → (s : State) → EndedOnErr E.Sink err.old err.new (turn most place head) s s result }
+    ensures limits { (most : ℕ) (head : Result (Option Found) ListFault) → IsListFault head fault
+        → (s : State) (store : Store) (files : Files) (indexed : Bool)
+        → LimitsTurn indexed s store store files files (turn most place head).changes result }
+    ensures leaves { OnOk result ((most : ℕ) (head : Result (Option Found) ListFault) → IsListFault head fault
+        → (bytes : List ℕ) → Leaves most place head true bytes) }
     ensures one { IfOk result (λ tally. tally.failed + tally.changes ≤ 1) }
     ensures kinds { IfErr result IsOfEnding }
     ensures shelf { result ≡ Err Halt.ShelfFault → fault ≡ ListFault.ReadFault }
@@ -159,7 +129,8 @@ fn end_list<E: Sink + Drop>(
     }
 }
 
-/// Takes what stands at a place of the list, and imports it, or writes to err what is wrong with it. The header is read into `room`.
+/// Takes what stands at a place of the list, and imports it, or writes to err what is wrong with it. The header is read
+/// into `room`.
 pub fn import_next<D: Disk, S: Shelf, E: Sink + Drop>(
     alloc: Global,
     db: &mut Db,
@@ -170,27 +141,15 @@ pub fn import_next<D: Disk, S: Shelf, E: Sink + Drop>(
     place: u32,
     err: &mut Buffered<E>,
 ) -> Result<Turn, Halt>
-    requires indexed { is_indexed db.old ≡ true }
-    requires going { db.old.stopped ≡ false }
-    requires serving { IsTrue D.tells → IsServing (D.files disk.old) (D.left_since disk.old (D.moment disk.old)) db.old }
-    ensures ended { IsTrue D.tells → IsTrue S.tells → (out_tells : Bool) (out : List ℕ)
-        → Ended (turn most place (list_head (left (S.rest shelf.old)))) (state (D.files disk.old).pkg db.old.store)
-        (state (D.files disk.new).pkg db.new.store) (tally_of result)
-        (outputs out_tells out E.tells (E.taken (inner err.old))) (outputs out_tells out E.tells (E.taken (inner err.new))) }
-    ensures leaves { IfOk result (λ done. IsTrue S.tells → Leaves most place (list_head (left (S.rest shelf.old))) done.is_last (left (S.rest shelf.new))) }
+    requires ready { IsReady D.Disk disk.old db.old }
+    ensures went { Went D.Disk (IsTrue D.tells × IsTrue S.tells) disk.old disk.new db.old db.new (tally_of result)
+        (EndedOnErr E.Sink err.old err.new) (turn most place (list_head (left (S.rest shelf.old)))) }
+    ensures leaves { IfOk result (λ done. IsTrue S.tells
+        → Leaves most place (list_head (left (S.rest shelf.old))) done.is_last (left (S.rest shelf.new))) }
     ensures last { IfOk result (λ done. most < place → done.is_last ≡ true) }
     ensures one { IfOk result (λ done. done.tally.failed + done.tally.changes ≤ 1) }
-    ensures whole { IsTrue D.tells → IsWholeIndex (D.files disk.old).idx → WholeTurn (D.files disk.new).idx (tally_of result) }
-    ensures carried { IfOk result (λ _done. IsCarried D.tells (D.files disk.old) (D.files disk.new) (D.left_since disk.new (D.moment disk.new)) db.old db.new) }
-    ensures indexed { is_indexed db.new ≡ true }
-    ensures limits { IsTrue D.tells → IsTrue S.tells
-        → (indexed : Bool) → (indexed ≡ true → IsIndexed (D.files disk.old).pkg (D.files disk.old).idx db.old)
-        → LimitsTurn indexed (state (D.files disk.old).pkg db.old.store) db.old.store db.new.store (D.files disk.old) (D.files disk.new)
-        (turn most place (list_head (left (S.rest shelf.old)))).changes (tally_of result) }
     ensures kinds { IfErr result IsOfImporting }
-    ensures runs { Runs D.tells D.files D.left_since D.moment D.bytes_read D.follows SameLog disk.old disk.new }
     ensures browses { Browses S.tells S.paths S.rest S.absences S.faults shelf.old shelf.new }
-    ensures disk { HasCauseAt (result ≡ Err Halt.DiskFault) (D.faults disk.old) (D.faults disk.new) }
     ensures shelf { HasCauseAt (result ≡ Err Halt.ShelfFault) (S.faults shelf.old) (S.faults shelf.new) }
     ensures err { Hand E.Sink (result ≡ Err Halt.ErrFault) err.old err.new }
 {

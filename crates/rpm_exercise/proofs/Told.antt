@@ -1,5 +1,6 @@
 -- What the exercise leaves once its changes are made.
 use Rattle.std.proofs.Common.{◌≡◌, ℕ, Bool, false, List, [], ◌++◌, None, is_some, Err, take, refl, sym, ap, ◌∙◌, subst}
+use Rattle.rpm_outside.specs.declared.disk.Disk as disk
 use Rattle.std.proofs.lemmas.List.{append-nil}
 use Rattle.std.specs.FinMap as finite
 use Rattle.rpm_outside.specs.Files.{Units, Files}
@@ -21,11 +22,21 @@ use Rattle.rpm_exercise.specs.Endings.{IsReadable, IsCutOff, IsOfTelling}
 use Rattle.rpm_exercise.specs.Exercised.{summary, exercise}
 use Rattle.rpm_exercise.specs.Rounds.{changes, Made}
 use Rattle.rpm_exercise.proofs.Halts.{telling_cases}
+use Rattle.rpm_exercise.specs.Ready.{IsAskable}
+use Rattle.std.specs.Prelude.{IsTrue}
 
 -- ---- files that stay
 
 pub readable_same : (f g : Files) (db : Database) → g ≡ f → IsReadable f db → IsReadable g db
 readable_same f g db same r = subst (λ (h : Files). IsReadable h db) (sym same) r
+
+pub askable_same : {D : Type 0} (d : disk.Ghosts D) (old new : D) (db : Database) → (IsTrue d.tells → d.files new ≡ d.files old)
+    → IsAskable d old db → IsAskable d new db
+askable_same d old new db same asked = record {
+  readable = λ told. readable_same (d.files old) (d.files new) db (same told) (asked.readable told);
+  going = asked.going;
+  from_one = asked.from_one;
+}
 
 pub rows_same : (f g : Files) (db : Database) → g ≡ f → HasIndexRows db f.pkg f.idx → HasIndexRows db g.pkg g.idx
 rows_same f g db same r = subst (λ (h : Files). HasIndexRows db h.pkg h.idx) (sym same) r

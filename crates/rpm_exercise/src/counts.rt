@@ -1,17 +1,18 @@
 //! How many packages a question picks.
 
-ghost use Rattle.std.specs.Prelude.{◌≡◌, ℕ, ◌<◌, ◌≤◌, false, length, IsTrue, Ok, Err, IfOk, IfErr};
+ghost use Rattle.std.specs.Prelude.{◌≡◌, false, length, IsTrue, Ok, Err, IfOk, IfErr};
 ghost use Rattle.rpm_outside.specs.Causes.{HasCauseAt};
 ghost use Rattle.rpm_version.specs.Capability.{capability};
-ghost use Rattle.rpm_db.specs.State.{packages, above};
-ghost use Rattle.rpm_db.specs.Database.{Keeps, holds};
+ghost use Rattle.rpm_db.specs.State.{above};
+ghost use Rattle.rpm_db.specs.Database.{Keeps};
 ghost use Rattle.rpm_db.specs.Runs.{Runs};
 ghost use Rattle.rpm_db.specs.inner.Writes.{SameFiles};
 ghost use Rattle.rpm_select.specs.declared.selection.Selection.TheVariants as question;
-ghost use Rattle.rpm_select.specs.Reach.{Serves, HasIndexRows};
+ghost use Rattle.rpm_select.specs.Reach.{Serves};
 ghost use Rattle.rpm_select.specs.Selections.{picks};
-ghost use Rattle.rpm_exercise.specs.Endings.{IsReadable, IsOfAsking, IsOfReading, pick_halt};
+ghost use Rattle.rpm_exercise.specs.Endings.{IsOfAsking, IsOfReading, pick_halt};
 ghost use Rattle.rpm_exercise.specs.Exercised.{picked, capability_named};
+ghost use Rattle.rpm_exercise.specs.Ready.{IsAskable, packages_on, RowsOn};
 
 use rpm_change::Halt;
 use rpm_db::Db;
@@ -40,8 +41,9 @@ fn count_served<D: Disk>(
 ) -> Result<u32, Halt>
     requires keeps { IsTrue D.tells → Keeps (D.files disk.old).pkg db.now }
     requires going { db.now.stopped ≡ false }
-    ensures told { IsTrue D.tells → Serves picker.old (packages (D.files disk.old).pkg db.now.store) selection.now
-        → IfOk result (λ count. count ≡ length (above 0 (picks (packages (D.files disk.old).pkg db.now.store) selection.now))) }
+    ensures told { IsTrue D.tells → Serves picker.old (packages_on D.Disk disk.old db.now) selection.now
+        → IfOk result (λ count.
+        count ≡ length (above 0 (picks (packages_on D.Disk disk.old db.now) selection.now))) }
     ensures kinds { IfErr result IsOfReading }
     ensures runs { Runs D.tells D.files D.left_since D.moment D.bytes_read D.follows SameFiles disk.old disk.new }
     ensures disk { HasCauseAt (result ≡ Err Halt.DiskFault) (D.faults disk.old) (D.faults disk.new) }
@@ -67,12 +69,10 @@ pub fn count_picked<D: Disk>(
     disk: &mut D,
     selection: &Selection<'_>,
 ) -> Result<u32, Halt>
-    requires readable { IsTrue D.tells → IsReadable (D.files disk.old) db.now }
-    requires going { db.now.stopped ≡ false }
-    requires from_one { IsTrue D.tells → holds 0 db.now ≡ false }
-    ensures told { IsTrue D.tells → HasIndexRows db.now (D.files disk.old).pkg (D.files disk.old).idx → IfOk result (λ count.
-        count ≡ picked (packages (D.files disk.old).pkg db.now.store) selection.now) }
-    ensures lawful { IsTrue D.tells → HasIndexRows db.now (D.files disk.old).pkg (D.files disk.old).idx → IfErr result IsOfReading }
+    requires asked { IsAskable D.Disk disk.old db.now }
+    ensures told { IsTrue D.tells → RowsOn D.Disk disk.old db.now → IfOk result (λ count.
+        count ≡ picked (packages_on D.Disk disk.old db.now) selection.now) }
+    ensures lawful { IsTrue D.tells → RowsOn D.Disk disk.old db.now → IfErr result IsOfReading }
     ensures kinds { IfErr result IsOfAsking }
     ensures runs { Runs D.tells D.files D.left_since D.moment D.bytes_read D.follows SameFiles disk.old disk.new }
     ensures disk { HasCauseAt (result ≡ Err Halt.DiskFault) (D.faults disk.old) (D.faults disk.new) }
@@ -94,12 +94,10 @@ pub fn count_provided<D: Disk>(
     name: &str,
 ) -> Result<u32, Halt>
     requires named { capability name.now ≡ Ok (capability_named name.now) }
-    requires readable { IsTrue D.tells → IsReadable (D.files disk.old) db.now }
-    requires going { db.now.stopped ≡ false }
-    requires from_one { IsTrue D.tells → holds 0 db.now ≡ false }
-    ensures told { IsTrue D.tells → HasIndexRows db.now (D.files disk.old).pkg (D.files disk.old).idx → IfOk result (λ count.
-        count ≡ picked (packages (D.files disk.old).pkg db.now.store) (question.Provides (capability_named name.now))) }
-    ensures lawful { IsTrue D.tells → HasIndexRows db.now (D.files disk.old).pkg (D.files disk.old).idx → IfErr result IsOfReading }
+    requires asked { IsAskable D.Disk disk.old db.now }
+    ensures told { IsTrue D.tells → RowsOn D.Disk disk.old db.now → IfOk result (λ count.
+        count ≡ picked (packages_on D.Disk disk.old db.now) (question.Provides (capability_named name.now))) }
+    ensures lawful { IsTrue D.tells → RowsOn D.Disk disk.old db.now → IfErr result IsOfReading }
     ensures kinds { IfErr result IsOfAsking }
     ensures runs { Runs D.tells D.files D.left_since D.moment D.bytes_read D.follows SameFiles disk.old disk.new }
     ensures disk { HasCauseAt (result ≡ Err Halt.DiskFault) (D.faults disk.old) (D.faults disk.new) }

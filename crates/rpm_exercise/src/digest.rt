@@ -5,16 +5,17 @@ ghost use Rattle.std.specs.List.{flat_map};
 ghost use Rattle.sha2.specs.Hashers.{Holds256};
 ghost use Rattle.sha2.specs.Sha256.{sha256};
 ghost use Rattle.rpm_outside.specs.Causes.{HasCauseAt};
-ghost use Rattle.rpm_db.specs.State.{packages, above};
-ghost use Rattle.rpm_db.specs.Database.{Keeps, holds};
+ghost use Rattle.rpm_db.specs.State.{above};
+ghost use Rattle.rpm_db.specs.Database.{Keeps};
 ghost use Rattle.rpm_db.specs.Runs.{Runs};
 ghost use Rattle.rpm_db.specs.inner.Writes.{SameFiles};
 ghost use Rattle.rpm_select.specs.declared.selection.Selection.TheVariants as question;
 ghost use Rattle.rpm_select.specs.Picks.{entry_in};
-ghost use Rattle.rpm_select.specs.Reach.{Serves, HasIndexRows};
+ghost use Rattle.rpm_select.specs.Reach.{Serves};
 ghost use Rattle.rpm_select.specs.Selections.{picks};
-ghost use Rattle.rpm_exercise.specs.Endings.{IsReadable, IsOfAsking, IsOfReading};
+ghost use Rattle.rpm_exercise.specs.Endings.{IsOfAsking, IsOfReading};
 ghost use Rattle.rpm_exercise.specs.Exercised.{exported, export_bytes};
+ghost use Rattle.rpm_exercise.specs.Ready.{IsAskable, packages_on, RowsOn};
 
 use crate::counts::halt_of;
 use rpm_change::Halt;
@@ -47,8 +48,9 @@ fn digest_served<D: Disk>(
 ) -> Result<[u8; 32], Halt>
     requires keeps { IsTrue D.tells → Keeps (D.files disk.old).pkg db.now }
     requires going { db.now.stopped ≡ false }
-    ensures told { IsTrue D.tells → Serves picker.old (packages (D.files disk.old).pkg db.now.store) question.All
-        → IfOk result (λ digest. digest ≡ sha256 (flat_map exported (above 0 (picks (packages (D.files disk.old).pkg db.now.store) question.All)))) }
+    ensures told { IsTrue D.tells → Serves picker.old (packages_on D.Disk disk.old db.now) question.All
+        → IfOk result (λ digest. digest
+        ≡ sha256 (flat_map exported (above 0 (picks (packages_on D.Disk disk.old db.now) question.All)))) }
     ensures kinds { IfErr result IsOfReading }
     ensures runs { Runs D.tells D.files D.left_since D.moment D.bytes_read D.follows SameFiles disk.old disk.new }
     ensures disk { HasCauseAt (result ≡ Err Halt.DiskFault) (D.faults disk.old) (D.faults disk.new) }
@@ -69,12 +71,10 @@ fn digest_served<D: Disk>(
 
 /// The digest of what an export writes.
 pub fn digest<D: Disk>(alloc: Global, db: &Db, disk: &mut D) -> Result<[u8; 32], Halt>
-    requires readable { IsTrue D.tells → IsReadable (D.files disk.old) db.now }
-    requires going { db.now.stopped ≡ false }
-    requires from_one { IsTrue D.tells → holds 0 db.now ≡ false }
-    ensures told { IsTrue D.tells → HasIndexRows db.now (D.files disk.old).pkg (D.files disk.old).idx → IfOk result (λ digest.
-        digest ≡ sha256 (export_bytes (packages (D.files disk.old).pkg db.now.store))) }
-    ensures lawful { IsTrue D.tells → HasIndexRows db.now (D.files disk.old).pkg (D.files disk.old).idx → IfErr result IsOfReading }
+    requires asked { IsAskable D.Disk disk.old db.now }
+    ensures told { IsTrue D.tells → RowsOn D.Disk disk.old db.now → IfOk result (λ digest.
+        digest ≡ sha256 (export_bytes (packages_on D.Disk disk.old db.now))) }
+    ensures lawful { IsTrue D.tells → RowsOn D.Disk disk.old db.now → IfErr result IsOfReading }
     ensures kinds { IfErr result IsOfAsking }
     ensures runs { Runs D.tells D.files D.left_since D.moment D.bytes_read D.follows SameFiles disk.old disk.new }
     ensures disk { HasCauseAt (result ≡ Err Halt.DiskFault) (D.faults disk.old) (D.faults disk.new) }

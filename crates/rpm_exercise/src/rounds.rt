@@ -1,16 +1,11 @@
 //! The changes of the exercise, round by round.
 
-ghost use Rattle.std.specs.Prelude.{◌≡◌, ◌+◌, ◌-◌, ◌<◌, ◌≤◌, Bool, [], ◌∷◌, true, IsTrue, Err, IfOk, IfErr};
-ghost use Rattle.rpm_outside.specs.Causes.{HasCauseAt};
+ghost use Rattle.std.specs.Prelude.{◌≡◌, ◌+◌, ◌<◌, ◌≤◌, [], ◌∷◌, IfOk, IfErr};
 ghost use Rattle.rpm_db.specs.Changes.{Add, Put, Erase};
-ghost use Rattle.rpm_db.specs.Database.{IsIndexed, is_indexed};
-ghost use Rattle.rpm_db.specs.Runs.{Runs};
-ghost use Rattle.rpm_db.specs.State.{state};
-ghost use Rattle.rpm_db.specs.inner.Writes.{SameLog};
-ghost use Rattle.rpm_change.specs.Endings.{IsCarried};
-ghost use Rattle.rpm_change.specs.Limits.{LimitsTurn};
 ghost use Rattle.rpm_db.specs.Changed.{IsReady};
-ghost use Rattle.rpm_exercise.specs.Rounds.{made, turn, round_changes, changes, Made, IsOfChanges, IsSpent};
+ghost use Rattle.rpm_exercise.specs.Rounds.{made, turn, round_changes, changes, IsOfChanges, IsSpent};
+ghost use Rattle.rpm_exercise.specs.Ready.{WentThrough};
+ghost use Rattle.rpm_change.specs.Went.{state_on};
 
 use rpm_change::{Halt, Tally, generated, halt_of};
 use rpm_db::Db;
@@ -43,18 +38,10 @@ const IDLE: Tally = Tally {
 fn add_one<D: Disk>(alloc: Global, db: &mut Db, disk: &mut D, i: u32) -> Result<Tally, Halt>
     requires small { i < 4294967295 }
     requires ready { IsReady D.Disk disk.old db.old }
-    ensures made { IsTrue D.tells → IfOk result (λ tally. Made (Add (made i 1) ∷ []) (state (D.files disk.old).pkg db.old.store)
-        (state (D.files disk.new).pkg db.new.store) tally) }
-    ensures limits { IsTrue D.tells → (indexed : Bool) → (indexed ≡ true → IsIndexed (D.files disk.old).pkg (D.files disk.old).idx db.old)
-        → LimitsTurn indexed (state (D.files disk.old).pkg db.old.store) db.old.store db.new.store (D.files disk.old) (D.files disk.new) (Add (made i 1) ∷ []) result }
+    ensures went { WentThrough D.Disk (Add (made i 1) ∷ []) disk.old disk.new db.old db.new result }
     ensures few { IfOk result (λ tally. tally.changes ≤ 1) }
-    ensures carried { IfOk result (λ _tally. IsCarried D.tells (D.files disk.old) (D.files disk.new) (D.left_since disk.new (D.moment disk.new))
-        db.old db.new) }
-    ensures indexed { is_indexed db.new ≡ true }
     ensures spent { IfErr result (IsSpent db.new) }
     ensures kinds { IfErr result IsOfChanges }
-    ensures runs { Runs D.tells D.files D.left_since D.moment D.bytes_read D.follows SameLog disk.old disk.new }
-    ensures disk { HasCauseAt (result ≡ Err Halt.DiskFault) (D.faults disk.old) (D.faults disk.new) }
 {
     let Ok(blob) = generated(alloc, i, 1) else {
         return Err(Halt::NoMemory);
@@ -87,18 +74,10 @@ fn replace_one<D: Disk>(
     requires small { i < 4294967295 }
     requires some { 1 ≤ i }
     requires ready { IsReady D.Disk disk.old db.old }
-    ensures made { IsTrue D.tells → IfOk result (λ tally. Made (Put (b + i) (made i 2) ∷ []) (state (D.files disk.old).pkg db.old.store)
-        (state (D.files disk.new).pkg db.new.store) tally) }
-    ensures limits { IsTrue D.tells → (indexed : Bool) → (indexed ≡ true → IsIndexed (D.files disk.old).pkg (D.files disk.old).idx db.old)
-        → LimitsTurn indexed (state (D.files disk.old).pkg db.old.store) db.old.store db.new.store (D.files disk.old) (D.files disk.new) (Put (b + i) (made i 2) ∷ []) result }
+    ensures went { WentThrough D.Disk (Put (b + i) (made i 2) ∷ []) disk.old disk.new db.old db.new result }
     ensures few { IfOk result (λ tally. tally.changes ≤ 1) }
-    ensures carried { IfOk result (λ _tally. IsCarried D.tells (D.files disk.old) (D.files disk.new) (D.left_since disk.new (D.moment disk.new))
-        db.old db.new) }
-    ensures indexed { is_indexed db.new ≡ true }
     ensures spent { IfErr result (IsSpent db.new) }
     ensures kinds { IfErr result IsOfChanges }
-    ensures runs { Runs D.tells D.files D.left_since D.moment D.bytes_read D.follows SameLog disk.old disk.new }
-    ensures disk { HasCauseAt (result ≡ Err Halt.DiskFault) (D.faults disk.old) (D.faults disk.new) }
 {
     let number = match number_of(b, i) {
         Ok(number) => number,
@@ -123,18 +102,10 @@ fn erase_one<D: Disk>(
 ) -> Result<Tally, Halt>
     requires some { 1 ≤ i }
     requires ready { IsReady D.Disk disk.old db.old }
-    ensures made { IsTrue D.tells → IfOk result (λ tally. Made (Erase (b + i) ∷ []) (state (D.files disk.old).pkg db.old.store)
-        (state (D.files disk.new).pkg db.new.store) tally) }
-    ensures limits { IsTrue D.tells → (indexed : Bool) → (indexed ≡ true → IsIndexed (D.files disk.old).pkg (D.files disk.old).idx db.old)
-        → LimitsTurn indexed (state (D.files disk.old).pkg db.old.store) db.old.store db.new.store (D.files disk.old) (D.files disk.new) (Erase (b + i) ∷ []) result }
+    ensures went { WentThrough D.Disk (Erase (b + i) ∷ []) disk.old disk.new db.old db.new result }
     ensures few { IfOk result (λ tally. tally.changes ≤ 1) }
-    ensures carried { IfOk result (λ _tally. IsCarried D.tells (D.files disk.old) (D.files disk.new) (D.left_since disk.new (D.moment disk.new))
-        db.old db.new) }
-    ensures indexed { is_indexed db.new ≡ true }
     ensures spent { IfErr result (IsSpent db.new) }
     ensures kinds { IfErr result IsOfChanges }
-    ensures runs { Runs D.tells D.files D.left_since D.moment D.bytes_read D.follows SameLog disk.old disk.new }
-    ensures disk { HasCauseAt (result ≡ Err Halt.DiskFault) (D.faults disk.old) (D.faults disk.new) }
 {
     let number = match number_of(b, i) {
         Ok(number) => number,
@@ -158,18 +129,10 @@ fn take_turn<D: Disk>(
     requires small { i < 4294967295 }
     requires some { 1 ≤ i }
     requires ready { IsReady D.Disk disk.old db.old }
-    ensures made { IsTrue D.tells → IfOk result (λ tally. Made (turn round b i) (state (D.files disk.old).pkg db.old.store)
-        (state (D.files disk.new).pkg db.new.store) tally) }
-    ensures limits { IsTrue D.tells → (indexed : Bool) → (indexed ≡ true → IsIndexed (D.files disk.old).pkg (D.files disk.old).idx db.old)
-        → LimitsTurn indexed (state (D.files disk.old).pkg db.old.store) db.old.store db.new.store (D.files disk.old) (D.files disk.new) (turn round b i) result }
+    ensures went { WentThrough D.Disk (turn round b i) disk.old disk.new db.old db.new result }
     ensures few { IfOk result (λ tally. tally.changes ≤ 1) }
-    ensures carried { IfOk result (λ _tally. IsCarried D.tells (D.files disk.old) (D.files disk.new) (D.left_since disk.new (D.moment disk.new))
-        db.old db.new) }
-    ensures indexed { is_indexed db.new ≡ true }
     ensures spent { IfErr result (IsSpent db.new) }
     ensures kinds { IfErr result IsOfChanges }
-    ensures runs { Runs D.tells D.files D.left_since D.moment D.bytes_read D.follows SameLog disk.old disk.new }
-    ensures disk { HasCauseAt (result ≡ Err Halt.DiskFault) (D.faults disk.old) (D.faults disk.new) }
 {
     match round {
         Round::Adding => add_one(alloc, db, disk, i),
@@ -201,18 +164,10 @@ fn go_round<D: Disk>(
 ) -> Result<Tally, Halt>
     requires few { n ≤ 100000 }
     requires ready { IsReady D.Disk disk.old db.old }
-    ensures made { IsTrue D.tells → IfOk result (λ tally. Made (round_changes round b n) (state (D.files disk.old).pkg db.old.store)
-        (state (D.files disk.new).pkg db.new.store) tally) }
-    ensures limits { IsTrue D.tells → (indexed : Bool) → (indexed ≡ true → IsIndexed (D.files disk.old).pkg (D.files disk.old).idx db.old)
-        → LimitsTurn indexed (state (D.files disk.old).pkg db.old.store) db.old.store db.new.store (D.files disk.old) (D.files disk.new) (round_changes round b n) result }
+    ensures went { WentThrough D.Disk (round_changes round b n) disk.old disk.new db.old db.new result }
     ensures few { IfOk result (λ tally. tally.changes ≤ n) }
-    ensures carried { IfOk result (λ _tally. IsCarried D.tells (D.files disk.old) (D.files disk.new) (D.left_since disk.new (D.moment disk.new))
-        db.old db.new) }
-    ensures indexed { is_indexed db.new ≡ true }
     ensures spent { IfErr result (IsSpent db.new) }
     ensures kinds { IfErr result IsOfChanges }
-    ensures runs { Runs D.tells D.files D.left_since D.moment D.bytes_read D.follows SameLog disk.old disk.new }
-    ensures disk { HasCauseAt (result ≡ Err Halt.DiskFault) (D.faults disk.old) (D.faults disk.new) }
 {
     let mut changes = 0u32;
     for done in 0..n {
@@ -224,44 +179,38 @@ fn go_round<D: Disk>(
     Ok(Tally { failed: 0, changes })
 }
 
-/// Adds the headers 1 to `n` with the leading number 1; then puts each that is divisible by 3 in its own place with the leading number 2;
-/// then erases each that is divisible by 5. Each round goes by rising number. Header `i` has the `i`th number after those that the
-/// database gave before. These are `n + n / 3 + n / 5` changes, and nothing fails.
+/// Adds the headers 1 to `n` with the leading number 1; then puts each that is divisible by 3 in its own place with the
+/// leading number 2; then erases each that is divisible by 5. Each round goes by rising number. Header `i` has the
+/// `i`th number after those that the database gave before. These are `n + n / 3 + n / 5` changes, and nothing fails.
 ///
-/// One header is held at a time, below 512 bytes. Of `Packages.db` the blocks of each package that is replaced or erased are read once. The
-/// disk may be an overlay: then all changes can be committed as one. After an `Err` the database isn't to be used further. The headers and
-/// the rounds are this project's own.
+/// One header is held at a time, below 512 bytes. Of `Packages.db` the blocks of each package that is replaced or
+/// erased are read once. The disk may be an overlay: then all changes can be committed as one. After an `Err` the
+/// database isn't to be used further. The headers and the rounds are this project's own.
 ///
 /// # Errors
 ///
-/// Going through the changes in order, the first that is refused decides, and of it the first of these four limits that it meets:
+/// Going through the changes in order, the first that is refused decides, and of it the first of these four limits that
+/// it meets:
 ///
 /// - `NumbersSpent` where a header is to be added and the next number is 4294967295.
 /// - `GenerationSpent` where the generation is 4294967295; each change raises it by one.
 /// - `StoreFull` where a header, or a package in the way of its slot page, fits nowhere below 4 GiB.
-/// - `IndexFull` where the rows after it need more than 268435456 units, with that number: so where the index held the rows at the start.
+/// - `IndexFull` where the rows after it need more than 268435456 units, with that number: so where the index held the
+///   rows at the start.
 ///
 /// And besides:
 ///
 /// - `BadIndex` never where the index held the rows of the packages at the start.
 /// - `DiskFault` only where the disk's count of faults rose.
-/// - `NoMemory` where a header or a change finds no memory; also where a number that was given isn't there or is too great, which takes a
-///   disk that doesn't keep what it is given. It answers nothing else.
+/// - `NoMemory` where a header or a change finds no memory; also where a number that was given isn't there or is too
+///   great, which takes a disk that doesn't keep what it is given. It answers nothing else.
 pub fn change_all<D: Disk>(alloc: Global, db: &mut Db, disk: &mut D, n: u32) -> Result<Tally, Halt>
     requires few { n ≤ 100000 }
     requires ready { IsReady D.Disk disk.old db.old }
-    ensures made { IsTrue D.tells → IfOk result (λ tally. Made (changes n (state (D.files disk.old).pkg db.old.store))
-        (state (D.files disk.old).pkg db.old.store) (state (D.files disk.new).pkg db.new.store) tally) }
-    ensures limits { IsTrue D.tells → (indexed : Bool) → (indexed ≡ true → IsIndexed (D.files disk.old).pkg (D.files disk.old).idx db.old)
-        → LimitsTurn indexed (state (D.files disk.old).pkg db.old.store) db.old.store db.new.store (D.files disk.old) (D.files disk.new)
-        (changes n (state (D.files disk.old).pkg db.old.store)) result }
-    ensures carried { IfOk result (λ _tally. IsCarried D.tells (D.files disk.old) (D.files disk.new) (D.left_since disk.new (D.moment disk.new))
-        db.old db.new) }
-    ensures indexed { is_indexed db.new ≡ true }
+    ensures went { WentThrough D.Disk (changes n (state_on D.Disk disk.old db.old)) disk.old disk.new
+        db.old db.new result }
     ensures spent { IfErr result (IsSpent db.new) }
     ensures kinds { IfErr result IsOfChanges }
-    ensures runs { Runs D.tells D.files D.left_since D.moment D.bytes_read D.follows SameLog disk.old disk.new }
-    ensures disk { HasCauseAt (result ≡ Err Halt.DiskFault) (D.faults disk.old) (D.faults disk.new) }
 {
     let b = db.next_number().saturating_sub(1);
     let added = match go_round(alloc, db, disk, Round::Adding, b, n) {

@@ -1,25 +1,24 @@
 //! The exercise as a whole.
 
-ghost use Rattle.std.specs.Prelude.{◌≡◌, ℕ, ◌≤◌, Bool, List, [], false, true, IsTrue, Ok, Err, OnOk, IfOk, IfErr};
-ghost use Rattle.rpm_outside.specs.Buffered.{inner, holds};
+ghost use Rattle.std.specs.Prelude.{◌≡◌, ℕ, ◌≤◌, Bool, List, false, true, IsTrue, Ok, Err, OnOk, IfOk, IfErr};
+ghost use Rattle.rpm_outside.specs.Buffered.{inner};
 ghost use Rattle.rpm_outside.specs.Causes.{HasCauseAt};
 ghost use Rattle.rpm_db.specs.Database as database;
-ghost use Rattle.rpm_db.specs.Database.{IsIndexed, IsNext, is_indexed};
+ghost use Rattle.rpm_db.specs.Database.{IsNext, is_indexed};
 ghost use Rattle.rpm_db.specs.Lawful.{Remade};
 ghost use Rattle.rpm_db.specs.Openings.{units_needed};
 ghost use Rattle.rpm_db.specs.Reaches.{ReachesMade};
 ghost use Rattle.rpm_db.specs.Runs.{Runs};
-ghost use Rattle.rpm_db.specs.State.{state, packages};
 ghost use Rattle.rpm_db.specs.inner.Writes.{SameFiles, SameLog};
-ghost use Rattle.rpm_select.specs.Reach.{HasIndexRows};
-ghost use Rattle.rpm_change.specs.Endings.{outputs, Ended, IsCarried};
+ghost use Rattle.rpm_change.specs.Endings.{Ended};
 ghost use Rattle.rpm_change.specs.Limits.{LimitsTurn};
-ghost use Rattle.rpm_exercise.specs.Endings.{IsReadable, IsTold, IsUnbroken, IsOfReading, IsOfTelling, IsOfExercise, OnceBegun, IsRefused, Renewed};
+ghost use Rattle.rpm_exercise.specs.Endings.{IsTold, IsUnbroken, IsOfReading, IsOfTelling, IsOfExercise, OnceBegun, IsRefused, Renewed};
 ghost use Rattle.rpm_exercise.specs.Exercised.{summary, exercise};
 ghost use Rattle.rpm_db.specs.Changed.{IsReady};
-ghost use Rattle.rpm_exercise.specs.Ready.{IsCurrent, IsStop};
+ghost use Rattle.rpm_exercise.specs.Ready.{IsAskable, packages_on, RowsOn, IsStop};
 ghost use Rattle.rpm_exercise.specs.Rounds.{changes, IsSpent};
 ghost use Rattle.rpm_change.specs.Hands.{Hand};
+ghost use Rattle.rpm_change.specs.Went.{EndedOnOut, state_on, IndexedOn, LimitsOn, IsCurrent, LeftOn, with_out};
 
 use crate::rounds::change_all;
 use crate::summary::summary;
@@ -44,12 +43,10 @@ fn tell<D: Disk, O: Sink + Drop>(
     disk: &mut D,
     out: &mut Buffered<O>,
 ) -> Result<(), Halt>
-    requires readable { IsTrue D.tells → IsReadable (D.files disk.old) db.now }
-    requires going { db.now.stopped ≡ false }
-    requires from_one { IsTrue D.tells → database.holds 0 db.now ≡ false }
-    ensures told { IsTrue D.tells → HasIndexRows db.now (D.files disk.old).pkg (D.files disk.old).idx → IsTold O.tells (O.taken (inner out.old))
-        (O.taken (inner out.new)) (summary (packages (D.files disk.old).pkg db.now.store)) result }
-    ensures lawful { IsTrue D.tells → HasIndexRows db.now (D.files disk.old).pkg (D.files disk.old).idx → IfErr result IsUnbroken }
+    requires asked { IsAskable D.Disk disk.old db.now }
+    ensures told { IsTrue D.tells → RowsOn D.Disk disk.old db.now → IsTold O.tells (O.taken (inner out.old))
+        (O.taken (inner out.new)) (summary (packages_on D.Disk disk.old db.now)) result }
+    ensures lawful { IsTrue D.tells → RowsOn D.Disk disk.old db.now → IfErr result IsUnbroken }
     ensures kinds { IfErr result IsOfTelling }
     ensures runs { Runs D.tells D.files D.left_since D.moment D.bytes_read D.follows SameFiles disk.old disk.new }
     ensures disk { HasCauseAt (result ≡ Err Halt.DiskFault) (D.faults disk.old) (D.faults disk.new) }
@@ -77,20 +74,14 @@ fn change_and_tell<D: Disk, O: Sink + Drop>(
     requires few { n ≤ 100000 }
     requires ready { IsReady D.Disk disk.old db.old }
     requires from_one { IsTrue D.tells → database.holds 0 db.old ≡ false }
-    ensures ended { IsTrue D.tells → IsIndexed (D.files disk.old).pkg (D.files disk.old).idx db.old → (err_tells : Bool) (err : List ℕ)
-        → Ended (exercise n (state (D.files disk.old).pkg db.old.store)) (state (D.files disk.old).pkg db.old.store)
-        (state (D.files disk.new).pkg db.new.store) result
-        (outputs O.tells (O.taken (inner out.old)) err_tells err) (outputs O.tells (O.taken (inner out.new)) err_tells err) }
-    ensures limits { IsTrue D.tells → (indexed : Bool) → (indexed ≡ true → IsIndexed (D.files disk.old).pkg (D.files disk.old).idx db.old)
-        → LimitsTurn indexed (state (D.files disk.old).pkg db.old.store) db.old.store db.new.store (D.files disk.old) (D.files disk.new)
-        (changes n (state (D.files disk.old).pkg db.old.store)) result }
-    ensures carried { IfOk result (λ _tally. IsCarried D.tells (D.files disk.old) (D.files disk.new) (D.left_since disk.new (D.moment disk.new))
-        db.old db.new) }
-    ensures indexed { is_indexed db.new ≡ true }
+    ensures ended { IsTrue D.tells → IndexedOn D.Disk disk.old db.old → EndedOnOut O.Sink out.old out.new
+        (exercise n (state_on D.Disk disk.old db.old)) (state_on D.Disk disk.old db.old)
+        (state_on D.Disk disk.new db.new) result }
+    ensures limits { IsTrue D.tells → LimitsOn D.Disk disk.old disk.new db.old db.new
+        (changes n (state_on D.Disk disk.old db.old)) result }
+    ensures left { LeftOn D.Disk disk.old disk.new db.old db.new result }
     ensures spent { IfErr result (IsSpent db.new) }
     ensures kinds { IfErr result IsOfExercise }
-    ensures runs { Runs D.tells D.files D.left_since D.moment D.bytes_read D.follows SameLog disk.old disk.new }
-    ensures disk { HasCauseAt (result ≡ Err Halt.DiskFault) (D.faults disk.old) (D.faults disk.new) }
     ensures out { Hand O.Sink (result ≡ Err Halt.OutFault) out.old out.new }
 {
     let tally = match change_all(alloc, db, disk, n) {
@@ -133,13 +124,11 @@ fn exercise_all<D: Disk, O: Sink + Drop>(
     requires few { n ≤ 100000 }
     requires ready { IsReady D.Disk disk.old db.old }
     requires from_one { IsTrue D.tells → database.holds 0 db.old ≡ false }
-    ensures ended { IsTrue D.tells → (err_tells : Bool) (err : List ℕ)
-        → Ended (exercise n (state (D.files disk.old).pkg db.old.store)) (state (D.files disk.old).pkg db.old.store)
-        (state (D.files disk.new).pkg db.new.store) result
-        (outputs O.tells (O.taken (inner out.old)) err_tells err) (outputs O.tells (O.taken (inner out.new)) err_tells err) }
+    ensures ended { IsTrue D.tells → EndedOnOut O.Sink out.old out.new (exercise n (state_on D.Disk disk.old db.old))
+        (state_on D.Disk disk.old db.old) (state_on D.Disk disk.new db.new) result }
     ensures limits { IsTrue D.tells → Renewed (units_needed (D.files disk.old).pkg (Ok db.old.store))
-        (λ mid. LimitsTurn true (state (D.files disk.old).pkg db.old.store) db.old.store db.new.store mid (D.files disk.new)
-        (changes n (state (D.files disk.old).pkg db.old.store)) result) (D.files disk.old) }
+        (λ mid. LimitsTurn true (state_on D.Disk disk.old db.old) db.old.store db.new.store mid (D.files disk.new)
+        (changes n (state_on D.Disk disk.old db.old)) result) (D.files disk.old) }
     ensures current { IfOk result (λ _tally. IsCurrent D.Disk disk.new db.new) }
     ensures indexed { is_indexed db.new ≡ true }
     ensures spent { IfErr result (IsSpent db.new) }
@@ -154,22 +143,24 @@ fn exercise_all<D: Disk, O: Sink + Drop>(
     }
 }
 
-/// The exercise: on a database without packages it makes the changes of `n` headers, and then writes to `out` how many packages are left,
-/// how many provide each of the seven capabilities, and the SHA-256 of what an export of them would write, in one piece.
+/// The exercise: on a database without packages it makes the changes of `n` headers, and then writes to `out` how many
+/// packages are left, how many provide each of the seven capabilities, and the SHA-256 of what an export of them would
+/// write, in one piece.
 ///
-/// It adds the headers 1 to `n` with the leading number 1, then puts each that is divisible by 3 in its own place with the leading number
-/// 2, then erases each that is divisible by 5: `n + n / 3 + n / 5` changes, and nothing fails. The next number may be any; so the headers
-/// may begin anywhere. First the index is rebuilt, from no packages, so that what is told doesn't rest on what it was. What is told is
-/// asked of the database with that index, as any question is: all packages are read once to count them and once for the digest, and the
-/// candidates of each capability once. One header is held at a time, and the lines.
+/// It adds the headers 1 to `n` with the leading number 1, then puts each that is divisible by 3 in its own place with
+/// the leading number 2, then erases each that is divisible by 5: `n + n / 3 + n / 5` changes, and nothing fails. The
+/// next number may be any; so the headers may begin anywhere. First the index is rebuilt, from no packages, so that
+/// what is told doesn't rest on what it was. What is told is asked of the database with that index, as any question is:
+/// all packages are read once to count them and once for the digest, and the candidates of each capability once. One
+/// header is held at a time, and the lines.
 ///
-/// The disk may be an overlay: then all changes can be committed as one. After an `Err` but `NotEmpty` the database isn't to be used
-/// further. The headers, the rounds and the lines are this project's own.
+/// The disk may be an overlay: then all changes can be committed as one. After an `Err` but `NotEmpty` the database
+/// isn't to be used further. The headers, the rounds and the lines are this project's own.
 ///
 /// # Errors
 ///
-/// `NotEmpty` comes exactly where there is a package, with the least number; nothing is done then. Else, going through the changes in order,
-/// the first that is refused decides, and of it the first of these four limits that it meets:
+/// `NotEmpty` comes exactly where there is a package, with the least number; nothing is done then. Else, going through
+/// the changes in order, the first that is refused decides, and of it the first of these four limits that it meets:
 ///
 /// - `NumbersSpent` where a header is to be added and the next number is 4294967295.
 /// - `GenerationSpent` where the generation is 4294967295; each change raises it by one.
@@ -179,9 +170,10 @@ fn exercise_all<D: Disk, O: Sink + Drop>(
 /// And besides:
 ///
 /// - `BadIndex` never where the disk's contents are told: the index holds the rows.
-/// - `DiskFault` and `OutFault` only where that object's count of faults rose. Before `OutFault` the first bytes of the lines were written.
-/// - `NoMemory` where a header, a change, a question or the lines find no memory; also where a number that was given isn't there or is too
-///   great, which takes a disk that doesn't keep what it is given. It answers nothing else.
+/// - `DiskFault` and `OutFault` only where that object's count of faults rose. Before `OutFault` the first bytes of the
+///   lines were written.
+/// - `NoMemory` where a header, a change, a question or the lines find no memory; also where a number that was given
+///   isn't there or is too great, which takes a disk that doesn't keep what it is given. It answers nothing else.
 pub fn exercise<D: Disk, O: Sink + Drop>(
     alloc: Global,
     db: &mut Db,
@@ -193,17 +185,20 @@ pub fn exercise<D: Disk, O: Sink + Drop>(
     requires ready { IsReady D.Disk disk.old db.old }
     requires from_one { IsTrue D.tells → database.holds 0 db.old ≡ false }
     ensures empty { IsRefused (IsNext (λ m. database.holds m db.old) 0) result }
-    ensures refused { (number : ℕ) → result ≡ Err (ExerciseFault.NotEmpty number) → (db.new ≡ db.old) × (disk.new ≡ disk.old) × (out.new ≡ out.old) }
-    ensures ended { IsTrue D.tells → (err_tells : Bool) (err : List ℕ) → OnceBegun (λ r. Ended (exercise n (state (D.files disk.old).pkg db.old.store))
-        (state (D.files disk.old).pkg db.old.store) (state (D.files disk.new).pkg db.new.store) r
-        (outputs O.tells (O.taken (inner out.old)) err_tells err) (outputs O.tells (O.taken (inner out.new)) err_tells err)) result }
+    ensures refused { (number : ℕ) → result ≡ Err (ExerciseFault.NotEmpty number)
+        → (db.new ≡ db.old) × (disk.new ≡ disk.old) × (out.new ≡ out.old) }
+    ensures ended { IsTrue D.tells → (err_tells : Bool) (err : List ℕ) → OnceBegun (λ r. Ended
+        (exercise n (state_on D.Disk disk.old db.old)) (state_on D.Disk disk.old db.old)
+        (state_on D.Disk disk.new db.new) r
+        (with_out O.Sink err_tells err out.old) (with_out O.Sink err_tells err out.new)) result }
     ensures limits { IsTrue D.tells → OnceBegun (λ r. Renewed (units_needed (D.files disk.old).pkg (Ok db.old.store))
-        (λ mid. LimitsTurn true (state (D.files disk.old).pkg db.old.store) db.old.store db.new.store mid (D.files disk.new)
-        (changes n (state (D.files disk.old).pkg db.old.store)) r) (D.files disk.old)) result }
+        (λ mid. LimitsTurn true (state_on D.Disk disk.old db.old) db.old.store db.new.store mid (D.files disk.new)
+        (changes n (state_on D.Disk disk.old db.old)) r) (D.files disk.old)) result }
     ensures current { IfOk result (λ _tally. IsCurrent D.Disk disk.new db.new) }
     ensures stop { OnceBegun (λ r. IfErr r (IsStop db.new)) result }
     ensures runs { Runs D.tells D.files D.left_since D.moment D.bytes_read D.follows SameLog disk.old disk.new }
-    ensures disk { HasCauseAt (result ≡ Err (ExerciseFault.Halted Halt.DiskFault)) (D.faults disk.old) (D.faults disk.new) }
+    ensures disk { HasCauseAt (result ≡ Err (ExerciseFault.Halted Halt.DiskFault)) (D.faults disk.old)
+        (D.faults disk.new) }
     ensures out { Hand O.Sink (result ≡ Err (ExerciseFault.Halted Halt.OutFault)) out.old out.new }
 {
     if let Some(number) = db.next_above(0) {

@@ -1,15 +1,14 @@
 //! What is told of the packages that are left.
 
-ghost use Rattle.std.specs.Prelude.{◌≡◌, ◌++◌, ◌<◌, codes, false, IsTrue, Err, OnOk, IfOk, IfErr};
+ghost use Rattle.std.specs.Prelude.{◌≡◌, ◌++◌, ◌<◌, codes, IsTrue, Err, OnOk, IfOk, IfErr};
 ghost use Rattle.rpm_outside.specs.Causes.{HasCauseAt};
 ghost use Rattle.rpm_db.specs.State.{packages};
-ghost use Rattle.rpm_db.specs.Database.{holds};
 ghost use Rattle.rpm_db.specs.Runs.{Runs};
 ghost use Rattle.rpm_db.specs.inner.Writes.{SameFiles};
 ghost use Rattle.rpm_select.specs.declared.selection.Selection.TheVariants as question;
-ghost use Rattle.rpm_select.specs.Reach.{HasIndexRows};
-ghost use Rattle.rpm_exercise.specs.Endings.{IsReadable, IsOfAsking, IsOfReading};
+ghost use Rattle.rpm_exercise.specs.Endings.{IsOfAsking, IsOfReading};
 ghost use Rattle.rpm_exercise.specs.Exercised.{picked, count_line, capability_line, capability_lines, summary};
+ghost use Rattle.rpm_exercise.specs.Ready.{IsAskable, packages_on, RowsOn};
 
 use crate::counts::{count_picked, count_provided};
 use crate::digest::digest;
@@ -29,12 +28,10 @@ fn push_capability<D: Disk>(
     c: u32,
 ) -> Result<(), Halt>
     requires few { c < 7 }
-    requires readable { IsTrue D.tells → IsReadable (D.files disk.old) db.now }
-    requires going { db.now.stopped ≡ false }
-    requires from_one { IsTrue D.tells → holds 0 db.now ≡ false }
-    ensures told { IsTrue D.tells → HasIndexRows db.now (D.files disk.old).pkg (D.files disk.old).idx → OnOk result
-        (text.new.items ≡ text.old.items ++ capability_line (packages (D.files disk.old).pkg db.now.store) c) }
-    ensures lawful { IsTrue D.tells → HasIndexRows db.now (D.files disk.old).pkg (D.files disk.old).idx → IfErr result IsOfReading }
+    requires asked { IsAskable D.Disk disk.old db.now }
+    ensures told { IsTrue D.tells → RowsOn D.Disk disk.old db.now → OnOk result
+        (text.new.items ≡ text.old.items ++ capability_line (packages_on D.Disk disk.old db.now) c) }
+    ensures lawful { IsTrue D.tells → RowsOn D.Disk disk.old db.now → IfErr result IsOfReading }
     ensures kinds { IfErr result IsOfAsking }
     ensures runs { Runs D.tells D.files D.left_since D.moment D.bytes_read D.follows SameFiles disk.old disk.new }
     ensures disk { HasCauseAt (result ≡ Err Halt.DiskFault) (D.faults disk.old) (D.faults disk.new) }
@@ -59,12 +56,10 @@ fn push_capabilities<D: Disk>(
     disk: &mut D,
     text: &mut Vec<u8>,
 ) -> Result<(), Halt>
-    requires readable { IsTrue D.tells → IsReadable (D.files disk.old) db.now }
-    requires going { db.now.stopped ≡ false }
-    requires from_one { IsTrue D.tells → holds 0 db.now ≡ false }
-    ensures told { IsTrue D.tells → HasIndexRows db.now (D.files disk.old).pkg (D.files disk.old).idx → OnOk result
-        (text.new.items ≡ text.old.items ++ capability_lines (packages (D.files disk.old).pkg db.now.store)) }
-    ensures lawful { IsTrue D.tells → HasIndexRows db.now (D.files disk.old).pkg (D.files disk.old).idx → IfErr result IsOfReading }
+    requires asked { IsAskable D.Disk disk.old db.now }
+    ensures told { IsTrue D.tells → RowsOn D.Disk disk.old db.now → OnOk result
+        (text.new.items ≡ text.old.items ++ capability_lines (packages_on D.Disk disk.old db.now)) }
+    ensures lawful { IsTrue D.tells → RowsOn D.Disk disk.old db.now → IfErr result IsOfReading }
     ensures kinds { IfErr result IsOfAsking }
     ensures runs { Runs D.tells D.files D.left_since D.moment D.bytes_read D.follows SameFiles disk.old disk.new }
     ensures disk { HasCauseAt (result ≡ Err Halt.DiskFault) (D.faults disk.old) (D.faults disk.new) }
@@ -85,12 +80,11 @@ fn push_packages<D: Disk>(
     disk: &mut D,
     text: &mut Vec<u8>,
 ) -> Result<(), Halt>
-    requires readable { IsTrue D.tells → IsReadable (D.files disk.old) db.now }
-    requires going { db.now.stopped ≡ false }
-    requires from_one { IsTrue D.tells → holds 0 db.now ≡ false }
-    ensures told { IsTrue D.tells → HasIndexRows db.now (D.files disk.old).pkg (D.files disk.old).idx → OnOk result
-        (text.new.items ≡ text.old.items ++ count_line (codes "packages") (picked (packages (D.files disk.old).pkg db.now.store) question.All)) }
-    ensures lawful { IsTrue D.tells → HasIndexRows db.now (D.files disk.old).pkg (D.files disk.old).idx → IfErr result IsOfReading }
+    requires asked { IsAskable D.Disk disk.old db.now }
+    ensures told { IsTrue D.tells → RowsOn D.Disk disk.old db.now → OnOk result
+        (text.new.items ≡ text.old.items
+        ++ count_line (codes "packages") (picked (packages_on D.Disk disk.old db.now) question.All)) }
+    ensures lawful { IsTrue D.tells → RowsOn D.Disk disk.old db.now → IfErr result IsOfReading }
     ensures kinds { IfErr result IsOfAsking }
     ensures runs { Runs D.tells D.files D.left_since D.moment D.bytes_read D.follows SameFiles disk.old disk.new }
     ensures disk { HasCauseAt (result ≡ Err Halt.DiskFault) (D.faults disk.old) (D.faults disk.new) }
@@ -107,12 +101,10 @@ fn push_packages<D: Disk>(
 
 /// How many packages are left, how many provide each capability, and the digest of what an export would write.
 pub fn summary<D: Disk>(alloc: Global, db: &Db, disk: &mut D) -> Result<Vec<u8>, Halt>
-    requires readable { IsTrue D.tells → IsReadable (D.files disk.old) db.now }
-    requires going { db.now.stopped ≡ false }
-    requires from_one { IsTrue D.tells → holds 0 db.now ≡ false }
-    ensures told { IsTrue D.tells → HasIndexRows db.now (D.files disk.old).pkg (D.files disk.old).idx → IfOk result (λ text.
-        text.items ≡ summary (packages (D.files disk.old).pkg db.now.store)) }
-    ensures lawful { IsTrue D.tells → HasIndexRows db.now (D.files disk.old).pkg (D.files disk.old).idx → IfErr result IsOfReading }
+    requires asked { IsAskable D.Disk disk.old db.now }
+    ensures told { IsTrue D.tells → RowsOn D.Disk disk.old db.now → IfOk result (λ text.
+        text.items ≡ summary (packages_on D.Disk disk.old db.now)) }
+    ensures lawful { IsTrue D.tells → RowsOn D.Disk disk.old db.now → IfErr result IsOfReading }
     ensures kinds { IfErr result IsOfAsking }
     ensures runs { Runs D.tells D.files D.left_since D.moment D.bytes_read D.follows SameFiles disk.old disk.new }
     ensures disk { HasCauseAt (result ≡ Err Halt.DiskFault) (D.faults disk.old) (D.faults disk.new) }

@@ -1,8 +1,7 @@
 //! The one limit of a list that no command line reaches: how many headers it has.
 
-ghost use Rattle.std.specs.Prelude.{◌≡◌, true, false, IsTrue, IfSome};
-ghost use Rattle.rpm_db.specs.Changes.{IsServing};
-ghost use Rattle.rpm_db.specs.Database.{holds, is_indexed};
+ghost use Rattle.std.specs.Prelude.{IfSome};
+ghost use Rattle.rpm_db.specs.Changed.{IsReady};
 
 use crate::fixtures::{HEADER, MAGIC, joined};
 use rpm_change::{Halt, Tally, import_most};
@@ -12,10 +11,7 @@ use std::alloc::{AllocError, Global};
 
 // The database of a disk that has none, made and open to be changed.
 fn made<D: Disk>(alloc: Global, disk: &mut D) -> Option<Db>
-    ensures indexed { IfSome result (λ db. is_indexed db ≡ true) }
-    ensures going { IfSome result (λ db. db.stopped ≡ false) }
-    ensures from_one { IfSome result (λ db. IsTrue D.tells → holds 0 db ≡ false) }
-    ensures serving { IfSome result (λ db. IsTrue D.tells → IsServing (D.files disk.new) (D.left_since disk.new (D.moment disk.new)) db) }
+    ensures ready { IfSome result (λ db. IsReady D.Disk disk.new db) }
 {
     let mut db = Db::open(alloc, disk).ok()?;
     match db.init(alloc, disk) {

@@ -1,16 +1,14 @@
-use Rattle.std.proofs.Common.{◌≡◌, ℕ, ◌+◌, ◌≤◌, Bool, true, List, drop}
+use Rattle.std.proofs.Common.{◌≡◌, ℕ, ◌+◌, ◌≤◌, Bool, true, List, drop, Ok}
 use Rattle.std.specs.Prelude.{IsTrue}
 use Rattle.rpm_outside.specs.Buffered.{inner}
-use Rattle.rpm_db.specs.Database.{IsIndexed, is_indexed}
+use Rattle.rpm_db.specs.Database.{IsIndexed}
 use Rattle.rpm_db.specs.Lawful.{IsWholeIndex}
-use Rattle.rpm_db.specs.Runs.{Runs}
 use Rattle.rpm_db.specs.State.{state}
-use Rattle.rpm_db.specs.inner.Writes.{SameLog}
 use Rattle.rpm_change.specs.Steps.{in_turn}
-use Rattle.rpm_change.specs.Endings.{IsCarried}
 use Rattle.rpm_change.specs.Erasing.{erase_one, erase}
 use Rattle.rpm_change.proofs.Courses.{Halfway}
 use Rattle.rpm_change.proofs.Limits.{Limited}
+use Rattle.rpm_change.specs.Went.{LeftOn}
 use Rattle.rpm_change.proofs.erase.erase_numbers.Given as goal
 
 abbrev pub invariant-loop-number : goal.invariant-loop-number
@@ -21,17 +19,14 @@ invariant-loop-number g l = record {
       (state (g.D.Disk.files l.initial.disk).pkg l.initial.db.store) (state (g.D.Disk.files l.disk).pkg l.db.store) l.failed l.changes out out
       (g.E.Sink.taken (inner l.initial.err)) (g.E.Sink.taken (inner l.err));
   limited : IsTrue g.D.Disk.tells → (indexed : Bool)
-      → (indexed ≡ true → IsIndexed (g.D.Disk.files l.initial.disk).pkg (g.D.Disk.files l.initial.disk).idx l.initial.db) → Limited indexed (erase (state (g.D.Disk.files l.initial.disk).pkg l.initial.db.store) l.numbers)
+      → (indexed ≡ true → IsIndexed (g.D.Disk.files l.initial.disk).pkg (g.D.Disk.files l.initial.disk).idx l.initial.db) → Limited indexed (erase
+      (state (g.D.Disk.files l.initial.disk).pkg l.initial.db.store) l.numbers)
       (in_turn erase_one (state (g.D.Disk.files l.disk).pkg l.db.store) l.number-index (drop l.number-index l.numbers))
       (state (g.D.Disk.files l.initial.disk).pkg l.initial.db.store) (state (g.D.Disk.files l.disk).pkg l.db.store) l.initial.db.store l.db.store
       (g.D.Disk.files l.initial.disk) (g.D.Disk.files l.disk);
   few : l.failed + l.changes ≡ l.number-index;
   whole : IsTrue g.D.Disk.tells → IsWholeIndex (g.D.Disk.files l.initial.disk).idx → IsWholeIndex (g.D.Disk.files l.disk).idx;
-  carried : IsCarried g.D.Disk.tells (g.D.Disk.files l.initial.disk) (g.D.Disk.files l.disk) (g.D.Disk.left_since l.disk (g.D.Disk.moment l.disk))
-      l.initial.db l.db;
-  indexed : is_indexed l.db ≡ true;
-  runs : Runs g.D.Disk.tells g.D.Disk.files g.D.Disk.left_since g.D.Disk.moment g.D.Disk.bytes_read g.D.Disk.follows SameLog l.initial.disk l.disk;
-  disk : g.D.Disk.faults l.initial.disk ≤ g.D.Disk.faults l.disk;
+  left : LeftOn g.D.Disk l.initial.disk l.disk l.initial.db l.db (Ok (record { failed = l.failed; changes = l.changes }));
   err : g.E.Sink.faults (inner l.initial.err) ≤ g.E.Sink.faults (inner l.err);
   err_rest : g.E.Sink.follows (inner l.initial.err) (inner l.err);
 }

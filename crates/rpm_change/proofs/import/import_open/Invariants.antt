@@ -1,40 +1,35 @@
-use Rattle.std.proofs.Common.{◌≡◌, ℕ, ◌+◌, ◌-◌, ◌≤◌, Bool, true, false, List}
+use Rattle.std.proofs.Common.{◌≡◌, ℕ, ◌+◌, ◌-◌, ◌≤◌, Bool, true, false, List, Ok}
 use Rattle.std.specs.Prelude.{IsTrue}
 use Rattle.rpm_outside.specs.Browses.{left, Browses}
 use Rattle.rpm_outside.specs.Buffered.{inner}
-use Rattle.rpm_db.specs.Database.{IsIndexed, is_indexed}
+use Rattle.rpm_db.specs.Database.{IsIndexed}
 use Rattle.rpm_db.specs.Lawful.{IsWholeIndex}
-use Rattle.rpm_db.specs.Runs.{Runs}
 use Rattle.rpm_db.specs.State.{state}
-use Rattle.rpm_db.specs.inner.Writes.{SameLog}
-use Rattle.rpm_change.specs.Endings.{IsCarried}
 use Rattle.rpm_change.specs.Importing.{import_listed, listed}
 use Rattle.rpm_change.specs.Turns.{from_place}
 use Rattle.rpm_change.proofs.Courses.{Halfway}
 use Rattle.rpm_change.proofs.Limits.{Limited}
+use Rattle.rpm_change.specs.Went.{LeftOn}
 use Rattle.rpm_change.proofs.import.import_open.Given as goal
 
 abbrev pub invariant-loop-is_last : goal.invariant-loop-is_last
 invariant-loop-is_last g l = record {
-  goes : IsTrue g.D.Disk.tells → IsTrue g.S.Shelf.tells → (out_tells : Bool) (out : List ℕ) → Halfway out_tells g.E.Sink.tells
+  goes : (IsTrue g.D.Disk.tells × IsTrue g.S.Shelf.tells) → (out_tells : Bool) (out : List ℕ) → Halfway out_tells g.E.Sink.tells
       (import_listed l.most (listed (left (g.S.Shelf.rest l.initial.shelf))))
       (from_place l.is_last l.most l.place (listed (left (g.S.Shelf.rest l.shelf))))
       (state (g.D.Disk.files l.initial.disk).pkg l.initial.db.store) (state (g.D.Disk.files l.disk).pkg l.db.store) l.failed l.changes out out
       (g.E.Sink.taken (inner l.initial.err)) (g.E.Sink.taken (inner l.err));
-  limited : IsTrue g.D.Disk.tells → IsTrue g.S.Shelf.tells → (indexed : Bool)
-      → (indexed ≡ true → IsIndexed (g.D.Disk.files l.initial.disk).pkg (g.D.Disk.files l.initial.disk).idx l.initial.db) → Limited indexed (import_listed l.most (listed (left (g.S.Shelf.rest l.initial.shelf))))
+  limited : (IsTrue g.D.Disk.tells × IsTrue g.S.Shelf.tells) → (indexed : Bool)
+      → (indexed ≡ true → IsIndexed (g.D.Disk.files l.initial.disk).pkg (g.D.Disk.files l.initial.disk).idx l.initial.db) → Limited indexed
+      (import_listed l.most (listed (left (g.S.Shelf.rest l.initial.shelf))))
       (from_place l.is_last l.most l.place (listed (left (g.S.Shelf.rest l.shelf)))) (state (g.D.Disk.files l.initial.disk).pkg l.initial.db.store)
       (state (g.D.Disk.files l.disk).pkg l.db.store) l.initial.db.store l.db.store (g.D.Disk.files l.initial.disk) (g.D.Disk.files l.disk);
   few : l.failed + l.changes + 1 ≤ l.place;
   within : l.is_last ≡ false → l.place ≤ l.most + 1;
   below : l.place ≤ l.most + 2;
   whole : IsTrue g.D.Disk.tells → IsWholeIndex (g.D.Disk.files l.initial.disk).idx → IsWholeIndex (g.D.Disk.files l.disk).idx;
-  carried : IsCarried g.D.Disk.tells (g.D.Disk.files l.initial.disk) (g.D.Disk.files l.disk) (g.D.Disk.left_since l.disk (g.D.Disk.moment l.disk))
-      l.initial.db l.db;
-  indexed : is_indexed l.db ≡ true;
-  runs : Runs g.D.Disk.tells g.D.Disk.files g.D.Disk.left_since g.D.Disk.moment g.D.Disk.bytes_read g.D.Disk.follows SameLog l.initial.disk l.disk;
+  left : LeftOn g.D.Disk l.initial.disk l.disk l.initial.db l.db (Ok (record { failed = l.failed; changes = l.changes }));
   browses : Browses g.S.Shelf.tells g.S.Shelf.paths g.S.Shelf.rest g.S.Shelf.absences g.S.Shelf.faults l.initial.shelf l.shelf;
-  disk : g.D.Disk.faults l.initial.disk ≤ g.D.Disk.faults l.disk;
   err : g.E.Sink.faults (inner l.initial.err) ≤ g.E.Sink.faults (inner l.err);
   err_rest : g.E.Sink.follows (inner l.initial.err) (inner l.err);
 }

@@ -12,22 +12,17 @@ use Rattle.rpm_change.specs.Limits.{LimitsTurn}
 use Rattle.rpm_change.specs.Steps.{Course}
 use Rattle.rpm_change.specs.Turns.{Leaves}
 use Rattle.rpm_change.specs.inner.Single.{none_made}
-use Rattle.rpm_change.proofs.Taken.{at_end, nothing_done, ending_kinds, ending_disk}
+use Rattle.rpm_change.proofs.Taken.{at_end, nothing_done, ending_kinds}
 use Rattle.rpm_change.proofs.Turned.{turn_kinds, turn_cause, no_shelf, turn_last}
 use Rattle.rpm_change.proofs.turn.import_next.Answers.Front as front
 use Rattle.rpm_change.proofs.turn.import_next.Answers.Fault as fault
+use Rattle.rpm_change.specs.inner.Leaving.{left_none}
 use Rattle.rpm_change.proofs.turn.import_next.Goals as goal
 
 -- a header stands in front
 
-pub returns-in-Ok-Some-clause-ended : goal.returns-in-Ok-Some-clause-ended
-returns-in-Ok-Some-clause-ended = front.returns-in-Ok-Some-clause-ended
-
-pub returns-in-Ok-Some-clause-whole : goal.returns-in-Ok-Some-clause-whole
-returns-in-Ok-Some-clause-whole g c = λ told whole. rw c.as_turn.ensures.value (c.import_within-done.ensures.whole told whole)
-
-pub returns-in-Ok-Some-clause-limits : goal.returns-in-Ok-Some-clause-limits
-returns-in-Ok-Some-clause-limits = front.returns-in-Ok-Some-clause-limits
+pub returns-in-Ok-Some-clause-went : goal.returns-in-Ok-Some-clause-went
+returns-in-Ok-Some-clause-went = front.returns-in-Ok-Some-clause-went
 
 pub returns-in-Ok-Some-clause-leaves : goal.returns-in-Ok-Some-clause-leaves
 returns-in-Ok-Some-clause-leaves = front.returns-in-Ok-Some-clause-leaves
@@ -39,15 +34,8 @@ returns-in-Ok-Some-clause-last g c =
 pub returns-in-Ok-Some-clause-one : goal.returns-in-Ok-Some-clause-one
 returns-in-Ok-Some-clause-one = front.returns-in-Ok-Some-clause-one
 
-pub returns-in-Ok-Some-clause-carried : goal.returns-in-Ok-Some-clause-carried
-returns-in-Ok-Some-clause-carried = front.returns-in-Ok-Some-clause-carried
-
 pub returns-in-Ok-Some-clause-kinds : goal.returns-in-Ok-Some-clause-kinds
 returns-in-Ok-Some-clause-kinds g c = turn_kinds c.as_turn.result c.import_within-done.result c.as_turn.ensures.value c.import_within-done.ensures.kinds
-
-pub returns-in-Ok-Some-clause-disk : goal.returns-in-Ok-Some-clause-disk
-returns-in-Ok-Some-clause-disk g c =
-    turn_cause c.as_turn.result c.import_within-done.result c.as_turn.ensures.value halt.DiskFault _ _ c.import_within-done.ensures.disk
 
 pub returns-in-Ok-Some-clause-shelf : goal.returns-in-Ok-Some-clause-shelf
 returns-in-Ok-Some-clause-shelf g c =
@@ -61,20 +49,23 @@ returns-in-Ok-Some-clause-err g c = record {
 
 -- the list is at its end
 
-pub returns-in-Ok-None-clause-ended : goal.returns-in-Ok-None-clause-ended
-returns-in-Ok-None-clause-ended g c = λ told heard ot o.
-    let said = rw c.in-Ok-None.field-0-is at c.in-Ok-None.ensures in
-    nothing_done c.args.most c.args.place _ (said.answers heard).0 (state (g.D.Disk.files c.args.disk.now).pkg c.args.db.now.store) ot g.E.Sink.tells o
-    (g.E.Sink.taken (inner c.args.err.now))
-
-pub returns-in-Ok-None-clause-limits : goal.returns-in-Ok-None-clause-limits
-returns-in-Ok-None-clause-limits g c = λ told heard i rows.
-    let s = state (g.D.Disk.files c.args.disk.now).pkg c.args.db.now.store in
-    let v = c.args.db.now.store in
-    let said = rw c.in-Ok-None.field-0-is at c.in-Ok-None.ensures in
-    let f = g.D.Disk.files c.args.disk.now in
-    at_end (λ (course : Course). LimitsTurn i s v v f f course.changes (Ok (record { failed = 0; changes = 0 }))) c.args.most c.args.place _ (said.answers heard).0
-    (none_made i s v v v.spare (record { failed = 0; changes = 0 }) refl)
+pub returns-in-Ok-None-clause-went : goal.returns-in-Ok-None-clause-went
+returns-in-Ok-None-clause-went g c = record {
+  ended = λ both ot o.
+      let said = rw c.in-Ok-None.field-0-is at c.in-Ok-None.ensures in
+      nothing_done c.args.most c.args.place _ (said.answers both.1).0 (state (g.D.Disk.files c.args.disk.now).pkg c.args.db.now.store) ot g.E.Sink.tells o
+      (g.E.Sink.taken (inner c.args.err.now));
+  limits = λ both i rows.
+      let s = state (g.D.Disk.files c.args.disk.now).pkg c.args.db.now.store in
+      let v = c.args.db.now.store in
+      let said = rw c.in-Ok-None.field-0-is at c.in-Ok-None.ensures in
+      let f = g.D.Disk.files c.args.disk.now in
+      at_end (λ (course : Course). LimitsTurn i s v v f f course.changes (Ok (record { failed = 0; changes = 0 }))) c.args.most c.args.place _
+      (said.answers both.1).0
+      (none_made i s v v v.spare (record { failed = 0; changes = 0 }) refl);
+  whole = λ told whole. whole;
+  left = left_none g.D.Disk g.met.D.Disk.follows_refl c.args.disk.now c.args.db.now c.requires.ready (Ok (record { failed = 0; changes = 0 })) (λ is. cc);
+}
 
 pub returns-in-Ok-None-clause-leaves : goal.returns-in-Ok-None-clause-leaves
 returns-in-Ok-None-clause-leaves g c = λ heard.
@@ -82,19 +73,10 @@ returns-in-Ok-None-clause-leaves g c = λ heard.
     subst (λ (r : Result (Option Found) ListFault). Leaves c.args.most c.args.place r true (left (g.S.Shelf.rest c.read_header.new.shelf)))
     (sym (said.answers heard).0) refl
 
-pub returns-in-Ok-None-clause-carried : goal.returns-in-Ok-None-clause-carried
-returns-in-Ok-None-clause-carried g c = record { going = c.requires.going; serving = c.requires.serving; index = λ told rows. rows }
-
 -- a fault of the list
 
-pub returns-in-Err-clause-ended : goal.returns-in-Err-clause-ended
-returns-in-Err-clause-ended = fault.returns-in-Err-clause-ended
-
-pub returns-in-Err-clause-whole : goal.returns-in-Err-clause-whole
-returns-in-Err-clause-whole = fault.returns-in-Err-clause-whole
-
-pub returns-in-Err-clause-limits : goal.returns-in-Err-clause-limits
-returns-in-Err-clause-limits = fault.returns-in-Err-clause-limits
+pub returns-in-Err-clause-went : goal.returns-in-Err-clause-went
+returns-in-Err-clause-went = fault.returns-in-Err-clause-went
 
 pub returns-in-Err-clause-leaves : goal.returns-in-Err-clause-leaves
 returns-in-Err-clause-leaves = fault.returns-in-Err-clause-leaves
@@ -106,14 +88,8 @@ returns-in-Err-clause-last g c =
 pub returns-in-Err-clause-one : goal.returns-in-Err-clause-one
 returns-in-Err-clause-one = fault.returns-in-Err-clause-one
 
-pub returns-in-Err-clause-carried : goal.returns-in-Err-clause-carried
-returns-in-Err-clause-carried = fault.returns-in-Err-clause-carried
-
 pub returns-in-Err-clause-kinds : goal.returns-in-Err-clause-kinds
 returns-in-Err-clause-kinds g c = ending_kinds c.as_turn-in-Err.result c.end_list.result c.as_turn-in-Err.ensures.value c.end_list.ensures.kinds
-
-pub returns-in-Err-clause-disk : goal.returns-in-Err-clause-disk
-returns-in-Err-clause-disk g c = ending_disk c.as_turn-in-Err.result c.end_list.result c.as_turn-in-Err.ensures.value c.end_list.ensures.kinds _
 
 pub returns-in-Err-clause-shelf : goal.returns-in-Err-clause-shelf
 returns-in-Err-clause-shelf = fault.returns-in-Err-clause-shelf

@@ -13,7 +13,7 @@ use Rattle.rpm_exercise.proofs.counts.count_picked.Goals as goal
 
 pub count_served-requires-clause-keeps : goal.count_served-requires-clause-keeps
 count_served-requires-clause-keeps g c = λ told.
-    subst (λ (f : Files). Keeps f.pkg c.args.db.now) (sym (c.in-Ok.ensures.looks.untouched told).same) (c.requires.readable told).keeps
+    subst (λ (f : Files). Keeps f.pkg c.args.db.now) (sym (c.in-Ok.ensures.looks.untouched told).same) (c.requires.asked.readable told).keeps
 
 pub returns-in-Ok-clause-told : goal.returns-in-Ok-clause-told
 returns-in-Ok-clause-told g c = λ told rows.
@@ -23,7 +23,7 @@ returns-in-Ok-clause-told g c = λ told rows.
     let mid = g.D.Disk.files c.new.new.disk in
     let same = (c.in-Ok.ensures.looks.untouched told).same in
     let serves = served sel db c.in-Ok.picker c.in-Ok.picker mid start refl same (c.in-Ok.ensures.serves told rows) in
-    let whole = picks_from_one mid.pkg db sel (c.requires.from_one told) ∙ ap (λ (f : Files). picks (packages f.pkg db.store) sel) same in
+    let whole = picks_from_one mid.pkg db sel (c.requires.asked.from_one told) ∙ ap (λ (f : Files). picks (packages f.pkg db.store) sel) same in
     rw (← whole) (c.count_served.ensures.told told serves)
 
 pub returns-in-Ok-clause-kinds : goal.returns-in-Ok-clause-kinds

@@ -14,7 +14,7 @@ use Rattle.rpm_exercise.proofs.digest.digest.Goals as goal
 
 pub digest_served-requires-clause-keeps : goal.digest_served-requires-clause-keeps
 digest_served-requires-clause-keeps g c = λ told.
-    subst (λ (f : Files). Keeps f.pkg c.args.db.now) (sym (c.in-Ok.ensures.looks.untouched told).same) (c.requires.readable told).keeps
+    subst (λ (f : Files). Keeps f.pkg c.args.db.now) (sym (c.in-Ok.ensures.looks.untouched told).same) (c.requires.asked.readable told).keeps
 
 pub returns-in-Ok-clause-told : goal.returns-in-Ok-clause-told
 returns-in-Ok-clause-told g c = λ told rows.
@@ -24,7 +24,7 @@ returns-in-Ok-clause-told g c = λ told rows.
     let mid = g.D.Disk.files c.new.new.disk in
     let same = (c.in-Ok.ensures.looks.untouched told).same in
     let serves = served sel db c.in-Ok.picker c.in-Ok.picker mid start refl same (c.in-Ok.ensures.serves told rows) in
-    let whole = picks_from_one mid.pkg db sel (c.requires.from_one told) ∙ ap (λ (f : Files). picks (packages f.pkg db.store) sel) same in
+    let whole = picks_from_one mid.pkg db sel (c.requires.asked.from_one told) ∙ ap (λ (f : Files). picks (packages f.pkg db.store) sel) same in
     rw (← whole) (c.digest_served.ensures.told told serves)
 
 pub returns-in-Ok-clause-kinds : goal.returns-in-Ok-clause-kinds

@@ -1,19 +1,45 @@
-use Rattle.std.proofs.Common.{Ok, sym, ap, subst}
+use Rattle.std.proofs.Common.{Ok, sym, ap, subst, Err, arith}
 use Rattle.rpm_outside.specs.Buffered.{inner}
 use Rattle.rpm_outside.specs.Files.{Files}
-use Rattle.rpm_db.specs.Database.{IsIndexed}
 use Rattle.rpm_db.specs.State.{state}
 use Rattle.rpm_change.specs.Limits.{LimitsTurn}
 use Rattle.rpm_exercise.specs.Rounds.{changes}
 use Rattle.rpm_exercise.proofs.Limited.{telling_limits}
-use Rattle.rpm_exercise.proofs.Reading.{read_after, serving_read}
 use Rattle.rpm_exercise.proofs.Told.{from_one_after, told_done, told_halted}
+use Rattle.rpm_exercise.proofs.Reading.{left_read, cause_on}
 use Rattle.rpm_exercise.proofs.running.change_and_tell.Goals as goal
 
-pub tell-requires-clause-from_one : goal.tell-requires-clause-from_one
-tell-requires-clause-from_one g c = λ told.
-    from_one_after (g.D.Disk.files c.args.disk.now).pkg (g.D.Disk.files c.change_all.new.disk).pkg c.args.db.now c.change_all.new.db
-    (c.in-Ok.ensures.made told).from_one (c.requires.from_one told)
+pub tell-requires : goal.tell-requires
+tell-requires g c =
+    let carried = c.in-Ok.ensures.went.left.carried in
+    record {
+      asked = record {
+        readable = λ told. record { keeps = (carried.serving told).keeps; index = (carried.serving told).index };
+        going = carried.going;
+        from_one = λ told.
+            from_one_after (g.D.Disk.files c.args.disk.now).pkg (g.D.Disk.files c.change_all.new.disk).pkg c.args.db.now c.change_all.new.db
+            (c.in-Ok.ensures.went.made told).from_one (c.requires.from_one told);
+      };
+    }
+
+pub returns-in-Err-clause-left : goal.returns-in-Err-clause-left
+returns-in-Err-clause-left g c = c.in-Err.ensures.went.left
+
+pub returns-in-Err-clause-limits : goal.returns-in-Err-clause-limits
+returns-in-Err-clause-limits g c = c.in-Err.ensures.went.limits
+
+pub returns-in-Err-tell-clause-left : goal.returns-in-Err-tell-clause-left
+returns-in-Err-tell-clause-left g c =
+    let said = c.in-Err-tell.ensures in
+    left_read g.D.Disk g.met.D.Disk.follows_trans c.args.disk.now c.change_all.new.disk c.tell.new.disk c.args.db.now c.change_all.new.db c.in-Ok.tally
+    c.in-Ok.ensures.went.left said.runs (Err c.in-Err-tell.halt) (cause_on _ _ c.in-Err-tell.halt (g.D.Disk.faults c.change_all.new.disk)
+    (g.D.Disk.faults c.change_all.new.disk) _ (omega arith) said.disk)
+
+pub returns-in-Ok-tell-clause-left : goal.returns-in-Ok-tell-clause-left
+returns-in-Ok-tell-clause-left g c =
+    let said = c.in-Ok-tell.ensures in
+    left_read g.D.Disk g.met.D.Disk.follows_trans c.args.disk.now c.change_all.new.disk c.tell.new.disk c.args.db.now c.change_all.new.db c.in-Ok.tally
+    c.in-Ok.ensures.went.left said.runs (Ok c.in-Ok.tally) (record { later = said.disk.later; rose = λ is. absurd cc })
 
 pub returns-in-Err-tell-clause-ended : goal.returns-in-Err-tell-clause-ended
 returns-in-Err-tell-clause-ended g c = λ told rows et e.
@@ -23,12 +49,8 @@ returns-in-Err-tell-clause-ended g c = λ told rows et e.
     let u = state (g.D.Disk.files c.tell.new.disk).pkg db.store in
     let stays = ap (λ (f : Files). state f.pkg db.store) (c.in-Err-tell.ensures.runs.reads_as told) in
     told_halted g.O.Sink.tells et (g.O.Sink.taken (inner c.args.out.now)) (g.O.Sink.taken (inner c.tell.new.out)) e c.args.n s t u c.in-Ok.tally
-    (c.in-Ok.ensures.made told) stays c.in-Err-tell.halt c.in-Err-tell.ensures.kinds
-    (c.in-Err-tell.ensures.told told (λ is. (c.in-Ok.ensures.carried.index told rows).rows_are))
-
-pub returns-in-Err-tell-clause-runs : goal.returns-in-Err-tell-clause-runs
-returns-in-Err-tell-clause-runs g c =
-    read_after g.D.Disk g.met.D.Disk.follows_trans c.args.disk.now c.change_all.new.disk c.tell.new.disk c.in-Ok.ensures.runs c.in-Err-tell.ensures.runs
+    (c.in-Ok.ensures.went.made told) stays c.in-Err-tell.halt c.in-Err-tell.ensures.kinds
+    (c.in-Err-tell.ensures.told told (λ is. (c.in-Ok.ensures.went.left.carried.index told rows).rows_are))
 
 pub returns-in-Ok-tell-clause-ended : goal.returns-in-Ok-tell-clause-ended
 returns-in-Ok-tell-clause-ended g c = λ told rows et e.
@@ -38,35 +60,17 @@ returns-in-Ok-tell-clause-ended g c = λ told rows et e.
     let u = state (g.D.Disk.files c.tell.new.disk).pkg db.store in
     let stays = ap (λ (f : Files). state f.pkg db.store) (c.in-Ok-tell.ensures.runs.reads_as told) in
     told_done g.O.Sink.tells et (g.O.Sink.taken (inner c.args.out.now)) (g.O.Sink.taken (inner c.tell.new.out)) e c.args.n s t u c.in-Ok.tally
-    (c.in-Ok.ensures.made told) stays (c.in-Ok-tell.ensures.told told (λ is. (c.in-Ok.ensures.carried.index told rows).rows_are))
-
-pub returns-in-Ok-tell-clause-carried : goal.returns-in-Ok-tell-clause-carried
-returns-in-Ok-tell-clause-carried g c =
-    let db = c.change_all.new.db in
-    let d = g.D.Disk in
-    let runs = c.in-Ok-tell.ensures.runs in
-    let carried = c.in-Ok.ensures.carried in
-    record {
-      going = carried.going;
-      serving = λ told.
-          serving_read (d.files c.change_all.new.disk) (d.files c.tell.new.disk) (d.left_since c.change_all.new.disk (d.moment c.change_all.new.disk))
-          (d.left_since c.tell.new.disk (d.moment c.tell.new.disk)) db (runs.reads_as told) (runs.now told) (carried.serving told);
-      index = λ told rows. subst (λ (f : Files). IsIndexed f.pkg f.idx db) (sym (runs.reads_as told)) (carried.index told rows);
-    }
-
-pub returns-in-Ok-tell-clause-runs : goal.returns-in-Ok-tell-clause-runs
-returns-in-Ok-tell-clause-runs g c =
-    read_after g.D.Disk g.met.D.Disk.follows_trans c.args.disk.now c.change_all.new.disk c.tell.new.disk c.in-Ok.ensures.runs c.in-Ok-tell.ensures.runs
+    (c.in-Ok.ensures.went.made told) stays (c.in-Ok-tell.ensures.told told (λ is. (c.in-Ok.ensures.went.left.carried.index told rows).rows_are))
 
 pub returns-in-Err-tell-clause-limits : goal.returns-in-Err-tell-clause-limits
 returns-in-Err-tell-clause-limits g c = λ told j rows.
     let s = state (g.D.Disk.files c.args.disk.now).pkg c.args.db.now.store in
     telling_limits j s c.args.db.now.store c.change_all.new.db.store (changes c.args.n s) c.in-Err-tell.halt c.in-Err-tell.ensures.kinds
-    (λ yes. c.in-Err-tell.ensures.lawful told (λ is. (c.in-Ok.ensures.carried.index told (rows yes)).rows_are))
+    (λ yes. c.in-Err-tell.ensures.lawful told (λ is. (c.in-Ok.ensures.went.left.carried.index told (rows yes)).rows_are))
 
 pub returns-in-Ok-tell-clause-limits : goal.returns-in-Ok-tell-clause-limits
 returns-in-Ok-tell-clause-limits g c = λ told j rows.
     let old = g.D.Disk.files c.args.disk.now in
     let s = state old.pkg c.args.db.now.store in
     subst (λ (f : Files). LimitsTurn j s c.args.db.now.store c.change_all.new.db.store old f (changes c.args.n s) (Ok c.in-Ok.tally))
-    (sym (c.in-Ok-tell.ensures.runs.reads_as told)) (c.in-Ok.ensures.limits told j rows)
+    (sym (c.in-Ok-tell.ensures.runs.reads_as told)) (c.in-Ok.ensures.went.limits told j rows)

@@ -1,5 +1,4 @@
-use Rattle.std.proofs.Common.{Result, Ok, Err, true, is_some, refl, ap, ◌∙◌, subst, arith}
-use Rattle.std.specs.Prelude.{IfOk}
+use Rattle.std.proofs.Common.{true, is_some, refl, ap, ◌∙◌, subst, arith}
 use Rattle.rpm_outside.specs.Buffered.{inner}
 use Rattle.rpm_pkgdb.specs.Slots.{slot_with}
 use Rattle.rpm_pkgdb.specs.Store.{Store}
@@ -13,11 +12,9 @@ use Rattle.rpm_exercise.specs.Exercised.{exercise}
 use Rattle.rpm_exercise.specs.Rounds.{changes}
 use Rattle.rpm_exercise.proofs.Limited.{reading_limits}
 use Rattle.rpm_exercise.proofs.Told.{state_remade}
+use Rattle.rpm_change.specs.inner.Leaving.{current_left}
+use Rattle.rpm_outside.specs.Causes.{Rose}
 use Rattle.rpm_exercise.proofs.running.exercise_all.Goals as goal
-
-if_ok : {X E : Type 0} (P Q : Type 0) (r : Result X E) → (P → Q) → IfOk r (λ x. P) → IfOk r (λ x. Q)
-if_ok P Q (Ok x) so p = so p
-if_ok P Q (Err e) so p = tt
 
 pub change_and_tell-requires-clause-from_one : goal.change_and_tell-requires-clause-from_one
 change_and_tell-requires-clause-from_one g c = λ told.
@@ -35,16 +32,28 @@ returns-in-Ok-clause-ended g c = λ told et e.
 
 pub returns-in-Ok-clause-current : goal.returns-in-Ok-clause-current
 returns-in-Ok-clause-current g c =
-    if_ok _ _ c.change_and_tell.result (λ carried. record {
-      ready = record { indexed = c.change_and_tell.ensures.indexed; going = carried.going; serving = carried.serving };
-      index = λ told. carried.index told (c.in-Ok.ensures.current.index told);
-    }) c.change_and_tell.ensures.carried
+    current_left g.D.Disk c.renew.new.disk c.change_and_tell.new.disk c.renew.new.db c.change_and_tell.new.db c.change_and_tell.result
+    c.change_and_tell.ensures.left c.in-Ok.ensures.current.index
+
+pub returns-in-Ok-clause-indexed : goal.returns-in-Ok-clause-indexed
+returns-in-Ok-clause-indexed g c = c.change_and_tell.ensures.left.indexed
+
+pub returns-in-Ok-clause-disk : goal.returns-in-Ok-clause-disk
+returns-in-Ok-clause-disk g c =
+    let first = c.in-Ok.ensures.disk in
+    let after = c.change_and_tell.ensures.left.disk in
+    record {
+      later = omega (arith, first.later, after.later);
+      rose = λ is.
+          let rose : Rose (g.D.Disk.faults c.renew.new.disk) (g.D.Disk.faults c.change_and_tell.new.disk) = after.rose is in
+          omega (arith, first.later, rose);
+    }
 
 pub returns-in-Ok-clause-runs : goal.returns-in-Ok-clause-runs
 returns-in-Ok-clause-runs g c =
     runs_then g.D.Disk.tells g.D.Disk.files g.D.Disk.left_since g.D.Disk.moment g.D.Disk.bytes_read g.D.Disk.follows g.met.D.Disk.follows_trans
     Remade SameLog SameLog c.args.disk.now c.renew.new.disk c.change_and_tell.new.disk (λ x y made. made.log) (λ x y z made log. log ∙ made.log)
-    c.in-Ok.ensures.runs c.change_and_tell.ensures.runs
+    c.in-Ok.ensures.runs c.change_and_tell.ensures.left.runs
 
 pub returns-in-Err-clause-runs : goal.returns-in-Err-clause-runs
 returns-in-Err-clause-runs g c =

@@ -4,7 +4,7 @@ use Rattle.rpm_db.specs.inner.Running.{runs_none}
 use Rattle.rpm_db.specs.inner.Writes.{SameFiles}
 use Rattle.rpm_exercise.specs.Exercised.{capability_line, capability_lines}
 use Rattle.rpm_exercise.proofs.Reading.{reads_on}
-use Rattle.rpm_exercise.proofs.Told.{readable_same, rows_same, packages_same}
+use Rattle.rpm_exercise.proofs.Told.{askable_same, rows_same, packages_same}
 use Rattle.rpm_exercise.proofs.Walked.{told_of, lines_more, lines_end}
 use Rattle.rpm_exercise.proofs.summary.push_capabilities.Goals as goal
 
@@ -16,10 +16,9 @@ loop-c-init g c = record {
   disk = omega arith;
 }
 
-pub push_capability-requires-clause-readable : goal.push_capability-requires-clause-readable
-push_capability-requires-clause-readable g c = λ told.
-    readable_same (g.D.Disk.files c.args.disk.now) (g.D.Disk.files c.loop-c.disk) c.args.db.now (c.loop-c.invariant.runs.reads_as told)
-    (c.requires.readable told)
+pub push_capability-requires-clause-asked : goal.push_capability-requires-clause-asked
+push_capability-requires-clause-asked g c =
+    askable_same g.D.Disk c.args.disk.now c.loop-c.disk c.args.db.now c.loop-c.invariant.runs.reads_as c.requires.asked
 
 pub loop-c-preserved : goal.loop-c-preserved
 loop-c-preserved g c =

@@ -5,19 +5,20 @@ use Rattle.rpm_db.specs.State.{packages}
 use Rattle.rpm_select.specs.declared.selection.Selection.TheVariants as question
 use Rattle.rpm_exercise.specs.Exercised.{picked, count_line, capability_lines, export_bytes, digest_text, digest_line, summary}
 use Rattle.rpm_exercise.proofs.Reading.{reads_on, cause_on}
-use Rattle.rpm_exercise.proofs.Told.{readable_same, rows_same, packages_same}
+use Rattle.rpm_exercise.proofs.Told.{askable_same, rows_same, packages_same}
 use Rattle.rpm_exercise.proofs.Walked.{told_of, three_told}
 use Rattle.rpm_exercise.proofs.summary.summary.Goals as goal
 
-pub push_capabilities-requires-clause-readable : goal.push_capabilities-requires-clause-readable
-push_capabilities-requires-clause-readable g c = λ told.
-    readable_same (g.D.Disk.files c.args.disk.now) (g.D.Disk.files c.push_packages.new.disk) c.args.db.now
-    (c.in_ok-push_packages.ensures.runs.reads_as told) (c.requires.readable told)
+pub push_capabilities-requires : goal.push_capabilities-requires
+push_capabilities-requires g c = record {
+  asked = askable_same g.D.Disk c.args.disk.now c.push_packages.new.disk c.args.db.now c.in_ok-push_packages.ensures.runs.reads_as c.requires.asked;
+}
 
-pub digest-requires-clause-readable : goal.digest-requires-clause-readable
-digest-requires-clause-readable g c = λ told.
-    readable_same (g.D.Disk.files c.args.disk.now) (g.D.Disk.files c.push_capabilities.new.disk) c.args.db.now
-    (c.in_ok-push_capabilities.ensures.runs.reads_as told ∙ c.in_ok-push_packages.ensures.runs.reads_as told) (c.requires.readable told)
+pub digest-requires : goal.digest-requires
+digest-requires g c = record {
+  asked = askable_same g.D.Disk c.args.disk.now c.push_capabilities.new.disk c.args.db.now
+      (λ told. c.in_ok-push_capabilities.ensures.runs.reads_as told ∙ c.in_ok-push_packages.ensures.runs.reads_as told) c.requires.asked;
+}
 
 pub returns-in_err-push_packages : goal.returns-in_err-push_packages
 returns-in_err-push_packages g c =

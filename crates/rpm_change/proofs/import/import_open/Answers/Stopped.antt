@@ -1,61 +1,62 @@
 -- An import that was stopped.
-use Rattle.std.proofs.Common.{◌≡◌, ◌+◌, false, ◌∙◌}
+use Rattle.std.proofs.Common.{◌≡◌, ◌+◌, false}
 use Rattle.std.proofs.lemmas.Result.{err_from_is_err_and}
 use Rattle.rpm_outside.specs.Browses.{left}
 use Rattle.rpm_outside.specs.Buffered.{inner}
 use Rattle.rpm_outside.specs.inner.Browsing.{browses_then}
 use Rattle.rpm_file.specs.List.{list_head}
 use Rattle.rpm_db.specs.State.{state}
-use Rattle.rpm_db.specs.inner.Running.{runs_then}
-use Rattle.rpm_db.specs.inner.Writes.{SameLog}
 use Rattle.rpm_change.specs.Importing.{import_listed, listed}
 use Rattle.rpm_change.specs.Turns.{turn, from_place}
 use Rattle.rpm_change.proofs.Courses.{halfway_stop}
 use Rattle.rpm_change.proofs.Limits.{limited_stop}
 use Rattle.rpm_change.proofs.Listed.{turn_splits, turn_ahead}
+use Rattle.rpm_change.specs.inner.Leaving.{left_then}
 use Rattle.rpm_change.proofs.import.import_open.Goals as goal
 
-pub returns-in_err-turn-clause-ended : goal.returns-in_err-turn-clause-ended
-returns-in_err-turn-clause-ended g c = λ told heard out_tells out.
-    let most = c.args.most in
-    let k = c.loop-is_last.place in
-    let inv = c.loop-is_last.invariant in
-    let going : c.loop-is_last.is_last ≡ false = cc in
-    let s = state (g.D.Disk.files c.args.disk.now).pkg c.args.db.now.store in
-    let t = state (g.D.Disk.files c.loop-is_last.disk).pkg c.loop-is_last.db.store in
-    let u = state (g.D.Disk.files c.import_next.new.disk).pkg c.import_next.new.db.store in
-    let bytes = left (g.S.Shelf.rest c.loop-is_last.shelf) in
-    let all = import_listed most (listed (left (g.S.Shelf.rest c.args.shelf.now))) in
-    let split = turn_ahead most k (list_head bytes) in
-    let p = err_from_is_err_and c.from_residual.result c.from_residual.ensures.1 in
-    rw (p.1, p.2) (halfway_stop out_tells g.E.Sink.tells all (from_place false most k (listed bytes)) (turn most k (list_head bytes))
-    (from_place split.0 most (k + 1) (listed split.1.0)) s t u c.loop-is_last.failed c.loop-is_last.changes out out out
-    (g.E.Sink.taken (inner c.args.err.now)) (g.E.Sink.taken (inner c.loop-is_last.err)) (g.E.Sink.taken (inner c.import_next.new.err))
-    (turn_splits most k bytes split.0 split.1.0 split.1.1) (rw going at (inv.goes told heard out_tells out)) c.in_err-turn.field-0.0
-    (c.in_err-turn.ensures.ended told heard out_tells out))
-
-pub returns-in_err-turn-clause-limits : goal.returns-in_err-turn-clause-limits
-returns-in_err-turn-clause-limits g c = λ told heard i rows.
-    let most = c.args.most in
-    let k = c.loop-is_last.place in
-    let inv = c.loop-is_last.invariant in
-    let going : c.loop-is_last.is_last ≡ false = cc in
-    let s = state (g.D.Disk.files c.args.disk.now).pkg c.args.db.now.store in
-    let t = state (g.D.Disk.files c.loop-is_last.disk).pkg c.loop-is_last.db.store in
-    let bytes = left (g.S.Shelf.rest c.loop-is_last.shelf) in
-    let all = import_listed most (listed (left (g.S.Shelf.rest c.args.shelf.now))) in
-    let split = turn_ahead most k (list_head bytes) in
-    let p = err_from_is_err_and c.from_residual.result c.from_residual.ensures.1 in
-    rw (p.1, p.2) (limited_stop i all (from_place false most k (listed bytes)) (turn most k (list_head bytes)) (from_place split.0 most (k + 1) (listed split.1.0)) s t
-    c.args.db.now.store c.loop-is_last.db.store c.import_next.new.db.store (turn_splits most k bytes split.0 split.1.0 split.1.1)
-    (rw going at (inv.limited told heard i rows)) c.in_err-turn.field-0.0
-    (c.in_err-turn.ensures.limits told heard i (λ is. inv.carried.index told (rows is))))
-
-pub returns-in_err-turn-clause-runs : goal.returns-in_err-turn-clause-runs
-returns-in_err-turn-clause-runs g c =
-    runs_then g.D.Disk.tells g.D.Disk.files g.D.Disk.left_since g.D.Disk.moment g.D.Disk.bytes_read g.D.Disk.follows g.met.D.Disk.follows_trans
-    SameLog SameLog SameLog c.args.disk.now c.loop-is_last.disk c.import_next.new.disk (λ x y log. log) (λ x y z first second. second ∙ first)
-    c.loop-is_last.invariant.runs c.in_err-turn.ensures.runs
+pub returns-in_err-turn-clause-went : goal.returns-in_err-turn-clause-went
+returns-in_err-turn-clause-went g c = record {
+  ended = λ both out_tells out.
+      let most = c.args.most in
+      let k = c.loop-is_last.place in
+      let inv = c.loop-is_last.invariant in
+      let going : c.loop-is_last.is_last ≡ false = cc in
+      let s = state (g.D.Disk.files c.args.disk.now).pkg c.args.db.now.store in
+      let t = state (g.D.Disk.files c.loop-is_last.disk).pkg c.loop-is_last.db.store in
+      let u = state (g.D.Disk.files c.import_next.new.disk).pkg c.import_next.new.db.store in
+      let bytes = left (g.S.Shelf.rest c.loop-is_last.shelf) in
+      let all = import_listed most (listed (left (g.S.Shelf.rest c.args.shelf.now))) in
+      let split = turn_ahead most k (list_head bytes) in
+      let p = err_from_is_err_and c.from_residual.result c.from_residual.ensures.1 in
+      rw (p.1, p.2) (halfway_stop out_tells g.E.Sink.tells all (from_place false most k (listed bytes)) (turn most k (list_head bytes))
+      (from_place split.0 most (k + 1) (listed split.1.0)) s t u c.loop-is_last.failed c.loop-is_last.changes out out out
+      (g.E.Sink.taken (inner c.args.err.now)) (g.E.Sink.taken (inner c.loop-is_last.err)) (g.E.Sink.taken (inner c.import_next.new.err))
+      (turn_splits most k bytes split.0 split.1.0 split.1.1) (rw going at (inv.goes both out_tells out)) c.in_err-turn.field-0.0
+      (c.in_err-turn.ensures.went.ended both out_tells out));
+  limits = λ both i rows.
+      let most = c.args.most in
+      let k = c.loop-is_last.place in
+      let inv = c.loop-is_last.invariant in
+      let going : c.loop-is_last.is_last ≡ false = cc in
+      let s = state (g.D.Disk.files c.args.disk.now).pkg c.args.db.now.store in
+      let t = state (g.D.Disk.files c.loop-is_last.disk).pkg c.loop-is_last.db.store in
+      let bytes = left (g.S.Shelf.rest c.loop-is_last.shelf) in
+      let all = import_listed most (listed (left (g.S.Shelf.rest c.args.shelf.now))) in
+      let split = turn_ahead most k (list_head bytes) in
+      let p = err_from_is_err_and c.from_residual.result c.from_residual.ensures.1 in
+      rw (p.1, p.2) (limited_stop i all (from_place false most k (listed bytes)) (turn most k (list_head bytes)) (from_place split.0 most (k + 1)
+      (listed split.1.0)) s t
+      c.args.db.now.store c.loop-is_last.db.store c.import_next.new.db.store (turn_splits most k bytes split.0 split.1.0 split.1.1)
+      (rw going at (inv.limited both i rows)) c.in_err-turn.field-0.0
+      (c.in_err-turn.ensures.went.limits both i (λ is. inv.left.carried.index both.0 (rows is))));
+  whole = λ told whole.
+      let p = err_from_is_err_and c.from_residual.result c.from_residual.ensures.1 in
+      rw (p.1, p.2) (c.in_err-turn.ensures.went.whole told (c.loop-is_last.invariant.whole told whole));
+  left =
+      let p = err_from_is_err_and c.from_residual.result c.from_residual.ensures.1 in
+      rw (p.1, p.2) (left_then g.D.Disk g.met.D.Disk.follows_trans c.args.disk.now c.loop-is_last.disk c.import_next.new.disk c.args.db.now c.loop-is_last.db
+      c.import_next.new.db _ _ c.loop-is_last.invariant.left c.in_err-turn.ensures.went.left);
+}
 
 pub returns-in_err-turn-clause-browses : goal.returns-in_err-turn-clause-browses
 returns-in_err-turn-clause-browses g c =

@@ -1,0 +1,93 @@
+-- How a course went on a disk and a database: how far, which limit stopped it, and what it left.
+use Rattle.std.specs.Prelude.{◌≡◌, ℕ, List, Bool, true, IsTrue, IfOk, Result, Err}
+use Rattle.rpm_outside.specs.declared.disk.Disk as disk
+use Rattle.rpm_outside.specs.declared.sink.Sink as sink
+use Rattle.rpm_outside.specs.declared.buffered.Buffered.{Buffered}
+use Rattle.rpm_outside.specs.Buffered.{inner}
+use Rattle.rpm_outside.specs.Causes.{HasCauseAt}
+use Rattle.rpm_db.specs.Changed.{IsReady}
+use Rattle.rpm_db.specs.Changes.{Change}
+use Rattle.rpm_db.specs.Database.{Database, IsIndexed, is_indexed}
+use Rattle.rpm_db.specs.Lawful.{IsWholeIndex}
+use Rattle.rpm_db.specs.Runs.{Runs}
+use Rattle.rpm_db.specs.State.{State, state}
+use Rattle.rpm_db.specs.inner.Writes.{SameLog}
+use Rattle.rpm_change.specs.declared.tally.Tally.{Tally}
+use Rattle.rpm_change.specs.declared.tally.Halt.{Halt}
+use Rattle.rpm_change.specs.declared.tally.Halt.TheVariants as halt
+use Rattle.rpm_change.specs.Endings.{Outputs, outputs, Ended, IsCarried, WholeTurn}
+use Rattle.rpm_change.specs.Limits.{LimitsTurn}
+use Rattle.rpm_change.specs.Steps.{Course}
+
+-- ---- the sinks
+
+-- nothing was written: both sinks have what they had
+abbrev pub EndedQuietly : Course → State → State → Result Tally Halt → Type 0
+EndedQuietly course s t r = (out_tells err_tells : Bool) (out err : List ℕ)
+    → Ended course s t r (outputs out_tells out err_tells err) (outputs out_tells out err_tells err)
+
+module _ {S : Type 0} (of : sink.Ghosts S) where
+  -- what both took, where err is the sink behind this buffer
+  abbrev pub with_err : Bool → List ℕ → Buffered S → Outputs
+  with_err tells out err = outputs tells out of.tells (of.taken (inner err))
+
+  -- or out is
+  abbrev pub with_out : Bool → List ℕ → Buffered S → Outputs
+  with_out tells err out = outputs of.tells (of.taken (inner out)) tells err
+
+  -- what was written went to err: out has what it had
+  abbrev pub EndedOnErr : Buffered S → Buffered S → Course → State → State → Result Tally Halt
+      → Type 0
+  EndedOnErr old new course s t r = (tells : Bool) (out : List ℕ)
+      → Ended course s t r (with_err tells out old) (with_err tells out new)
+
+  -- it went to out: err has what it had
+  abbrev pub EndedOnOut : Buffered S → Buffered S → Course → State → State → Result Tally Halt
+      → Type 0
+  EndedOnOut old new course s t r = (tells : Bool) (err : List ℕ)
+      → Ended course s t r (with_out tells err old) (with_out tells err new)
+
+-- ---- the disk and the database
+
+module _ {D : Type 0} (d : disk.Ghosts D) where
+  -- the state that a database has on this disk
+  abbrev pub state_on : D → Database → State
+  state_on at db = state (d.files at).pkg db.store
+
+  -- its index holds the rows of its packages
+  abbrev pub IndexedOn : D → Database → Type 0
+  IndexedOn at db = IsIndexed (d.files at).pkg (d.files at).idx db
+
+  -- it can be changed further, and its index holds the rows where it did before
+  abbrev pub CarriedOn : (old new : D) (before after : Database) → Type 0
+  CarriedOn old new before after =
+      IsCarried d.tells (d.files old) (d.files new) (d.left_since new (d.moment new)) before after
+
+  -- the first of these changes that is refused decides; the index is asked where it held the rows
+  abbrev pub LimitsOn : D → D → Database → Database → List Change → Result Tally Halt → Type 0
+  LimitsOn old new before after changes r =
+      (indexed : Bool) → (indexed ≡ true → IndexedOn old before)
+      → LimitsTurn indexed (state_on old before) before.store after.store
+      (d.files old) (d.files new) changes r
+
+  -- it can be changed further, and its index holds the rows of its packages
+  pub record IsCurrent (at : D) (db : Database) : Type 0 where
+    pub ready : IsReady d at db
+    pub index : IsTrue d.tells → IndexedOn at db
+
+  -- ---- the course
+
+  -- what is left, however it went
+  pub record LeftOn (old new : D) (before after : Database) (r : Result Tally Halt) : Type 0 where
+    pub carried : IfOk r (λ tally. CarriedOn old new before after)
+    pub indexed : is_indexed after ≡ true
+    pub runs : Runs d.tells d.files d.left_since d.moment d.bytes_read d.follows SameLog old new
+    pub disk : HasCauseAt (r ≡ Err halt.DiskFault) (d.faults old) (d.faults new)
+
+  -- how far it went and which limit stopped it, once the contents are told; and what is left
+  pub record Went (Told : Type 0) (old new : D) (before after : Database) (r : Result Tally Halt)
+      (Ends : Course → State → State → Result Tally Halt → Type 0) (course : Course) : Type 0 where
+    pub ended : Told → Ends course (state_on old before) (state_on new after) r
+    pub limits : Told → LimitsOn old new before after course.changes r
+    pub whole : IsTrue d.tells → IsWholeIndex (d.files old).idx → WholeTurn (d.files new).idx r
+    pub left : LeftOn old new before after r

@@ -1,0 +1,153 @@
+-- What is left of a database where nothing was done, where a change was made or refused, and after one call and then another.
+use Rattle.std.proofs.Common.{◌≡◌, ◌≤◌, true, false, Result, Ok, Err, inl, inr, refl, ◌∙◌, arith}
+use Rattle.std.proofs.lemmas.Bool.{cases_Bool}
+use Rattle.std.specs.Prelude.{IsTrue, IfOk}
+use Rattle.rpm_outside.specs.declared.disk.Disk as disk
+use Rattle.rpm_outside.specs.Causes.{Rose}
+use Rattle.rpm_db.specs.declared.change_fault.ChangeFault.{ChangeFault}
+use Rattle.rpm_db.specs.declared.change_fault.ChangeFault.TheVariants as fault
+use Rattle.rpm_db.specs.Changed.{IsReady, IsLeft}
+use Rattle.rpm_db.specs.Database.{Database, is_indexed}
+use Rattle.rpm_db.specs.Runs.{Runs}
+use Rattle.rpm_db.specs.inner.Running.{runs_none, runs_then}
+use Rattle.rpm_db.specs.inner.Writes.{SameLog}
+use Rattle.rpm_change.specs.declared.tally.Tally.{Tally}
+use Rattle.rpm_change.specs.declared.tally.Halt.{Halt}
+use Rattle.rpm_change.specs.declared.tally.Halt.TheVariants as halt
+use Rattle.rpm_change.specs.Endings.{halt_of}
+use Rattle.rpm_change.specs.Went.{IndexedOn, CarriedOn, IsCurrent, LeftOn}
+
+of_disk : (f : ChangeFault) → halt_of f ≡ halt.DiskFault → f ≡ fault.DiskFault
+of_disk fault.NumbersSpent is = absurd cc
+of_disk fault.GenerationSpent is = absurd cc
+of_disk fault.StoreFull is = absurd cc
+of_disk (fault.IndexFull needed) is = absurd cc
+of_disk (fault.BadIndex unit) is = absurd cc
+of_disk fault.DiskFault is = refl
+of_disk fault.NoMemory is = absurd cc
+of_disk (fault.BadHeader why) is = absurd cc
+of_disk fault.NoSuch is = absurd cc
+of_disk fault.Stopped is = absurd cc
+
+module _ {D : Type 0} (d : disk.Ghosts D) where
+  abbrev Ran : D → D → Type 0
+  Ran = Runs d.tells d.files d.left_since d.moment d.bytes_read d.follows SameLog
+
+  -- ---- nothing was done
+
+  pub unchanged : (at : D) (db : Database) → IsReady d at db → CarriedOn d at at db db
+  unchanged at db ready = record { going = ready.going; serving = ready.serving; index = λ told rows. rows }
+
+  pub carried_any : (old new : D) (before after : Database) → CarriedOn d old new before after → (r : Result Tally Halt)
+      → IfOk r (λ tally. CarriedOn d old new before after)
+  carried_any old new before after carried (Ok tally) = carried
+  carried_any old new before after carried (Err h) = tt
+
+  pub left_none : ((x : D) → d.follows x x) → (at : D) (db : Database) → IsReady d at db → (r : Result Tally Halt)
+      → (r ≡ Err halt.DiskFault → ⊥) → LeftOn d at at db db r
+  left_none stays at db ready r other = record {
+    carried = carried_any at at db db (unchanged at db ready) r;
+    indexed = ready.indexed;
+    runs = runs_none d.tells d.files d.left_since d.moment d.bytes_read d.follows stays SameLog (λ f. refl) at;
+    disk = record { later = omega arith; rose = λ is. absurd (other is) };
+  }
+
+  -- ---- a change
+
+  module _ {A : Type 0} (old new : D) (before after refused : Database) (runs : Ran old new) (later : d.faults old ≤ d.faults new) where
+    made_going : (a : A) → IsLeft d old new before after refused (Ok a) → before.stopped ≡ false → after.stopped ≡ false
+    made_going a left going = elim (cases_Bool after.stopped) [
+      | inl on ↦ (elim (left.stopped.0 on) [ inl was ↦ absurd cc | inr failed ↦ absurd cc ])
+      | inr off ↦ off
+    ]
+
+    pub left_made : (a : A) (tally : Tally) → IsLeft d old new before after refused (Ok a) → before.stopped ≡ false
+        → LeftOn d old new before after (Ok tally)
+    left_made a tally left going = record {
+      carried = record {
+        going = made_going a left going;
+        serving = λ told. left.serving (λ e. cc) going told;
+        index = λ told rows. left.index told rows;
+      };
+      indexed = left.indexed;
+      runs = runs;
+      disk = record { later = later; rose = λ is. absurd cc };
+    }
+
+    -- and then something else that writes no file
+    pub left_refused : (e : Result A ChangeFault) → IsLeft d old new before after refused e → (e ≡ Err fault.DiskFault → ⊥)
+        → before.stopped ≡ false → after.stopped ≡ false → (IsTrue d.tells → IndexedOn d old before → IndexedOn d new after)
+        → (r : Result Tally Halt) → (r ≡ Err halt.DiskFault → ⊥) → LeftOn d old new before after r
+    left_refused e left kept going goes index r other = record {
+      carried = carried_any old new before after
+          (record { going = goes; serving = λ told. left.serving kept going told; index = index }) r;
+      indexed = left.indexed;
+      runs = runs;
+      disk = record { later = later; rose = λ is. absurd (other is) };
+    }
+
+  pub left_halted : (old new : D) (before after : Database) → Ran old new → d.faults old ≤ d.faults new → is_indexed after ≡ true
+      → (f : ChangeFault) → (f ≡ fault.DiskFault → Rose (d.faults old) (d.faults new)) → LeftOn d old new before after (Err (halt_of f))
+  left_halted old new before after runs later indexed f rose = record {
+    carried = tt;
+    indexed = indexed;
+    runs = runs;
+    disk = record { later = later; rose = λ is. rose (of_disk f (cc)) };
+  }
+
+  -- ---- one call and then another
+
+  carried_then : (old mid new : D) (start before after : Database) → CarriedOn d old mid start before → (r : Result Tally Halt)
+      → IfOk r (λ tally. CarriedOn d mid new before after) → IfOk r (λ tally. CarriedOn d old new start after)
+  carried_then old mid new start before after first (Ok tally) second = record {
+    going = second.going;
+    serving = second.serving;
+    index = λ told rows. second.index told (first.index told rows);
+  }
+  carried_then old mid new start before after first (Err h) second = tt
+
+  pub left_then : ((x y z : D) → d.follows x y → d.follows y z → d.follows x z) → (old mid new : D) (start before after : Database)
+      (tally : Tally) (r : Result Tally Halt) → LeftOn d old mid start before (Ok tally) → LeftOn d mid new before after r
+      → LeftOn d old new start after r
+  left_then joins old mid new start before after tally r first second = record {
+    carried = carried_then old mid new start before after first.carried r second.carried;
+    indexed = second.indexed;
+    runs = runs_then d.tells d.files d.left_since d.moment d.bytes_read d.follows joins SameLog SameLog SameLog old mid new (λ x y log. log)
+        (λ x y z one two. two ∙ one) first.runs second.runs;
+    disk = record {
+      later = omega (arith, first.disk.later, second.disk.later);
+      rose = λ is. (let rose : Rose (d.faults mid) (d.faults new) = second.disk.rose is in omega (arith, first.disk.later, rose));
+    };
+  }
+
+  -- nothing was changed after it
+  pub left_after : (old new : D) (before after : Database) (tally : Tally) → LeftOn d old new before after (Ok tally)
+      → (r : Result Tally Halt) → (r ≡ Err halt.DiskFault → ⊥) → LeftOn d old new before after r
+  left_after old new before after tally left r other = record {
+    carried = carried_any old new before after left.carried r;
+    indexed = left.indexed;
+    runs = left.runs;
+    disk = record { later = left.disk.later; rose = λ is. absurd (other is) };
+  }
+
+  -- however many arguments failed, and changes were made
+  pub left_counted : (old new : D) (before after : Database) (one other : Tally) → LeftOn d old new before after (Ok one)
+      → LeftOn d old new before after (Ok other)
+  left_counted old new before after one other left = left_after old new before after one left (Ok other) (λ is. cc)
+
+  pub left_more : ((x y z : D) → d.follows x y → d.follows y z → d.follows x z) → (old mid new : D) (start before after : Database)
+      (one two all : Tally) → LeftOn d old mid start before (Ok one) → LeftOn d mid new before after (Ok two)
+      → LeftOn d old new start after (Ok all)
+  left_more joins old mid new start before after one two all first second =
+      left_counted old new start after two all (left_then joins old mid new start before after one (Ok two) first second)
+
+  -- it can be changed further
+  pub ready_left : (old new : D) (before after : Database) (tally : Tally) → LeftOn d old new before after (Ok tally) → IsReady d new after
+  ready_left old new before after tally left =
+      record { indexed = left.indexed; going = left.carried.going; serving = left.carried.serving }
+
+  pub current_left : (old new : D) (before after : Database) (r : Result Tally Halt) → LeftOn d old new before after r
+      → (IsTrue d.tells → IndexedOn d old before) → IfOk r (λ tally. IsCurrent d new after)
+  current_left old new before after (Ok tally) left rows =
+      record { ready = ready_left old new before after tally left; index = λ told. left.carried.index told (rows told) }
+  current_left old new before after (Err h) left rows = tt
