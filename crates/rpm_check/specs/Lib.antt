@@ -1,4 +1,5 @@
 pub mod Answers
 pub mod Edges
+pub mod Frame
 pub mod Unmet
 pub mod inner

@@ -4,11 +4,9 @@ ghost use Rattle.std.specs.Prelude.{◌≡◌, ◌++◌, ℕ, IsTrue, is_some, f
 ghost use Rattle.std.specs.List.{flat_map};
 ghost use Rattle.std.specs.List.Sorted.{IsStrictlyIncreasing};
 ghost use Rattle.std.specs.FinMap as finite;
-ghost use Rattle.rpm_outside.specs.Causes.{HasCauseAt};
-ghost use Rattle.rpm_db.specs.Database.{Keeps, KeepsIndex};
-ghost use Rattle.rpm_db.specs.State.{packages};
-ghost use Rattle.rpm_select.specs.Reach.{HasIndexRows, is_in};
-ghost use Rattle.rpm_check.specs.Answers.{Glances, IsBroken, is_broken};
+ghost use Rattle.rpm_select.specs.Reach.{is_in};
+ghost use Rattle.rpm_check.specs.Frame.{IsReady, Kept, KeptIndex, HasRows, packages_in, Glances, DiskFault};
+ghost use Rattle.rpm_check.specs.Answers.{IsBroken, is_broken};
 ghost use Rattle.rpm_check.specs.Edges.{givers};
 ghost use Rattle.rpm_check.specs.Unmet.{required};
 ghost use Rattle.rpm_check.specs.inner.Ends.{needs_at, is_good_at};
@@ -44,21 +42,19 @@ fn push_givers<D: Disk>(
     needed: &Dependency<'_>,
     ends: &mut Vec<u32>,
 ) -> Result<(), CheckFault>
-    requires keeps { IsTrue D.tells → Keeps (D.files disk.old).pkg db.now }
-    requires keeps_index { IsTrue D.tells → KeepsIndex (D.files disk.old).idx db.now }
-    requires runs { db.now.stopped ≡ false }
-    requires remembers { IsTrue D.tells → HasIndexRows db.now (D.files disk.old).pkg (D.files disk.old).idx
-        → KnowsGivers (packages (D.files disk.old).pkg db.now.store) memo.old }
-    ensures kept { IsTrue D.tells → Keeps (D.files disk.new).pkg db.now }
-    ensures kept_index { IsTrue D.tells → KeepsIndex (D.files disk.new).idx db.now }
-    ensures told { OnOk result (IsTrue D.tells → HasIndexRows db.now (D.files disk.old).pkg (D.files disk.old).idx → ends.new.items
-        ≡ ends.old.items ++ givers (packages (D.files disk.old).pkg db.now.store) (needed_in needed.now)) }
-    ensures remembered { IsTrue D.tells → HasIndexRows db.now (D.files disk.old).pkg (D.files disk.old).idx
-        → KnowsGivers (packages (D.files disk.old).pkg db.now.store) memo.new }
+    requires ready { IsReady D.Disk disk.old db.now }
+    requires remembers { IsTrue D.tells → HasRows D.Disk disk.old db.now
+        → KnowsGivers (packages_in D.Disk disk.old db.now) memo.old }
+    ensures kept { Kept D.Disk disk.new db.now }
+    ensures kept_index { KeptIndex D.Disk disk.new db.now }
+    ensures told { OnOk result (IsTrue D.tells → HasRows D.Disk disk.old db.now
+        → ends.new.items ≡ ends.old.items ++ givers (packages_in D.Disk disk.old db.now) (needed_in needed.now)) }
+    ensures remembered { IsTrue D.tells → HasRows D.Disk disk.old db.now
+        → KnowsGivers (packages_in D.Disk disk.old db.now) memo.new }
     ensures broken { IsTrue D.tells → IfErr result (IsBroken (D.files disk.old).idx) }
-    ensures lawful { IsTrue D.tells → HasIndexRows db.now (D.files disk.old).pkg (D.files disk.old).idx → is_broken result ≡ false }
-    ensures looks { Glances D.tells D.files D.left_since D.moment D.bytes_read D.follows disk.old disk.new }
-    ensures cause { HasCauseAt (result ≡ Err CheckFault.DiskFault) (D.faults disk.old) (D.faults disk.new) }
+    ensures lawful { IsTrue D.tells → HasRows D.Disk disk.old db.now → is_broken result ≡ false }
+    ensures looks { Glances D.Disk disk.old disk.new }
+    ensures cause { DiskFault D.Disk (result ≡ Err CheckFault.DiskFault) disk.old disk.new }
 {
     let key = Requirement::of(alloc, needed)?;
     if let Some(known) = memo.get(&key) {
@@ -79,21 +75,20 @@ fn push_ends<D: Disk>(
     view: &View<'_>,
     ends: &mut Vec<u32>,
 ) -> Result<(), CheckFault>
-    requires keeps { IsTrue D.tells → Keeps (D.files disk.old).pkg db.now }
-    requires keeps_index { IsTrue D.tells → KeepsIndex (D.files disk.old).idx db.now }
-    requires runs { db.now.stopped ≡ false }
-    requires remembers { IsTrue D.tells → HasIndexRows db.now (D.files disk.old).pkg (D.files disk.old).idx
-        → KnowsGivers (packages (D.files disk.old).pkg db.now.store) memo.old }
-    ensures kept { IsTrue D.tells → Keeps (D.files disk.new).pkg db.now }
-    ensures kept_index { IsTrue D.tells → KeepsIndex (D.files disk.new).idx db.now }
-    ensures told { OnOk result (IsTrue D.tells → HasIndexRows db.now (D.files disk.old).pkg (D.files disk.old).idx → ends.new.items
-        ≡ ends.old.items ++ flat_map (givers (packages (D.files disk.old).pkg db.now.store)) (required view.now)) }
-    ensures remembered { IsTrue D.tells → HasIndexRows db.now (D.files disk.old).pkg (D.files disk.old).idx
-        → KnowsGivers (packages (D.files disk.old).pkg db.now.store) memo.new }
+    requires ready { IsReady D.Disk disk.old db.now }
+    requires remembers { IsTrue D.tells → HasRows D.Disk disk.old db.now
+        → KnowsGivers (packages_in D.Disk disk.old db.now) memo.old }
+    ensures kept { Kept D.Disk disk.new db.now }
+    ensures kept_index { KeptIndex D.Disk disk.new db.now }
+    ensures told { OnOk result (IsTrue D.tells → HasRows D.Disk disk.old db.now
+        → ends.new.items
+        ≡ ends.old.items ++ flat_map (givers (packages_in D.Disk disk.old db.now)) (required view.now)) }
+    ensures remembered { IsTrue D.tells → HasRows D.Disk disk.old db.now
+        → KnowsGivers (packages_in D.Disk disk.old db.now) memo.new }
     ensures broken { IsTrue D.tells → IfErr result (IsBroken (D.files disk.old).idx) }
-    ensures lawful { IsTrue D.tells → HasIndexRows db.now (D.files disk.old).pkg (D.files disk.old).idx → is_broken result ≡ false }
-    ensures looks { Glances D.tells D.files D.left_since D.moment D.bytes_read D.follows disk.old disk.new }
-    ensures cause { HasCauseAt (result ≡ Err CheckFault.DiskFault) (D.faults disk.old) (D.faults disk.new) }
+    ensures lawful { IsTrue D.tells → HasRows D.Disk disk.old db.now → is_broken result ≡ false }
+    ensures looks { Glances D.Disk disk.old disk.new }
+    ensures cause { DiskFault D.Disk (result ≡ Err CheckFault.DiskFault) disk.old disk.new }
 {
     let mut left = dependencies(view, REQUIRES);
     while let Some(needed) = left.next() {
@@ -102,8 +97,8 @@ fn push_ends<D: Disk>(
     Ok(())
 }
 
-/// Adds the numbers of the packages that meet a requirement of a number's package, and tells whether that package can be read. Reads its
-/// blocks once.
+/// Adds the numbers of the packages that meet a requirement of a number's package, and tells whether that package can
+/// be read. Reads its blocks once.
 fn push_ends_of<D: Disk>(
     alloc: Global,
     db: &Db,
@@ -112,23 +107,22 @@ fn push_ends_of<D: Disk>(
     number: u32,
     ends: &mut Vec<u32>,
 ) -> Result<bool, CheckFault>
-    requires keeps { IsTrue D.tells → Keeps (D.files disk.old).pkg db.now }
-    requires keeps_index { IsTrue D.tells → KeepsIndex (D.files disk.old).idx db.now }
-    requires runs { db.now.stopped ≡ false }
-    requires remembers { IsTrue D.tells → HasIndexRows db.now (D.files disk.old).pkg (D.files disk.old).idx
-        → KnowsGivers (packages (D.files disk.old).pkg db.now.store) memo.old }
-    ensures kept { IsTrue D.tells → Keeps (D.files disk.new).pkg db.now }
-    ensures kept_index { IsTrue D.tells → KeepsIndex (D.files disk.new).idx db.now }
-    ensures good { IfOk result (λ good. IsTrue D.tells → good ≡ is_good_at (finite.get (packages (D.files disk.old).pkg db.now.store) number)) }
-    ensures told { OnOk result (IsTrue D.tells → HasIndexRows db.now (D.files disk.old).pkg (D.files disk.old).idx → ends.new.items
-        ≡ ends.old.items ++ flat_map (givers (packages (D.files disk.old).pkg db.now.store))
-        (needs_at (finite.get (packages (D.files disk.old).pkg db.now.store) number))) }
-    ensures remembered { IsTrue D.tells → HasIndexRows db.now (D.files disk.old).pkg (D.files disk.old).idx
-        → KnowsGivers (packages (D.files disk.old).pkg db.now.store) memo.new }
+    requires ready { IsReady D.Disk disk.old db.now }
+    requires remembers { IsTrue D.tells → HasRows D.Disk disk.old db.now
+        → KnowsGivers (packages_in D.Disk disk.old db.now) memo.old }
+    ensures kept { Kept D.Disk disk.new db.now }
+    ensures kept_index { KeptIndex D.Disk disk.new db.now }
+    ensures good { IfOk result (λ good. IsTrue D.tells
+        → good ≡ is_good_at (finite.get (packages_in D.Disk disk.old db.now) number)) }
+    ensures told { OnOk result (IsTrue D.tells → HasRows D.Disk disk.old db.now
+        → ends.new.items ≡ ends.old.items ++ flat_map (givers (packages_in D.Disk disk.old db.now))
+        (needs_at (finite.get (packages_in D.Disk disk.old db.now) number))) }
+    ensures remembered { IsTrue D.tells → HasRows D.Disk disk.old db.now
+        → KnowsGivers (packages_in D.Disk disk.old db.now) memo.new }
     ensures broken { IsTrue D.tells → IfErr result (IsBroken (D.files disk.old).idx) }
-    ensures lawful { IsTrue D.tells → HasIndexRows db.now (D.files disk.old).pkg (D.files disk.old).idx → is_broken result ≡ false }
-    ensures looks { Glances D.tells D.files D.left_since D.moment D.bytes_read D.follows disk.old disk.new }
-    ensures cause { HasCauseAt (result ≡ Err CheckFault.DiskFault) (D.faults disk.old) (D.faults disk.new) }
+    ensures lawful { IsTrue D.tells → HasRows D.Disk disk.old db.now → is_broken result ≡ false }
+    ensures looks { Glances D.Disk disk.old disk.new }
+    ensures cause { DiskFault D.Disk (result ≡ Err CheckFault.DiskFault) disk.old disk.new }
 {
     match db.read(alloc, disk, number) {
         Ok(blob) => match View::parse(&blob) {
@@ -155,7 +149,8 @@ fn each_once(numbers: Vec<u32>) -> Vec<u32>
     numbers
 }
 
-/// The numbers of the packages that meet a requirement of a number's package, rising, each once; nothing where that package can't be read.
+/// The numbers of the packages that meet a requirement of a number's package, rising, each once; nothing where that
+/// package can't be read.
 pub fn ends_of<D: Disk>(
     alloc: Global,
     db: &Db,
@@ -163,25 +158,23 @@ pub fn ends_of<D: Disk>(
     memo: &mut GiverMemo,
     number: u32,
 ) -> Result<Option<Vec<u32>>, CheckFault>
-    requires keeps { IsTrue D.tells → Keeps (D.files disk.old).pkg db.now }
-    requires keeps_index { IsTrue D.tells → KeepsIndex (D.files disk.old).idx db.now }
-    requires runs { db.now.stopped ≡ false }
-    requires remembers { IsTrue D.tells → HasIndexRows db.now (D.files disk.old).pkg (D.files disk.old).idx
-        → KnowsGivers (packages (D.files disk.old).pkg db.now.store) memo.old }
-    ensures kept { IsTrue D.tells → Keeps (D.files disk.new).pkg db.now }
-    ensures kept_index { IsTrue D.tells → KeepsIndex (D.files disk.new).idx db.now }
+    requires ready { IsReady D.Disk disk.old db.now }
+    requires remembers { IsTrue D.tells → HasRows D.Disk disk.old db.now
+        → KnowsGivers (packages_in D.Disk disk.old db.now) memo.old }
+    ensures kept { Kept D.Disk disk.new db.now }
+    ensures kept_index { KeptIndex D.Disk disk.new db.now }
     ensures good { IfOk result (λ found. IsTrue D.tells
-        → is_some found ≡ is_good_at (finite.get (packages (D.files disk.old).pkg db.now.store) number)) }
+        → is_some found ≡ is_good_at (finite.get (packages_in D.Disk disk.old db.now) number)) }
     ensures rising { IfOk result (λ found. IfSome found (λ ends. IsStrictlyIncreasing ends.items)) }
-    ensures told { IfOk result (λ found. IfSome found (λ ends. IsTrue D.tells → HasIndexRows db.now (D.files disk.old).pkg (D.files disk.old).idx
-        → (m : ℕ) → is_in m ends.items ≡ is_in m (flat_map (givers (packages (D.files disk.old).pkg db.now.store))
-        (needs_at (finite.get (packages (D.files disk.old).pkg db.now.store) number))))) }
-    ensures remembered { IsTrue D.tells → HasIndexRows db.now (D.files disk.old).pkg (D.files disk.old).idx
-        → KnowsGivers (packages (D.files disk.old).pkg db.now.store) memo.new }
+    ensures told { IfOk result (λ found. IfSome found (λ ends. IsTrue D.tells → HasRows D.Disk disk.old db.now → (m : ℕ)
+        → is_in m ends.items ≡ is_in m (flat_map (givers (packages_in D.Disk disk.old db.now))
+        (needs_at (finite.get (packages_in D.Disk disk.old db.now) number))))) }
+    ensures remembered { IsTrue D.tells → HasRows D.Disk disk.old db.now
+        → KnowsGivers (packages_in D.Disk disk.old db.now) memo.new }
     ensures broken { IsTrue D.tells → IfErr result (IsBroken (D.files disk.old).idx) }
-    ensures lawful { IsTrue D.tells → HasIndexRows db.now (D.files disk.old).pkg (D.files disk.old).idx → is_broken result ≡ false }
-    ensures looks { Glances D.tells D.files D.left_since D.moment D.bytes_read D.follows disk.old disk.new }
-    ensures cause { HasCauseAt (result ≡ Err CheckFault.DiskFault) (D.faults disk.old) (D.faults disk.new) }
+    ensures lawful { IsTrue D.tells → HasRows D.Disk disk.old db.now → is_broken result ≡ false }
+    ensures looks { Glances D.Disk disk.old disk.new }
+    ensures cause { DiskFault D.Disk (result ≡ Err CheckFault.DiskFault) disk.old disk.new }
 {
     let mut ends = Vec::new(alloc);
     let good = push_ends_of(alloc, db, disk, memo, number, &mut ends)?;

@@ -13,7 +13,8 @@ use rpm_select::Recent;
 use std::alloc::{AllocError, Global};
 use std::collections::BTreeMap;
 
-/// The numbers of the packages that meet requirements that were looked up before, and the package that was read last for one.
+/// The numbers of the packages that meet requirements that were looked up before, and the package that was read last
+/// for one.
 #[derive(Drop)]
 pub struct GiverMemo {
     numbers: BTreeMap<Requirement, Vec<u32>>,
@@ -40,8 +41,8 @@ impl GiverMemo {
 
     /// Notes the numbers of the packages that meet a requirement.
     pub fn put(&mut self, key: Requirement, numbers: Vec<u32>) -> Result<(), AllocError>
-        ensures { (packages : FinMap nat_cmp Package) → KnowsGivers packages self.old → numbers.items ≡ givers packages (need_of key)
-            → KnowsGivers packages self.new }
+        ensures { (packages : FinMap nat_cmp Package) → KnowsGivers packages self.old
+            → numbers.items ≡ givers packages (need_of key) → KnowsGivers packages self.new }
     {
         self.numbers.insert(key, numbers)?;
         Ok(())

@@ -1,13 +1,10 @@
 //! Which packages meet a requirement.
 
 ghost use Rattle.std.specs.Prelude.{◌≡◌, map, IsTrue, false, Err, IfOk, IfErr};
-ghost use Rattle.rpm_outside.specs.Causes.{HasCauseAt};
-ghost use Rattle.rpm_db.specs.Database.{Keeps, KeepsIndex};
-ghost use Rattle.rpm_db.specs.State.{packages};
-ghost use Rattle.rpm_select.specs.Reach.{HasIndexRows};
 ghost use Rattle.rpm_select.specs.Recents.{Recalls};
 ghost use Rattle.rpm_select.specs.Selections.{picks};
-ghost use Rattle.rpm_check.specs.Answers.{Glances, IsBroken, is_broken};
+ghost use Rattle.rpm_check.specs.Frame.{IsReady, Kept, KeptIndex, HasRows, packages_in, Glances, DiskFault};
+ghost use Rattle.rpm_check.specs.Answers.{IsBroken, is_broken};
 ghost use Rattle.rpm_check.specs.Edges.{givers};
 ghost use Rattle.rpm_check.specs.inner.Needs.{needed_in};
 
@@ -26,20 +23,18 @@ fn numbers_picked<D: Disk>(
     recent: &mut Recent,
     selection: &Selection<'_>,
 ) -> Result<Vec<u32>, CheckFault>
-    requires keeps { IsTrue D.tells → Keeps (D.files disk.old).pkg db.now }
-    requires keeps_index { IsTrue D.tells → KeepsIndex (D.files disk.old).idx db.now }
-    requires runs { db.now.stopped ≡ false }
-    ensures kept { IsTrue D.tells → Keeps (D.files disk.new).pkg db.now }
-    ensures kept_index { IsTrue D.tells → KeepsIndex (D.files disk.new).idx db.now }
-    ensures told { IfOk result (λ numbers. IsTrue D.tells → HasIndexRows db.now (D.files disk.old).pkg (D.files disk.old).idx
-        → Recalls (packages (D.files disk.old).pkg db.now.store) recent.old
-        → numbers.items ≡ map (λ e. e.0) (picks (packages (D.files disk.old).pkg db.now.store) selection.now)) }
-    ensures recalls { IsTrue D.tells → Recalls (packages (D.files disk.old).pkg db.now.store) recent.old
-        → Recalls (packages (D.files disk.old).pkg db.now.store) recent.new }
+    requires ready { IsReady D.Disk disk.old db.now }
+    ensures kept { Kept D.Disk disk.new db.now }
+    ensures kept_index { KeptIndex D.Disk disk.new db.now }
+    ensures told { IfOk result (λ numbers. IsTrue D.tells → HasRows D.Disk disk.old db.now
+        → Recalls (packages_in D.Disk disk.old db.now) recent.old
+        → numbers.items ≡ map (λ e. e.0) (picks (packages_in D.Disk disk.old db.now) selection.now)) }
+    ensures recalls { IsTrue D.tells → Recalls (packages_in D.Disk disk.old db.now) recent.old
+        → Recalls (packages_in D.Disk disk.old db.now) recent.new }
     ensures broken { IsTrue D.tells → IfErr result (IsBroken (D.files disk.old).idx) }
-    ensures lawful { IsTrue D.tells → HasIndexRows db.now (D.files disk.old).pkg (D.files disk.old).idx → is_broken result ≡ false }
-    ensures looks { Glances D.tells D.files D.left_since D.moment D.bytes_read D.follows disk.old disk.new }
-    ensures cause { HasCauseAt (result ≡ Err CheckFault.DiskFault) (D.faults disk.old) (D.faults disk.new) }
+    ensures lawful { IsTrue D.tells → HasRows D.Disk disk.old db.now → is_broken result ≡ false }
+    ensures looks { Glances D.Disk disk.old disk.new }
+    ensures cause { DiskFault D.Disk (result ≡ Err CheckFault.DiskFault) disk.old disk.new }
 {
     let picker = Picker::new(alloc, db, disk, selection)?;
     let mut numbers = Vec::new(alloc);
@@ -51,7 +46,8 @@ fn numbers_picked<D: Disk>(
     Ok(numbers)
 }
 
-/// The numbers of the packages that meet a requirement, rising. Asks the index and reads as `is_met` does, but reads each candidate.
+/// The numbers of the packages that meet a requirement, rising. Asks the index and reads as `is_met` does, but reads
+/// each candidate.
 ///
 /// # Errors
 ///
@@ -63,20 +59,18 @@ pub fn givers<D: Disk>(
     recent: &mut Recent,
     needed: &Dependency<'_>,
 ) -> Result<Vec<u32>, CheckFault>
-    requires keeps { IsTrue D.tells → Keeps (D.files disk.old).pkg db.now }
-    requires keeps_index { IsTrue D.tells → KeepsIndex (D.files disk.old).idx db.now }
-    requires runs { db.now.stopped ≡ false }
-    ensures kept { IsTrue D.tells → Keeps (D.files disk.new).pkg db.now }
-    ensures kept_index { IsTrue D.tells → KeepsIndex (D.files disk.new).idx db.now }
-    ensures told { IfOk result (λ numbers. IsTrue D.tells → HasIndexRows db.now (D.files disk.old).pkg (D.files disk.old).idx
-        → Recalls (packages (D.files disk.old).pkg db.now.store) recent.old
-        → numbers.items ≡ givers (packages (D.files disk.old).pkg db.now.store) (needed_in needed.now)) }
-    ensures recalls { IsTrue D.tells → Recalls (packages (D.files disk.old).pkg db.now.store) recent.old
-        → Recalls (packages (D.files disk.old).pkg db.now.store) recent.new }
+    requires ready { IsReady D.Disk disk.old db.now }
+    ensures kept { Kept D.Disk disk.new db.now }
+    ensures kept_index { KeptIndex D.Disk disk.new db.now }
+    ensures told { IfOk result (λ numbers. IsTrue D.tells → HasRows D.Disk disk.old db.now
+        → Recalls (packages_in D.Disk disk.old db.now) recent.old
+        → numbers.items ≡ givers (packages_in D.Disk disk.old db.now) (needed_in needed.now)) }
+    ensures recalls { IsTrue D.tells → Recalls (packages_in D.Disk disk.old db.now) recent.old
+        → Recalls (packages_in D.Disk disk.old db.now) recent.new }
     ensures broken { IsTrue D.tells → IfErr result (IsBroken (D.files disk.old).idx) }
-    ensures lawful { IsTrue D.tells → HasIndexRows db.now (D.files disk.old).pkg (D.files disk.old).idx → is_broken result ≡ false }
-    ensures looks { Glances D.tells D.files D.left_since D.moment D.bytes_read D.follows disk.old disk.new }
-    ensures cause { HasCauseAt (result ≡ Err CheckFault.DiskFault) (D.faults disk.old) (D.faults disk.new) }
+    ensures lawful { IsTrue D.tells → HasRows D.Disk disk.old db.now → is_broken result ≡ false }
+    ensures looks { Glances D.Disk disk.old disk.new }
+    ensures cause { DiskFault D.Disk (result ≡ Err CheckFault.DiskFault) disk.old disk.new }
 {
     let wanted = Capability::of_range(needed.name, needed.flags, needed.version);
     numbers_picked(alloc, db, disk, recent, &Selection::Provides(wanted))

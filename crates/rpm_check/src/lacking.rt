@@ -1,11 +1,8 @@
 //! The requirements of one package that are lacking.
 
 ghost use Rattle.std.specs.Prelude.{◌≡◌, ◌++◌, not, length, IsTrue, false, Err, IfOk, IfErr, OnOk};
-ghost use Rattle.rpm_outside.specs.Causes.{HasCauseAt};
-ghost use Rattle.rpm_db.specs.Database.{Keeps, KeepsIndex};
-ghost use Rattle.rpm_db.specs.State.{packages};
-ghost use Rattle.rpm_select.specs.Reach.{HasIndexRows};
-ghost use Rattle.rpm_check.specs.Answers.{Glances, IsBroken, is_broken};
+ghost use Rattle.rpm_check.specs.Frame.{IsReady, Kept, KeptIndex, HasRows, packages_in, Glances, DiskFault};
+ghost use Rattle.rpm_check.specs.Answers.{IsBroken, is_broken};
 ghost use Rattle.rpm_check.specs.Unmet.{required, is_met, is_passed_over, lacks, unmet_in};
 ghost use Rattle.rpm_check.specs.inner.Memos.{Knows};
 ghost use Rattle.rpm_check.specs.inner.Needs.{needed_in};
@@ -41,21 +38,19 @@ fn is_met_once<D: Disk>(
     memo: &mut Memo,
     needed: &Dependency<'_>,
 ) -> Result<bool, CheckFault>
-    requires keeps { IsTrue D.tells → Keeps (D.files disk.old).pkg db.now }
-    requires keeps_index { IsTrue D.tells → KeepsIndex (D.files disk.old).idx db.now }
-    requires runs { db.now.stopped ≡ false }
-    requires remembers { IsTrue D.tells → HasIndexRows db.now (D.files disk.old).pkg (D.files disk.old).idx
-        → Knows (packages (D.files disk.old).pkg db.now.store) memo.old }
-    ensures kept { IsTrue D.tells → Keeps (D.files disk.new).pkg db.now }
-    ensures kept_index { IsTrue D.tells → KeepsIndex (D.files disk.new).idx db.now }
-    ensures told { IfOk result (λ met. IsTrue D.tells → HasIndexRows db.now (D.files disk.old).pkg (D.files disk.old).idx
-        → met ≡ is_met (packages (D.files disk.old).pkg db.now.store) (needed_in needed.now)) }
-    ensures remembered { IsTrue D.tells → HasIndexRows db.now (D.files disk.old).pkg (D.files disk.old).idx
-        → Knows (packages (D.files disk.old).pkg db.now.store) memo.new }
+    requires ready { IsReady D.Disk disk.old db.now }
+    requires remembers { IsTrue D.tells → HasRows D.Disk disk.old db.now
+        → Knows (packages_in D.Disk disk.old db.now) memo.old }
+    ensures kept { Kept D.Disk disk.new db.now }
+    ensures kept_index { KeptIndex D.Disk disk.new db.now }
+    ensures told { IfOk result (λ met. IsTrue D.tells → HasRows D.Disk disk.old db.now
+        → met ≡ is_met (packages_in D.Disk disk.old db.now) (needed_in needed.now)) }
+    ensures remembered { IsTrue D.tells → HasRows D.Disk disk.old db.now
+        → Knows (packages_in D.Disk disk.old db.now) memo.new }
     ensures broken { IsTrue D.tells → IfErr result (IsBroken (D.files disk.old).idx) }
-    ensures lawful { IsTrue D.tells → HasIndexRows db.now (D.files disk.old).pkg (D.files disk.old).idx → is_broken result ≡ false }
-    ensures looks { Glances D.tells D.files D.left_since D.moment D.bytes_read D.follows disk.old disk.new }
-    ensures cause { HasCauseAt (result ≡ Err CheckFault.DiskFault) (D.faults disk.old) (D.faults disk.new) }
+    ensures lawful { IsTrue D.tells → HasRows D.Disk disk.old db.now → is_broken result ≡ false }
+    ensures looks { Glances D.Disk disk.old disk.new }
+    ensures cause { DiskFault D.Disk (result ≡ Err CheckFault.DiskFault) disk.old disk.new }
 {
     let key = Requirement::of(alloc, needed)?;
     if let Some(known) = memo.get(&key) {
@@ -74,21 +69,19 @@ pub fn lacks<D: Disk>(
     memo: &mut Memo,
     needed: &Dependency<'_>,
 ) -> Result<bool, CheckFault>
-    requires keeps { IsTrue D.tells → Keeps (D.files disk.old).pkg db.now }
-    requires keeps_index { IsTrue D.tells → KeepsIndex (D.files disk.old).idx db.now }
-    requires runs { db.now.stopped ≡ false }
-    requires remembers { IsTrue D.tells → HasIndexRows db.now (D.files disk.old).pkg (D.files disk.old).idx
-        → Knows (packages (D.files disk.old).pkg db.now.store) memo.old }
-    ensures kept { IsTrue D.tells → Keeps (D.files disk.new).pkg db.now }
-    ensures kept_index { IsTrue D.tells → KeepsIndex (D.files disk.new).idx db.now }
-    ensures told { IfOk result (λ b. IsTrue D.tells → HasIndexRows db.now (D.files disk.old).pkg (D.files disk.old).idx
-        → b ≡ lacks (packages (D.files disk.old).pkg db.now.store) (needed_in needed.now)) }
-    ensures remembered { IsTrue D.tells → HasIndexRows db.now (D.files disk.old).pkg (D.files disk.old).idx
-        → Knows (packages (D.files disk.old).pkg db.now.store) memo.new }
+    requires ready { IsReady D.Disk disk.old db.now }
+    requires remembers { IsTrue D.tells → HasRows D.Disk disk.old db.now
+        → Knows (packages_in D.Disk disk.old db.now) memo.old }
+    ensures kept { Kept D.Disk disk.new db.now }
+    ensures kept_index { KeptIndex D.Disk disk.new db.now }
+    ensures told { IfOk result (λ b. IsTrue D.tells → HasRows D.Disk disk.old db.now
+        → b ≡ lacks (packages_in D.Disk disk.old db.now) (needed_in needed.now)) }
+    ensures remembered { IsTrue D.tells → HasRows D.Disk disk.old db.now
+        → Knows (packages_in D.Disk disk.old db.now) memo.new }
     ensures broken { IsTrue D.tells → IfErr result (IsBroken (D.files disk.old).idx) }
-    ensures lawful { IsTrue D.tells → HasIndexRows db.now (D.files disk.old).pkg (D.files disk.old).idx → is_broken result ≡ false }
-    ensures looks { Glances D.tells D.files D.left_since D.moment D.bytes_read D.follows disk.old disk.new }
-    ensures cause { HasCauseAt (result ≡ Err CheckFault.DiskFault) (D.faults disk.old) (D.faults disk.new) }
+    ensures lawful { IsTrue D.tells → HasRows D.Disk disk.old db.now → is_broken result ≡ false }
+    ensures looks { Glances D.Disk disk.old disk.new }
+    ensures cause { DiskFault D.Disk (result ≡ Err CheckFault.DiskFault) disk.old disk.new }
 {
     if is_passed_over(needed.name) {
         return Ok(false);
@@ -117,21 +110,20 @@ pub fn push_lacking<D: Disk>(
     view: &View<'_>,
     found: &mut Vec<Unmet>,
 ) -> Result<(), CheckFault>
-    requires keeps { IsTrue D.tells → Keeps (D.files disk.old).pkg db.now }
-    requires keeps_index { IsTrue D.tells → KeepsIndex (D.files disk.old).idx db.now }
-    requires runs { db.now.stopped ≡ false }
-    requires remembers { IsTrue D.tells → HasIndexRows db.now (D.files disk.old).pkg (D.files disk.old).idx
-        → Knows (packages (D.files disk.old).pkg db.now.store) memo.old }
-    ensures kept { IsTrue D.tells → Keeps (D.files disk.new).pkg db.now }
-    ensures kept_index { IsTrue D.tells → KeepsIndex (D.files disk.new).idx db.now }
-    ensures told { OnOk result (IsTrue D.tells → HasIndexRows db.now (D.files disk.old).pkg (D.files disk.old).idx → found.new.items
-        ≡ found.old.items ++ unmet_in (lacks (packages (D.files disk.old).pkg db.now.store)) number (required view.now) 0) }
-    ensures remembered { IsTrue D.tells → HasIndexRows db.now (D.files disk.old).pkg (D.files disk.old).idx
-        → Knows (packages (D.files disk.old).pkg db.now.store) memo.new }
+    requires ready { IsReady D.Disk disk.old db.now }
+    requires remembers { IsTrue D.tells → HasRows D.Disk disk.old db.now
+        → Knows (packages_in D.Disk disk.old db.now) memo.old }
+    ensures kept { Kept D.Disk disk.new db.now }
+    ensures kept_index { KeptIndex D.Disk disk.new db.now }
+    ensures told { OnOk result (IsTrue D.tells → HasRows D.Disk disk.old db.now
+        → found.new.items ≡ found.old.items ++ unmet_in (lacks (packages_in D.Disk disk.old db.now)) number
+        (required view.now) 0) }
+    ensures remembered { IsTrue D.tells → HasRows D.Disk disk.old db.now
+        → Knows (packages_in D.Disk disk.old db.now) memo.new }
     ensures broken { IsTrue D.tells → IfErr result (IsBroken (D.files disk.old).idx) }
-    ensures lawful { IsTrue D.tells → HasIndexRows db.now (D.files disk.old).pkg (D.files disk.old).idx → is_broken result ≡ false }
-    ensures looks { Glances D.tells D.files D.left_since D.moment D.bytes_read D.follows disk.old disk.new }
-    ensures cause { HasCauseAt (result ≡ Err CheckFault.DiskFault) (D.faults disk.old) (D.faults disk.new) }
+    ensures lawful { IsTrue D.tells → HasRows D.Disk disk.old db.now → is_broken result ≡ false }
+    ensures looks { Glances D.Disk disk.old disk.new }
+    ensures cause { DiskFault D.Disk (result ≡ Err CheckFault.DiskFault) disk.old disk.new }
 {
     let mut left = dependencies(view, REQUIRES);
     for place in 0..required_count(view) {

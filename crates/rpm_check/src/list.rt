@@ -4,7 +4,8 @@ ghost use Rattle.std.specs.Prelude.{◌≡◌};
 
 use std::marker::Model;
 
-/// A requirement that no package meets: the number of the package that has it, and its place among the package's requirements.
+/// A requirement that no package meets: the number of the package that has it, and its place among the package's
+/// requirements.
 #[derive(Clone, Copy, PartialEq, Eq)]
 pub struct Unmet {
     pub number: u32,

@@ -2,11 +2,8 @@
 
 ghost use Rattle.std.specs.Prelude.{◌≡◌, IsTrue, filter, false, Err, IfOk, IfErr};
 ghost use Rattle.std.specs.FinMap as finite;
-ghost use Rattle.rpm_outside.specs.Causes.{HasCauseAt};
-ghost use Rattle.rpm_db.specs.Database.{Keeps, KeepsIndex};
-ghost use Rattle.rpm_db.specs.State.{packages};
-ghost use Rattle.rpm_select.specs.Reach.{HasIndexRows};
-ghost use Rattle.rpm_check.specs.Answers.{Glances, IsBroken, is_broken};
+ghost use Rattle.rpm_check.specs.Frame.{IsReady, Kept, KeptIndex, HasRows, packages_in, Glances, DiskFault};
+ghost use Rattle.rpm_check.specs.Answers.{IsBroken, is_broken};
 ghost use Rattle.rpm_check.specs.Unmet.{required, lacks, unmet, unmet_in, is_above, unmet_after, IsNextUnmet};
 ghost use Rattle.rpm_check.specs.inner.Memos.{Knows};
 ghost use Rattle.rpm_check.specs.inner.Rounds.{unmet_at, IsFirst};
@@ -39,21 +36,20 @@ fn next_lacking<D: Disk>(
     n: u32,
     i: u32,
 ) -> Result<Option<Unmet>, CheckFault>
-    requires keeps { IsTrue D.tells → Keeps (D.files disk.old).pkg db.now }
-    requires keeps_index { IsTrue D.tells → KeepsIndex (D.files disk.old).idx db.now }
-    requires runs { db.now.stopped ≡ false }
-    requires remembers { IsTrue D.tells → HasIndexRows db.now (D.files disk.old).pkg (D.files disk.old).idx
-        → Knows (packages (D.files disk.old).pkg db.now.store) memo.old }
-    ensures kept { IsTrue D.tells → Keeps (D.files disk.new).pkg db.now }
-    ensures kept_index { IsTrue D.tells → KeepsIndex (D.files disk.new).idx db.now }
-    ensures told { IfOk result (λ next. IsTrue D.tells → HasIndexRows db.now (D.files disk.old).pkg (D.files disk.old).idx
-        → IsFirst (filter (is_above n i) (unmet_in (lacks (packages (D.files disk.old).pkg db.now.store)) number (required view.now) 0)) next) }
-    ensures remembered { IsTrue D.tells → HasIndexRows db.now (D.files disk.old).pkg (D.files disk.old).idx
-        → Knows (packages (D.files disk.old).pkg db.now.store) memo.new }
+    requires ready { IsReady D.Disk disk.old db.now }
+    requires remembers { IsTrue D.tells → HasRows D.Disk disk.old db.now
+        → Knows (packages_in D.Disk disk.old db.now) memo.old }
+    ensures kept { Kept D.Disk disk.new db.now }
+    ensures kept_index { KeptIndex D.Disk disk.new db.now }
+    ensures told { IfOk result (λ next. IsTrue D.tells → HasRows D.Disk disk.old db.now
+        → IsFirst (filter (is_above n i) (unmet_in (lacks (packages_in D.Disk disk.old db.now)) number
+        (required view.now) 0)) next) }
+    ensures remembered { IsTrue D.tells → HasRows D.Disk disk.old db.now
+        → Knows (packages_in D.Disk disk.old db.now) memo.new }
     ensures broken { IsTrue D.tells → IfErr result (IsBroken (D.files disk.old).idx) }
-    ensures lawful { IsTrue D.tells → HasIndexRows db.now (D.files disk.old).pkg (D.files disk.old).idx → is_broken result ≡ false }
-    ensures looks { Glances D.tells D.files D.left_since D.moment D.bytes_read D.follows disk.old disk.new }
-    ensures cause { HasCauseAt (result ≡ Err CheckFault.DiskFault) (D.faults disk.old) (D.faults disk.new) }
+    ensures lawful { IsTrue D.tells → HasRows D.Disk disk.old db.now → is_broken result ≡ false }
+    ensures looks { Glances D.Disk disk.old disk.new }
+    ensures cause { DiskFault D.Disk (result ≡ Err CheckFault.DiskFault) disk.old disk.new }
 {
     let mut left = dependencies(view, REQUIRES);
     for place in 0..required_count(view) {
@@ -81,22 +77,20 @@ fn next_in<D: Disk>(
     n: u32,
     i: u32,
 ) -> Result<Option<Unmet>, CheckFault>
-    requires keeps { IsTrue D.tells → Keeps (D.files disk.old).pkg db.now }
-    requires keeps_index { IsTrue D.tells → KeepsIndex (D.files disk.old).idx db.now }
-    requires runs { db.now.stopped ≡ false }
-    requires remembers { IsTrue D.tells → HasIndexRows db.now (D.files disk.old).pkg (D.files disk.old).idx
-        → Knows (packages (D.files disk.old).pkg db.now.store) memo.old }
-    ensures kept { IsTrue D.tells → Keeps (D.files disk.new).pkg db.now }
-    ensures kept_index { IsTrue D.tells → KeepsIndex (D.files disk.new).idx db.now }
-    ensures told { IfOk result (λ next. IsTrue D.tells → HasIndexRows db.now (D.files disk.old).pkg (D.files disk.old).idx
-        → IsFirst (filter (is_above n i) (unmet_at (lacks (packages (D.files disk.old).pkg db.now.store)) number
-        (finite.get (packages (D.files disk.old).pkg db.now.store) number))) next) }
-    ensures remembered { IsTrue D.tells → HasIndexRows db.now (D.files disk.old).pkg (D.files disk.old).idx
-        → Knows (packages (D.files disk.old).pkg db.now.store) memo.new }
+    requires ready { IsReady D.Disk disk.old db.now }
+    requires remembers { IsTrue D.tells → HasRows D.Disk disk.old db.now
+        → Knows (packages_in D.Disk disk.old db.now) memo.old }
+    ensures kept { Kept D.Disk disk.new db.now }
+    ensures kept_index { KeptIndex D.Disk disk.new db.now }
+    ensures told { IfOk result (λ next. IsTrue D.tells → HasRows D.Disk disk.old db.now
+        → IsFirst (filter (is_above n i) (unmet_at (lacks (packages_in D.Disk disk.old db.now)) number
+        (finite.get (packages_in D.Disk disk.old db.now) number))) next) }
+    ensures remembered { IsTrue D.tells → HasRows D.Disk disk.old db.now
+        → Knows (packages_in D.Disk disk.old db.now) memo.new }
     ensures broken { IsTrue D.tells → IfErr result (IsBroken (D.files disk.old).idx) }
-    ensures lawful { IsTrue D.tells → HasIndexRows db.now (D.files disk.old).pkg (D.files disk.old).idx → is_broken result ≡ false }
-    ensures looks { Glances D.tells D.files D.left_since D.moment D.bytes_read D.follows disk.old disk.new }
-    ensures cause { HasCauseAt (result ≡ Err CheckFault.DiskFault) (D.faults disk.old) (D.faults disk.new) }
+    ensures lawful { IsTrue D.tells → HasRows D.Disk disk.old db.now → is_broken result ≡ false }
+    ensures looks { Glances D.Disk disk.old disk.new }
+    ensures cause { DiskFault D.Disk (result ≡ Err CheckFault.DiskFault) disk.old disk.new }
 {
     match db.read(alloc, disk, number) {
         Ok(blob) => match View::parse(&blob) {
@@ -109,12 +103,12 @@ fn next_in<D: Disk>(
     }
 }
 
-/// The least requirement that no package meets above the pair of a number and a place; `None` exactly where there is none. A search
-/// begins at (0, 0), goes on at the pair that was answered last, and may begin at any other.
+/// The least requirement that no package meets above the pair of a number and a place; `None` exactly where there is
+/// none. A search begins at (0, 0), goes on at the pair that was answered last, and may begin at any other.
 ///
-/// It answers what `unmet` lists, one at a time. Reads the blocks of the package of this number and of those after it, up to the one that
-/// it answers, each once, and looks each distinct requirement of these up once in a call, as `is_met` does. Holds these requirements and
-/// one package at a time.
+/// It answers what `unmet` lists, one at a time. Reads the blocks of the package of this number and of those after
+/// it, up to the one that it answers, each once, and looks each distinct requirement of these up once in a call, as
+/// `is_met` does. Holds these requirements and one package at a time.
 ///
 /// # Errors
 ///
@@ -127,19 +121,19 @@ pub fn next_unmet<D: Disk>(
     n: u32,
     i: u32,
 ) -> Result<Option<Unmet>, CheckFault>
-    requires keeps { IsTrue D.tells → Keeps (D.files disk.old).pkg db.now }
-    requires keeps_index { IsTrue D.tells → KeepsIndex (D.files disk.old).idx db.now }
+    requires keeps { Kept D.Disk disk.old db.now }
+    requires keeps_index { KeptIndex D.Disk disk.old db.now }
     requires runs { db.now.stopped ≡ false }
-    ensures kept { IsTrue D.tells → Keeps (D.files disk.new).pkg db.now }
-    ensures kept_index { IsTrue D.tells → KeepsIndex (D.files disk.new).idx db.now }
-    ensures told { IfOk result (λ next. IsTrue D.tells → HasIndexRows db.now (D.files disk.old).pkg (D.files disk.old).idx
-        → IsNextUnmet (packages (D.files disk.old).pkg db.now.store) n i next) }
-    ensures begins { IsTrue D.tells
-        → unmet_after (packages (D.files disk.old).pkg db.now.store) 0 0 ≡ unmet (packages (D.files disk.old).pkg db.now.store) }
+    ensures kept { Kept D.Disk disk.new db.now }
+    ensures kept_index { KeptIndex D.Disk disk.new db.now }
+    ensures told { IfOk result (λ next. IsTrue D.tells → HasRows D.Disk disk.old db.now
+        → IsNextUnmet (packages_in D.Disk disk.old db.now) n i next) }
+    ensures begins { IsTrue D.tells → unmet_after (packages_in D.Disk disk.old db.now) 0 0 ≡ unmet
+        (packages_in D.Disk disk.old db.now) }
     ensures broken { IsTrue D.tells → IfErr result (IsBroken (D.files disk.old).idx) }
-    ensures lawful { IsTrue D.tells → HasIndexRows db.now (D.files disk.old).pkg (D.files disk.old).idx → is_broken result ≡ false }
-    ensures looks { Glances D.tells D.files D.left_since D.moment D.bytes_read D.follows disk.old disk.new }
-    ensures cause { HasCauseAt (result ≡ Err CheckFault.DiskFault) (D.faults disk.old) (D.faults disk.new) }
+    ensures lawful { IsTrue D.tells → HasRows D.Disk disk.old db.now → is_broken result ≡ false }
+    ensures looks { Glances D.Disk disk.old disk.new }
+    ensures cause { DiskFault D.Disk (result ≡ Err CheckFault.DiskFault) disk.old disk.new }
 {
     let mut memo = Memo::new(alloc);
     let mut passed = n.saturating_sub(1);

@@ -2,11 +2,8 @@
 
 ghost use Rattle.std.specs.Prelude.{◌≡◌, ◌++◌, IsTrue, false, Err, IfOk, IfErr, OnOk};
 ghost use Rattle.std.specs.FinMap as finite;
-ghost use Rattle.rpm_outside.specs.Causes.{HasCauseAt};
-ghost use Rattle.rpm_db.specs.Database.{Keeps, KeepsIndex};
-ghost use Rattle.rpm_db.specs.State.{packages};
-ghost use Rattle.rpm_select.specs.Reach.{HasIndexRows};
-ghost use Rattle.rpm_check.specs.Answers.{Glances, IsBroken, is_broken};
+ghost use Rattle.rpm_check.specs.Frame.{IsReady, Kept, KeptIndex, HasRows, packages_in, Glances, DiskFault};
+ghost use Rattle.rpm_check.specs.Answers.{IsBroken, is_broken};
 ghost use Rattle.rpm_check.specs.Unmet.{lacks, unmet};
 ghost use Rattle.rpm_check.specs.inner.Memos.{Knows};
 ghost use Rattle.rpm_check.specs.inner.Rounds.{unmet_at};
@@ -29,22 +26,20 @@ fn push_unmet<D: Disk>(
     number: u32,
     found: &mut Vec<Unmet>,
 ) -> Result<(), CheckFault>
-    requires keeps { IsTrue D.tells → Keeps (D.files disk.old).pkg db.now }
-    requires keeps_index { IsTrue D.tells → KeepsIndex (D.files disk.old).idx db.now }
-    requires runs { db.now.stopped ≡ false }
-    requires remembers { IsTrue D.tells → HasIndexRows db.now (D.files disk.old).pkg (D.files disk.old).idx
-        → Knows (packages (D.files disk.old).pkg db.now.store) memo.old }
-    ensures kept { IsTrue D.tells → Keeps (D.files disk.new).pkg db.now }
-    ensures kept_index { IsTrue D.tells → KeepsIndex (D.files disk.new).idx db.now }
-    ensures told { OnOk result (IsTrue D.tells → HasIndexRows db.now (D.files disk.old).pkg (D.files disk.old).idx → found.new.items
-        ≡ found.old.items ++ unmet_at (lacks (packages (D.files disk.old).pkg db.now.store)) number
-        (finite.get (packages (D.files disk.old).pkg db.now.store) number)) }
-    ensures remembered { IsTrue D.tells → HasIndexRows db.now (D.files disk.old).pkg (D.files disk.old).idx
-        → Knows (packages (D.files disk.old).pkg db.now.store) memo.new }
+    requires ready { IsReady D.Disk disk.old db.now }
+    requires remembers { IsTrue D.tells → HasRows D.Disk disk.old db.now
+        → Knows (packages_in D.Disk disk.old db.now) memo.old }
+    ensures kept { Kept D.Disk disk.new db.now }
+    ensures kept_index { KeptIndex D.Disk disk.new db.now }
+    ensures told { OnOk result (IsTrue D.tells → HasRows D.Disk disk.old db.now
+        → found.new.items ≡ found.old.items ++ unmet_at (lacks (packages_in D.Disk disk.old db.now)) number
+        (finite.get (packages_in D.Disk disk.old db.now) number)) }
+    ensures remembered { IsTrue D.tells → HasRows D.Disk disk.old db.now
+        → Knows (packages_in D.Disk disk.old db.now) memo.new }
     ensures broken { IsTrue D.tells → IfErr result (IsBroken (D.files disk.old).idx) }
-    ensures lawful { IsTrue D.tells → HasIndexRows db.now (D.files disk.old).pkg (D.files disk.old).idx → is_broken result ≡ false }
-    ensures looks { Glances D.tells D.files D.left_since D.moment D.bytes_read D.follows disk.old disk.new }
-    ensures cause { HasCauseAt (result ≡ Err CheckFault.DiskFault) (D.faults disk.old) (D.faults disk.new) }
+    ensures lawful { IsTrue D.tells → HasRows D.Disk disk.old db.now → is_broken result ≡ false }
+    ensures looks { Glances D.Disk disk.old disk.new }
+    ensures cause { DiskFault D.Disk (result ≡ Err CheckFault.DiskFault) disk.old disk.new }
 {
     match db.read(alloc, disk, number) {
         Ok(blob) => match View::parse(&blob) {
@@ -59,32 +54,33 @@ fn push_unmet<D: Disk>(
 
 /// The requirements of the packages that no package meets, by rising number and place, each once.
 ///
-/// A package that can't be read requires nothing and meets nothing. A requirement whose name begins with `rpmlib(` or with `(` isn't
-/// looked at: the first names a feature of rpm itself, and the second is a rich dependency (own).
+/// A package that can't be read requires nothing and meets nothing. A requirement whose name begins with `rpmlib(` or
+/// with `(` isn't looked at: the first names a feature of rpm itself, and the second is a rich dependency (own).
 ///
-/// Reads the blocks of each package once, and looks each distinct requirement up once, as `is_met` does: what was found of a name with
-/// these flags and this version is remembered, in order. So with an index it takes n log n steps in the requirements, and reads beside
-/// them the candidates of each distinct one. Holds the distinct requirements, a package and the one that was read
-/// last for a requirement, which isn't read again for the next one, and 8 bytes for each that is listed.
+/// Reads the blocks of each package once, and looks each distinct requirement up once, as `is_met` does: what was
+/// found of a name with these flags and this version is remembered, in order. So with an index it takes n log n steps
+/// in the requirements, and reads beside them the candidates of each distinct one. Holds the distinct requirements, a
+/// package and the one that was read last for a requirement, which isn't read again for the next one, and 8 bytes for
+/// each that is listed.
 ///
 /// # Errors
 ///
-/// - `BadIndex` only where an index is kept, and the chain of the bucket of a key isn't well formed: the unit of its first fault. It never
-///   comes where the index holds the rows of the packages.
+/// - `BadIndex` only where an index is kept, and the chain of the bucket of a key isn't well formed: the unit of its
+///   first fault. It never comes where the index holds the rows of the packages.
 /// - `DiskFault` only where the disk's count of faults rose.
 /// - `NoMemory` where a package, a requirement, what is found of it or the list finds no memory.
 pub fn unmet<D: Disk>(alloc: Global, db: &Db, disk: &mut D) -> Result<UnmetList, CheckFault>
-    requires keeps { IsTrue D.tells → Keeps (D.files disk.old).pkg db.now }
-    requires keeps_index { IsTrue D.tells → KeepsIndex (D.files disk.old).idx db.now }
+    requires keeps { Kept D.Disk disk.old db.now }
+    requires keeps_index { KeptIndex D.Disk disk.old db.now }
     requires runs { db.now.stopped ≡ false }
-    ensures kept { IsTrue D.tells → Keeps (D.files disk.new).pkg db.now }
-    ensures kept_index { IsTrue D.tells → KeepsIndex (D.files disk.new).idx db.now }
-    ensures told { IfOk result (λ list. IsTrue D.tells → HasIndexRows db.now (D.files disk.old).pkg (D.files disk.old).idx
-        → list ≡ unmet (packages (D.files disk.old).pkg db.now.store)) }
+    ensures kept { Kept D.Disk disk.new db.now }
+    ensures kept_index { KeptIndex D.Disk disk.new db.now }
+    ensures told { IfOk result (λ list. IsTrue D.tells → HasRows D.Disk disk.old db.now
+        → list ≡ unmet (packages_in D.Disk disk.old db.now)) }
     ensures broken { IsTrue D.tells → IfErr result (IsBroken (D.files disk.old).idx) }
-    ensures lawful { IsTrue D.tells → HasIndexRows db.now (D.files disk.old).pkg (D.files disk.old).idx → is_broken result ≡ false }
-    ensures looks { Glances D.tells D.files D.left_since D.moment D.bytes_read D.follows disk.old disk.new }
-    ensures cause { HasCauseAt (result ≡ Err CheckFault.DiskFault) (D.faults disk.old) (D.faults disk.new) }
+    ensures lawful { IsTrue D.tells → HasRows D.Disk disk.old db.now → is_broken result ≡ false }
+    ensures looks { Glances D.Disk disk.old disk.new }
+    ensures cause { DiskFault D.Disk (result ≡ Err CheckFault.DiskFault) disk.old disk.new }
 {
     let mut memo = Memo::new(alloc);
     let mut found = Vec::new(alloc);

@@ -7,7 +7,8 @@ use Rattle.rpm_check.specs.inner.Needs.{needed_in}
 use Rattle.rpm_check.proofs.Providing.{StandsFor, givers_are}
 use Rattle.rpm_check.proofs.giving.givers.Goals as goal
 
-under : (r : Result (Vec ℕ Global) CheckFault) (A B C : Type 0) (x y : List ℕ) → x ≡ y → IfOk r (λ ns. A → B → C → ns.items ≡ x) → IfOk r (λ ns. A → B → C → ns.items ≡ y)
+under : (r : Result (Vec ℕ Global) CheckFault) (A B C : Type 0) (x y : List ℕ) → x ≡ y → IfOk r (λ ns. A → B → C → ns.items ≡ x)
+    → IfOk r (λ ns. A → B → C → ns.items ≡ y)
 under (Ok b) A B C x y same is = λ a h r. is a h r ∙ same
 under (Err fault) A B C x y same is = tt
 

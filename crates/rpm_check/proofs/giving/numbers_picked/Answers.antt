@@ -25,7 +25,7 @@ loop-numbers-init g c =
     let db = c.args.db.now in
     let begun = c.in_ok-picker.ensures in
     record {
-      keeps = λ told. subst (λ (f : Files). Keeps f.pkg db) (sym (begun.looks.untouched told).same) (c.requires.keeps told);
+      keeps = λ told. subst (λ (f : Files). Keeps f.pkg db) (sym (begun.looks.untouched told).same) (c.requires.ready.keeps told);
       keeps_index = begun.kept_index;
       looks =
           glances_index g.D.Disk.tells g.D.Disk.files g.D.Disk.left_since g.D.Disk.moment g.D.Disk.bytes_read g.D.Disk.follows c.args.disk.now
@@ -79,7 +79,7 @@ returns-clause-told g c = λ told has holds.
     let none = subst (λ (f : Files). Serves picker (packages f.pkg db.store) sel → Recalls (packages f.pkg db.store) c.loop-numbers.recent
     → NextNumberIs (above n (picks (packages f.pkg db.store) sel)) (Ok c.in_ok-next.field-0)) (inv.looks.untouched told).same
     (c.in_ok-next.ensures.told told) (c.in_ok-picker.ensures.serves told has) (inv.recalls told holds) in
-    all_picked pkg db sel n c.loop-numbers.numbers.items (c.requires.keeps told)
+    all_picked pkg db sel n c.loop-numbers.numbers.items (c.requires.ready.keeps told)
     (subst (λ (o : Option ℕ). NextNumberIs (above n (picks (packages pkg db.store) sel)) (Ok o)) is none) (inv.told told has holds)
 
 pub returns-clause-recalls : goal.returns-clause-recalls

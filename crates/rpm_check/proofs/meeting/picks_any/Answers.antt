@@ -28,10 +28,11 @@ returns-clause-told g c = λ told has holds.
     let picked = c.in_ok-picked.picked in
     let pkg = (g.D.Disk.files c.args.disk.now).pkg in
     let next = subst (λ (f : Files). Serves picker (packages f.pkg db.store) sel
-    → Recalls (packages f.pkg db.store) c.args.recent.now → NextNumberIs (above 0 (picks (packages f.pkg db.store) sel)) (Ok picked)) (c.in_ok-picker.ensures.looks.untouched told).same
+    → Recalls (packages f.pkg db.store) c.args.recent.now → NextNumberIs (above 0 (picks (packages f.pkg db.store) sel)) (Ok picked))
+    (c.in_ok-picker.ensures.looks.untouched told).same
     (c.in_ok-picked.ensures.told told) in
     c.is_some.ensures ∙ is_some_next (above 0 (picks (packages pkg db.store) sel)) picked (next (c.in_ok-picker.ensures.serves told has) holds)
-    ∙ ap is_some_of (picks_from_one pkg db sel (from_one pkg db (c.requires.keeps told)))
+    ∙ ap is_some_of (picks_from_one pkg db sel (from_one pkg db (c.requires.ready.keeps told)))
 
 pub returns-clause-recalls : goal.returns-clause-recalls
 returns-clause-recalls g c = λ told holds.

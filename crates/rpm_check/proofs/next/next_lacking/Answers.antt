@@ -25,7 +25,8 @@ returns-then-branch-clause-told g c = λ told has.
     let pair : Unmet = record { number = c.args.number; place = c.loop-place.place } in
     let over : is_above c.args.n c.args.i pair ≡ true = search rules in
     subst (λ (us : List Unmet). IsFirst us (Some pair)) (sym (inv.told told has))
-    (subst (λ (needs : List Needed). IsFirst (filter (is_above c.args.n c.args.i) (unmet_in is_lacking c.args.number needs c.loop-place.place)) (Some pair)) (sym cons)
+    (subst (λ (needs : List Needed). IsFirst (filter (is_above c.args.n c.args.i) (unmet_in is_lacking c.args.number needs c.loop-place.place))
+    (Some pair)) (sym cons)
     (first_lacking is_lacking c.args.n c.args.i c.args.number c.loop-place.place need c.next.new.self over lacking))
 
 pub loop-place-preserved : goal.loop-place-preserved

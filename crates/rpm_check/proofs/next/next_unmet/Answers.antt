@@ -24,7 +24,8 @@ loop-number-init g c =
       faults = omega arith;
       remembers = λ told has. c.new-memo.ensures (packages pkg c.args.db.now.store);
       told = λ told has. after_from pkg c.args.db.now c.args.n c.args.i (c.requires.keeps told)
-          ∙ ap (turns_above (packages pkg c.args.db.now.store) (after_in (packages pkg c.args.db.now.store) c.args.n c.args.i)) (sym c.saturating_sub-passed.ensures);
+          ∙ ap (turns_above (packages pkg c.args.db.now.store) (after_in (packages pkg c.args.db.now.store) c.args.n c.args.i))
+          (sym c.saturating_sub-passed.ensures);
     }
 
 pub loop-number-preserved : goal.loop-number-preserved

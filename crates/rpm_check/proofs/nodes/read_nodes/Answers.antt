@@ -25,8 +25,8 @@ loop-next-init g c =
     let f = λ (e : ℕ × Package). edges_from all e.0 in
     let none = c.new-nodes.ensures.items in
     record {
-      keeps = c.requires.keeps;
-      keeps_index = c.requires.keeps_index;
+      keeps = c.requires.ready.keeps;
+      keeps_index = c.requires.ready.keeps_index;
       looks =
           glances_none g.D.Disk.tells g.D.Disk.files g.D.Disk.left_since g.D.Disk.moment g.D.Disk.bytes_read g.D.Disk.follows g.met.D.Disk.follows_refl
           c.args.disk.now;
@@ -35,10 +35,11 @@ loop-next-init g c =
       rising = subst AreRising (sym none) none_rise;
       reached = All-same (λ (n : ℕ). n ≤ 0) (numbers_of c.new-nodes.result.items) [] (ap numbers_of none) (All-nil (λ (n : ℕ). n ≤ 0));
       numbers = λ told.
-          ap (λ (vs : List Node). numbers_of vs ++ turns_above all good_of 0) none ∙ all_turns pkg db good_of (from_one pkg db (c.requires.keeps told)) ∙ goods_are all;
+          ap (λ (vs : List Node). numbers_of vs ++ turns_above all good_of 0) none ∙ all_turns pkg db good_of
+          (from_one pkg db (c.requires.ready.keeps told)) ∙ goods_are all;
       told = λ told has.
           ap (λ (vs : List Node). flat_map (edges_of (good_numbers all)) vs ++ turns_above all f 0) none
-          ∙ all_turns pkg db f (from_one pkg db (c.requires.keeps told)) ∙ edges_are_all all;
+          ∙ all_turns pkg db f (from_one pkg db (c.requires.ready.keeps told)) ∙ edges_are_all all;
     }
 
 pub push_node-requires-clause-below : goal.push_node-requires-clause-below

@@ -25,7 +25,8 @@ loop-next-init g c = record {
   told = λ told has.
       let pkg = (g.D.Disk.files c.args.disk.now).pkg in
       let all = packages pkg c.args.db.now.store in
-      ap (λ (us : List Unmet). us ++ unmet_above all (lacks all) 0) c.new-found.ensures.items ∙ all_rounds pkg c.args.db.now (from_one pkg c.args.db.now (c.requires.keeps told));
+      ap (λ (us : List Unmet). us ++ unmet_above all (lacks all) 0) c.new-found.ensures.items
+      ∙ all_rounds pkg c.args.db.now (from_one pkg c.args.db.now (c.requires.keeps told));
 }
 
 pub loop-next-preserved : goal.loop-next-preserved
