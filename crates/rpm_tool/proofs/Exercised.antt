@@ -68,7 +68,8 @@ module _ (n : ℕ) (old mid new : Files) (db last : Database) (before now : Outp
 
   pub stopped_exercise : (fault : ExerciseFault) (t : State) → IsRefused (IsNext (λ m. holds m db) 0) (Err fault)
       → OnceBegun (λ r. Ended (exercise n found) found t r before now) (Err fault)
-      → OnceBegun (λ r. Renewed (units_needed mid.pkg (Ok db.store)) (λ files. LimitsTurn true found db.store last.store files new (exercise n found).changes r) mid) (Err fault)
+      → OnceBegun (λ r. Renewed (units_needed mid.pkg (Ok db.store)) (λ files. LimitsTurn true found db.store last.store files new
+      (exercise n found).changes r) mid) (Err fault)
       → ((held : ℕ) → fault ≡ NotEmpty held → Through [] before now)
       → WorkedWith true false (λ s. exercise n s) old new (Err (why_of_exercise fault)) before now
   stopped_exercise (NotEmpty held) t refused ended turn nothing = record {
@@ -107,4 +108,5 @@ pub limits_exercised : (indexed : Bool) (n : ℕ) (old mid new : Files) (db last
 limits_exercised indexed n old mid new db last opens begins zero (NotEmpty held) refused turn =
     limits_refused indexed true (λ s. exercise n s) old mid db opens begins held
 limits_exercised indexed n old mid new db last opens begins zero (Halted h) refused turn =
-    limits_halted indexed true (λ s. exercise n s) old mid db opens begins h (λ s stored. exercise_stops indexed n mid db last (Err h) zero refused turn.holds.first)
+    limits_halted indexed true (λ s. exercise n s) old mid db opens begins h (λ s stored. exercise_stops indexed n mid db last (Err h) zero refused
+    turn.holds.first)

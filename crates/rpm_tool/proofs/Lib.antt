@@ -26,6 +26,7 @@ mod Fitting
 mod Fixtures
 mod Greatest
 mod Grouped
+mod Halting
 mod Histories
 mod Joins
 mod Labels

@@ -113,7 +113,8 @@ module _ (indexed : Bool) (course : State → Course) (files new : Files) (befor
         new,
         worked_state course (state files.pkg s) new done.0 before now
             (subst (λ (sr : Result Store Damage). WorkedBy course files.pkg sr new (Ok done.0) before now) stored done.1),
-        if_ok_at (λ (v : Store). ReachedOn indexed files.pkg files.idx v (state files.pkg v) (course (state files.pkg v)).changes new) (store files.pkg) s stored done.2,
+        if_ok_at (λ (v : Store). ReachedOn indexed files.pkg files.idx v (state files.pkg v) (course (state files.pkg v)).changes new)
+            (store files.pkg) s stored done.2,
         is.0,
         is.1,
       )))

@@ -77,7 +77,8 @@ module _ {D : Type 0} (d : disk.Ghosts D) (told : IsTrue d.tells) (shelf : Bool)
     changed a tree asked changing =
         left_moves (asked_course paths now call.words a) s call.outcome.changes (files new.disk) call.outcome.why
         (subst (λ (t : State). LeavesState (asked_course paths now call.words a) t call.outcome.why call.outcome.changes (files new.disk)) has.is
-        (if_ok_at _ (store (pkg_of old.disk)) has.value has.undamaged (line.changed a tree asked changing (λ reads. tells (uses_reads call.words a tree asked reads))).leaves))
+        (if_ok_at _ (store (pkg_of old.disk)) has.value has.undamaged (line.changed a tree asked changing
+        (λ reads. tells (uses_reads call.words a tree asked reads))).leaves))
 
     asked_moves : (a : AskParts) (tree : Tree) → asks call.words ≡ Some (a, tree) → Moved (Some (a, tree))
     asked_moves a tree asked = by_bool (is_changing a)

@@ -1,6 +1,6 @@
 -- What stands around a call: a disk, a shelf, two sinks and a database, each by the ghost members of its kind, which a clause names `D.Disk`,
 -- `S.Shelf`, `O.Sink`. Short words for all clauses; of them `images`, `pkg_read` and `Leaves` stand on the page (Theorem.antt).
-use Rattle.std.specs.Prelude.{ℕ, Bool, IsTrue, Result, IfOk}
+use Rattle.std.specs.Prelude.{◌≡◌, ℕ, Bool, List, IsTrue, Result, Err, IfOk}
 use Rattle.std.specs.Ordering.{nat_cmp}
 use Rattle.std.specs.FinMap.{FinMap}
 use Rattle.rpm_outside.specs.declared.disk.Disk as disk
@@ -24,6 +24,10 @@ use Rattle.rpm_select.specs.Reach.{HasIndexRows}
 use Rattle.rpm_check.specs.Answers as check
 use Rattle.rpm_change.specs.Endings.{Outputs, outputs, IsCarried}
 use Rattle.rpm_change.specs.Hands.{Hand}
+use Rattle.rpm_tool.specs.declared.step.Stop.{Stop}
+use Rattle.rpm_tool.specs.declared.step.Stop.TheVariants as stop
+use Rattle.rpm_tool.specs.declared.answer.Why.{Why}
+use Rattle.rpm_tool.specs.declared.answer.Why.TheVariants as why
 use Rattle.rpm_tool.specs.Answers as tool
 use Rattle.rpm_tool.specs.Reads as reads
 
@@ -126,8 +130,26 @@ outs o e out err = outputs o.tells (o.taken out) e.tells (e.taken err)
 abbrev pub shown : {O E : Type 0} → sink.Ghosts O → sink.Ghosts E → Buffered O → Buffered E → Outputs
 shown o e out err = outs o e (inner out) (inner err)
 
+-- what out took before and after a call, whatever err took
+abbrev pub OutTakes : {O : Type 0} → sink.Ghosts O → (Outputs → Outputs → Type 0) → Buffered O → Buffered O → Type 0
+OutTakes o Is old new = (err_tells : Bool) (err : List ℕ)
+    → Is (outputs o.tells (o.taken (inner old)) err_tells err) (outputs o.tells (o.taken (inner new)) err_tells err)
+
+-- what err took before and after a call, whatever out took
+abbrev pub ErrTakes : {E : Type 0} → sink.Ghosts E → (Outputs → Outputs → Type 0) → Buffered E → Buffered E → Type 0
+ErrTakes e Is old new = (out_tells : Bool) (out : List ℕ)
+    → Is (outputs out_tells out e.tells (e.taken (inner old))) (outputs out_tells out e.tells (e.taken (inner new)))
+
 -- what a call keeps of both
 pub record Hands {O E : Type 0} (o : sink.Ghosts O) (e : sink.Ghosts E) (out_fails err_fails : Type 0) (out_old : Buffered O) (err_old : Buffered E)
     (out_new : Buffered O) (err_new : Buffered E) : Type 0 where
   pub out : Hand o out_fails out_old out_new
   pub err : Hand e err_fails err_old err_new
+
+-- what a call keeps of both that may stop
+abbrev pub StopHands : {O E T : Type 0} → sink.Ghosts O → sink.Ghosts E → Result T Stop → Buffered O → Buffered E → Buffered O → Buffered E → Type 0
+StopHands o e result = Hands o e (result ≡ Err stop.OutFault) (result ≡ Err stop.ErrFault)
+
+-- what a command keeps of both, by its ending
+abbrev pub EndHands : {O E : Type 0} → sink.Ghosts O → sink.Ghosts E → Why → Buffered O → Buffered E → Buffered O → Buffered E → Type 0
+EndHands o e ending = Hands o e (ending ≡ why.OutFault) (ending ≡ why.ErrFault)

@@ -19,6 +19,7 @@ use Rattle.rpm_check.specs.declared.faults.CheckFault.{CheckFault}
 use Rattle.rpm_check.specs.declared.faults.CheckFault.TheVariants as check
 use Rattle.rpm_check.specs.Answers.{IsFaultOfSome}
 use Rattle.rpm_qfeval.specs.Numbers.{letters, depflags}
+use Rattle.rpm_tool.specs.declared.unreadable.Held.{Held}
 use Rattle.rpm_tool.specs.declared.step.Stop.{Stop}
 use Rattle.rpm_tool.specs.declared.step.Stop.TheVariants as stop
 use Rattle.rpm_tool.specs.declared.answer.Why.{Why}
@@ -41,6 +42,14 @@ read_text text (Err fault) = []
 abbrev pub package_text : (Header → List ℕ) → Option Package → List ℕ
 package_text text (Some (Good bytes)) = read_text text (header bytes)
 package_text text others = []
+
+-- a number's package is read from these bytes
+abbrev pub IsRead : FinMap nat_cmp Package → ℕ → List ℕ → Type 0
+IsRead packages n bytes = (text : Header → List ℕ) → package_text text (get packages n) ≡ read_text text (header bytes)
+
+-- what is held is read from the package of its number
+abbrev pub IsHeld : FinMap nat_cmp Package → Held → Type 0
+IsHeld packages held = IsRead packages held.number held.blob.items
 
 -- one part after another
 abbrev pub behind : Portion → Portion → Portion

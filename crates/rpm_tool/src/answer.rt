@@ -51,8 +51,8 @@ pub enum Why {
 /// How a command line ended.
 #[derive(Clone, Copy, Debug, PartialEq, Eq)]
 pub struct Outcome {
-    /// The exit status: 0 where all was done, the number of failed arguments up to 250, 251 for words that break a rule and
-    /// for a format with a fault, 252 for the database, 253 for output, 254 for want of memory.
+    /// The exit status: 0 where all was done, the number of failed arguments up to 250, 251 for words that break a
+    /// rule and for a format with a fault, 252 for the database, 253 for output, 254 for want of memory.
     pub status: u8,
     pub why: Why,
     /// How many packages were added, replaced or erased.

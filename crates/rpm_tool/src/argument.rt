@@ -11,7 +11,7 @@ ghost use Rattle.rpm_select.specs.Reach.{Serves, reach_to, reach_all};
 ghost use Rattle.rpm_tool.specs.Queries.{lent, question_of, answered, argument_part};
 ghost use Rattle.rpm_tool.specs.Reads.{ReadsOf, argument_reach, IsOfChain};
 ghost use Rattle.rpm_tool.specs.Answers.{PartIs, is_some_of, is_of_sink};
-ghost use Rattle.rpm_tool.specs.Frame.{Looks, Peeks, shown, DiskFault, Kept, KeptIndex, HasRows, packages_in, pkg_read, Hands};
+ghost use Rattle.rpm_tool.specs.Frame.{Looks, Peeks, shown, DiskFault, Kept, KeptIndex, HasRows, packages_in, pkg_read, StopHands};
 
 use crate::missing::put_missing_part;
 use crate::picked::{print_above, stop_of};
@@ -79,8 +79,9 @@ fn is_any_passed<D: Disk>(
     requires runs { db.now.stopped ≡ false }
     requires from_one { database.holds 0 db.now ≡ false }
     ensures kept { Kept D.Disk disk.new db.now }
-    ensures told { IsTrue D.tells → Serves picker.old (packages_in D.Disk disk.old db.now) selection.now → above after (picks (packages_in D.Disk disk.old
-        db.now) selection.now) ≡ [] → IfOk result (λ any. any ≡ is_some_of (picks (packages_in D.Disk disk.old db.now) selection.now)) }
+    ensures told { IsTrue D.tells → Serves picker.old (packages_in D.Disk disk.old db.now) selection.now
+        → above after (picks (packages_in D.Disk disk.old db.now) selection.now) ≡ []
+        → IfOk result (λ any. any ≡ is_some_of (picks (packages_in D.Disk disk.old db.now) selection.now)) }
     ensures reads { pkg_read D.Disk disk.new ≤ pkg_read D.Disk disk.old + reach_to after picker.old db.now }
     ensures looks { Looks D.Disk Pkg (cost_to after db.now) disk.old disk.new }
     ensures disk { DiskFault D.Disk (result ≡ Err Stop.ReadFault) disk.old disk.new }
@@ -113,14 +114,15 @@ fn answer_question<D: Disk, O: Sink + Drop, E: Sink + Drop>(
     requires runs { db.now.stopped ≡ false }
     requires from_one { database.holds 0 db.now ≡ false }
     ensures kept { Kept D.Disk disk.new db.now }
-    ensures went { IsTrue D.tells → Serves picker.old (packages_in D.Disk disk.old db.now) selection.now → (j : ℕ) → PartIs (answered format.now chosen after
-        j text.now (picks (packages_in D.Disk disk.old db.now) selection.now)) result (shown O.Sink E.Sink out.old err.old) (shown O.Sink E.Sink out.new
-        err.new) (ReadsOf j picker.old db.now (pkg_read D.Disk disk.old) (pkg_read D.Disk disk.new)) }
+    ensures went { IsTrue D.tells → Serves picker.old (packages_in D.Disk disk.old db.now) selection.now → (j : ℕ)
+        → PartIs (answered format.now chosen after j text.now (picks (packages_in D.Disk disk.old db.now)
+        selection.now)) result (shown O.Sink E.Sink out.old err.old) (shown O.Sink E.Sink out.new err.new)
+        (ReadsOf j picker.old db.now (pkg_read D.Disk disk.old) (pkg_read D.Disk disk.new)) }
     ensures reads { pkg_read D.Disk disk.new ≤ pkg_read D.Disk disk.old + reach_all picker.old db.now }
     ensures looks { Looks D.Disk Pkg (cost_all db.now) disk.old disk.new }
     ensures disk { DiskFault D.Disk (result ≡ Err Stop.ReadFault) disk.old disk.new }
     ensures unbroken { (unit : ℕ) → result ≢ Err (Stop.BadIndex unit) }
-    ensures hands { Hands O.Sink E.Sink (result ≡ Err Stop.OutFault) (result ≡ Err Stop.ErrFault) out.old err.old out.new err.new }
+    ensures hands { StopHands O.Sink E.Sink result out.old err.old out.new err.new }
 {
     let way = Way::Format(format);
     let printed = match print_above(alloc, picker, db, disk, selection, after, &way, out, err) {
@@ -139,7 +141,8 @@ fn answer_question<D: Disk, O: Sink + Drop, E: Sink + Drop>(
 
 /// Prints what an argument picks, or the line that it picks nothing. Says whether the argument fails.
 ///
-/// Reads the blocks of each package once, those above `after` before what is printed of the next ones, and the others last.
+/// Reads the blocks of each package once, those above `after` before what is printed of the next ones, and the others
+/// last.
 pub fn answer<D: Disk, O: Sink + Drop, E: Sink + Drop>(
     alloc: Global,
     db: &Db,
@@ -157,15 +160,19 @@ pub fn answer<D: Disk, O: Sink + Drop, E: Sink + Drop>(
     requires from_one { database.holds 0 db.now ≡ false }
     ensures kept { Kept D.Disk disk.new db.now }
     ensures kept_index { KeptIndex D.Disk disk.new db.now }
-    ensures went { IsTrue D.tells → HasRows D.Disk disk.old db.now → (j : ℕ) → PartIs (argument_part format.now (packages_in D.Disk disk.old db.now) chosen
-        after j text.now) result (shown O.Sink E.Sink out.old err.old) (shown O.Sink E.Sink out.new err.new) (ReadsOf j (argument_reach (is_indexed db.now)
-        (packages_in D.Disk disk.old db.now) chosen text.now) db.now (pkg_read D.Disk disk.old) (pkg_read D.Disk disk.new)) }
-    ensures reads { IsTrue D.tells → HasRows D.Disk disk.old db.now → pkg_read D.Disk disk.new ≤ pkg_read D.Disk disk.old + reach_all (argument_reach
-        (is_indexed db.now) (packages_in D.Disk disk.old db.now) chosen text.now) db.now }
-    ensures bad_index { IsTrue D.tells → IfErr result (IsOfChain (question_of chosen (lent text.now)) (D.files disk.old).idx) }
+    ensures went { IsTrue D.tells → HasRows D.Disk disk.old db.now → (j : ℕ)
+        → PartIs (argument_part format.now (packages_in D.Disk disk.old db.now) chosen after j text.now) result
+        (shown O.Sink E.Sink out.old err.old) (shown O.Sink E.Sink out.new err.new)
+        (ReadsOf j (argument_reach (is_indexed db.now) (packages_in D.Disk disk.old db.now) chosen text.now) db.now
+        (pkg_read D.Disk disk.old) (pkg_read D.Disk disk.new)) }
+    ensures reads { IsTrue D.tells → HasRows D.Disk disk.old db.now
+        → pkg_read D.Disk disk.new ≤ pkg_read D.Disk disk.old + reach_all
+        (argument_reach (is_indexed db.now) (packages_in D.Disk disk.old db.now) chosen text.now) db.now }
+    ensures bad_index { IsTrue D.tells → IfErr result (IsOfChain (question_of chosen (lent text.now))
+        (D.files disk.old).idx) }
     ensures looks { Peeks D.Disk (is_indexed db.now) disk.old disk.new }
     ensures disk { DiskFault D.Disk (result ≡ Err Stop.ReadFault) disk.old disk.new }
-    ensures hands { Hands O.Sink E.Sink (result ≡ Err Stop.OutFault) (result ≡ Err Stop.ErrFault) out.old err.old out.new err.new }
+    ensures hands { StopHands O.Sink E.Sink result out.old err.old out.new err.new }
 {
     match question_of(chosen, text) {
         Some(selection) => match Picker::new(alloc, db, disk, &selection) {

@@ -38,8 +38,9 @@ fn begin<D: Disk, S: Shelf, O: Sink + Drop, E: Sink + Drop>(
     now: u32,
 ) -> (CommandEnding, D)
     requires sound { IsSound words.now ask.now }
-    ensures does { Does (ran D.Disk S.Shelf words.now now result.0.why result.0.changes (disk, shelf.old) (shown O.Sink E.Sink out.old err.old)
-        (result.1, shelf.new)) ask.now format.now (shown O.Sink E.Sink out.new err.new) }
+    ensures does { Does (ran D.Disk S.Shelf words.now now result.0.why result.0.changes (disk, shelf.old)
+        (shown O.Sink E.Sink out.old err.old) (result.1, shelf.new)) ask.now format.now
+        (shown O.Sink E.Sink out.new err.new) }
     ensures done { is_of_words result.0.why ≡ false }
     ensures idle { is_changing ask.now ≡ false → result.0.changes ≡ 0 }
     ensures counted { is_done result.0.why ≡ false → result.0.changes ≡ 0 }
@@ -47,7 +48,8 @@ fn begin<D: Disk, S: Shelf, O: Sink + Drop, E: Sink + Drop>(
     ensures goes_on { D.follows disk result.1 }
     ensures disk { DiskFault D.Disk (result.0.why ≡ Why.DiskFault) disk result.1 }
     ensures shelf { ShelfFault S.Shelf (result.0.why ≡ Why.ShelfFault) shelf.old shelf.new }
-    ensures hands { Hands O.Sink E.Sink (result.0.why ≡ Why.OutFault) (result.0.why ≡ Why.ErrFault) out.old err.old out.new err.new }
+    ensures hands { Hands O.Sink E.Sink (result.0.why ≡ Why.OutFault) (result.0.why ≡ Why.ErrFault) out.old err.old
+        out.new err.new }
 {
     if is_changing(ask) {
         change_asked(alloc, words, ask, disk, shelf, out, err, now)
@@ -74,12 +76,14 @@ fn command<D: Disk, S: Shelf, O: Sink + Drop, E: Sink + Drop>(
     now: u32,
 ) -> (CommandEnding, D)
     ensures words { AnswersWords words.now result.0.why }
-    ensures unread { asks words.now ≡ None → (result.1 ≡ disk) × (shelf.new ≡ shelf.old) × (out.new ≡ out.old) × (err.new ≡ err.old) }
+    ensures unread { asks words.now ≡ None → (result.1 ≡ disk) × (shelf.new ≡ shelf.old) × (out.new ≡ out.old)
+        × (err.new ≡ err.old) }
     ensures answers { Answers (ran D.Disk S.Shelf words.now now result.0.why result.0.changes (disk, shelf.old)
         (shown O.Sink E.Sink out.old err.old) (result.1, shelf.new)) (shown O.Sink E.Sink out.new err.new) }
     ensures disk { DiskFault D.Disk (result.0.why ≡ Why.DiskFault) disk result.1 }
     ensures shelf { ShelfFault S.Shelf (result.0.why ≡ Why.ShelfFault) shelf.old shelf.new }
-    ensures hands { Hands O.Sink E.Sink (result.0.why ≡ Why.OutFault) (result.0.why ≡ Why.ErrFault) out.old err.old out.new err.new }
+    ensures hands { Hands O.Sink E.Sink (result.0.why ≡ Why.OutFault) (result.0.why ≡ Why.ErrFault) out.old err.old
+        out.new err.new }
 {
     match read_command(alloc, words) {
         Ok((ask, format)) => begin(alloc, words, &ask, &format, disk, shelf, out, err, now),
@@ -89,41 +93,47 @@ fn command<D: Disk, S: Shelf, O: Sink + Drop, E: Sink + Drop>(
 
 /// Does what a command line asks for, to a database or with package files, and writes the line that closes it.
 ///
-/// The disk is handed back beside every outcome. Queries leave what its files stand for, the index aside, and so do the reports, `--exportdb`
-/// and `--verifydb`. The words are read first, by the rules of [`read`](rpm_words::read). Where they break one, the answer is `Usage` with the
-/// first that is broken. Then the format is read, by the rules of [`parse`](rpm_qfparse::parse): F, the list of files, or `%{NVRA}\n`. Where it
-/// has a fault, the answer is `BadFormat` with the first one. With these two answers no call is made on the disk, the shelf or `out`.
+/// The disk is handed back beside every outcome. Queries leave what its files stand for, the index aside, and so do
+/// the reports, `--exportdb` and `--verifydb`. The words are read first, by the rules of [`read`](rpm_words::read).
+/// Where they break one, the answer is `Usage` with the first that is broken. Then the format is read, by the rules
+/// of [`parse`](rpm_qfparse::parse): F, the list of files, or `%{NVRA}\n`. Where it has a fault, the answer is
+/// `BadFormat` with the first one. With these two answers no call is made on the disk, the shelf or `out`.
 ///
-/// A query prints for each argument what the format means for each package that it picks, by rising number. A package that can't be
-/// read, and one for which a bracket's tags have different numbers of elements, has a message on `err` in its place; then the argument
-/// fails, once. `--exportdb` writes each header after the magic, in one piece. `--verifydb` writes a line for each package that isn't sound.
-/// `--checkfiles` writes a line for each package that can't be read, and then one for each two packages that own a path and differ on it.
+/// A query prints for each argument what the format means for each package that it picks, by rising number. A package
+/// that can't be read, and one for which a bracket's tags have different numbers of elements, has a message on `err`
+/// in its place; then the argument fails, once. `--exportdb` writes each header after the magic, in one piece.
+/// `--verifydb` writes a line for each package that isn't sound. `--checkfiles` writes a line for each package that
+/// can't be read, and then one for each two packages that own a path and differ on it.
 ///
-/// With `-p` each argument is the path of a package file, `-` the standard input, and what is printed is of its header with the number 0:
-/// no call is made on the disk, and `--after` and `--noindex` change nothing. A path that can't be opened and a file that is refused have
-/// a line on `err`; then the argument fails. A read that fails ends the command with `ShelfFault`. Each file is read up to the end of its
-/// header. Of the other commands `--addpkg`, `--replacepkg` and `--importdb` alone make calls on the shelf.
+/// With `-p` each argument is the path of a package file, `-` the standard input, and what is printed is of its
+/// header with the number 0: no call is made on the disk, and `--after` and `--noindex` change nothing. A path that
+/// can't be opened and a file that is refused have a line on `err`; then the argument fails. A read that fails ends
+/// the command with `ShelfFault`. Each file is read up to the end of its header. Of the other commands `--addpkg`,
+/// `--replacepkg` and `--importdb` alone make calls on the shelf.
 ///
-/// A query without `-p`, `-a`, `--querybynumber` and `--noindex` is a question by key. It first finishes what a crash left of a change, syncs
-/// the files, and makes the index from the packages where it isn't current. On a database that can't be written it answers `DiskFault`
-/// where the index must be made: then `--noindex` answers.
+/// A query without `-p`, `-a`, `--querybynumber` and `--noindex` is a question by key. It first finishes what a crash
+/// left of a change, syncs the files, and makes the index from the packages where it isn't current. On a database
+/// that can't be written it answers `DiskFault` where the index must be made: then `--noindex` answers.
 ///
-/// `-Va --nofiles` and `--order` open the database in the same way. Both first have the message of each package that can't be read. Then the one
-/// writes a line for each requirement that no package meets, and fails where there is one; the other writes the labels of the packages in an
-/// order in which they could be installed, those that all lead to each other as a cycle.
+/// `-Va --nofiles` and `--order` open the database in the same way. Both first have the message of each package that
+/// can't be read. Then the one writes a line for each requirement that no package meets, and fails where there is
+/// one; the other writes the labels of the packages in an order in which they could be installed, those that all lead
+/// to each other as a cycle.
 ///
-/// `--initdb`, `--addpkg`, `--replacepkg`, `--erasepkg`, `--importdb`, `--rebuilddb` and `--exercise` change the database; where there is none,
-/// they make one. All changes of a command are one: they are held in memory, and committed after the last argument; a command that is stopped
-/// before that changes nothing. An argument that fails has its line on `err`, and the others go on. `now` is the moment that
-/// `INSTALLTIME` and `INSTALLTID` of a package file get, in seconds since 1970. `--rebuilddb` makes the index anew, and drops the packages
-/// that can't be read, each with a line on `out`. `--exercise` makes the index anew, adds, replaces and erases that many headers that it
-/// generates, and tells on `out` what they leave; where there are packages, it is answered `NotEmpty` with the least number. The outcome counts
-/// the changes, where the command was done.
+/// `--initdb`, `--addpkg`, `--replacepkg`, `--erasepkg`, `--importdb`, `--rebuilddb` and `--exercise` change the
+/// database; where there is none, they make one. All changes of a command are one: they are held in memory, and
+/// committed after the last argument; a command that is stopped before that changes nothing. An argument that fails
+/// has its line on `err`, and the others go on. `now` is the moment that `INSTALLTIME` and `INSTALLTID` of a package
+/// file get, in seconds since 1970. `--rebuilddb` makes the index anew, and drops the packages that can't be read,
+/// each with a line on `out`. `--exercise` makes the index anew, adds, replaces and erases that many headers that it
+/// generates, and tells on `out` what they leave; where there are packages, it is answered `NotEmpty` with the least
+/// number. The outcome counts the changes, where the command was done.
 ///
-/// Of `Packages.db` a query reads no more bytes than those of the slot pages and for each argument of the blocks of each package once: for a
-/// number of that package alone, and by key of the packages that have one of its keys, and of all once more where the index must be made.
-/// Where a sink fails, of the blocks no more than those up to the package whose step was cut off. Each header is parsed once. What is printed
-/// of a package goes out in few pieces, and no piece is of two packages.
+/// Of `Packages.db` a query reads no more bytes than those of the slot pages and for each argument of the blocks of
+/// each package once: for a number of that package alone, and by key of the packages that have one of its keys, and
+/// of all once more where the index must be made. Where a sink fails, of the blocks no more than those up to the
+/// package whose step was cut off. Each header is parsed once. What is printed of a package goes out in few pieces,
+/// and no piece is of two packages.
 pub fn run<D: Disk, S: Shelf, O: Sink, E: Sink>(
     alloc: Global,
     words: &Words,
@@ -143,7 +153,8 @@ pub fn run<D: Disk, S: Shelf, O: Sink, E: Sink>(
     ensures answers { Ends (Answers (ran D.Disk S.Shelf words.now now result.0.why result.0.changes (disk, shelf.old)
         (outs O.Sink E.Sink out.old err.old) (result.1, shelf.new))) (closing words.now result.0.why)
         (outs O.Sink E.Sink out.new err.new) (E.faults err.old) (E.faults err.new) }
-    ensures causes { Causes D.Disk S.Shelf O.Sink E.Sink result.0.why (disk, shelf.old, out.old, err.old) (result.1, shelf.new, out.new, err.new) }
+    ensures causes { Causes D.Disk S.Shelf O.Sink E.Sink result.0.why (disk, shelf.old, out.old, err.old)
+        (result.1, shelf.new, out.new, err.new) }
     ensures laws { Laws words.now }
 {
     let mut out = Buffered::new(out);

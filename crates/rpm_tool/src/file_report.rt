@@ -1,18 +1,17 @@
 //! What is told of the paths that several packages own and that differ.
 
-ghost use Rattle.std.specs.Prelude.{◌≡◌, ◌≢◌, ◌+◌, ◌≤◌, ℕ, Bool, List, [], ◌∷◌, map, false, IsTrue, Err};
-ghost use Rattle.rpm_outside.specs.Buffered.{inner, holds};
+ghost use Rattle.std.specs.Prelude.{◌≡◌, ◌≢◌, ◌+◌, ◌≤◌, ℕ, [], ◌∷◌, map, false, IsTrue, Err};
+ghost use Rattle.rpm_outside.specs.Buffered.{holds};
 ghost use Rattle.rpm_outside.specs.declared.disk.File.TheVariants.{Pkg};
 ghost use Rattle.rpm_db.specs.Database as database;
 ghost use Rattle.rpm_db.specs.Database.{cost_all};
 ghost use Rattle.rpm_select.specs.Reach.{Everything};
 ghost use Rattle.rpm_change.specs.Steps.{whole};
-ghost use Rattle.rpm_change.specs.Endings.{outputs};
 ghost use Rattle.rpm_tool.specs.Steps.{fails, together};
 ghost use Rattle.rpm_tool.specs.FileReport.{if_differs, unread_step, conflict_step, label_told, told_steps, check_files};
 ghost use Rattle.rpm_tool.specs.Reads.{reached_by};
 ghost use Rattle.rpm_tool.specs.Answers.{StepIs, Reached, PartIs, Went, is_foreign, is_some_of};
-ghost use Rattle.rpm_tool.specs.Frame.{Looks, shown, DiskFault, Kept, packages_in, pkg_read, Hands};
+ghost use Rattle.rpm_tool.specs.Frame.{Looks, shown, DiskFault, Kept, packages_in, pkg_read, OutTakes, ErrTakes, StopHands, EndHands};
 ghost use Rattle.rpm_change.specs.Hands.{Hand};
 
 use crate::answer::Why;
@@ -37,8 +36,8 @@ fn put_unread<E: Sink + Drop>(
     numbers: &[u32],
     err: &mut Buffered<E>,
 ) -> Result<(), Stop>
-    ensures went { (out_tells : Bool) (out : List ℕ) → Reached (map unread_step numbers.now) result
-        (outputs out_tells out E.tells (E.taken (inner err.old))) (outputs out_tells out E.tells (E.taken (inner err.new))) (λ for. for ≡ whole 0) }
+    ensures went { ErrTakes E.Sink (λ old new. Reached (map unread_step numbers.now) result old new
+        (λ for. for ≡ whole 0)) err.old err.new }
     ensures no_read { result ≢ Err Stop.ReadFault }
     ensures no_out { result ≢ Err Stop.OutFault }
     ensures err { Hand E.Sink (result ≡ Err Stop.ErrFault) err.old err.new }
@@ -59,8 +58,7 @@ fn put_conflict<'a, O: Sink + Drop>(
     report: &'a ConflictList,
     conflict: &'a Conflict,
 ) -> Result<bool, Stop>
-    ensures step { (err_tells : Bool) (err : List ℕ) → StepIs (conflict_step (label_told report.now) conflict.now) result
-        (outputs O.tells (O.taken (inner out.old)) err_tells err) (outputs O.tells (O.taken (inner out.new)) err_tells err) }
+    ensures step { OutTakes O.Sink (StepIs (conflict_step (label_told report.now) conflict.now) result) out.old out.new }
     ensures no_read { result ≢ Err Stop.ReadFault }
     ensures no_err { result ≢ Err Stop.ErrFault }
     ensures out { Hand O.Sink (result ≡ Err Stop.OutFault) out.old out.new }
@@ -92,8 +90,8 @@ fn put_conflict<'a, O: Sink + Drop>(
 
 /// Writes to out the lines of all conflicts.
 fn put_conflicts<O: Sink + Drop>(out: &mut Buffered<O>, report: &ConflictList) -> Result<(), Stop>
-    ensures went { (err_tells : Bool) (err : List ℕ) → Reached (map (conflict_step (label_told report.now)) report.now.conflicts) result
-        (outputs O.tells (O.taken (inner out.old)) err_tells err) (outputs O.tells (O.taken (inner out.new)) err_tells err) (λ for. for ≡ whole 0) }
+    ensures went { OutTakes O.Sink (λ old new. Reached (map (conflict_step (label_told report.now))
+        report.now.conflicts) result old new (λ for. for ≡ whole 0)) out.old out.new }
     ensures no_read { result ≢ Err Stop.ReadFault }
     ensures no_err { result ≢ Err Stop.ErrFault }
     ensures out { Hand O.Sink (result ≡ Err Stop.OutFault) out.old out.new }
@@ -121,10 +119,10 @@ fn tell_report<O: Sink + Drop, E: Sink + Drop>(
     out: &mut Buffered<O>,
     err: &mut Buffered<E>,
 ) -> Result<bool, Stop>
-    ensures part { PartIs (together (map fails (told_steps report.now))) result (shown O.Sink E.Sink out.old err.old) (shown O.Sink E.Sink out.new err.new) (λ
-        for. for ≡ whole 0) }
+    ensures part { PartIs (together (map fails (told_steps report.now))) result (shown O.Sink E.Sink out.old err.old)
+        (shown O.Sink E.Sink out.new err.new) (λ for. for ≡ whole 0) }
     ensures no_read { result ≢ Err Stop.ReadFault }
-    ensures hands { Hands O.Sink E.Sink (result ≡ Err Stop.OutFault) (result ≡ Err Stop.ErrFault) out.old err.old out.new err.new }
+    ensures hands { StopHands O.Sink E.Sink result out.old err.old out.new err.new }
 {
     match put_unread(alloc, report.bad(), err) {
         Ok(()) => match put_conflicts(out, report) {
@@ -135,8 +133,9 @@ fn tell_report<O: Sink + Drop, E: Sink + Drop>(
     }
 }
 
-/// Tells the packages that can't be read, and then the paths that several packages own and that differ. Reads all packages, each once, before
-/// the first line; what it keeps of them is what [`conflicts`](rpm_filecheck::conflicts) says.
+/// Tells the packages that can't be read, and then the paths that several packages own and that differ. Reads all
+/// packages, each once, before the first line; what it keeps of them is what [`conflicts`](rpm_filecheck::conflicts)
+/// says.
 pub fn check_files<D: Disk, O: Sink + Drop, E: Sink + Drop>(
     alloc: Global,
     db: &Db,
@@ -147,12 +146,13 @@ pub fn check_files<D: Disk, O: Sink + Drop, E: Sink + Drop>(
     requires keeps { Kept D.Disk disk.old db.now }
     requires runs { db.now.stopped ≡ false }
     requires from_one { database.holds 0 db.now ≡ false }
-    ensures went { IsTrue D.tells → Went (check_files (packages_in D.Disk disk.old db.now)) result (shown O.Sink E.Sink out.old err.old) (shown O.Sink E.Sink
-        out.new err.new) (λ for. pkg_read D.Disk disk.new ≤ pkg_read D.Disk disk.old + reached_by (Everything ∷ []) db.now for) }
+    ensures went { IsTrue D.tells → Went (check_files (packages_in D.Disk disk.old db.now)) result
+        (shown O.Sink E.Sink out.old err.old) (shown O.Sink E.Sink out.new err.new)
+        (λ for. pkg_read D.Disk disk.new ≤ pkg_read D.Disk disk.old + reached_by (Everything ∷ []) db.now for) }
     ensures done { is_foreign result ≡ false }
     ensures looks { Looks D.Disk Pkg (cost_all db.now) disk.old disk.new }
     ensures disk { DiskFault D.Disk (result ≡ Why.DiskFault) disk.old disk.new }
-    ensures hands { Hands O.Sink E.Sink (result ≡ Why.OutFault) (result ≡ Why.ErrFault) out.old err.old out.new err.new }
+    ensures hands { EndHands O.Sink E.Sink result out.old err.old out.new err.new }
 {
     let report = match conflicts(alloc, db, disk) {
         Ok(report) => report,

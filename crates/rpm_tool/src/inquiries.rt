@@ -13,7 +13,7 @@ ghost use Rattle.rpm_tool.specs.Asked.{is_query, inquiry_of};
 ghost use Rattle.rpm_tool.specs.Reads.{argument_reach, reaches_by, reach_sum, reached_by};
 ghost use Rattle.rpm_tool.specs.Requirements.{unsatisfied, why_of_report, IsOfSome};
 ghost use Rattle.rpm_tool.specs.Keyed.{DoesBy, CauseIs, OrderIs};
-ghost use Rattle.rpm_tool.specs.Frame.{Peeks, shown, DiskFault, Kept, KeptIndex, HasRows, packages_in, pkg_read, Hands};
+ghost use Rattle.rpm_tool.specs.Frame.{Peeks, shown, DiskFault, Kept, KeptIndex, HasRows, packages_in, pkg_read, EndHands};
 
 use crate::answer::Why;
 use crate::asked::{Inquiry, inquiry_of};
@@ -29,7 +29,8 @@ use std::alloc::Global;
 
 /// The ending of a report, of whether its one argument failed.
 fn why_of_report(told: Result<bool, Stop>) -> Why
-    ensures went { (p : Portion) (old new : Outputs) → PartIs p told old new Anywhere → Went (before p idle) result old new Anywhere }
+    ensures went { (p : Portion) (old new : Outputs) → PartIs p told old new Anywhere
+        → Went (before p idle) result old new Anywhere }
     ensures value { result ≡ why_of_report told }
     ensures done { is_foreign result ≡ false }
     ensures opened { is_of_opening result ≡ false }
@@ -53,14 +54,15 @@ fn answer_unmet<D: Disk, O: Sink + Drop, E: Sink + Drop>(
     requires runs { db.now.stopped ≡ false }
     requires keeps_index { KeptIndex D.Disk disk.old db.now }
     requires from_one { database.holds 0 db.now ≡ false }
-    ensures went { IsTrue D.tells → HasRows D.Disk disk.old db.now → Went (unsatisfied (packages_in D.Disk disk.old db.now)) result (shown O.Sink E.Sink
-        out.old err.old) (shown O.Sink E.Sink out.new err.new) Anywhere }
+    ensures went { IsTrue D.tells → HasRows D.Disk disk.old db.now
+        → Went (unsatisfied (packages_in D.Disk disk.old db.now)) result (shown O.Sink E.Sink out.old err.old)
+        (shown O.Sink E.Sink out.new err.new) Anywhere }
     ensures done { is_foreign result ≡ false }
     ensures opened { is_of_opening result ≡ false }
     ensures bad_index { IsTrue D.tells → IsOfSome (D.files disk.old).idx result }
     ensures looks { Peeks D.Disk true disk.old disk.new }
     ensures disk { DiskFault D.Disk (result ≡ Why.DiskFault) disk.old disk.new }
-    ensures hands { Hands O.Sink E.Sink (result ≡ Why.OutFault) (result ≡ Why.ErrFault) out.old err.old out.new err.new }
+    ensures hands { EndHands O.Sink E.Sink result out.old err.old out.new err.new }
 {
     why_of_report(report_unmet(alloc, db, disk, out, err))
 }
@@ -77,14 +79,15 @@ fn answer_order<D: Disk, O: Sink + Drop, E: Sink + Drop>(
     requires runs { db.now.stopped ≡ false }
     requires keeps_index { KeptIndex D.Disk disk.old db.now }
     requires from_one { database.holds 0 db.now ≡ false }
-    ensures went { IsTrue D.tells → HasRows D.Disk disk.old db.now → OrderIs (packages_in D.Disk disk.old db.now) result (shown O.Sink E.Sink out.old err.old)
+    ensures went { IsTrue D.tells → HasRows D.Disk disk.old db.now
+        → OrderIs (packages_in D.Disk disk.old db.now) result (shown O.Sink E.Sink out.old err.old)
         (shown O.Sink E.Sink out.new err.new) }
     ensures done { is_foreign result ≡ false }
     ensures opened { is_of_opening result ≡ false }
     ensures bad_index { IsTrue D.tells → IsOfSome (D.files disk.old).idx result }
     ensures looks { Peeks D.Disk true disk.old disk.new }
     ensures disk { DiskFault D.Disk (result ≡ Why.DiskFault) disk.old disk.new }
-    ensures hands { Hands O.Sink E.Sink (result ≡ Why.OutFault) (result ≡ Why.ErrFault) out.old err.old out.new err.new }
+    ensures hands { EndHands O.Sink E.Sink result out.old err.old out.new err.new }
 {
     why_of_report(report_order(alloc, db, disk, out, err))
 }
@@ -104,19 +107,22 @@ pub fn answer_inquiry<D: Disk, O: Sink + Drop, E: Sink + Drop>(
     requires runs { db.now.stopped ≡ false }
     requires keeps_index { KeptIndex D.Disk disk.old db.now }
     requires from_one { database.holds 0 db.now ≡ false }
-    ensures went { IsTrue D.tells → HasRows D.Disk disk.old db.now → DoesBy (inquiry_of ask.now.mode) format.now words.now ask.now (packages_in D.Disk
-        disk.old db.now) (λ for. pkg_read D.Disk disk.new ≤ pkg_read D.Disk disk.old + reached_by (reaches_by (argument_reach (is_indexed db.now) (packages_in
-        D.Disk disk.old db.now) ask.now.chosen) (map (text_at words.now) ask.now.arguments)) db.now for) result (shown O.Sink E.Sink out.old err.old) (shown
-        O.Sink E.Sink out.new err.new) }
+    ensures went { IsTrue D.tells → HasRows D.Disk disk.old db.now
+        → DoesBy (inquiry_of ask.now.mode) format.now words.now ask.now (packages_in D.Disk disk.old db.now)
+        (λ for. pkg_read D.Disk disk.new ≤ pkg_read D.Disk disk.old + reached_by
+        (reaches_by (argument_reach (is_indexed db.now) (packages_in D.Disk disk.old db.now) ask.now.chosen)
+        (map (text_at words.now) ask.now.arguments)) db.now for) result (shown O.Sink E.Sink out.old err.old)
+        (shown O.Sink E.Sink out.new err.new) }
     ensures done { is_foreign result ≡ false }
     ensures opened { is_of_opening result ≡ false }
-    ensures reads { is_query ask.now.mode ≡ true → IsTrue D.tells → HasRows D.Disk disk.old db.now → pkg_read D.Disk disk.new ≤ pkg_read D.Disk disk.old +
-        reach_sum (reaches_by (argument_reach (is_indexed db.now) (packages_in D.Disk disk.old db.now) ask.now.chosen) (map (text_at words.now)
-        ask.now.arguments)) db.now }
+    ensures reads { is_query ask.now.mode ≡ true → IsTrue D.tells → HasRows D.Disk disk.old db.now
+        → pkg_read D.Disk disk.new ≤ pkg_read D.Disk disk.old + reach_sum
+        (reaches_by (argument_reach (is_indexed db.now) (packages_in D.Disk disk.old db.now) ask.now.chosen)
+        (map (text_at words.now) ask.now.arguments)) db.now }
     ensures bad_index { IsTrue D.tells → CauseIs words.now ask.now (D.files disk.old).idx result }
     ensures looks { Peeks D.Disk true disk.old disk.new }
     ensures disk { DiskFault D.Disk (result ≡ Why.DiskFault) disk.old disk.new }
-    ensures hands { Hands O.Sink E.Sink (result ≡ Why.OutFault) (result ≡ Why.ErrFault) out.old err.old out.new err.new }
+    ensures hands { EndHands O.Sink E.Sink result out.old err.old out.new err.new }
 {
     match inquiry_of(ask.mode()) {
         Inquiry::Query => query_opened(alloc, db, disk, words, ask, format, out, err),

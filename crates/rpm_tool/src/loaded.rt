@@ -3,7 +3,7 @@
 ghost use Rattle.std.specs.Prelude.{◌≡◌, ◌+◌, ◌≤◌, [], false, IsTrue};
 ghost use Rattle.rpm_outside.specs.Logs.{reopened};
 ghost use Rattle.rpm_tool.specs.Answers.{is_foreign, why_of_load, unless_starved, Queried, query_cost};
-ghost use Rattle.rpm_tool.specs.Frame.{Leaves, shown, DiskFault, pkg_read, Hands};
+ghost use Rattle.rpm_tool.specs.Frame.{Leaves, shown, DiskFault, pkg_read, EndHands};
 
 use crate::answer::Why;
 use crate::unindexed::answer_unindexed;
@@ -44,13 +44,15 @@ pub fn answer_loaded<D: Disk, O: Sink + Drop, E: Sink + Drop>(
     out: &mut Buffered<O>,
     err: &mut Buffered<E>,
 ) -> (Why, D)
-    ensures went { IsTrue D.tells → Queried format.now words.now ask.now (D.files disk) result.0 (shown O.Sink E.Sink out.old err.old) (shown O.Sink E.Sink
-        out.new err.new) (pkg_read D.Disk disk) (pkg_read D.Disk result.1) }
-    ensures reads { IsTrue D.tells → pkg_read D.Disk result.1 ≤ pkg_read D.Disk disk + query_cost words.now ask.now (reopened (D.files disk)).pkg }
+    ensures went { IsTrue D.tells → Queried format.now words.now ask.now (D.files disk) result.0
+        (shown O.Sink E.Sink out.old err.old) (shown O.Sink E.Sink out.new err.new) (pkg_read D.Disk disk)
+        (pkg_read D.Disk result.1) }
+    ensures reads { IsTrue D.tells → pkg_read D.Disk result.1 ≤ pkg_read D.Disk disk + query_cost words.now ask.now
+        (reopened (D.files disk)).pkg }
     ensures done { is_foreign result.0 ≡ false }
     ensures looks { Leaves D.Disk disk result.1 }
     ensures disk { DiskFault D.Disk (result.0 ≡ Why.DiskFault) disk result.1 }
-    ensures hands { Hands O.Sink E.Sink (result.0 ≡ Why.OutFault) (result.0 ≡ Why.ErrFault) out.old err.old out.new err.new }
+    ensures hands { EndHands O.Sink E.Sink result.0 out.old err.old out.new err.new }
 {
     match Overlay::load(alloc, disk) {
         Ok(overlay) => {

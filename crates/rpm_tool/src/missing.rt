@@ -1,12 +1,10 @@
 //! The line of an argument that picks nothing.
 
-ghost use Rattle.std.specs.Prelude.{◌≡◌, ◌≢◌, ℕ, Bool, List, [], Err};
-ghost use Rattle.rpm_outside.specs.Buffered.{inner};
+ghost use Rattle.std.specs.Prelude.{◌≡◌, ◌≢◌, ℕ, [], Err};
 ghost use Rattle.rpm_change.specs.Steps.{whole};
 ghost use Rattle.rpm_tool.specs.Queries.{missing, missing_record, missing_part};
-ghost use Rattle.rpm_change.specs.Endings.{outputs};
 ghost use Rattle.rpm_tool.specs.Answers.{PartIs};
-ghost use Rattle.rpm_tool.specs.Frame.{shown, Hands};
+ghost use Rattle.rpm_tool.specs.Frame.{shown, OutTakes, ErrTakes, StopHands};
 ghost use Rattle.rpm_change.specs.Hands.{Hand};
 
 use crate::pieces::put_line;
@@ -21,8 +19,8 @@ fn put_missing<O: Sink + Drop>(
     text: &[u8],
     back: &[u8],
 ) -> Result<bool, Stop>
-    ensures part { (j : ℕ) (err_tells : Bool) (err : List ℕ) → PartIs (missing j front.now text.now back.now) result
-        (outputs O.tells (O.taken (inner out.old)) err_tells err) (outputs O.tells (O.taken (inner out.new)) err_tells err) (λ for. for ≡ whole j) }
+    ensures part { (j : ℕ) → OutTakes O.Sink (λ old new. PartIs (missing j front.now text.now back.now) result old new
+        (λ for. for ≡ whole j)) out.old out.new }
     ensures no_read { result ≢ Err Stop.ReadFault }
     ensures no_err { result ≢ Err Stop.ErrFault }
     ensures out { Hand O.Sink (result ≡ Err Stop.OutFault) out.old out.new }
@@ -35,8 +33,8 @@ fn put_missing<O: Sink + Drop>(
 
 /// Writes to err that a number has no record.
 fn put_no_record<E: Sink + Drop>(err: &mut Buffered<E>, text: &[u8]) -> Result<bool, Stop>
-    ensures part { (j : ℕ) (out_tells : Bool) (out : List ℕ) → PartIs (missing_record j text.now) result
-        (outputs out_tells out E.tells (E.taken (inner err.old))) (outputs out_tells out E.tells (E.taken (inner err.new))) (λ for. for ≡ whole j) }
+    ensures part { (j : ℕ) → ErrTakes E.Sink (λ old new. PartIs (missing_record j text.now) result old new
+        (λ for. for ≡ whole j)) err.old err.new }
     ensures no_read { result ≢ Err Stop.ReadFault }
     ensures no_out { result ≢ Err Stop.OutFault }
     ensures err { Hand E.Sink (result ≡ Err Stop.ErrFault) err.old err.new }
@@ -55,10 +53,10 @@ pub fn put_missing_part<O: Sink + Drop, E: Sink + Drop>(
     out: &mut Buffered<O>,
     err: &mut Buffered<E>,
 ) -> Result<bool, Stop>
-    ensures part { (j : ℕ) → PartIs (missing_part chosen j text.now) result (shown O.Sink E.Sink out.old err.old) (shown O.Sink E.Sink out.new err.new) (λ
-        for. for ≡ whole j) }
+    ensures part { (j : ℕ) → PartIs (missing_part chosen j text.now) result (shown O.Sink E.Sink out.old err.old)
+        (shown O.Sink E.Sink out.new err.new) (λ for. for ≡ whole j) }
     ensures no_read { result ≢ Err Stop.ReadFault }
-    ensures hands { Hands O.Sink E.Sink (result ≡ Err Stop.OutFault) (result ≡ Err Stop.ErrFault) out.old err.old out.new err.new }
+    ensures hands { StopHands O.Sink E.Sink result out.old err.old out.new err.new }
 {
     match chosen {
         Chosen::All | Chosen::Package => Ok(false),

@@ -44,9 +44,12 @@ fn make_blank<D: Disk>(alloc: Global, db: &mut Db, disk: &mut D) -> Result<(), W
     ensures state { OnOk result (IsTrue D.tells → state_in D.Disk disk.new db.new ≡ state_in D.Disk disk.old db.old) }
     ensures begun { OnOk result (db.new.store ≡ begun db.old.store) }
     ensures not_blank { OnOk result (is_blank db.new ≡ false) }
-    ensures rows { OnOk result (IsTrue D.tells → (is_blank db.old ≡ false → Indexed D.Disk disk.old db.old) → Indexed D.Disk disk.new db.new) }
-    ensures whole { OnOk result (IsTrue D.tells → (is_blank db.old ≡ false → IsWholeIndex (D.files disk.old).idx) → IsWholeIndex (D.files disk.new).idx) }
-    ensures reach { OnOk result (IsTrue D.tells → ReachesMade (units_for []) (D.files disk.old).idx (D.files disk.new).idx) }
+    ensures rows { OnOk result (IsTrue D.tells → (is_blank db.old ≡ false → Indexed D.Disk disk.old db.old)
+        → Indexed D.Disk disk.new db.new) }
+    ensures whole { OnOk result (IsTrue D.tells → (is_blank db.old ≡ false → IsWholeIndex (D.files disk.old).idx)
+        → IsWholeIndex (D.files disk.new).idx) }
+    ensures reach { OnOk result (IsTrue D.tells
+        → ReachesMade (units_for []) (D.files disk.old).idx (D.files disk.new).idx) }
     ensures end { OnOk result (IsTrue D.tells → ReachesTo db.new.store (D.files disk.old).pkg (D.files disk.new).pkg) }
     ensures fault { IfErr result IsOutside }
     ensures runs { Runs D.Disk SameLog disk.old disk.new }
@@ -62,14 +65,18 @@ fn make_blank<D: Disk>(alloc: Global, db: &mut Db, disk: &mut D) -> Result<(), W
 
 /// Opens the database with its index, to change it; where there is none, one is made.
 pub(crate) fn open_to_change<D: Disk>(alloc: Global, disk: &mut D) -> Result<Db, Why>
-    ensures opened { IsTrue D.tells → OpensBy (D.files disk.old) (store (D.files disk.old).pkg) (D.files disk.new) result }
+    ensures opened { IsTrue D.tells → OpensBy (D.files disk.old) (store (D.files disk.old).pkg)
+        (D.files disk.new) result }
     ensures indexed { IfOk result (λ db. is_indexed db ≡ true) }
     ensures going { IfOk result (λ db. db.stopped ≡ false) }
     ensures from_one { IfOk result (λ db. IsTrue D.tells → database.holds 0 db ≡ false) }
     ensures serving { IfOk result (λ db. Serving D.Disk disk.new db) }
-    ensures rows { IfOk result (λ db. IsTrue D.tells → IsLawful (D.files disk.old).pkg (D.files disk.old).idx → Indexed D.Disk disk.new db) }
-    ensures broken { IfOk result (λ _db. IsTrue D.tells → ¬ IsWholeIndex (D.files disk.new).idx → IsBroken (D.files disk.old).pkg (D.files disk.old).idx) }
-    ensures begun { IfOk result (λ db. IsTrue D.tells → IfOk (store (D.files disk.old).pkg) (λ value. db.store ≡ begun value)) }
+    ensures rows { IfOk result (λ db. IsTrue D.tells → IsLawful (D.files disk.old).pkg (D.files disk.old).idx
+        → Indexed D.Disk disk.new db) }
+    ensures broken { IfOk result (λ _db. IsTrue D.tells → ¬ IsWholeIndex (D.files disk.new).idx
+        → IsBroken (D.files disk.old).pkg (D.files disk.old).idx) }
+    ensures begun { IfOk result (λ db. IsTrue D.tells
+        → IfOk (store (D.files disk.old).pkg) (λ value. db.store ≡ begun value)) }
     ensures reach { IfOk result (λ db. IsTrue D.tells → IfOk (store (D.files disk.old).pkg)
         (λ value. OpensWithin (D.files disk.old) value db (D.files disk.new))) }
     ensures not_blank { IfOk result (λ db. is_blank db ≡ false) }

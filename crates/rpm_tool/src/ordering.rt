@@ -1,22 +1,20 @@
 //! An order in which the packages could be installed.
 
-ghost use Rattle.std.specs.Prelude.{◌≡◌, ◌≢◌, ℕ, ◌<◌, Bool, List, [], map, true, false, IsTrue, Err, IfOk, IfErr};
+ghost use Rattle.std.specs.Prelude.{◌≡◌, ◌≢◌, ℕ, ◌<◌, [], map, true, false, IsTrue, Err, IfOk, IfErr};
 ghost use Rattle.std.specs.List.{flat_map};
-ghost use Rattle.rpm_outside.specs.Buffered.{inner, holds};
+ghost use Rattle.rpm_outside.specs.Buffered.{holds};
 ghost use Rattle.rpm_header.specs.Header.{header};
 ghost use Rattle.rpm_db.specs.Database as database;
 ghost use Rattle.rpm_check.specs.Edges.{graph_of};
-ghost use Rattle.rpm_change.specs.Endings.{outputs};
 ghost use Rattle.rpm_change.specs.Steps.{whole, ToOut};
 ghost use Rattle.rpm_graph.specs.Orders.{IsOrder};
 ghost use Rattle.rpm_tool.specs.Answers.{Anywhere, Reached, StepIs, is_of_sink};
 ghost use Rattle.rpm_tool.specs.Requirements.{read_text, label_text, label_step, cycle_line, class_steps, ClassesAre, OrderPartIs, StopsOfSome};
-ghost use Rattle.rpm_tool.specs.Frame.{Peeks, shown, DiskFault, Kept, KeptIndex, HasRows, packages_in, Hands};
+ghost use Rattle.rpm_tool.specs.Frame.{Peeks, shown, DiskFault, Kept, KeptIndex, HasRows, packages_in, OutTakes, StopHands};
 ghost use Rattle.rpm_change.specs.Hands.{Hand};
 
 use crate::step::{Stop, put_text};
-use crate::unreadable::{read_blob, tell_each_bad};
-use crate::unsatisfied::stop_of_check;
+use crate::unreadable::{read_blob, stop_of_check, tell_each_bad};
 use itoa::Buffer;
 use rpm_check::read_graph;
 use rpm_db::Db;
@@ -70,8 +68,8 @@ fn put_label<D: Disk, O: Sink + Drop>(
     requires keeps { Kept D.Disk disk.old db.now }
     requires runs { db.now.stopped ≡ false }
     ensures kept { Kept D.Disk disk.new db.now }
-    ensures step { IsTrue D.tells → (err_tells : Bool) (err : List ℕ) → StepIs (label_step (packages_in D.Disk disk.old db.now) indent.now number) result
-        (outputs O.tells (O.taken (inner out.old)) err_tells err) (outputs O.tells (O.taken (inner out.new)) err_tells err) }
+    ensures step { IsTrue D.tells → OutTakes O.Sink (StepIs (label_step (packages_in D.Disk disk.old db.now) indent.now
+        number) result) out.old out.new }
     ensures looks { Peeks D.Disk true disk.old disk.new }
     ensures unbroken { (unit : ℕ) → result ≢ Err (Stop.BadIndex unit) }
     ensures no_err { result ≢ Err Stop.ErrFault }
@@ -100,8 +98,9 @@ fn put_labels<D: Disk, O: Sink + Drop>(
     requires keeps { Kept D.Disk disk.old db.now }
     requires runs { db.now.stopped ≡ false }
     ensures kept { Kept D.Disk disk.new db.now }
-    ensures went { IsTrue D.tells → (err_tells : Bool) (err : List ℕ) → Reached (map (label_step (packages_in D.Disk disk.old db.now) indent.now) class.now)
-        result (outputs O.tells (O.taken (inner out.old)) err_tells err) (outputs O.tells (O.taken (inner out.new)) err_tells err) Anywhere }
+    ensures went { IsTrue D.tells → OutTakes O.Sink (λ old new. Reached
+        (map (label_step (packages_in D.Disk disk.old db.now) indent.now) class.now) result old new Anywhere)
+        out.old out.new }
     ensures looks { Peeks D.Disk true disk.old disk.new }
     ensures unbroken { (unit : ℕ) → result ≢ Err (Stop.BadIndex unit) }
     ensures no_err { result ≢ Err Stop.ErrFault }
@@ -136,8 +135,7 @@ fn put_cycle<O: Sink + Drop>(
     count: usize,
     out: &mut Buffered<O>,
 ) -> Result<bool, Stop>
-    ensures step { (err_tells : Bool) (err : List ℕ) → StepIs (ToOut (whole 0) (cycle_line count)) result
-        (outputs O.tells (O.taken (inner out.old)) err_tells err) (outputs O.tells (O.taken (inner out.new)) err_tells err) }
+    ensures step { OutTakes O.Sink (StepIs (ToOut (whole 0) (cycle_line count)) result) out.old out.new }
     ensures no_read { result ≢ Err Stop.ReadFault }
     ensures unbroken { (unit : ℕ) → result ≢ Err (Stop.BadIndex unit) }
     ensures no_err { result ≢ Err Stop.ErrFault }
@@ -160,8 +158,8 @@ fn put_class<D: Disk, O: Sink + Drop>(
     requires keeps { Kept D.Disk disk.old db.now }
     requires runs { db.now.stopped ≡ false }
     ensures kept { Kept D.Disk disk.new db.now }
-    ensures went { IsTrue D.tells → (err_tells : Bool) (err : List ℕ) → Reached (class_steps (packages_in D.Disk disk.old db.now) class.now) result (outputs
-        O.tells (O.taken (inner out.old)) err_tells err) (outputs O.tells (O.taken (inner out.new)) err_tells err) Anywhere }
+    ensures went { IsTrue D.tells → OutTakes O.Sink (λ old new. Reached
+        (class_steps (packages_in D.Disk disk.old db.now) class.now) result old new Anywhere) out.old out.new }
     ensures looks { Peeks D.Disk true disk.old disk.new }
     ensures unbroken { (unit : ℕ) → result ≢ Err (Stop.BadIndex unit) }
     ensures no_err { result ≢ Err Stop.ErrFault }
@@ -188,8 +186,8 @@ fn put_classes<D: Disk, O: Sink + Drop>(
 ) -> Result<(), Stop>
     requires keeps { Kept D.Disk disk.old db.now }
     requires runs { db.now.stopped ≡ false }
-    ensures went { IsTrue D.tells → (err_tells : Bool) (err : List ℕ) → Reached (flat_map (class_steps (packages_in D.Disk disk.old db.now)) list.now) result
-        (outputs O.tells (O.taken (inner out.old)) err_tells err) (outputs O.tells (O.taken (inner out.new)) err_tells err) Anywhere }
+    ensures went { IsTrue D.tells → OutTakes O.Sink (λ old new. Reached
+        (flat_map (class_steps (packages_in D.Disk disk.old db.now)) list.now) result old new Anywhere) out.old out.new }
     ensures looks { Peeks D.Disk true disk.old disk.new }
     ensures unbroken { (unit : ℕ) → result ≢ Err (Stop.BadIndex unit) }
     ensures no_err { result ≢ Err Stop.ErrFault }
@@ -212,7 +210,8 @@ fn list_classes<D: Disk>(alloc: Global, db: &Db, disk: &mut D) -> Result<ClassLi
     requires runs { db.now.stopped ≡ false }
     requires from_one { database.holds 0 db.now ≡ false }
     ensures kept { Kept D.Disk disk.new db.now }
-    ensures told { IfOk result (λ list. IsTrue D.tells → HasRows D.Disk disk.old db.now → IsOrder (graph_of (packages_in D.Disk disk.old db.now)) list) }
+    ensures told { IfOk result (λ list. IsTrue D.tells → HasRows D.Disk disk.old db.now
+        → IsOrder (graph_of (packages_in D.Disk disk.old db.now)) list) }
     ensures broken { IsTrue D.tells → IfErr result (StopsOfSome (D.files disk.old).idx) }
     ensures lawful { IsTrue D.tells → HasRows D.Disk disk.old db.now → IfErr result (λ stop. is_of_sink stop ≡ false) }
     ensures no_out { result ≢ Err Stop.OutFault }
@@ -241,8 +240,8 @@ fn tell_order<D: Disk, O: Sink + Drop>(
     requires keeps_index { KeptIndex D.Disk disk.old db.now }
     requires runs { db.now.stopped ≡ false }
     requires from_one { database.holds 0 db.now ≡ false }
-    ensures went { IsTrue D.tells → HasRows D.Disk disk.old db.now → (err_tells : Bool) (err : List ℕ) → ClassesAre (packages_in D.Disk disk.old db.now)
-        result (outputs O.tells (O.taken (inner out.old)) err_tells err) (outputs O.tells (O.taken (inner out.new)) err_tells err) }
+    ensures went { IsTrue D.tells → HasRows D.Disk disk.old db.now
+        → OutTakes O.Sink (ClassesAre (packages_in D.Disk disk.old db.now) result) out.old out.new }
     ensures broken { IsTrue D.tells → IfErr result (StopsOfSome (D.files disk.old).idx) }
     ensures no_err { result ≢ Err Stop.ErrFault }
     ensures looks { Peeks D.Disk true disk.old disk.new }
@@ -255,11 +254,13 @@ fn tell_order<D: Disk, O: Sink + Drop>(
     }
 }
 
-/// Tells first the packages that can't be read, with their lines on err, and then the others in an order in which they could be installed,
-/// with their labels on out: each class after those that its packages require, and of those that may come next the one with the least
-/// number. Packages that all lead to each other are told as a cycle, by rising number. Says whether there is one that can't be read.
+/// Tells first the packages that can't be read, with their lines on err, and then the others in an order in which
+/// they could be installed, with their labels on out: each class after those that its packages require, and of those
+/// that may come next the one with the least number. Packages that all lead to each other are told as a cycle, by
+/// rising number. Says whether there is one that can't be read.
 ///
-/// Beside what [`read_graph`] reads it reads the blocks of each package once, and those of each that can be read once again for its label.
+/// Beside what [`read_graph`] reads it reads the blocks of each package once, and those of each that can be read once
+/// again for its label.
 pub fn report_order<D: Disk, O: Sink + Drop, E: Sink + Drop>(
     alloc: Global,
     db: &Db,
@@ -271,12 +272,13 @@ pub fn report_order<D: Disk, O: Sink + Drop, E: Sink + Drop>(
     requires keeps_index { KeptIndex D.Disk disk.old db.now }
     requires runs { db.now.stopped ≡ false }
     requires from_one { database.holds 0 db.now ≡ false }
-    ensures went { IsTrue D.tells → HasRows D.Disk disk.old db.now → OrderPartIs (packages_in D.Disk disk.old db.now) result (shown O.Sink E.Sink out.old
-        err.old) (shown O.Sink E.Sink out.new err.new) }
+    ensures went { IsTrue D.tells → HasRows D.Disk disk.old db.now
+        → OrderPartIs (packages_in D.Disk disk.old db.now) result (shown O.Sink E.Sink out.old err.old)
+        (shown O.Sink E.Sink out.new err.new) }
     ensures broken { IsTrue D.tells → IfErr result (StopsOfSome (D.files disk.old).idx) }
     ensures looks { Peeks D.Disk true disk.old disk.new }
     ensures disk { DiskFault D.Disk (result ≡ Err Stop.ReadFault) disk.old disk.new }
-    ensures hands { Hands O.Sink E.Sink (result ≡ Err Stop.OutFault) (result ≡ Err Stop.ErrFault) out.old err.old out.new err.new }
+    ensures hands { StopHands O.Sink E.Sink result out.old err.old out.new err.new }
 {
     let bad = match tell_each_bad(alloc, db, disk, err) {
         Ok(bad) => bad,

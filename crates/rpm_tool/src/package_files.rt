@@ -1,8 +1,7 @@
 //! A query of package files.
 
-ghost use Rattle.std.specs.Prelude.{◌≡◌, ◌≢◌, ◌++◌, ℕ, Bool, List, [], ◌∷◌, map, false, IsTrue, Err};
+ghost use Rattle.std.specs.Prelude.{◌≡◌, ◌≢◌, ◌++◌, ℕ, [], ◌∷◌, map, false, IsTrue, Err};
 ghost use Rattle.std.specs.List.{concat};
-ghost use Rattle.rpm_outside.specs.Buffered.{inner};
 ghost use Rattle.rpm_qfeval.specs.Meaning.{meaning};
 ghost use Rattle.rpm_outside.specs.Browses.{left};
 ghost use Rattle.rpm_file.specs.Package.{package_header};
@@ -11,9 +10,8 @@ ghost use Rattle.rpm_tool.specs.Steps.{fails, told};
 ghost use Rattle.rpm_tool.specs.Queries.{printed};
 ghost use Rattle.rpm_change.specs.Texts.{refused_line, absent_line};
 ghost use Rattle.rpm_tool.specs.PackageFiles.{read_part, file_part, query_files};
-ghost use Rattle.rpm_change.specs.Endings.{outputs};
 ghost use Rattle.rpm_tool.specs.Answers.{stop_in, why_of_files, PartIs, Anywhere, Went, is_of_words};
-ghost use Rattle.rpm_tool.specs.Frame.{shown, ShelfFault, Hands};
+ghost use Rattle.rpm_tool.specs.Frame.{shown, ShelfFault, ErrTakes, StopHands, EndHands};
 ghost use Rattle.rpm_change.specs.Hands.{Hand};
 
 use crate::answer::Why;
@@ -30,9 +28,8 @@ use std::alloc::Global;
 
 /// Writes pieces of a line to err, for which the argument fails.
 fn put_failing<E: Sink + Drop>(err: &mut Buffered<E>, pieces: &[&[u8]]) -> Result<bool, Stop>
-    ensures part { (j : ℕ) (out_tells : Bool) (out : List ℕ)
-        → PartIs (fails (ToErr (whole j) (concat (map (λ piece. piece.now) pieces.now)))) result
-        (outputs out_tells out E.tells (E.taken (inner err.old))) (outputs out_tells out E.tells (E.taken (inner err.new))) Anywhere }
+    ensures part { (j : ℕ) → ErrTakes E.Sink (λ old new. PartIs (fails
+        (ToErr (whole j) (concat (map (λ piece. piece.now) pieces.now)))) result old new Anywhere) err.old err.new }
     ensures no_read { result ≢ Err Stop.ReadFault }
     ensures no_out { result ≢ Err Stop.OutFault }
     ensures err { Hand E.Sink (result ≡ Err Stop.ErrFault) err.old err.new }
@@ -50,8 +47,8 @@ fn put_refused<E: Sink + Drop>(
     path: &[u8],
     fault: FileFault,
 ) -> Result<bool, Stop>
-    ensures part { (j : ℕ) (out_tells : Bool) (out : List ℕ) → PartIs (fails (ToErr (whole j) (refused_line path.now fault))) result
-        (outputs out_tells out E.tells (E.taken (inner err.old))) (outputs out_tells out E.tells (E.taken (inner err.new))) Anywhere }
+    ensures part { (j : ℕ) → ErrTakes E.Sink (λ old new. PartIs (fails (ToErr (whole j) (refused_line path.now fault)))
+        result old new Anywhere) err.old err.new }
     ensures no_read { result ≢ Err Stop.ReadFault }
     ensures no_out { result ≢ Err Stop.OutFault }
     ensures err { Hand E.Sink (result ≡ Err Stop.ErrFault) err.old err.new }
@@ -64,8 +61,8 @@ fn put_refused<E: Sink + Drop>(
 
 /// Writes to err that a path can't be opened; then the argument fails.
 fn put_absent<E: Sink + Drop>(err: &mut Buffered<E>, path: &[u8]) -> Result<bool, Stop>
-    ensures part { (j : ℕ) (out_tells : Bool) (out : List ℕ) → PartIs (fails (ToErr (whole j) (absent_line path.now))) result
-        (outputs out_tells out E.tells (E.taken (inner err.old))) (outputs out_tells out E.tells (E.taken (inner err.new))) Anywhere }
+    ensures part { (j : ℕ) → ErrTakes E.Sink (λ old new. PartIs (fails (ToErr (whole j) (absent_line path.now))) result
+        old new Anywhere) err.old err.new }
     ensures no_read { result ≢ Err Stop.ReadFault }
     ensures no_out { result ≢ Err Stop.OutFault }
     ensures err { Hand E.Sink (result ≡ Err Stop.ErrFault) err.old err.new }
@@ -80,10 +77,10 @@ fn print_package<O: Sink + Drop, E: Sink + Drop>(
     out: &mut Buffered<O>,
     err: &mut Buffered<E>,
 ) -> Result<bool, Stop>
-    ensures part { (j : ℕ) → PartIs (told (printed (bearer j 0) (meaning found.now 0 format.now) ∷ [])) result (shown O.Sink E.Sink out.old err.old) (shown
-        O.Sink E.Sink out.new err.new) Anywhere }
+    ensures part { (j : ℕ) → PartIs (told (printed (bearer j 0) (meaning found.now 0 format.now) ∷ [])) result
+        (shown O.Sink E.Sink out.old err.old) (shown O.Sink E.Sink out.new err.new) Anywhere }
     ensures no_read { result ≢ Err Stop.ReadFault }
-    ensures hands { Hands O.Sink E.Sink (result ≡ Err Stop.OutFault) (result ≡ Err Stop.ErrFault) out.old err.old out.new err.new }
+    ensures hands { StopHands O.Sink E.Sink result out.old err.old out.new err.new }
 {
     let view = View::of_checked(found.header());
     match print_header(format, &view, 0, out, err) {
@@ -112,11 +109,12 @@ fn print_opened<S: Shelf, O: Sink + Drop, E: Sink + Drop>(
     out: &mut Buffered<O>,
     err: &mut Buffered<E>,
 ) -> Result<bool, Stop>
-    ensures went { IsTrue S.tells → (j : ℕ) → PartIs (read_part format.now j path.now (package_header (left (S.rest shelf.old)))) result (shown O.Sink E.Sink
-        out.old err.old) (shown O.Sink E.Sink out.new err.new) Anywhere }
+    ensures went { IsTrue S.tells → (j : ℕ) → PartIs (read_part format.now j path.now
+        (package_header (left (S.rest shelf.old)))) result (shown O.Sink E.Sink out.old err.old)
+        (shown O.Sink E.Sink out.new err.new) Anywhere }
     ensures paths { IsTrue S.tells → S.paths shelf.new ≡ S.paths shelf.old }
     ensures shelf { ShelfFault S.Shelf (result ≡ Err Stop.ReadFault) shelf.old shelf.new }
-    ensures hands { Hands O.Sink E.Sink (result ≡ Err Stop.OutFault) (result ≡ Err Stop.ErrFault) out.old err.old out.new err.new }
+    ensures hands { StopHands O.Sink E.Sink result out.old err.old out.new err.new }
 {
     match read_package(alloc, shelf) {
         Ok(found) => print_package(format, &found, out, err),
@@ -136,11 +134,11 @@ fn print_file<S: Shelf, O: Sink + Drop, E: Sink + Drop>(
     out: &mut Buffered<O>,
     err: &mut Buffered<E>,
 ) -> Result<bool, Stop>
-    ensures went { IsTrue S.tells → (j : ℕ) → PartIs (file_part format.now (S.paths shelf.old) j path.now) result (shown O.Sink E.Sink out.old err.old) (shown
-        O.Sink E.Sink out.new err.new) Anywhere }
+    ensures went { IsTrue S.tells → (j : ℕ) → PartIs (file_part format.now (S.paths shelf.old) j path.now) result
+        (shown O.Sink E.Sink out.old err.old) (shown O.Sink E.Sink out.new err.new) Anywhere }
     ensures paths { IsTrue S.tells → S.paths shelf.new ≡ S.paths shelf.old }
     ensures shelf { ShelfFault S.Shelf (result ≡ Err Stop.ReadFault) shelf.old shelf.new }
-    ensures hands { Hands O.Sink E.Sink (result ≡ Err Stop.OutFault) (result ≡ Err Stop.ErrFault) out.old err.old out.new err.new }
+    ensures hands { StopHands O.Sink E.Sink result out.old err.old out.new err.new }
 {
     match shelf.open(path) {
         Ok(()) => print_opened(alloc, shelf, path.as_bytes(), format, out, err),
@@ -172,13 +170,13 @@ pub fn print_files<S: Shelf, O: Sink + Drop, E: Sink + Drop>(
     out: &mut Buffered<O>,
     err: &mut Buffered<E>,
 ) -> Why
-    ensures went { IsTrue S.tells → Went (query_files format.now (S.paths shelf.old) words.now ask.now) result (shown O.Sink E.Sink out.old err.old) (shown
-        O.Sink E.Sink out.new err.new) Anywhere }
+    ensures went { IsTrue S.tells → Went (query_files format.now (S.paths shelf.old) words.now ask.now) result
+        (shown O.Sink E.Sink out.old err.old) (shown O.Sink E.Sink out.new err.new) Anywhere }
     ensures done { is_of_words result ≡ false }
     ensures no_disk { result ≢ Why.DiskFault }
     ensures paths { IsTrue S.tells → S.paths shelf.new ≡ S.paths shelf.old }
     ensures shelf { ShelfFault S.Shelf (result ≡ Why.ShelfFault) shelf.old shelf.new }
-    ensures hands { Hands O.Sink E.Sink (result ≡ Why.OutFault) (result ≡ Why.ErrFault) out.old err.old out.new err.new }
+    ensures hands { EndHands O.Sink E.Sink result out.old err.old out.new err.new }
 {
     let mut failed = 0u32;
     for k in 0..ask.arguments() {

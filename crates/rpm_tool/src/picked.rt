@@ -12,7 +12,7 @@ ghost use Rattle.rpm_tool.specs.Queries.{packages_part};
 ghost use Rattle.rpm_tool.specs.Reports.{step_by};
 ghost use Rattle.rpm_tool.specs.Reads.{ReadsIn, reach_until};
 ghost use Rattle.rpm_tool.specs.Answers.{stop_of, OneIs, NextIs, PartIs, cost_until, fails_in, is_some_of};
-ghost use Rattle.rpm_tool.specs.Frame.{Looks, shown, DiskFault, Kept, KeptIndex, HasRows, packages_in, pkg_read, Hands};
+ghost use Rattle.rpm_tool.specs.Frame.{Looks, shown, DiskFault, Kept, KeptIndex, HasRows, packages_in, pkg_read, StopHands};
 
 use crate::step::{Stop, Way, print_picked};
 use rpm_db::Db;
@@ -51,7 +51,8 @@ pub fn begin_unasked<D: Disk>(
     requires unasked { asks db.now selection.now ≡ false }
     ensures kept { Kept D.Disk disk.new db.now }
     ensures reach { IsTrue D.tells → HasRows D.Disk disk.old db.now → result ≡ unasked selection.now }
-    ensures serves { IsTrue D.tells → HasRows D.Disk disk.old db.now → Serves result (packages_in D.Disk disk.new db.now) selection.now }
+    ensures serves { IsTrue D.tells → HasRows D.Disk disk.old db.now
+        → Serves result (packages_in D.Disk disk.new db.now) selection.now }
     ensures looks { Looks D.Disk Pkg 0 disk.old disk.new }
     ensures faults { D.faults disk.old ≤ D.faults disk.new }
 {
@@ -61,7 +62,8 @@ pub fn begin_unasked<D: Disk>(
     }
 }
 
-/// Prints a package that was picked, and says its number, and whether it went to out (true), or a message to err (false).
+/// Prints a package that was picked, and says its number, and whether it went to out (true), or a message to err
+/// (false).
 fn print_one<O: Sink + Drop, E: Sink + Drop>(
     alloc: Global,
     way: &Way<'_>,
@@ -69,11 +71,12 @@ fn print_one<O: Sink + Drop, E: Sink + Drop>(
     out: &mut Buffered<O>,
     err: &mut Buffered<E>,
 ) -> Result<Option<(u32, bool)>, Stop>
-    ensures one { (j : ℕ) → OneIs (step_by way.now j (entry_in picked.now)) result (shown O.Sink E.Sink out.old err.old) (shown O.Sink E.Sink out.new err.new) }
+    ensures one { (j : ℕ) → OneIs (step_by way.now j (entry_in picked.now)) result (shown O.Sink E.Sink out.old err.old)
+        (shown O.Sink E.Sink out.new err.new) }
     ensures numbered { IfOk result (λ o. IfSome o (λ e. e.0 ≡ number_in picked.now)) }
     ensures no_read { result ≢ Err Stop.ReadFault }
     ensures unbroken { (unit : ℕ) → result ≢ Err (Stop.BadIndex unit) }
-    ensures hands { Hands O.Sink E.Sink (result ≡ Err Stop.OutFault) (result ≡ Err Stop.ErrFault) out.old err.old out.new err.new }
+    ensures hands { StopHands O.Sink E.Sink result out.old err.old out.new err.new }
 {
     match print_picked(alloc, way, picked, out, err) {
         Ok(to_out) => Ok(Some((picked.number(), to_out))),
@@ -81,7 +84,8 @@ fn print_one<O: Sink + Drop, E: Sink + Drop>(
     }
 }
 
-/// Prints the next package above a number, and says which it was, and whether it went to out (true), or a message to err (false).
+/// Prints the next package above a number, and says which it was, and whether it went to out (true), or a message to
+/// err (false).
 fn print_next<D: Disk, O: Sink + Drop, E: Sink + Drop>(
     alloc: Global,
     picker: &mut Picker,
@@ -97,15 +101,16 @@ fn print_next<D: Disk, O: Sink + Drop, E: Sink + Drop>(
     requires runs { db.now.stopped ≡ false }
     ensures same { picker.new ≡ picker.old }
     ensures kept { Kept D.Disk disk.new db.now }
-    ensures went { IsTrue D.tells → Serves picker.old (packages_in D.Disk disk.old db.now) selection.now → (j : ℕ) → NextIs (step_by way.now j) number (picks
-        (packages_in D.Disk disk.old db.now) selection.now) result (shown O.Sink E.Sink out.old err.old) (shown O.Sink E.Sink out.new err.new) (ReadsIn j
-        number picker.old db.now (pkg_read D.Disk disk.old) (pkg_read D.Disk disk.new)) }
+    ensures went { IsTrue D.tells → Serves picker.old (packages_in D.Disk disk.old db.now) selection.now → (j : ℕ)
+        → NextIs (step_by way.now j) number (picks (packages_in D.Disk disk.old db.now) selection.now) result
+        (shown O.Sink E.Sink out.old err.old) (shown O.Sink E.Sink out.new err.new)
+        (ReadsIn j number picker.old db.now (pkg_read D.Disk disk.old) (pkg_read D.Disk disk.new)) }
     ensures rises { IfOk result (λ o. IfSome o (λ e. number < e.0)) }
     ensures reads { pkg_read D.Disk disk.new ≤ pkg_read D.Disk disk.old + reach_until number picker.old db.now result }
     ensures looks { Looks D.Disk Pkg (cost_until number db.now.store result) disk.old disk.new }
     ensures disk { DiskFault D.Disk (result ≡ Err Stop.ReadFault) disk.old disk.new }
     ensures unbroken { (unit : ℕ) → result ≢ Err (Stop.BadIndex unit) }
-    ensures hands { Hands O.Sink E.Sink (result ≡ Err Stop.OutFault) (result ≡ Err Stop.ErrFault) out.old err.old out.new err.new }
+    ensures hands { StopHands O.Sink E.Sink result out.old err.old out.new err.new }
 {
     match picker.next_after(alloc, db, disk, selection, number) {
         Ok(None) => Ok(None),
@@ -116,13 +121,6 @@ fn print_next<D: Disk, O: Sink + Drop, E: Sink + Drop>(
         }
         Err(fault) => Err(stop_of(fault)),
     }
-}
-
-/// Whether one of two holds.
-pub fn either(one: bool, other: bool) -> bool
-    ensures { result ≡ (one || other) }
-{
-    one || other
 }
 
 /// Prints each package above a number that a selection picks, by rising number.
@@ -141,16 +139,19 @@ pub fn print_above<D: Disk, O: Sink + Drop, E: Sink + Drop>(
     requires runs { db.now.stopped ≡ false }
     ensures same { picker.new ≡ picker.old }
     ensures kept { Kept D.Disk disk.new db.now }
-    ensures went { IsTrue D.tells → Serves picker.old (packages_in D.Disk disk.old db.now) selection.now → (j : ℕ) → PartIs (packages_part (step_by way.now j)
-        after (picks (packages_in D.Disk disk.old db.now) selection.now)) (fails_in result) (shown O.Sink E.Sink out.old err.old) (shown O.Sink E.Sink out.new
-        err.new) (ReadsIn j after picker.old db.now (pkg_read D.Disk disk.old) (pkg_read D.Disk disk.new)) }
-    ensures some { IsTrue D.tells → Serves picker.old (packages_in D.Disk disk.old db.now) selection.now → IfOk result (λ p. p.some ≡ is_some_of (above after
-        (picks (packages_in D.Disk disk.old db.now) selection.now))) }
-    ensures reads { pkg_read D.Disk disk.new + reach_to after picker.old db.now ≤ pkg_read D.Disk disk.old + reach_all picker.old db.now }
+    ensures went { IsTrue D.tells → Serves picker.old (packages_in D.Disk disk.old db.now) selection.now → (j : ℕ)
+        → PartIs (packages_part (step_by way.now j) after (picks (packages_in D.Disk disk.old db.now) selection.now))
+        (fails_in result) (shown O.Sink E.Sink out.old err.old) (shown O.Sink E.Sink out.new err.new)
+        (ReadsIn j after picker.old db.now (pkg_read D.Disk disk.old) (pkg_read D.Disk disk.new)) }
+    ensures some { IsTrue D.tells → Serves picker.old (packages_in D.Disk disk.old db.now) selection.now
+        → IfOk result (λ p. p.some ≡ is_some_of (above after (picks (packages_in D.Disk disk.old db.now)
+        selection.now))) }
+    ensures reads { pkg_read D.Disk disk.new + reach_to after picker.old db.now ≤ pkg_read D.Disk disk.old + reach_all
+        picker.old db.now }
     ensures looks { Looks D.Disk Pkg (cost_all db.now - cost_to after db.now) disk.old disk.new }
     ensures disk { DiskFault D.Disk (result ≡ Err Stop.ReadFault) disk.old disk.new }
     ensures unbroken { (unit : ℕ) → result ≢ Err (Stop.BadIndex unit) }
-    ensures hands { Hands O.Sink E.Sink (result ≡ Err Stop.OutFault) (result ≡ Err Stop.ErrFault) out.old err.old out.new err.new }
+    ensures hands { StopHands O.Sink E.Sink result out.old err.old out.new err.new }
 {
     let mut number = after;
     let mut some = false;
@@ -160,7 +161,7 @@ pub fn print_above<D: Disk, O: Sink + Drop, E: Sink + Drop>(
             Ok(Some((next, to_out))) => {
                 number = next;
                 some = true;
-                fails = either(fails, !to_out);
+                fails |= !to_out;
             }
             Ok(None) => return Ok(PrintedPackages { some, fails }),
             Err(stop) => return Err(stop),

@@ -15,7 +15,7 @@ ghost use Rattle.rpm_tool.specs.Queries.{packages_part, argument_part, query};
 ghost use Rattle.rpm_tool.specs.Reports.{step_by};
 ghost use Rattle.rpm_tool.specs.Reads.{argument_reach, reaches_by, reach_sum, reached_by, IsOfChains};
 ghost use Rattle.rpm_tool.specs.Answers.{why_of, is_foreign, is_of_opening, Went};
-ghost use Rattle.rpm_tool.specs.Frame.{Looks, Peeks, shown, DiskFault, Kept, KeptIndex, HasRows, packages_in, pkg_read, Hands};
+ghost use Rattle.rpm_tool.specs.Frame.{Looks, Peeks, shown, DiskFault, Kept, KeptIndex, HasRows, packages_in, pkg_read, EndHands};
 
 use crate::answer::Why;
 use crate::argument::answer;
@@ -56,15 +56,16 @@ pub fn query_all<D: Disk, O: Sink + Drop, E: Sink + Drop>(
     requires keeps { Kept D.Disk disk.old db.now }
     requires runs { db.now.stopped ≡ false }
     requires keeps_index { KeptIndex D.Disk disk.old db.now }
-    ensures went { IsTrue D.tells → HasRows D.Disk disk.old db.now → Went (before (packages_part (step_by way.now 0) after (picks (packages_in D.Disk disk.old
-        db.now) question.All)) idle) result (shown O.Sink E.Sink out.old err.old) (shown O.Sink E.Sink out.new err.new) (λ for. pkg_read D.Disk disk.new ≤
-        pkg_read D.Disk disk.old + reached_by (Everything ∷ []) db.now for) }
+    ensures went { IsTrue D.tells → HasRows D.Disk disk.old db.now
+        → Went (before (packages_part (step_by way.now 0) after (picks (packages_in D.Disk disk.old db.now)
+        question.All)) idle) result (shown O.Sink E.Sink out.old err.old) (shown O.Sink E.Sink out.new err.new)
+        (λ for. pkg_read D.Disk disk.new ≤ pkg_read D.Disk disk.old + reached_by (Everything ∷ []) db.now for) }
     ensures done { is_foreign result ≡ false }
     ensures opened { is_of_opening result ≡ false }
     ensures looks { Looks D.Disk Pkg (cost_all db.now) disk.old disk.new }
     ensures disk { DiskFault D.Disk (result ≡ Why.DiskFault) disk.old disk.new }
     ensures unbroken { (unit : ℕ) → result ≢ Why.BadIndex unit }
-    ensures hands { Hands O.Sink E.Sink (result ≡ Why.OutFault) (result ≡ Why.ErrFault) out.old err.old out.new err.new }
+    ensures hands { EndHands O.Sink E.Sink result out.old err.old out.new err.new }
 {
     let mut picker = begin_unasked(alloc, db, disk, &Selection::All);
     match print_above(
@@ -107,18 +108,23 @@ fn query_each<D: Disk, O: Sink + Drop, E: Sink + Drop>(
     requires runs { db.now.stopped ≡ false }
     requires keeps_index { KeptIndex D.Disk disk.old db.now }
     requires from_one { database.holds 0 db.now ≡ false }
-    ensures went { IsTrue D.tells → HasRows D.Disk disk.old db.now → Went (in_turn (argument_part format.now (packages_in D.Disk disk.old db.now)
-        ask.now.chosen ask.now.after) 0 (map (text_at words.now) ask.now.arguments)) result (shown O.Sink E.Sink out.old err.old) (shown O.Sink E.Sink out.new
-        err.new) (λ for. pkg_read D.Disk disk.new ≤ pkg_read D.Disk disk.old + reached_by (map (argument_reach (is_indexed db.now) (packages_in D.Disk
-        disk.old db.now) ask.now.chosen) (map (text_at words.now) ask.now.arguments)) db.now for) }
+    ensures went { IsTrue D.tells → HasRows D.Disk disk.old db.now
+        → Went (in_turn (argument_part format.now (packages_in D.Disk disk.old db.now) ask.now.chosen ask.now.after) 0
+        (map (text_at words.now) ask.now.arguments)) result (shown O.Sink E.Sink out.old err.old)
+        (shown O.Sink E.Sink out.new err.new) (λ for. pkg_read D.Disk disk.new ≤ pkg_read D.Disk disk.old + reached_by
+        (map (argument_reach (is_indexed db.now) (packages_in D.Disk disk.old db.now) ask.now.chosen)
+        (map (text_at words.now) ask.now.arguments)) db.now for) }
     ensures done { is_foreign result ≡ false }
     ensures opened { is_of_opening result ≡ false }
-    ensures reads { IsTrue D.tells → HasRows D.Disk disk.old db.now → pkg_read D.Disk disk.new ≤ pkg_read D.Disk disk.old + reach_sum (map (argument_reach
-        (is_indexed db.now) (packages_in D.Disk disk.old db.now) ask.now.chosen) (map (text_at words.now) ask.now.arguments)) db.now }
-    ensures bad_index { IsTrue D.tells → IsOfChains ask.now.chosen (map (text_at words.now) ask.now.arguments) (D.files disk.old).idx result }
+    ensures reads { IsTrue D.tells → HasRows D.Disk disk.old db.now
+        → pkg_read D.Disk disk.new ≤ pkg_read D.Disk disk.old + reach_sum
+        (map (argument_reach (is_indexed db.now) (packages_in D.Disk disk.old db.now) ask.now.chosen)
+        (map (text_at words.now) ask.now.arguments)) db.now }
+    ensures bad_index { IsTrue D.tells → IsOfChains ask.now.chosen (map (text_at words.now) ask.now.arguments)
+        (D.files disk.old).idx result }
     ensures looks { Peeks D.Disk (is_indexed db.now) disk.old disk.new }
     ensures disk { DiskFault D.Disk (result ≡ Why.DiskFault) disk.old disk.new }
-    ensures hands { Hands O.Sink E.Sink (result ≡ Why.OutFault) (result ≡ Why.ErrFault) out.old err.old out.new err.new }
+    ensures hands { EndHands O.Sink E.Sink result out.old err.old out.new err.new }
 {
     let mut failed = 0u32;
     for k in 0..ask.arguments() {
@@ -160,18 +166,23 @@ pub fn query_opened<D: Disk, O: Sink + Drop, E: Sink + Drop>(
     requires runs { db.now.stopped ≡ false }
     requires keeps_index { KeptIndex D.Disk disk.old db.now }
     requires from_one { database.holds 0 db.now ≡ false }
-    ensures went { IsTrue D.tells → HasRows D.Disk disk.old db.now → Went (query format.now (packages_in D.Disk disk.old db.now) words.now ask.now) result
-        (shown O.Sink E.Sink out.old err.old) (shown O.Sink E.Sink out.new err.new) (λ for. pkg_read D.Disk disk.new ≤ pkg_read D.Disk disk.old + reached_by
-        (reaches_by (argument_reach (is_indexed db.now) (packages_in D.Disk disk.old db.now) ask.now.chosen) (map (text_at words.now) ask.now.arguments))
-        db.now for) }
+    ensures went { IsTrue D.tells → HasRows D.Disk disk.old db.now
+        → Went (query format.now (packages_in D.Disk disk.old db.now) words.now ask.now) result
+        (shown O.Sink E.Sink out.old err.old) (shown O.Sink E.Sink out.new err.new)
+        (λ for. pkg_read D.Disk disk.new ≤ pkg_read D.Disk disk.old + reached_by
+        (reaches_by (argument_reach (is_indexed db.now) (packages_in D.Disk disk.old db.now) ask.now.chosen)
+        (map (text_at words.now) ask.now.arguments)) db.now for) }
     ensures done { is_foreign result ≡ false }
     ensures opened { is_of_opening result ≡ false }
-    ensures reads { IsTrue D.tells → HasRows D.Disk disk.old db.now → pkg_read D.Disk disk.new ≤ pkg_read D.Disk disk.old + reach_sum (reaches_by
-        (argument_reach (is_indexed db.now) (packages_in D.Disk disk.old db.now) ask.now.chosen) (map (text_at words.now) ask.now.arguments)) db.now }
-    ensures bad_index { IsTrue D.tells → IsOfChains ask.now.chosen (map (text_at words.now) ask.now.arguments) (D.files disk.old).idx result }
+    ensures reads { IsTrue D.tells → HasRows D.Disk disk.old db.now
+        → pkg_read D.Disk disk.new ≤ pkg_read D.Disk disk.old + reach_sum
+        (reaches_by (argument_reach (is_indexed db.now) (packages_in D.Disk disk.old db.now) ask.now.chosen)
+        (map (text_at words.now) ask.now.arguments)) db.now }
+    ensures bad_index { IsTrue D.tells → IsOfChains ask.now.chosen (map (text_at words.now) ask.now.arguments)
+        (D.files disk.old).idx result }
     ensures looks { Peeks D.Disk (is_indexed db.now) disk.old disk.new }
     ensures disk { DiskFault D.Disk (result ≡ Why.DiskFault) disk.old disk.new }
-    ensures hands { Hands O.Sink E.Sink (result ≡ Why.OutFault) (result ≡ Why.ErrFault) out.old err.old out.new err.new }
+    ensures hands { EndHands O.Sink E.Sink result out.old err.old out.new err.new }
 {
     let count = ask.arguments();
     if count == 0 {

@@ -1,18 +1,17 @@
 //! What is printed of one package.
 
-ghost use Rattle.std.specs.Prelude.{◌≡◌, ◌≢◌, ℕ, Bool, List, [], ◌++◌, Err, IfOk};
+ghost use Rattle.std.specs.Prelude.{◌≡◌, ◌≢◌, ℕ, [], ◌++◌, Err, IfOk};
 ghost use Rattle.rpm_outside.specs.Buffered.{inner, holds};
 ghost use Rattle.rpm_header.specs.Digest.{magic};
 ghost use Rattle.rpm_db.specs.State.{Good};
 ghost use Rattle.rpm_qfeval.specs.Meaning.{meaning};
 ghost use Rattle.rpm_qfeval.specs.Printed.{Prints, ending};
 ghost use Rattle.rpm_select.specs.Picks.{entry_in};
-ghost use Rattle.rpm_change.specs.Endings.{outputs};
 ghost use Rattle.rpm_tool.specs.Answers.{StepIs};
 ghost use Rattle.rpm_change.specs.Steps.{Bearer, ToOut, ToErr, bearer};
 ghost use Rattle.rpm_tool.specs.Queries.{bad_line, printed};
 ghost use Rattle.rpm_tool.specs.Reports.{step_by};
-ghost use Rattle.rpm_tool.specs.Frame.{shown, Hands};
+ghost use Rattle.rpm_tool.specs.Frame.{shown, OutTakes, ErrTakes, StopHands};
 ghost use Rattle.rpm_change.specs.Hands.{Hand};
 
 use itoa::Buffer;
@@ -37,8 +36,7 @@ pub enum Stop {
 
 /// Writes a message on a package to err.
 fn put_message<E: Sink + Drop>(err: &mut Buffered<E>, message: &[u8]) -> Result<bool, Stop>
-    ensures step { (for : Bearer) (out_tells : Bool) (out : List ℕ) → StepIs (ToErr for message.now) result
-        (outputs out_tells out E.tells (E.taken (inner err.old))) (outputs out_tells out E.tells (E.taken (inner err.new))) }
+    ensures step { (for : Bearer) → ErrTakes E.Sink (StepIs (ToErr for message.now) result) err.old err.new }
     ensures no_read { result ≢ Err Stop.ReadFault }
     ensures no_out { result ≢ Err Stop.OutFault }
     ensures err { Hand E.Sink (result ≡ Err Stop.ErrFault) err.old err.new }
@@ -69,8 +67,7 @@ pub fn put_bad<E: Sink + Drop>(
     err: &mut Buffered<E>,
     number: u32,
 ) -> Result<bool, Stop>
-    ensures step { (for : Bearer) (out_tells : Bool) (out : List ℕ) → StepIs (ToErr for (bad_line number)) result
-        (outputs out_tells out E.tells (E.taken (inner err.old))) (outputs out_tells out E.tells (E.taken (inner err.new))) }
+    ensures step { (for : Bearer) → ErrTakes E.Sink (StepIs (ToErr for (bad_line number)) result) err.old err.new }
     ensures no_read { result ≢ Err Stop.ReadFault }
     ensures no_out { result ≢ Err Stop.OutFault }
     ensures err { Hand E.Sink (result ≡ Err Stop.ErrFault) err.old err.new }
@@ -89,7 +86,8 @@ fn print_through<O: Sink + Drop>(
     out: &mut Buffered<O>,
 ) -> Result<(), DirectFault>
     requires { holds out.old ≡ [] }
-    ensures { Prints O.tells O.taken O.faults O.follows (meaning view.now number format.now) (inner out.old) (inner out.new) (ending result) }
+    ensures { Prints O.tells O.taken O.faults O.follows (meaning view.now number format.now) (inner out.old)
+        (inner out.new) (ending result) }
 {
     match print_direct(format, view, number, out) {
         Ok(()) => match out.flush() {
@@ -107,7 +105,8 @@ fn print_flushed<O: Sink + Drop>(
     number: u32,
     out: &mut Buffered<O>,
 ) -> Result<(), DirectFault>
-    ensures prints { Prints O.tells O.taken O.faults O.follows (meaning view.now number format.now) (inner out.old) (inner out.new) (ending result) }
+    ensures prints { Prints O.tells O.taken O.faults O.follows (meaning view.now number format.now) (inner out.old)
+        (inner out.new) (ending result) }
 {
     out.clear();
     print_through(format, view, number, out)
@@ -123,10 +122,10 @@ pub fn print_header<O: Sink + Drop, E: Sink + Drop>(
     out: &mut Buffered<O>,
     err: &mut Buffered<E>,
 ) -> Result<bool, Stop>
-    ensures step { (j : ℕ) → StepIs (printed (bearer j number) (meaning view.now number format.now)) result (shown O.Sink E.Sink out.old err.old) (shown
-        O.Sink E.Sink out.new err.new) }
+    ensures step { (j : ℕ) → StepIs (printed (bearer j number) (meaning view.now number format.now)) result
+        (shown O.Sink E.Sink out.old err.old) (shown O.Sink E.Sink out.new err.new) }
     ensures no_read { result ≢ Err Stop.ReadFault }
-    ensures hands { Hands O.Sink E.Sink (result ≡ Err Stop.OutFault) (result ≡ Err Stop.ErrFault) out.old err.old out.new err.new }
+    ensures hands { StopHands O.Sink E.Sink result out.old err.old out.new err.new }
 {
     match print_flushed(format, view, number, out) {
         Ok(()) => Ok(true),
@@ -150,8 +149,7 @@ fn with_magic(alloc: Global, blob: &[u8]) -> Result<Vec<u8>, AllocError>
 
 /// Writes a text to out.
 pub fn put_text<O: Sink + Drop>(out: &mut Buffered<O>, text: &[u8]) -> Result<bool, Stop>
-    ensures step { (for : Bearer) (err_tells : Bool) (err : List ℕ) → StepIs (ToOut for text.now) result
-        (outputs O.tells (O.taken (inner out.old)) err_tells err) (outputs O.tells (O.taken (inner out.new)) err_tells err) }
+    ensures step { (for : Bearer) → OutTakes O.Sink (StepIs (ToOut for text.now) result) out.old out.new }
     ensures no_read { result ≢ Err Stop.ReadFault }
     ensures no_err { result ≢ Err Stop.ErrFault }
     ensures out { Hand O.Sink (result ≡ Err Stop.OutFault) out.old out.new }
@@ -169,8 +167,7 @@ fn put_export<O: Sink + Drop>(
     blob: &[u8],
     out: &mut Buffered<O>,
 ) -> Result<bool, Stop>
-    ensures step { (for : Bearer) (err_tells : Bool) (err : List ℕ) → StepIs (ToOut for (magic ++ blob.now)) result
-        (outputs O.tells (O.taken (inner out.old)) err_tells err) (outputs O.tells (O.taken (inner out.new)) err_tells err) }
+    ensures step { (for : Bearer) → OutTakes O.Sink (StepIs (ToOut for (magic ++ blob.now)) result) out.old out.new }
     ensures no_read { result ≢ Err Stop.ReadFault }
     ensures no_err { result ≢ Err Stop.ErrFault }
     ensures out { Hand O.Sink (result ≡ Err Stop.OutFault) out.old out.new }
@@ -199,10 +196,10 @@ fn print_good<O: Sink + Drop, E: Sink + Drop>(
     out: &mut Buffered<O>,
     err: &mut Buffered<E>,
 ) -> Result<bool, Stop>
-    ensures step { (j : ℕ) → StepIs (step_by way.now j (number, Good blob.now)) result (shown O.Sink E.Sink out.old err.old) (shown O.Sink E.Sink out.new
-        err.new) }
+    ensures step { (j : ℕ) → StepIs (step_by way.now j (number, Good blob.now)) result
+        (shown O.Sink E.Sink out.old err.old) (shown O.Sink E.Sink out.new err.new) }
     ensures no_read { result ≢ Err Stop.ReadFault }
-    ensures hands { Hands O.Sink E.Sink (result ≡ Err Stop.OutFault) (result ≡ Err Stop.ErrFault) out.old err.old out.new err.new }
+    ensures hands { StopHands O.Sink E.Sink result out.old err.old out.new err.new }
 {
     match way {
         Way::Format(format) => {
@@ -221,10 +218,10 @@ pub fn print_picked<O: Sink + Drop, E: Sink + Drop>(
     out: &mut Buffered<O>,
     err: &mut Buffered<E>,
 ) -> Result<bool, Stop>
-    ensures step { (j : ℕ) → StepIs (step_by way.now j (entry_in picked.now)) result (shown O.Sink E.Sink out.old err.old) (shown O.Sink E.Sink out.new
-        err.new) }
+    ensures step { (j : ℕ) → StepIs (step_by way.now j (entry_in picked.now)) result
+        (shown O.Sink E.Sink out.old err.old) (shown O.Sink E.Sink out.new err.new) }
     ensures no_read { result ≢ Err Stop.ReadFault }
-    ensures hands { Hands O.Sink E.Sink (result ≡ Err Stop.OutFault) (result ≡ Err Stop.ErrFault) out.old err.old out.new err.new }
+    ensures hands { StopHands O.Sink E.Sink result out.old err.old out.new err.new }
 {
     match picked {
         Picked::Good { number, blob } => print_good(alloc, way, *number, blob, out, err),

@@ -86,7 +86,8 @@ fn texts_of<'a>(alloc: Global, words: &'a Words, ask: &Ask) -> Result<Vec<&'a st
     Ok(texts)
 }
 
-/// Puts the package file that the second argument names in place of the package of the first, a number, where the words break no rule.
+/// Puts the package file that the second argument names in place of the package of the first, a number, where the
+/// words break no rule.
 fn replacing_of<'a>(words: &'a Words, ask: &Ask) -> Task<'a>
     ensures asked { task_parts result ≡ replacing words.now ask.now.arguments }
     ensures countable { IsCountable (task_parts result) }

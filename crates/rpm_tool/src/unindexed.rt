@@ -9,7 +9,7 @@ ghost use Rattle.rpm_db.specs.Database.{is_indexed};
 ghost use Rattle.rpm_tool.specs.Asked.{deed_of};
 ghost use Rattle.rpm_tool.specs.Reports.{course};
 ghost use Rattle.rpm_tool.specs.Answers.{is_foreign, Went, Opened, reach_by, reach_cost, read_to, query_cost};
-ghost use Rattle.rpm_tool.specs.Frame.{Looks, LooksAt, shown, DiskFault, Kept, pkg_read, Hands};
+ghost use Rattle.rpm_tool.specs.Frame.{Looks, LooksAt, shown, DiskFault, Kept, pkg_read, EndHands};
 
 use crate::answer::Why;
 use crate::asked::{Deed, deed_of};
@@ -38,15 +38,16 @@ fn answer_opened<D: Disk, O: Sink + Drop, E: Sink + Drop>(
     requires runs { db.now.stopped ≡ false }
     requires no_index { is_indexed db.now ≡ false }
     requires from_one { database.holds 0 db.now ≡ false }
-    ensures went { IsTrue D.tells → Went (course format.now (D.files disk.old).pkg db.now.store words.now ask.now) result (shown O.Sink E.Sink out.old
-        err.old) (shown O.Sink E.Sink out.new err.new) (λ for. pkg_read D.Disk disk.new ≤ pkg_read D.Disk disk.old + reach_by (deed_of ask.now.mode) (D.files
-        disk.old).pkg words.now ask.now db.now.store for) }
+    ensures went { IsTrue D.tells → Went (course format.now (D.files disk.old).pkg db.now.store words.now ask.now)
+        result (shown O.Sink E.Sink out.old err.old) (shown O.Sink E.Sink out.new err.new)
+        (λ for. pkg_read D.Disk disk.new ≤ pkg_read D.Disk disk.old + reach_by (deed_of ask.now.mode)
+        (D.files disk.old).pkg words.now ask.now db.now.store for) }
     ensures done { is_foreign result ≡ false }
-    ensures reads { IsTrue D.tells → pkg_read D.Disk disk.new ≤ pkg_read D.Disk disk.old + reach_cost (deed_of ask.now.mode) (D.files disk.old).pkg words.now
-        ask.now db.now.store }
+    ensures reads { IsTrue D.tells → pkg_read D.Disk disk.new ≤ pkg_read D.Disk disk.old + reach_cost
+        (deed_of ask.now.mode) (D.files disk.old).pkg words.now ask.now db.now.store }
     ensures looks { LooksAt D.Disk Pkg disk.old disk.new }
     ensures disk { DiskFault D.Disk (result ≡ Why.DiskFault) disk.old disk.new }
-    ensures hands { Hands O.Sink E.Sink (result ≡ Why.OutFault) (result ≡ Why.ErrFault) out.old err.old out.new err.new }
+    ensures hands { EndHands O.Sink E.Sink result out.old err.old out.new err.new }
 {
     match deed_of(ask.mode()) {
         Deed::Print => query_opened(alloc, db, disk, words, ask, format, out, err),
@@ -56,9 +57,9 @@ fn answer_opened<D: Disk, O: Sink + Drop, E: Sink + Drop>(
     }
 }
 
-/// Opens the database, as it reads and without its index, and does what the words ask for. Besides the slot pages it reads the blocks of
-/// packages, one package after the other, each before it is printed: for each argument of those that it goes over, which are all or that
-/// of its number. The report on files reads all before its first line.
+/// Opens the database, as it reads and without its index, and does what the words ask for. Besides the slot pages it
+/// reads the blocks of packages, one package after the other, each before it is printed: for each argument of those
+/// that it goes over, which are all or that of its number. The report on files reads all before its first line.
 pub fn answer_unindexed<D: Disk, O: Sink + Drop, E: Sink + Drop>(
     alloc: Global,
     disk: &mut D,
@@ -68,14 +69,16 @@ pub fn answer_unindexed<D: Disk, O: Sink + Drop, E: Sink + Drop>(
     out: &mut Buffered<O>,
     err: &mut Buffered<E>,
 ) -> Why
-    ensures went { IsTrue D.tells → Opened (λ s. course format.now (D.files disk.old).pkg s words.now ask.now) (store (D.files disk.old).pkg) result (shown
-        O.Sink E.Sink out.old err.old) (shown O.Sink E.Sink out.new err.new) (λ s for. pkg_read D.Disk disk.new ≤ pkg_read D.Disk disk.old + read_to (D.files
-        disk.old).pkg words.now ask.now s for) }
-    ensures reads { IsTrue D.tells → pkg_read D.Disk disk.new ≤ pkg_read D.Disk disk.old + query_cost words.now ask.now (D.files disk.old).pkg }
+    ensures went { IsTrue D.tells → Opened (λ s. course format.now (D.files disk.old).pkg s words.now ask.now)
+        (store (D.files disk.old).pkg) result (shown O.Sink E.Sink out.old err.old)
+        (shown O.Sink E.Sink out.new err.new) (λ s for. pkg_read D.Disk disk.new ≤ pkg_read D.Disk disk.old + read_to
+        (D.files disk.old).pkg words.now ask.now s for) }
+    ensures reads { IsTrue D.tells → pkg_read D.Disk disk.new ≤ pkg_read D.Disk disk.old + query_cost words.now ask.now
+        (D.files disk.old).pkg }
     ensures done { is_foreign result ≡ false }
     ensures looks { (most : ℕ) × Looks D.Disk Pkg most disk.old disk.new }
     ensures disk { DiskFault D.Disk (result ≡ Why.DiskFault) disk.old disk.new }
-    ensures hands { Hands O.Sink E.Sink (result ≡ Why.OutFault) (result ≡ Why.ErrFault) out.old err.old out.new err.new }
+    ensures hands { EndHands O.Sink E.Sink result out.old err.old out.new err.new }
 {
     match Db::open_unindexed(alloc, disk) {
         Ok(db) => answer_opened(alloc, &db, disk, words, ask, format, out, err),

@@ -1,23 +1,32 @@
 //! What the reports read of packages, and the packages that can't be read.
 
-ghost use Rattle.std.specs.Prelude.{◌≡◌, ◌≢◌, ℕ, Bool, List, [], true, false, IsTrue, Err, IfOk};
+ghost use Rattle.std.specs.Prelude.{◌≡◌, ◌≢◌, ℕ, [], true, false, IsTrue, Err, IfOk};
 ghost use Rattle.std.specs.FinMap as finite;
-ghost use Rattle.rpm_outside.specs.Buffered.{inner, holds};
-ghost use Rattle.rpm_header.specs.Header.{Header, header};
+ghost use Rattle.rpm_outside.specs.Buffered.{holds};
 ghost use Rattle.rpm_db.specs.Database as database;
-ghost use Rattle.rpm_change.specs.Endings.{outputs};
 ghost use Rattle.rpm_tool.specs.Answers.{Anywhere, PartIs};
-ghost use Rattle.rpm_tool.specs.Requirements.{read_text, package_text, bad_at, bad_parts};
+ghost use Rattle.rpm_tool.specs.Requirements.{IsRead, IsHeld, bad_at, bad_parts, stop_of_check};
 ghost use Rattle.rpm_tool.specs.Steps.{fails};
 ghost use Rattle.rpm_tool.specs.Queries.{bad_step};
-ghost use Rattle.rpm_tool.specs.Frame.{Peeks, DiskFault, Kept, packages_in};
+ghost use Rattle.rpm_tool.specs.Frame.{Peeks, DiskFault, Kept, packages_in, ErrTakes};
 ghost use Rattle.rpm_change.specs.Hands.{Hand};
 
-use crate::picked::either;
 use crate::step::{Stop, put_bad};
+use rpm_check::CheckFault;
 use rpm_db::{Db, GetFault};
 use rpm_outside::{Buffered, Disk, Sink};
 use std::alloc::Global;
+
+/// What stops a report.
+pub fn stop_of_check(fault: CheckFault) -> Stop
+    ensures { result ≡ stop_of_check fault }
+{
+    match fault {
+        CheckFault::BadIndex { unit } => Stop::BadIndex { unit },
+        CheckFault::DiskFault => Stop::ReadFault,
+        CheckFault::NoMemory => Stop::NoMemory,
+    }
+}
 
 /// The bytes that a package is read from; none where there are none. Reads its blocks once.
 pub fn read_blob<D: Disk>(
@@ -29,8 +38,8 @@ pub fn read_blob<D: Disk>(
     requires keeps { Kept D.Disk disk.old db.now }
     requires runs { db.now.stopped ≡ false }
     ensures kept { Kept D.Disk disk.new db.now }
-    ensures told { IfOk result (λ blob. IsTrue D.tells → (text : Header → List ℕ) → package_text text (finite.get (packages_in D.Disk disk.old db.now) number)
-        ≡ read_text text (header blob.items)) }
+    ensures told { IfOk result (λ blob. IsTrue D.tells
+        → IsRead (packages_in D.Disk disk.old db.now) number blob.items) }
     ensures looks { Peeks D.Disk true disk.old disk.new }
     ensures unbroken { (unit : ℕ) → result ≢ Err (Stop.BadIndex unit) }
     ensures no_out { result ≢ Err Stop.OutFault }
@@ -46,14 +55,55 @@ pub fn read_blob<D: Disk>(
     }
 }
 
+/// The package that was read last: its number, and the bytes that it is read from.
+#[derive(Drop)]
+pub struct Held {
+    pub number: u32,
+    pub blob: Vec<u8>,
+}
+
+/// Holds the package of this number. It is read, if it isn't the one that is held already.
+pub fn hold<D: Disk>(
+    alloc: Global,
+    db: &Db,
+    disk: &mut D,
+    number: u32,
+    held: &mut Held,
+) -> Result<(), Stop>
+    requires keeps { Kept D.Disk disk.old db.now }
+    requires runs { db.now.stopped ≡ false }
+    requires holding { IsTrue D.tells → IsHeld (packages_in D.Disk disk.old db.now) held.old }
+    ensures kept { Kept D.Disk disk.new db.now }
+    ensures held { IsTrue D.tells → IsHeld (packages_in D.Disk disk.new db.now) held.new }
+    ensures number { IfOk result (λ _done. held.new.number ≡ number) }
+    ensures unread { held.old.number ≡ number → disk.new ≡ disk.old }
+    ensures looks { Peeks D.Disk true disk.old disk.new }
+    ensures unbroken { (unit : ℕ) → result ≢ Err (Stop.BadIndex unit) }
+    ensures no_out { result ≢ Err Stop.OutFault }
+    ensures no_err { result ≢ Err Stop.ErrFault }
+    ensures disk { DiskFault D.Disk (result ≡ Err Stop.ReadFault) disk.old disk.new }
+{
+    if held.number == number {
+        return Ok(());
+    }
+    match read_blob(alloc, db, disk, number) {
+        Ok(blob) => {
+            held.number = number;
+            held.blob = blob;
+            Ok(())
+        }
+        Err(stop) => Err(stop),
+    }
+}
+
 /// Writes to err that a package can't be read; then the argument fails.
 fn put_failing<E: Sink + Drop>(
     alloc: Global,
     err: &mut Buffered<E>,
     number: u32,
 ) -> Result<bool, Stop>
-    ensures part { (out_tells : Bool) (out : List ℕ) → PartIs (fails (bad_step 0 number)) result
-        (outputs out_tells out E.tells (E.taken (inner err.old))) (outputs out_tells out E.tells (E.taken (inner err.new))) Anywhere }
+    ensures part { ErrTakes E.Sink (λ old new. PartIs (fails (bad_step 0 number)) result old new Anywhere)
+        err.old err.new }
     ensures no_read { result ≢ Err Stop.ReadFault }
     ensures no_out { result ≢ Err Stop.OutFault }
     ensures unbroken { (unit : ℕ) → result ≢ Err (Stop.BadIndex unit) }
@@ -76,8 +126,9 @@ fn tell_bad<D: Disk, E: Sink + Drop>(
     requires keeps { Kept D.Disk disk.old db.now }
     requires runs { db.now.stopped ≡ false }
     ensures kept { Kept D.Disk disk.new db.now }
-    ensures went { IsTrue D.tells → (out_tells : Bool) (out : List ℕ) → PartIs (bad_at number (finite.get (packages_in D.Disk disk.old db.now) number)) result
-        (outputs out_tells out E.tells (E.taken (inner err.old))) (outputs out_tells out E.tells (E.taken (inner err.new))) Anywhere }
+    ensures went { IsTrue D.tells → ErrTakes E.Sink (λ old new. PartIs
+        (bad_at number (finite.get (packages_in D.Disk disk.old db.now) number)) result old new Anywhere)
+        err.old err.new }
     ensures looks { Peeks D.Disk true disk.old disk.new }
     ensures no_out { result ≢ Err Stop.OutFault }
     ensures unbroken { (unit : ℕ) → result ≢ Err (Stop.BadIndex unit) }
@@ -93,7 +144,8 @@ fn tell_bad<D: Disk, E: Sink + Drop>(
     }
 }
 
-/// Tells each package that can't be read, by rising number. Says whether there is one. Reads the blocks of each package once.
+/// Tells each package that can't be read, by rising number. Says whether there is one. Reads the blocks of each
+/// package once.
 pub fn tell_each_bad<D: Disk, E: Sink + Drop>(
     alloc: Global,
     db: &Db,
@@ -104,8 +156,8 @@ pub fn tell_each_bad<D: Disk, E: Sink + Drop>(
     requires runs { db.now.stopped ≡ false }
     requires from_one { database.holds 0 db.now ≡ false }
     ensures kept { Kept D.Disk disk.new db.now }
-    ensures went { IsTrue D.tells → (out_tells : Bool) (out : List ℕ) → PartIs (bad_parts (packages_in D.Disk disk.old db.now)) result (outputs out_tells out
-        E.tells (E.taken (inner err.old))) (outputs out_tells out E.tells (E.taken (inner err.new))) Anywhere }
+    ensures went { IsTrue D.tells → ErrTakes E.Sink (λ old new. PartIs (bad_parts (packages_in D.Disk disk.old db.now))
+        result old new Anywhere) err.old err.new }
     ensures looks { Peeks D.Disk true disk.old disk.new }
     ensures no_out { result ≢ Err Stop.OutFault }
     ensures unbroken { (unit : ℕ) → result ≢ Err (Stop.BadIndex unit) }
@@ -118,7 +170,7 @@ pub fn tell_each_bad<D: Disk, E: Sink + Drop>(
         match tell_bad(alloc, db, disk, next, err) {
             Ok(bad) => {
                 number = next;
-                fails = either(fails, bad);
+                fails |= bad;
             }
             Err(stop) => return Err(stop),
         }

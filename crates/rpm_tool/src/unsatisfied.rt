@@ -1,8 +1,8 @@
 //! The requirements that no package meets, each with its line.
 
-ghost use Rattle.std.specs.Prelude.{◌≡◌, ◌≢◌, ℕ, Bool, List, [], map, if◌then◌else◌, true, false, IsTrue, Err, IfOk, IfErr, slice_get};
+ghost use Rattle.std.specs.Prelude.{◌≡◌, ◌≢◌, ℕ, [], map, if◌then◌else◌, true, false, IsTrue, Err, IfOk, IfErr, slice_get};
 ghost use Rattle.std.specs.Option.{option_map};
-ghost use Rattle.rpm_outside.specs.Buffered.{inner, holds};
+ghost use Rattle.rpm_outside.specs.Buffered.{holds};
 ghost use Rattle.rpm_header.specs.Header.{header};
 ghost use Rattle.rpm_db.specs.Database as database;
 ghost use Rattle.rpm_check.specs.inner.Needs.{needed_in};
@@ -10,16 +10,14 @@ ghost use Rattle.rpm_check.specs.Unmet as lacking;
 ghost use Rattle.rpm_check.specs.Unmet.{required};
 ghost use Rattle.rpm_version.specs.Range.{is_open};
 ghost use Rattle.rpm_qfeval.specs.Numbers.{has, letters, depflags};
-ghost use Rattle.rpm_change.specs.Endings.{outputs};
 ghost use Rattle.rpm_tool.specs.Answers.{Anywhere, Reached, StepIs, PartIs, is_of_sink};
-ghost use Rattle.rpm_tool.specs.Requirements.{read_text, range_text, unmet_line, unmet_text, unmet_step, unmet_part, unsatisfied_part, stop_of_check, StopsOfSome};
-ghost use Rattle.rpm_tool.specs.Frame.{Peeks, shown, DiskFault, Kept, KeptIndex, HasRows, packages_in, Hands};
+ghost use Rattle.rpm_tool.specs.Requirements.{IsHeld, read_text, range_text, unmet_line, unmet_text, unmet_step, unmet_part, unsatisfied_part, StopsOfSome};
+ghost use Rattle.rpm_tool.specs.Frame.{Peeks, shown, DiskFault, Kept, KeptIndex, HasRows, packages_in, OutTakes, StopHands};
 ghost use Rattle.rpm_change.specs.Hands.{Hand};
 
-use crate::picked::either;
 use crate::step::{Stop, put_text};
-use crate::unreadable::{read_blob, tell_each_bad};
-use rpm_check::{CheckFault, Unmet, UnmetList, unmet};
+use crate::unreadable::{Held, hold, stop_of_check, tell_each_bad};
+use rpm_check::{Unmet, UnmetList, unmet};
 use rpm_db::Db;
 use rpm_filecheck::label_of;
 use rpm_header::View;
@@ -32,17 +30,6 @@ const REQUIRES: Tags = Tags {
     flags: numbers::REQUIREFLAGS,
     versions: numbers::REQUIREVERSION,
 };
-
-/// What stops a report.
-pub fn stop_of_check(fault: CheckFault) -> Stop
-    ensures { result ≡ stop_of_check fault }
-{
-    match fault {
-        CheckFault::BadIndex { unit } => Stop::BadIndex { unit },
-        CheckFault::DiskFault => Stop::ReadFault,
-        CheckFault::NoMemory => Stop::NoMemory,
-    }
-}
 
 /// Whether flags have a bit.
 fn has(flags: u64, bit: u64) -> bool
@@ -150,36 +137,42 @@ fn read_unmet_text(
     }
 }
 
-/// Writes the line of a requirement of a package, which is read for it.
+/// Writes the line of a requirement of a package, which is read for it, if it isn't held, and is held then.
 fn put_unmet<D: Disk, O: Sink + Drop>(
     alloc: Global,
     db: &Db,
     disk: &mut D,
     unmet: Unmet,
+    held: &mut Held,
     out: &mut Buffered<O>,
 ) -> Result<bool, Stop>
     requires keeps { Kept D.Disk disk.old db.now }
     requires runs { db.now.stopped ≡ false }
+    requires holding { IsTrue D.tells → IsHeld (packages_in D.Disk disk.old db.now) held.old }
     ensures kept { Kept D.Disk disk.new db.now }
-    ensures step { IsTrue D.tells → (err_tells : Bool) (err : List ℕ) → StepIs (unmet_step (packages_in D.Disk disk.old db.now) unmet) result (outputs O.tells
-        (O.taken (inner out.old)) err_tells err) (outputs O.tells (O.taken (inner out.new)) err_tells err) }
+    ensures held { IsTrue D.tells → IsHeld (packages_in D.Disk disk.new db.now) held.new }
+    ensures number { IfOk result (λ _to_out. held.new.number ≡ unmet.number) }
+    ensures unread { held.old.number ≡ unmet.number → disk.new ≡ disk.old }
+    ensures step { IsTrue D.tells → OutTakes O.Sink (StepIs (unmet_step (packages_in D.Disk disk.old db.now) unmet)
+        result) out.old out.new }
     ensures looks { Peeks D.Disk true disk.old disk.new }
     ensures unbroken { (unit : ℕ) → result ≢ Err (Stop.BadIndex unit) }
     ensures no_err { result ≢ Err Stop.ErrFault }
     ensures disk { DiskFault D.Disk (result ≡ Err Stop.ReadFault) disk.old disk.new }
     ensures out { Hand O.Sink (result ≡ Err Stop.OutFault) out.old out.new }
 {
-    let blob = match read_blob(alloc, db, disk, unmet.number) {
-        Ok(blob) => blob,
+    match hold(alloc, db, disk, unmet.number, held) {
+        Ok(()) => {}
         Err(stop) => return Err(stop),
-    };
-    match read_unmet_text(alloc, &blob, unmet.number, unmet.place) {
+    }
+    match read_unmet_text(alloc, &held.blob, unmet.number, unmet.place) {
         Ok(line) => put_text(out, &line),
         Err(_) => Err(Stop::NoMemory),
     }
 }
 
-/// Writes the lines of these requirements.
+/// Writes the lines of these requirements. Of those of a package that stand in a row, the package is read for the
+/// first alone.
 fn put_each_unmet<D: Disk, O: Sink + Drop>(
     alloc: Global,
     db: &Db,
@@ -189,16 +182,22 @@ fn put_each_unmet<D: Disk, O: Sink + Drop>(
 ) -> Result<(), Stop>
     requires keeps { Kept D.Disk disk.old db.now }
     requires runs { db.now.stopped ≡ false }
-    ensures went { IsTrue D.tells → (err_tells : Bool) (err : List ℕ) → Reached (map (unmet_step (packages_in D.Disk disk.old db.now)) list.now) result
-        (outputs O.tells (O.taken (inner out.old)) err_tells err) (outputs O.tells (O.taken (inner out.new)) err_tells err) Anywhere }
+    requires from_one { database.holds 0 db.now ≡ false }
+    ensures went { IsTrue D.tells → OutTakes O.Sink (λ old new. Reached
+        (map (unmet_step (packages_in D.Disk disk.old db.now)) list.now) result old new Anywhere) out.old out.new }
     ensures looks { Peeks D.Disk true disk.old disk.new }
     ensures unbroken { (unit : ℕ) → result ≢ Err (Stop.BadIndex unit) }
     ensures no_err { result ≢ Err Stop.ErrFault }
     ensures disk { DiskFault D.Disk (result ≡ Err Stop.ReadFault) disk.old disk.new }
     ensures out { Hand O.Sink (result ≡ Err Stop.OutFault) out.old out.new }
 {
+    // No package has the number 0.
+    let mut held = Held {
+        number: 0,
+        blob: Vec::new(alloc),
+    };
     for unmet in list {
-        match put_unmet(alloc, db, disk, *unmet, out) {
+        match put_unmet(alloc, db, disk, *unmet, &mut held, out) {
             Ok(_) => {}
             Err(stop) => return Err(stop),
         }
@@ -213,7 +212,8 @@ fn list_unmet<D: Disk>(alloc: Global, db: &Db, disk: &mut D) -> Result<UnmetList
     requires runs { db.now.stopped ≡ false }
     requires from_one { database.holds 0 db.now ≡ false }
     ensures kept { Kept D.Disk disk.new db.now }
-    ensures told { IfOk result (λ list. IsTrue D.tells → HasRows D.Disk disk.old db.now → list ≡ lacking.unmet (packages_in D.Disk disk.old db.now)) }
+    ensures told { IfOk result (λ list. IsTrue D.tells → HasRows D.Disk disk.old db.now
+        → list ≡ lacking.unmet (packages_in D.Disk disk.old db.now)) }
     ensures broken { IsTrue D.tells → IfErr result (StopsOfSome (D.files disk.old).idx) }
     ensures lawful { IsTrue D.tells → HasRows D.Disk disk.old db.now → IfErr result (λ stop. is_of_sink stop ≡ false) }
     ensures no_out { result ≢ Err Stop.OutFault }
@@ -238,8 +238,9 @@ fn tell_unmet<D: Disk, O: Sink + Drop>(
     requires keeps_index { KeptIndex D.Disk disk.old db.now }
     requires runs { db.now.stopped ≡ false }
     requires from_one { database.holds 0 db.now ≡ false }
-    ensures went { IsTrue D.tells → HasRows D.Disk disk.old db.now → (err_tells : Bool) (err : List ℕ) → PartIs (unmet_part (packages_in D.Disk disk.old
-        db.now)) result (outputs O.tells (O.taken (inner out.old)) err_tells err) (outputs O.tells (O.taken (inner out.new)) err_tells err) Anywhere }
+    ensures went { IsTrue D.tells → HasRows D.Disk disk.old db.now
+        → OutTakes O.Sink (λ old new. PartIs (unmet_part (packages_in D.Disk disk.old db.now)) result old new Anywhere)
+        out.old out.new }
     ensures broken { IsTrue D.tells → IfErr result (StopsOfSome (D.files disk.old).idx) }
     ensures no_err { result ≢ Err Stop.ErrFault }
     ensures looks { Peeks D.Disk true disk.old disk.new }
@@ -256,11 +257,11 @@ fn tell_unmet<D: Disk, O: Sink + Drop>(
     }
 }
 
-/// Tells first the packages that can't be read, with their lines on err, and then the requirements that no package meets, with theirs on
-/// out. Says whether there is one of either.
+/// Tells first the packages that can't be read, with their lines on err, and then the requirements that no package
+/// meets, with theirs on out. Says whether there is one of either.
 ///
-/// Beside what [`unmet`](rpm_check::unmet) reads it reads the blocks of each package once, and those of a package again for each of its
-/// lines.
+/// Beside what [`unmet`](rpm_check::unmet) reads it reads the blocks of each package once, and those of a package
+/// that has lines once again.
 pub fn report_unmet<D: Disk, O: Sink + Drop, E: Sink + Drop>(
     alloc: Global,
     db: &Db,
@@ -272,19 +273,20 @@ pub fn report_unmet<D: Disk, O: Sink + Drop, E: Sink + Drop>(
     requires keeps_index { KeptIndex D.Disk disk.old db.now }
     requires runs { db.now.stopped ≡ false }
     requires from_one { database.holds 0 db.now ≡ false }
-    ensures went { IsTrue D.tells → HasRows D.Disk disk.old db.now → PartIs (unsatisfied_part (packages_in D.Disk disk.old db.now)) result (shown O.Sink
-        E.Sink out.old err.old) (shown O.Sink E.Sink out.new err.new) Anywhere }
+    ensures went { IsTrue D.tells → HasRows D.Disk disk.old db.now
+        → PartIs (unsatisfied_part (packages_in D.Disk disk.old db.now)) result (shown O.Sink E.Sink out.old err.old)
+        (shown O.Sink E.Sink out.new err.new) Anywhere }
     ensures broken { IsTrue D.tells → IfErr result (StopsOfSome (D.files disk.old).idx) }
     ensures looks { Peeks D.Disk true disk.old disk.new }
     ensures disk { DiskFault D.Disk (result ≡ Err Stop.ReadFault) disk.old disk.new }
-    ensures hands { Hands O.Sink E.Sink (result ≡ Err Stop.OutFault) (result ≡ Err Stop.ErrFault) out.old err.old out.new err.new }
+    ensures hands { StopHands O.Sink E.Sink result out.old err.old out.new err.new }
 {
     let bad = match tell_each_bad(alloc, db, disk, err) {
         Ok(bad) => bad,
         Err(stop) => return Err(stop),
     };
     match tell_unmet(alloc, db, disk, out) {
-        Ok(some) => Ok(either(bad, some)),
+        Ok(some) => Ok(bad | some),
         Err(stop) => Err(stop),
     }
 }

@@ -1,6 +1,6 @@
 //! What verifying says of all packages.
 
-ghost use Rattle.std.specs.Prelude.{◌≡◌, ◌≢◌, ◌+◌, ◌*◌, ◌≤◌, ℕ, Bool, List, [], ◌∷◌, map, true, false, IsTrue, Some, Err};
+ghost use Rattle.std.specs.Prelude.{◌≡◌, ◌≢◌, ◌+◌, ◌*◌, ◌≤◌, ℕ, [], ◌∷◌, map, true, false, IsTrue, Some, Err};
 ghost use Rattle.std.specs.FinMap.{entries};
 ghost use Rattle.rpm_outside.specs.Buffered.{inner, holds};
 ghost use Rattle.rpm_outside.specs.Sinks.{Writes};
@@ -13,13 +13,11 @@ ghost use Rattle.rpm_change.specs.Steps.{bearer};
 ghost use Rattle.rpm_tool.specs.Steps.{together};
 ghost use Rattle.rpm_tool.specs.Reports.{verdict_line, unsound, verdict_part, entry_verdict, verify};
 ghost use Rattle.rpm_tool.specs.Reads.{reached_by};
-ghost use Rattle.rpm_change.specs.Endings.{outputs};
 ghost use Rattle.rpm_tool.specs.Answers.{PartIs, Went, is_foreign};
-ghost use Rattle.rpm_tool.specs.Frame.{Looks, DiskFault, Kept, packages_in, pkg_read};
+ghost use Rattle.rpm_tool.specs.Frame.{Looks, DiskFault, Kept, packages_in, pkg_read, OutTakes};
 ghost use Rattle.rpm_change.specs.Hands.{Hand};
 
 use crate::answer::Why;
-use crate::picked::either;
 use crate::pieces::put_line;
 use crate::query::why_of;
 use crate::step::Stop;
@@ -35,7 +33,8 @@ fn put_verdict<O: Sink + Drop>(
     number: u32,
     text: &[u8],
 ) -> Result<(), Failed>
-    ensures writes { Writes O.tells O.taken O.faults O.follows (inner out.old) (inner out.new) (verdict_line number text.now) result }
+    ensures writes { Writes O.tells O.taken O.faults O.follows (inner out.old) (inner out.new)
+        (verdict_line number text.now) result }
 {
     let mut digits = Buffer::new();
     let number = digits.format(number).as_bytes();
@@ -48,8 +47,8 @@ fn put_unsound<O: Sink + Drop>(
     number: u32,
     text: &[u8],
 ) -> Result<bool, Stop>
-    ensures part { (err_tells : Bool) (err : List ℕ) → PartIs (unsound number text.now) result (outputs O.tells (O.taken (inner out.old)) err_tells err)
-        (outputs O.tells (O.taken (inner out.new)) err_tells err) (λ for. for ≡ bearer 0 number) }
+    ensures part { OutTakes O.Sink (λ old new. PartIs (unsound number text.now) result old new
+        (λ for. for ≡ bearer 0 number)) out.old out.new }
     ensures no_read { result ≢ Err Stop.ReadFault }
     ensures no_err { result ≢ Err Stop.ErrFault }
     ensures out { Hand O.Sink (result ≡ Err Stop.OutFault) out.old out.new }
@@ -66,8 +65,8 @@ fn tell_verdict<O: Sink + Drop>(
     number: u32,
     said: Verdict,
 ) -> Result<bool, Stop>
-    ensures part { (err_tells : Bool) (err : List ℕ) → PartIs (verdict_part number (Some said)) result
-        (outputs O.tells (O.taken (inner out.old)) err_tells err) (outputs O.tells (O.taken (inner out.new)) err_tells err) (λ for. for ≡ bearer 0 number) }
+    ensures part { OutTakes O.Sink (λ old new. PartIs (verdict_part number (Some said)) result old new
+        (λ for. for ≡ bearer 0 number)) out.old out.new }
     ensures no_read { result ≢ Err Stop.ReadFault }
     ensures no_err { result ≢ Err Stop.ErrFault }
     ensures out { Hand O.Sink (result ≡ Err Stop.OutFault) out.old out.new }
@@ -80,7 +79,8 @@ fn tell_verdict<O: Sink + Drop>(
     }
 }
 
-/// Verifies a package that is there, and tells its verdict where it isn't sound. Says whether the argument fails for it.
+/// Verifies a package that is there, and tells its verdict where it isn't sound. Says whether the argument fails for
+/// it.
 fn verify_one<D: Disk, O: Sink + Drop>(
     alloc: Global,
     db: &Db,
@@ -92,8 +92,9 @@ fn verify_one<D: Disk, O: Sink + Drop>(
     requires runs { db.now.stopped ≡ false }
     requires there { database.holds number db.now ≡ true }
     ensures kept { Kept D.Disk disk.new db.now }
-    ensures went { IsTrue D.tells → (err_tells : Bool) (err : List ℕ) → PartIs (verdict_part number (verdict (D.files disk.old).pkg db.now number)) result
-        (outputs O.tells (O.taken (inner out.old)) err_tells err) (outputs O.tells (O.taken (inner out.new)) err_tells err) (λ for. for ≡ bearer 0 number) }
+    ensures went { IsTrue D.tells → OutTakes O.Sink (λ old new. PartIs
+        (verdict_part number (verdict (D.files disk.old).pkg db.now number)) result old new
+        (λ for. for ≡ bearer 0 number)) out.old out.new }
     ensures looks { Looks D.Disk Pkg (cost number db.now) disk.old disk.new }
     ensures no_err { result ≢ Err Stop.ErrFault }
     ensures disk { DiskFault D.Disk (result ≡ Err Stop.ReadFault) disk.old disk.new }
@@ -119,9 +120,11 @@ fn verify_all<D: Disk, O: Sink + Drop>(
     requires keeps { Kept D.Disk disk.old db.now }
     requires runs { db.now.stopped ≡ false }
     requires from_one { database.holds 0 db.now ≡ false }
-    ensures went { IsTrue D.tells → (err_tells : Bool) (err : List ℕ) → PartIs (together (map (entry_verdict (D.files disk.old).pkg db.now.store) (entries
-        (packages_in D.Disk disk.old db.now)))) result (outputs O.tells (O.taken (inner out.old)) err_tells err) (outputs O.tells (O.taken (inner out.new))
-        err_tells err) (λ for. pkg_read D.Disk disk.new ≤ pkg_read D.Disk disk.old + reached_by (Everything ∷ []) db.now for) }
+    ensures went { IsTrue D.tells → OutTakes O.Sink (λ old new. PartIs
+        (together (map (entry_verdict (D.files disk.old).pkg db.now.store)
+        (entries (packages_in D.Disk disk.old db.now)))) result old new
+        (λ for. pkg_read D.Disk disk.new ≤ pkg_read D.Disk disk.old + reached_by (Everything ∷ []) db.now for))
+        out.old out.new }
     ensures looks { Looks D.Disk Pkg (cost_all db.now) disk.old disk.new }
     ensures no_err { result ≢ Err Stop.ErrFault }
     ensures disk { DiskFault D.Disk (result ≡ Err Stop.ReadFault) disk.old disk.new }
@@ -133,7 +136,7 @@ fn verify_all<D: Disk, O: Sink + Drop>(
         match verify_one(alloc, db, disk, next, out) {
             Ok(unsound) => {
                 number = next;
-                fails = either(fails, unsound);
+                fails |= unsound;
             }
             Err(stop) => return Err(stop),
         }
@@ -151,9 +154,9 @@ pub fn report<D: Disk, O: Sink + Drop>(
     requires keeps { Kept D.Disk disk.old db.now }
     requires runs { db.now.stopped ≡ false }
     requires from_one { database.holds 0 db.now ≡ false }
-    ensures went { IsTrue D.tells → (err_tells : Bool) (err : List ℕ) → Went (verify (D.files disk.old).pkg db.now.store) result (outputs O.tells (O.taken
-        (inner out.old)) err_tells err) (outputs O.tells (O.taken (inner out.new)) err_tells err) (λ for. pkg_read D.Disk disk.new ≤ pkg_read D.Disk disk.old
-        + reached_by (Everything ∷ []) db.now for) }
+    ensures went { IsTrue D.tells → OutTakes O.Sink (λ old new. Went (verify (D.files disk.old).pkg db.now.store) result
+        old new (λ for. pkg_read D.Disk disk.new ≤ pkg_read D.Disk disk.old + reached_by (Everything ∷ []) db.now for))
+        out.old out.new }
     ensures done { is_foreign result ≡ false }
     ensures looks { Looks D.Disk Pkg (cost_all db.now) disk.old disk.new }
     ensures no_err { result ≢ Why.ErrFault }

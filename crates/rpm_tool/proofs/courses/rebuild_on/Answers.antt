@@ -25,10 +25,10 @@ returns-in-Ok-rebuild-clause-worked g c = λ told err_tells err.
     let before = outputs g.O.Sink.tells (g.O.Sink.taken (inner c.args.out.now)) err_tells err in
     let now = outputs g.O.Sink.tells (g.O.Sink.taken (inner c.rebuild.new.out)) err_tells err in
     done_anew (λ s. rebuild s) (g.D.Disk.files c.args.disk.now) (g.D.Disk.files c.open_to_change.new.disk) (g.D.Disk.files c.rebuild.new.disk)
-    c.in-Ok.db c.rebuild.new.db before now c.in-Ok-rebuild.tally (c.in-Ok.ensures.opened told) (said.serving told).keeps
+    c.in-Ok.db c.rebuild.new.db before now c.in-Ok-rebuild.tally (c.in-Ok.ensures.opened told) (said.current.ready.serving told).keeps
     (said.ended told err_tells err)
     (still_paged (rebuild (state (g.D.Disk.files c.open_to_change.new.disk).pkg c.in-Ok.db.store)).changes c.in-Ok.db c.rebuild.new.db.store
-    c.in-Ok.ensures.not_blank (said.stores told)) (said.index told)
+    c.in-Ok.ensures.not_blank (said.stores told)) (said.current.index told)
     (λ indexed may. reached_renewed indexed (λ s. rebuild s) (g.D.Disk.files c.args.disk.now) (g.D.Disk.files c.open_to_change.new.disk)
     (g.D.Disk.files c.rebuild.new.disk) c.in-Ok.db (c.in-Ok.ensures.opened told) (c.in-Ok.ensures.begun told) (c.in-Ok.ensures.reach told)
     (said.reach told))

@@ -70,9 +70,9 @@ loop-next-preserved g c =
           goes_next (step_by c.args.way.now j) n es (map (step_by c.args.way.now j) all) ot et o o' o'' e e' e''
           (ReadsIn j n c.loop-next.picker db between now) (inv.goes told serves j) m to_out (next told serves j);
       bad = λ told serves j.
-          rw c.either-fails.ensures (fails_next (step_by c.args.way.now j) n es (outputs ot o' et e') (outputs ot o'' et e'')
+          fails_next (step_by c.args.way.now j) n es (outputs ot o' et e') (outputs ot o'' et e'')
           (ReadsIn j n c.loop-next.picker db between now) m c.loop-next.fails to_out (list_any is_bad (map (step_by c.args.way.now j) all))
-          (inv.bad told serves j) (next told serves j));
+          (inv.bad told serves j) (next told serves j);
       there = λ told serves.
           some_next (step_by c.args.way.now 0) n es (outputs ot o' et e') (outputs ot o'' et e'') (ReadsIn 0 n c.loop-next.picker db between now) m
           c.loop-next.some to_out (is_some_of all) (inv.there told serves) (next told serves 0);

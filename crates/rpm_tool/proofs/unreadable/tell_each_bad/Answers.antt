@@ -61,9 +61,9 @@ loop-next-preserved g c =
       bad = λ told.
           let part = bad_here here start db.store m next.0 (Ok c.in-Ok.bad) (outputs et e' et e') (outputs et e' et e'') (inv.looks.untouched told).same next.1
           (done.went told et e') in
-          rw c.either-fails.ensures (fails_later c.loop-next.fails (bad_part (m, next.0)).fails c.in-Ok.bad (together (map bad_part (above m es))).fails
+          fails_later c.loop-next.fails (bad_part (m, next.0)).fails c.in-Ok.bad (together (map bad_part (above m es))).fails
           (together (map bad_part (above 0 es))).fails part.fails
-          (inv.bad told ∙ ap (λ (xs : List (ℕ × Package)). c.loop-next.fails || (together (map bad_part xs)).fails) next.2));
+          (inv.bad told ∙ ap (λ (xs : List (ℕ × Package)). c.loop-next.fails || (together (map bad_part xs)).fails) next.2);
     }
 
 pub returns-in-Err-clause-went : goal.returns-in-Err-clause-went

@@ -1,4 +1,4 @@
-use Rattle.std.proofs.Common.{◌+◌, ◌<◌, ◌≤◌, true, Bool, [], ◌∷◌, map, drop, length, get_or, Ok, Err, refl, ap, subst, arith}
+use Rattle.std.proofs.Common.{◌+◌, ◌<◌, ◌≤◌, true, Bool, [], ◌∷◌, map, drop, length, get_or, Ok, Err, refl, sym, ap, subst, arith}
 use Rattle.std.proofs.lemmas.List.{drop_all}
 use Rattle.rpm_outside.specs.Buffered.{inner}
 use Rattle.rpm_outside.specs.Files.{Files}
@@ -6,9 +6,9 @@ use Rattle.rpm_db.specs.State.{packages}
 use Rattle.rpm_check.specs.declared.list.Unmet.{Unmet}
 use Rattle.rpm_change.specs.Endings.{outputs}
 use Rattle.rpm_tool.specs.Answers.{StepIs, Anywhere}
-use Rattle.rpm_tool.specs.Requirements.{unmet_step}
+use Rattle.rpm_tool.specs.Requirements.{IsRead, unmet_step}
 use Rattle.rpm_tool.proofs.Reaching.{goes_start, goes_more, goes_stop, goes_end}
-use Rattle.rpm_tool.proofs.Telling.{steps_at, step_stops}
+use Rattle.rpm_tool.proofs.Telling.{none_held, steps_at, step_stops}
 use Rattle.rpm_tool.proofs.Peeking.{peeks_none, peeks_then}
 use Rattle.rpm_tool.proofs.unsatisfied.put_each_unmet.Goals as goal
 
@@ -22,6 +22,7 @@ loop-unmet-init g c =
     let all = map (unmet_step (packages start.pkg db.store)) c.args.list.now in
     record {
       keeps = c.requires.keeps;
+      holding = λ told. subst (IsRead (packages start.pkg db.store) 0) (sym c.new.ensures.items) (none_held start.pkg db c.requires.from_one);
       looks = peeks_none g.D.Disk.tells g.D.Disk.files g.D.Disk.left_since g.D.Disk.moment g.D.Disk.bytes_read g.D.Disk.follows true
           g.met.D.Disk.follows_refl c.args.disk.now;
       disk = omega arith;
@@ -47,6 +48,7 @@ loop-unmet-preserved g c =
     let ot = g.O.Sink.tells in
     record {
       keeps = done.kept;
+      holding = done.held;
       looks = peeks_then g.D.Disk.tells g.D.Disk.files g.D.Disk.left_since g.D.Disk.moment g.D.Disk.bytes_read g.D.Disk.follows true
           g.met.D.Disk.follows_trans c.args.disk.now c.loop-unmet.disk c.put_unmet.new.disk inv.looks done.looks;
       disk = omega (arith, inv.disk, done.disk.later);

@@ -4,13 +4,14 @@ use Rattle.rpm_outside.specs.Buffered.{inner}
 use Rattle.rpm_db.specs.State.{packages}
 use Rattle.rpm_db.specs.Database.{Keeps}
 use Rattle.rpm_tool.specs.Reads.{Peeks}
-use Rattle.rpm_tool.specs.Requirements.{unmet_step}
+use Rattle.rpm_tool.specs.Requirements.{IsHeld, unmet_step}
 use Rattle.rpm_tool.proofs.Reaching.{Goes}
 use Rattle.rpm_tool.proofs.unsatisfied.put_each_unmet.Given as goal
 
 abbrev pub invariant-loop-unmet : goal.invariant-loop-unmet
 invariant-loop-unmet g l = record {
   keeps : IsTrue g.D.Disk.tells → Keeps (g.D.Disk.files l.disk).pkg l.db;
+  holding : IsTrue g.D.Disk.tells → IsHeld (packages (g.D.Disk.files l.disk).pkg l.db.store) l.held;
   looks : Peeks g.D.Disk.tells g.D.Disk.files g.D.Disk.left_since g.D.Disk.moment g.D.Disk.bytes_read g.D.Disk.follows true l.initial.disk l.disk;
   disk : g.D.Disk.faults l.initial.disk ≤ g.D.Disk.faults l.disk;
   out : g.O.Sink.faults (inner l.initial.out) ≤ g.O.Sink.faults (inner l.out);

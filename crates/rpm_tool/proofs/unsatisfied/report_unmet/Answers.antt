@@ -42,8 +42,7 @@ returns-in-Ok-tell_unmet-clause-went g c = λ told rows.
     let some = c.in-Ok-tell_unmet.some in
     let second = subst (λ (f : Files). HasIndexRows db f.pkg f.idx → PartIs (unmet_part (packages f.pkg s)) (Ok some) (outputs ot o et e') (outputs ot o' et e')
     Anywhere) (c.in-Ok.ensures.looks.untouched told).same (λ has. c.in-Ok-tell_unmet.ensures.went told has et e') rows in
-    rw c.either.ensures
-    (behind_both ot et (bad_parts all) (unmet_part all) c.in-Ok.bad o o o' e e' e' (c.in-Ok.ensures.went told ot o) some second)
+    behind_both ot et (bad_parts all) (unmet_part all) c.in-Ok.bad o o o' e e' e' (c.in-Ok.ensures.went told ot o) some second
 
 pub returns-in-Ok-tell_unmet-clause-looks : goal.returns-in-Ok-tell_unmet-clause-looks
 returns-in-Ok-tell_unmet-clause-looks g c =

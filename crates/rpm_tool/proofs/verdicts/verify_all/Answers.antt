@@ -70,9 +70,9 @@ loop-next-preserved g c =
           let part : PartIs (each (m, next.0)) (Ok c.in-Ok.unsound) (outputs g.O.Sink.tells o' et o') (outputs g.O.Sink.tells o'' et o')
           (λ for. for ≡ bearer 0 m) =
           verdict_here (g.D.Disk.files c.loop-next.disk) start db m (Ok c.in-Ok.unsound) _ _ _ (inv.looks.untouched told).same (done.went told et o') in
-          rw c.either-fails.ensures (fails_later c.loop-next.fails (each (m, next.0)).fails c.in-Ok.unsound (together (map each (above m es))).fails
+          fails_later c.loop-next.fails (each (m, next.0)).fails c.in-Ok.unsound (together (map each (above m es))).fails
           (together (map each (above 0 es))).fails part.fails
-          (inv.bad told ∙ ap (λ (xs : List (ℕ × Package)). c.loop-next.fails || (together (map each xs)).fails) next.1));
+          (inv.bad told ∙ ap (λ (xs : List (ℕ × Package)). c.loop-next.fails || (together (map each xs)).fails) next.1);
     }
 
 pub returns-in-Err-clause-went : goal.returns-in-Err-clause-went
