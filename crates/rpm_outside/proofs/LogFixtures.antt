@@ -2,7 +2,8 @@
 use Rattle.std.specs.Prelude.{◌≡◌, ℕ, List, [], ◌∷◌, refl, replicate}
 use Rattle.rpm_outside.specs.declared.disk.File.TheVariants.{Pkg, Idx}
 use Rattle.rpm_outside.specs.Files.{Units, Files, blank, put}
-use Rattle.rpm_outside.specs.Logs.{Closed, Malformed, Open, log_state, reopened, word, is_gate, is_head, entry_at, heads}
+use Rattle.rpm_outside.specs.Logs.{Closed, Malformed, Open, log_state, reopened, is_gate, is_head, entry_at, heads}
+use Rattle.rpm_outside.specs.Words.{word}
 
 abbrev gate : List ℕ
 gate = 0x52 ∷ 0x70 ∷ 0x6d ∷ 0x4c ∷ 1 ∷ 0 ∷ 0 ∷ 0 ∷ 2 ∷ 0 ∷ 0 ∷ 0 ∷ 5 ∷ 0 ∷ 0 ∷ 0 ∷ []

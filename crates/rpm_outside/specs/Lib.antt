@@ -7,6 +7,7 @@ pub mod Changes
 pub mod Crash
 pub mod Entries
 pub mod Files
+pub mod Frame
 pub mod inner
 pub mod Literal
 pub mod LogWrites
@@ -19,3 +20,4 @@ pub mod Past
 pub mod Picks
 pub mod Shelves
 pub mod Sinks
+pub mod Words

@@ -3,7 +3,8 @@ use Rattle.std.specs.Prelude.{◌≡◌, ℕ, ◌+◌, ◌<◌, ◌≤◌, List,
 use Rattle.rpm_outside.specs.declared.disk.File.{File}
 use Rattle.rpm_outside.specs.declared.disk.File.TheVariants.{Pkg, Idx, Log}
 use Rattle.rpm_outside.specs.Files.{Units, unit_at}
-use Rattle.rpm_outside.specs.Logs.{Entry, word, is_blank}
+use Rattle.rpm_outside.specs.Logs.{Entry, is_blank}
+use Rattle.rpm_outside.specs.Words.{word}
 
 -- a file's number in a head
 abbrev pub number_of : File → ℕ

@@ -2,10 +2,10 @@
 use Rattle.std.specs.Prelude.{ℕ, ◌+◌, ◌*◌, ◌==◌, nat_lt, nat_le, if◌then◌else◌, Bool, ◌&&◌, List, [], ◌∷◌, take, drop, length}
 use Rattle.std.proofs.Common.{zero, suc}
 use Rattle.std.specs.List.{list_all}
-use Rattle.std.specs.Int.{w32, from_le_bytes}
 use Rattle.rpm_outside.specs.declared.disk.File.{File}
 use Rattle.rpm_outside.specs.declared.disk.File.TheVariants.{Pkg, Idx}
 use Rattle.rpm_outside.specs.Files.{Units, Files, file_of, with_file, unit_at, put}
+use Rattle.rpm_outside.specs.Words.{word}
 
 -- units to be written to a file from this one on
 pub record Entry : Type 0 where
@@ -18,10 +18,6 @@ pub data LogState : Type 0 where
   Closed : LogState
   Malformed : ℕ → LogState
   Open : List Entry → LogState
-
--- number k of a unit: four bytes, the lowest first
-unfoldable pub word : ℕ → List ℕ → ℕ
-word k unit = from_le_bytes w32 (drop (4 * k) unit)
 
 -- whether a byte is zero
 abbrev pub is_zero : ℕ → Bool

@@ -54,7 +54,8 @@ impl<O: Sink + Drop> Buffered<O> {
     /// `Failed` where a call of the sink failed. It then took the first of what was held, or none, and
     /// the others are held.
     pub fn flush(&mut self) -> Result<(), Failed>
-        ensures { Flushes O.tells O.taken O.faults O.follows (inner self.old) (holds self.old) (inner self.new) (holds self.new) result }
+        ensures { Flushes O.tells O.taken O.faults O.follows (inner self.old) (holds self.old) (inner self.new)
+            (holds self.new) result }
     {
         while self.gone < self.held.len() {
             self.gone += self.sink.write(&self.held.as_slice()[self.gone..])?;

@@ -114,8 +114,8 @@ impl Copies {
         None
     }
 
-    /// The files of the last copy that isn't after a moment, and the copy's own moment: the first files, of moment 0, where
-    /// there is none.
+    /// The files of the last copy that isn't after a moment, and the copy's own moment: the first files, of moment 0,
+    /// where there is none.
     pub fn start(
         &self,
         alloc: Global,

@@ -14,8 +14,8 @@ pub enum File {
 
 /// Three files of 16-byte units.
 ///
-/// A unit is the most that a crash leaves whole: after a write that was cut short each of its units is the old one or the new
-/// one. Bytes after the last whole unit of a file aren't seen, and a file that isn't there has no units.
+/// A unit is the most that a crash leaves whole: after a write that was cut short each of its units is the old one or
+/// the new one. Bytes after the last whole unit of a file aren't seen, and a file that isn't there has no units.
 pub trait Disk {
     ghost use Rattle.rpm_outside.specs.declared.disk.File.{File};
     ghost use Rattle.rpm_outside.specs.Files.{Files, file_of, with_file, units_of, put};
@@ -32,8 +32,8 @@ pub trait Disk {
     /// The images that a crash at some moment from that one on may leave, those inside calls included.
     ghost left_since: { Self → ℕ → Files → Type 0 };
 
-    /// The moment: a number that never falls, and rises with each write and sync that goes through. One that fails either lets
-    /// it rise too, or leaves files and images as they were.
+    /// The moment: a number that never falls, and rises with each write and sync that goes through. One that fails
+    /// either lets it rise too, or leaves files and images as they were.
     ghost moment: { Self → ℕ };
 
     /// How many bytes of a file were read.
@@ -55,15 +55,16 @@ pub trait Disk {
     /// `Failed` only where the count of faults rose.
     fn len(&mut self, file: File) -> Result<u64, Failed>
         ensures length { IsTrue tells → IfOk result (λ n. n ≡ length (file_of file (files self.old))) }
-        ensures untouched { IsTrue tells → Untouched (files self.old) (files self.new) (left_since self.old) (left_since self.new) }
+        ensures untouched { IsTrue tells → Untouched (files self.old) (files self.new) (left_since self.old)
+            (left_since self.new) }
         ensures moment { moment self.new ≡ moment self.old }
         ensures reads { (f : File) → bytes_read self.new f ≡ bytes_read self.old f }
         ensures cause { HasCause (faults self.old) (faults self.new) result }
         ensures outcome { outcome self.old (Len file) (is_err result) self.new }
         ensures follows { follows self.old self.new };
 
-    /// Reads whole units from this one on. The file's count of bytes read rises by the length of `into`, whatever the answer.
-    /// An implementation that doesn't tell its contents counts a read past the end as a fault.
+    /// Reads whole units from this one on. The file's count of bytes read rises by the length of `into`, whatever the
+    /// answer. An implementation that doesn't tell its contents counts a read past the end as a fault.
     ///
     /// # Errors
     ///
@@ -71,10 +72,13 @@ pub trait Disk {
     fn read_at(&mut self, file: File, unit: u64, into: &mut [u8]) -> Result<(), Failed>
         requires whole { length into.old % 16 ≡ 0 }
         requires within { IsTrue tells → unit + length into.old / 16 ≤ length (file_of file (files self.old)) }
-        ensures units { OnOk result (IsTrue tells → units_of into.new ≡ take (length into.old / 16) (drop unit (file_of file (files self.old)))) }
-        ensures untouched { IsTrue tells → Untouched (files self.old) (files self.new) (left_since self.old) (left_since self.new) }
+        ensures units { OnOk result (IsTrue tells
+            → units_of into.new ≡ take (length into.old / 16) (drop unit (file_of file (files self.old)))) }
+        ensures untouched { IsTrue tells → Untouched (files self.old) (files self.new) (left_since self.old)
+            (left_since self.new) }
         ensures moment { moment self.new ≡ moment self.old }
-        ensures reads { (f : File) → RoseBy (bytes_read self.old f) (bytes_for file f (length into.old)) (bytes_read self.new f) }
+        ensures reads { (f : File) → RoseBy (bytes_read self.old f) (bytes_for file f (length into.old))
+            (bytes_read self.new f) }
         ensures cause { HasCause (faults self.old) (faults self.new) result }
         ensures outcome { outcome self.old (Read file unit (length into.old)) (is_err result) self.new }
         ensures follows { follows self.old self.new };
@@ -83,22 +87,25 @@ pub trait Disk {
     ///
     /// # Errors
     ///
-    /// `Failed` only where the count of faults rose. Each unit of the range is then the old one or the new one, and the file's
-    /// length any one between; where the moment didn't rise, nothing was written.
+    /// `Failed` only where the count of faults rose. Each unit of the range is then the old one or the new one, and
+    /// the file's length any one between; where the moment didn't rise, nothing was written.
     fn write_at(&mut self, file: File, unit: u64, bytes: &[u8]) -> Result<(), Failed>
         requires some { 0 < length bytes.now }
         requires whole { length bytes.now % 16 ≡ 0 }
         requires room { unit + length bytes.now / 16 ≤ 2 ^ 28 }
-        ensures written { OnOk result (IsTrue tells → files self.new ≡ with_file file (put unit (units_of bytes.now) (file_of file (files self.old)))
+        ensures written { OnOk result (IsTrue tells
+            → files self.new ≡ with_file file (put unit (units_of bytes.now) (file_of file (files self.old)))
             (files self.old)) }
         ensures torn { IsTrue tells → TornFile file unit (units_of bytes.now) (files self.old) (files self.new) }
-        ensures images { IsTrue tells → OnlyAfter (TornFile file unit (units_of bytes.now)) (left_since self.old (moment self.old))
-            (left_since self.new (moment self.new)) }
-        ensures time { IsTrue tells → Elapses (moment self.old) (moment self.new) (left_since self.old) (left_since self.new) }
+        ensures images { IsTrue tells → OnlyAfter (TornFile file unit (units_of bytes.now))
+            (left_since self.old (moment self.old)) (left_since self.new (moment self.new)) }
+        ensures time { IsTrue tells → Elapses (moment self.old) (moment self.new) (left_since self.old)
+            (left_since self.new) }
         ensures later { moment self.old ≤ moment self.new }
         ensures rises { OnOk result (Rose (moment self.old) (moment self.new)) }
-        ensures stays { OnErr result (IsTrue tells → RisesOrStays (moment self.old) (moment self.new) (files self.old) (files self.new)
-            (left_since self.old) (left_since self.new)) }
+        ensures stays { OnErr result (IsTrue tells
+            → RisesOrStays (moment self.old) (moment self.new) (files self.old) (files self.new) (left_since self.old)
+            (left_since self.new)) }
         ensures reads { (f : File) → bytes_read self.new f ≡ bytes_read self.old f }
         ensures cause { HasCause (faults self.old) (faults self.new) result }
         ensures outcome { outcome self.old (Write file unit bytes.now) (is_err result) self.new }
@@ -111,14 +118,17 @@ pub trait Disk {
     /// `Failed` only where the count of faults rose. All is then as pending as before.
     fn sync(&mut self, file: File) -> Result<(), Failed>
         ensures same { IsTrue tells → files self.new ≡ files self.old }
-        ensures settled { OnOk result (IsTrue tells → (image : Files) → left_since self.new (moment self.new) image → file_of file image
-            ≡ file_of file (files self.old)) }
-        ensures images { IsTrue tells → (image : Files) → left_since self.new (moment self.new) image → left_since self.old (moment self.old) image }
-        ensures time { IsTrue tells → Elapses (moment self.old) (moment self.new) (left_since self.old) (left_since self.new) }
+        ensures settled { OnOk result (IsTrue tells → (image : Files) → left_since self.new (moment self.new) image
+            → file_of file image ≡ file_of file (files self.old)) }
+        ensures images { IsTrue tells → (image : Files) → left_since self.new (moment self.new) image
+            → left_since self.old (moment self.old) image }
+        ensures time { IsTrue tells → Elapses (moment self.old) (moment self.new) (left_since self.old)
+            (left_since self.new) }
         ensures later { moment self.old ≤ moment self.new }
         ensures rises { OnOk result (Rose (moment self.old) (moment self.new)) }
-        ensures stays { OnErr result (IsTrue tells → RisesOrStays (moment self.old) (moment self.new) (files self.old) (files self.new)
-            (left_since self.old) (left_since self.new)) }
+        ensures stays { OnErr result (IsTrue tells
+            → RisesOrStays (moment self.old) (moment self.new) (files self.old) (files self.new) (left_since self.old)
+            (left_since self.new)) }
         ensures reads { (f : File) → bytes_read self.new f ≡ bytes_read self.old f }
         ensures cause { HasCause (faults self.old) (faults self.new) result }
         ensures outcome { outcome self.old (Sync file) (is_err result) self.new }

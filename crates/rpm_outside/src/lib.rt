@@ -11,6 +11,7 @@ mod mem_sink;
 mod shelf;
 mod sink;
 mod steps;
+mod words;
 
 pub use buffered::{Buffered, put_and_flush};
 pub use disk::{Disk, File};
@@ -21,3 +22,4 @@ pub use mem_sink::MemSink;
 pub use shelf::{Absent, Shelf};
 pub use sink::{Sink, put_all};
 pub use steps::{Pick, copy_units};
+pub use words::{bytes_of_word, unit_of_words, word};

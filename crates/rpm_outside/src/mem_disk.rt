@@ -13,7 +13,8 @@ use crate::steps::{
 use crate::{Disk, Failed, File};
 use std::alloc::{AllocError, Global};
 
-/// A disk that keeps each write and sync, so that each image that a crash leaves can be had, and that can be told to fail.
+/// A disk that keeps each write and sync, so that each image that a crash leaves can be had, and that can be told to
+/// fail.
 #[derive(Drop)]
 pub struct MemDisk {
     alloc: Global,
@@ -65,7 +66,8 @@ impl MemDisk {
     ///
     /// `AllocError` where memory is wanting.
     pub fn new(alloc: Global, pkg: &[u8], idx: &[u8], log: &[u8]) -> Result<MemDisk, AllocError>
-        ensures { IfOk result (λ disk. IsNew disk (record { pkg = units_of pkg.now; idx = units_of idx.now; log = units_of log.now })) }
+        ensures { IfOk result (λ disk. IsNew disk
+            (record { pkg = units_of pkg.now; idx = units_of idx.now; log = units_of log.now })) }
     {
         let held = Held::of(alloc, pkg, idx, log)?;
         let first = copy_of(alloc, &held)?;
@@ -82,9 +84,12 @@ impl MemDisk {
     /// `AllocError` where memory is wanting.
     pub fn image(&self, alloc: Global, moment: u64, pick: Pick) -> Result<MemDisk, AllocError>
         requires { moment ≤ length (mem_steps self.now) }
-        ensures image { IfOk result (λ disk. Images (take moment (mem_steps self.now)) (mem_first self.now) (mem_files disk)) }
-        ensures units { IfOk result (λ disk. IsImage (take moment (mem_steps self.now)) (mem_first self.now) (mem_files disk)) }
-        ensures picked { IfOk result (λ disk. mem_files disk ≡ picked_image pick (take moment (mem_steps self.now)) (mem_first self.now) (mem_first self.now)) }
+        ensures image { IfOk result (λ disk. Images (take moment (mem_steps self.now)) (mem_first self.now)
+            (mem_files disk)) }
+        ensures units { IfOk result (λ disk. IsImage (take moment (mem_steps self.now)) (mem_first self.now)
+            (mem_files disk)) }
+        ensures picked { IfOk result (λ disk. mem_files disk ≡ picked_image pick (take moment (mem_steps self.now))
+            (mem_first self.now) (mem_first self.now)) }
         ensures settled { IfOk result (λ disk. IsNew disk (mem_files disk)) }
     {
         let (from, start) = self.copies.start(alloc, &self.first, moment as usize)?;
@@ -114,9 +119,9 @@ impl MemDisk {
         joined(alloc, self.held.file(file))
     }
 
-    /// Lets a call fail, besides those that were named before. The calls of the disk are counted from 1. A write that was named
-    /// writes the first half of its units, rounded down, and so nothing where it is of one unit: the file isn't lengthened
-    /// then, and the moment stays. Any other call that was named does nothing.
+    /// Lets a call fail, besides those that were named before. The calls of the disk are counted from 1. A write that
+    /// was named writes the first half of its units, rounded down, and so nothing where it is of one unit: the file
+    /// isn't lengthened then, and the moment stays. Any other call that was named does nothing.
     ///
     /// # Errors
     ///

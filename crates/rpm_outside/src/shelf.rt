@@ -34,8 +34,8 @@ pub trait Shelf {
     ///
     /// # Errors
     ///
-    /// `Absent` only where the count of absences rose, and where the paths are told exactly where this one isn't among them. No
-    /// item is open then.
+    /// `Absent` only where the count of absences rose, and where the paths are told exactly where this one isn't
+    /// among them. No item is open then.
     fn open(&mut self, path: &str) -> Result<(), Absent>
         ensures opened { IsTrue tells → Opens (bytes_at (paths self.old) path.now) (rest self.new) result }
         ensures paths { IsTrue tells → paths self.new ≡ paths self.old }
@@ -43,8 +43,8 @@ pub trait Shelf {
         ensures faults { faults self.new ≡ faults self.old }
         ensures outcome { outcome self.old (Open path.now) (is_err result) self.new };
 
-    /// Takes at least one byte of a rest that isn't empty, to the front of `into`, and says how many. It is 0 only at the end of
-    /// the open item, or where none is open.
+    /// Takes at least one byte of a rest that isn't empty, to the front of `into`, and says how many. It is 0 only at
+    /// the end of the open item, or where none is open.
     ///
     /// # Errors
     ///

@@ -71,7 +71,8 @@ impl<O: Sink> Sink for &mut O {
     }
 }
 
-/// Writes all these bytes, in order, in as many calls of the sink as it asks for. It takes no memory and copies nothing.
+/// Writes all these bytes, in order, in as many calls of the sink as it asks for. It takes no memory and copies
+/// nothing.
 ///
 /// # Errors
 ///

@@ -26,7 +26,8 @@ pub struct Held {
 impl Held {
     /// The whole units of these bytes.
     pub fn of(alloc: Global, pkg: &[u8], idx: &[u8], log: &[u8]) -> Result<Held, AllocError>
-        ensures { IfOk result (λ held. held_files held ≡ record { pkg = units_of pkg.now; idx = units_of idx.now; log = units_of log.now }) }
+        ensures { IfOk result (λ held. held_files held ≡ record
+            { pkg = units_of pkg.now; idx = units_of idx.now; log = units_of log.now }) }
     {
         Ok(Held {
             pkg: cut_up(alloc, pkg)?,
@@ -61,7 +62,8 @@ impl Held {
         units: &[[u8; 16]],
     ) -> Result<(), AllocError>
         requires { at < 2 ^ 32 }
-        ensures ok { OnOk result (held_files self.new ≡ with_file file (put at units.now (file_of file (held_files self.old))) (held_files self.old)) }
+        ensures ok { OnOk result (held_files self.new ≡ with_file file
+            (put at units.now (file_of file (held_files self.old))) (held_files self.old)) }
         ensures err { OnErr result (held_files self.new ≡ held_files self.old) }
     {
         match file {
@@ -165,8 +167,8 @@ pub fn write_units(
     half: bool,
 ) -> Result<(), AllocError>
     requires room { unit + length bytes.now / 16 ≤ 2 ^ 28 }
-    ensures ok { OnOk result (WroteAny (held_files now.old) (held_files now.new) steps.old.items steps.new.items file unit
-        (part_of half (units_of bytes.now))) }
+    ensures ok { OnOk result (WroteAny (held_files now.old) (held_files now.new) steps.old.items steps.new.items file
+        unit (part_of half (units_of bytes.now))) }
     ensures files { OnErr result (held_files now.new ≡ held_files now.old) }
     ensures steps { OnErr result (steps.new.items ≡ steps.old.items) }
 {
@@ -268,7 +270,8 @@ fn write_picked(
     pick: Pick,
 ) -> Result<(), AllocError>
     requires { at < 2 ^ 32 }
-    ensures { OnOk result (held_files image.new ≡ with_file file (picked pick at units.now (file_of file (held_files image.old))) (held_files image.old)) }
+    ensures { OnOk result (held_files image.new ≡ with_file file
+        (picked pick at units.now (file_of file (held_files image.old))) (held_files image.old)) }
 {
     match pick {
         Pick::Old => Ok(()),
@@ -307,7 +310,8 @@ pub fn go_over(
     pick: Pick,
 ) -> Result<(), AllocError>
     ensures now { OnOk result (held_files now.new ≡ after_step step.now (held_files now.old)) }
-    ensures image { OnOk result (held_files image.new ≡ picked_step pick step.now (held_files now.old) (held_files image.old)) }
+    ensures image { OnOk result (held_files image.new ≡ picked_step pick step.now (held_files now.old)
+        (held_files image.old)) }
 {
     match step {
         Step::Wrote(file, at, units) => {

@@ -8,7 +8,8 @@ use Rattle.rpm_outside.specs.Files.{Units, Files, file_of, with_file, unit_at, p
 use Rattle.rpm_outside.specs.Crash.{TornFile}
 use Rattle.rpm_outside.specs.inner.Puts.{length-put, put_inside, put_after}
 use Rattle.rpm_outside.specs.inner.PutLaws.{same_units}
-use Rattle.rpm_outside.specs.Logs.{Entry, LogState, Closed, Malformed, Open, word, is_head, is_blank, is_gate, entry_at, before, heads, log_state, with_entry, with_entries, with_state, unlogged, reopened}
+use Rattle.rpm_outside.specs.Logs.{Entry, LogState, Closed, Malformed, Open, is_head, is_blank, is_gate, entry_at, before, heads, log_state, with_entry, with_entries, with_state, unlogged, reopened}
+use Rattle.rpm_outside.specs.Words.{word}
 use Rattle.rpm_outside.specs.Entries.{Covers, Within, ends_in, end_in}
 use Rattle.rpm_outside.specs.inner.EntryLaws.{within_same, written_within}
 

@@ -4,7 +4,8 @@ use Rattle.std.proofs.Common.{zero, inl, inr, refl, sym, ap, ◌∙◌, arith, s
 use Rattle.std.proofs.lemmas.Bool.{cases_Bool, and_parts, leb-true, ltb-true, eq-eqb, ne_eqb, and_left, lt-leb, eqb-true}
 use Rattle.std.proofs.lemmas.List.{get_or_past}
 use Rattle.rpm_outside.specs.Files.{Units, unit_at, blank}
-use Rattle.rpm_outside.specs.Logs.{Entry, LogState, Closed, Malformed, Open, word, is_blank, is_gate, is_head, entry_at, before, heads, log_state}
+use Rattle.rpm_outside.specs.Logs.{Entry, LogState, Closed, Malformed, Open, is_blank, is_gate, is_head, entry_at, before, heads, log_state}
+use Rattle.rpm_outside.specs.Words.{word}
 use Rattle.rpm_outside.specs.inner.LogLaws.{blank_closed}
 
 pub is_blank-blank : is_blank blank ≡ true

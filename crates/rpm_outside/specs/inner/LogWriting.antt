@@ -9,7 +9,8 @@ use Rattle.rpm_outside.specs.Files.{Units, Files, with_file, unit_at, put, blank
 use Rattle.rpm_outside.specs.Crash.{TornFile}
 use Rattle.rpm_outside.specs.inner.Puts.{length-put, put_after}
 use Rattle.rpm_outside.specs.inner.PutLaws.{same_units}
-use Rattle.rpm_outside.specs.Logs.{Entry, Closed, Open, word, is_blank, is_gate, is_head, entry_at, before, heads, log_state, with_entries, unlogged, reopened}
+use Rattle.rpm_outside.specs.Logs.{Entry, Closed, Open, is_blank, is_gate, is_head, entry_at, before, heads, log_state, with_entries, unlogged, reopened}
+use Rattle.rpm_outside.specs.Words.{word}
 use Rattle.rpm_outside.specs.inner.LogLaws.{reopened_closed, reopened_open, torn_first, first_unit}
 use Rattle.rpm_outside.specs.inner.LogRules.{heads_right, heads_done, gate_right}
 use Rattle.rpm_outside.specs.LogWrites.{number_of, EntryIn, EntriesIn, IsGate}

@@ -1,0 +1,47 @@
+-- What stands around a call that takes a disk: the disk by the ghost members of its kind, which a clause names `D.Disk`. Short words for all clauses.
+use Rattle.std.specs.Prelude.{ℕ, IsTrue, Result}
+use Rattle.rpm_outside.specs.declared.disk.Disk as disk
+use Rattle.rpm_outside.specs.declared.disk.File.{File}
+use Rattle.rpm_outside.specs.Causes.{HasCause, HasCauseAt}
+use Rattle.rpm_outside.specs.Changed as changed
+use Rattle.rpm_outside.specs.Changes as changes
+use Rattle.rpm_outside.specs.Crash as crash
+use Rattle.rpm_outside.specs.Files.{Units, Files}
+use Rattle.rpm_outside.specs.Looks as looks
+
+module _ {D : Type 0} (d : disk.Ghosts D) where
+  -- the images that a crash from now on may leave
+  abbrev pub images : D → Files → Type 0
+  images it = d.left_since it (d.moment it)
+
+  -- each of them has this file as it reads
+  abbrev pub IsSettled : File → D → Type 0
+  IsSettled file it = changes.IsSettled file (d.files it) (d.left_since it (d.moment it))
+
+  -- at most so many bytes of a file were read, and nothing else happened
+  abbrev pub Looks : File → ℕ → D → D → Type 0
+  Looks = looks.Looks d.tells d.files d.left_since d.moment d.bytes_read d.follows
+
+  -- one file was read, and nothing else happened
+  abbrev pub LooksAt : File → D → D → Type 0
+  LooksAt = looks.LooksAt d.tells d.files d.left_since d.moment d.bytes_read d.follows
+
+  -- one file alone changed, as a relation says, and so many bytes of it were read at most
+  abbrev pub Changes : File → (Units → Units → Type 0) → ℕ → D → D → Type 0
+  Changes = changes.Changes d.tells d.files d.left_since d.moment d.bytes_read d.follows
+
+  -- a crash since then leaves files of which this holds
+  abbrev pub LeavesIn : D → D → (Files → Type 0) → Type 0
+  LeavesIn = crash.LeavesOnly d.moment d.left_since
+
+  -- or the files of before, changed in this range of one of them
+  abbrev pub LeavesChanged : File → ℕ → ℕ → D → D → Type 0
+  LeavesChanged = changed.LeavesChanged d.moment d.left_since
+
+  -- an answer that comes only where the disk counted a fault
+  abbrev pub DiskFault : Type 0 → D → D → Type 0
+  DiskFault what old new = HasCauseAt what (d.faults old) (d.faults new)
+
+  -- an error comes only where it did
+  abbrev pub DiskCause : {T E : Type 0} → Result T E → D → D → Type 0
+  DiskCause result old new = HasCause (d.faults old) (d.faults new) result
