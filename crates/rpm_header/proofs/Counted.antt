@@ -36,6 +36,13 @@ zeros-take-le k xs = omega (arith, zeros-le (take k xs), length-take k xs)
 pub zeros-past : (k : ℕ) (xs : List ℕ) → length xs ≤ k → zeros (drop k xs) ≡ 0
 zeros-past k xs past = ap zeros (drop_all k xs past) ∙ zeros-nil
 
+-- from an earlier place on there are no fewer
+pub zeros-earlier : (j k : ℕ) (xs : List ℕ) → j ≤ k → zeros (drop k xs) ≤ zeros (drop j xs)
+zeros-earlier j k [] le = omega (arith, zeros-past k [] (omega arith))
+zeros-earlier zero k (x ∷ xs) le = omega (arith, zeros-parts k (x ∷ xs))
+zeros-earlier (suc j) zero (x ∷ xs) le = absurd (omega arith)
+zeros-earlier (suc j) (suc k) (x ∷ xs) le = zeros-earlier j k xs (omega arith)
+
 -- a zero byte stands after each place in front of it
 pub zeros-behind : (i k : ℕ) (xs : List ℕ) → i < length xs → get_or xs i 0 ≡ 0 → k < i + 1 → 0 < zeros (drop k xs)
 zeros-behind i k [] lt here le = absurd (omega arith)

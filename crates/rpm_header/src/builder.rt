@@ -119,7 +119,8 @@ impl Builder {
         self.push(PackedEntry::bin(self.alloc, tag, bytes)?)
     }
 
-    /// Adds an entry of a header that was read, under a tag of the caller's. Copies its elements' bytes as they stand there.
+    /// Adds an entry of a header that was read, under a tag of the caller's. Copies its elements' bytes as they stand
+    /// there.
     ///
     /// # Errors
     ///
@@ -154,7 +155,8 @@ impl Builder {
     fn lay_out(&self, alloc: Global, region: bool, lengths: Lengths) -> Result<Vec<u8>, AllocError>
         requires { Ok lengths ≡ lengths_of (length (with_region region self.now)) (length (data_of region self.now)) }
         ensures laid { IfOk result (λ blob. blob.items ≡ laid region self.now) }
-        ensures again { IfOk result (λ blob. header blob.items ≡ Ok (record { blob = blob.items; entries = with_region region self.now })) }
+        ensures again { IfOk result (λ blob. header blob.items ≡ Ok
+            (record { blob = blob.items; entries = with_region region self.now })) }
     {
         let mut blob = begin(alloc, lengths)?;
         append_region_entry(&mut blob, region, lengths)?;
@@ -181,8 +183,10 @@ impl Builder {
     /// the trailer. Else `NoMemory` where no memory is found.
     pub fn finish(&self, alloc: Global, region: bool) -> Result<Vec<u8>, BuildFault>
         ensures laid { IfOk result (λ blob. blob.items ≡ laid region self.now) }
-        ensures again { IfOk result (λ blob. header blob.items ≡ Ok (record { blob = blob.items; entries = with_region region self.now })) }
-        ensures too_many { (result ≡ Err BuildFault.TooManyEntries) ↔ (max_entries < length (with_region region self.now)) }
+        ensures again { IfOk result (λ blob. header blob.items ≡ Ok
+            (record { blob = blob.items; entries = with_region region self.now })) }
+        ensures too_many { (result ≡ Err BuildFault.TooManyEntries) ↔
+            (max_entries < length (with_region region self.now)) }
         ensures too_much { (result ≡ Err BuildFault.TooMuchData)
             ↔ ((length (with_region region self.now) ≤ max_entries) × (max_data < length (data_of region self.now))) }
     {

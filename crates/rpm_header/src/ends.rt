@@ -11,6 +11,9 @@ use std::marker::Model;
 /// So many numbers of zeros are kept.
 const SUMS: usize = 4096;
 
+/// The zero bytes among so many last bytes are counted at first.
+const TAIL: usize = 192;
+
 /// How many zero bytes stand in a header's data from each stride on. Contracts see it as the data.
 #[derive(Drop)]
 pub struct ZeroSums<'s> {
@@ -98,30 +101,37 @@ pub struct TextEnds<'s> {
     section: &'s [u8],
     // A text that begins in front of this place has an end.
     behind: usize,
+    // From this place on there are at least so many zero bytes.
+    tail: usize,
+    tail_zeros: u32,
     // How many bytes of texts were read one after the other.
     read: usize,
     sums: Option<&'s ZeroSums<'s>>,
 }
 
 impl<'s> Model for TextEnds<'s> {
-    ghost use Rattle.std.specs.Prelude.{◌≡◌, List, ℕ, IfSome};
-    ghost use Rattle.rpm_header.specs.inner.Zeros.{HasZeroFrom};
+    ghost use Rattle.std.specs.Prelude.{◌≡◌, ◌≤◌, List, ℕ, IfSome, drop};
+    ghost use Rattle.rpm_header.specs.inner.Zeros.{HasZeroFrom, zeros};
 
     ghost Value = { List ℕ };
 
     ghost view = { λ s. s.section.now };
 
-    ghost invariant = { λ s. HasZeroFrom s.section.now s.behind × IfSome s.sums (λ sums. sums.now ≡ s.section.now) };
+    ghost invariant = { λ s. HasZeroFrom s.section.now s.behind × (s.tail_zeros ≤ zeros (drop s.tail s.section.now))
+        × IfSome s.sums (λ sums. sums.now ≡ s.section.now) };
 }
 
 impl<'s> TextEnds<'s> {
-    /// Lists of texts are read byte after byte, and of the data the bytes after the last text.
+    /// Lists of texts are read byte after byte, and of the data the last 192 bytes and those after the last text.
     pub fn new(section: &'s [u8]) -> TextEnds<'s>
         ensures { result ≡ section.now }
     {
+        let tail = section.len().saturating_sub(TAIL);
         TextEnds {
             section,
             behind: behind_last_zero(section),
+            tail,
+            tail_zeros: zeros_in(&section[tail..]),
             read: 0,
             sums: None,
         }
@@ -134,6 +144,8 @@ impl<'s> TextEnds<'s> {
         TextEnds {
             section: sums.section,
             behind: 0,
+            tail: 0,
+            tail_zeros: 0,
             read: 0,
             sums: Some(sums),
         }
@@ -151,8 +163,8 @@ impl<'s> TextEnds<'s> {
         self.read / 4 > self.section.len()
     }
 
-    /// Whether each of so many texts has its zero byte, from the offset on. Reads nothing for a
-    /// single text, as most are.
+    /// Whether each of so many texts has its zero byte, from the offset on. Reads nothing for a single text, as most
+    /// are, nor for texts in front of the last bytes where these have as many zeros.
     #[inline(always)]
     pub fn are_ended(&mut self, count: u32, offset: usize) -> bool
         requires { offset ≤ length self.old }
@@ -160,6 +172,9 @@ impl<'s> TextEnds<'s> {
         ensures same { self.new ≡ self.old }
     {
         if count == 1 && offset < self.behind {
+            return true;
+        }
+        if count <= self.tail_zeros && offset <= self.tail {
             return true;
         }
         self.are_counted(count, offset)

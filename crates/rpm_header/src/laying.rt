@@ -86,7 +86,8 @@ pub fn lengths_of(
     requires others { others ≤ max_entries }
     requires front { front ≤ max_data }
     requires behind { behind ≤ 16 }
-    ensures { result ≡ lengths_of (others + length entries.now) (front + length (data_from front entries.now) + behind) }
+    ensures { result ≡ lengths_of (others + length entries.now)
+        (front + length (data_from front entries.now) + behind) }
 {
     let count = others + entries.len();
     if count > MAX_ENTRIES as usize {
@@ -195,7 +196,8 @@ pub fn append_region_entry(
     lengths: Lengths,
 ) -> Result<(), AllocError>
     requires { region ≡ true → 16 ≤ lengths.size }
-    ensures { OnOk result (out.new.items ≡ out.old.items ++ (if region then index_bytes (indexed (lengths.size - 16) (region_item lengths.entries)) else [])) }
+    ensures { OnOk result (out.new.items ≡ out.old.items
+        ++ (if region then index_bytes (indexed (lengths.size - 16) (region_item lengths.entries)) else [])) }
 {
     if !region {
         return Ok(());

@@ -33,7 +33,8 @@ impl<'a> Model for View<'a> {
 impl<'a> View<'a> {
     /// Reads the header with which these bytes begin. Bytes after it are let pass: the header's
     /// own are the first ones. Takes no memory. Reads each entry of the index once, the data after its last zero
-    /// byte once and, for each entry of several texts, each byte of these texts once, 64 at a time. Where
+    /// byte and its last 192 bytes once and, for each entry of more texts than these have zeros, each byte of these
+    /// texts once, 64 at a time. Where
     /// entries share their data and texts of four times its length were read, it counts the zeros of the data
     /// once, and reads from then on at most a 4,095th of the data for each entry.
     ///
@@ -63,8 +64,8 @@ impl<'a> View<'a> {
         View::checked(il, &blob[..whole])
     }
 
-    /// The header whose own bytes these are, as an earlier [`parse`](View::parse) of them found it. They aren't checked again: it reads
-    /// four of them.
+    /// The header whose own bytes these are, as an earlier [`parse`](View::parse) of them found it. They aren't
+    /// checked again: it reads four of them.
     pub fn of_checked(blob: &'a [u8]) -> View<'a>
         requires { IsOwn blob.now }
         ensures { header blob.now ≡ Ok result }
