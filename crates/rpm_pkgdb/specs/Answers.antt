@@ -1,11 +1,13 @@
 -- What the reading calls answer.
-use Rattle.std.specs.Prelude.{◌≡◌, ℕ, List, Bool, Option, Some, None, Result, Ok, Err, Vec}
+use Rattle.std.specs.Prelude.{◌≡◌, ℕ, List, Bool, false, Option, Some, None, Result, Ok, Err, Vec}
 use Rattle.std.specs.declared.alloc.Global.{Global}
 use Rattle.rpm_pkgdb.specs.declared.blob.Blocks.{Blocks}
 use Rattle.rpm_pkgdb.specs.declared.blob.Checked.{Checked}
 use Rattle.rpm_pkgdb.specs.declared.blob.GetFault.{GetFault}
 use Rattle.rpm_pkgdb.specs.declared.blob.GetFault.TheVariants.{NoSuch, Bad, DiskFault, NoMemory}
-use Rattle.rpm_pkgdb.specs.Blobs.{Frame}
+use Rattle.rpm_pkgdb.specs.declared.slot.Slot.{Slot}
+use Rattle.rpm_outside.specs.Files.{Units}
+use Rattle.rpm_pkgdb.specs.Blobs.{Frame, blocks_at, is_head}
 
 -- an answer shows what is said of a number: None is no such number, and Some None a broken framing
 abbrev pub AnswerIs : {X Y : Type 0} → (Y → X) → Option (Option X) → Result Y GetFault → Type 0
@@ -38,6 +40,14 @@ IsFrame said (Err NoSuch) = ⊥
 IsFrame said (Err Bad) = said ≡ None
 IsFrame said (Err DiskFault) = Unit {0}
 IsFrame said (Err NoMemory) = Unit {0}
+
+-- the blocks that a slot names were read, and begin as those of this number; or they don't
+abbrev pub AreParts : ℕ → Slot → Units → Result Blocks GetFault → Type 0
+AreParts n s file (Ok b) = frame_in b ≡ blocks_at s file
+AreParts n s file (Err NoSuch) = ⊥
+AreParts n s file (Err Bad) = is_head n s.count (blocks_at s file).head ≡ false
+AreParts n s file (Err DiskFault) = Unit {0}
+AreParts n s file (Err NoMemory) = Unit {0}
 
 -- the fault doesn't lie in the file
 abbrev pub IsOutside : GetFault → Type 0

@@ -13,7 +13,8 @@ pub mod Settings
 pub mod MoveLists
 pub mod Grows
 pub mod Puts
-pub mod Ready
+pub mod Putting
+pub mod Moving
 pub mod Pages
 pub mod Weights
 pub mod Within

@@ -1,15 +1,7 @@
 //! The blocks of one blob.
 
 ghost use Rattle.std.specs.Prelude.{◌≡◌, ◌≢◌, ℕ, ◌+◌, ◌-◌, ◌*◌, ◌/◌, ◌%◌, ◌^◌, ◌≤◌, ◌<◌, ◌++◌, IsTrue, true, false, length, take, drop, Err, OnOk, IfOk, IfErr};
-ghost use Rattle.rpm_outside.specs.Files.{Files, Units, units_of, unit_at, bytes_of};
-ghost use Rattle.rpm_outside.specs.Causes.{HasCauseAt};
-ghost use Rattle.rpm_outside.specs.declared.disk.File.TheVariants.{Pkg};
-ghost use Rattle.rpm_outside.specs.Looks.{Looks};
-ghost use Rattle.rpm_pkgdb.specs.Words.{word};
-ghost use Rattle.rpm_pkgdb.specs.Slots.{end_of};
-ghost use Rattle.rpm_pkgdb.specs.Blobs.{is_head, is_tail, is_framed, frame_of, blob_in};
-ghost use Rattle.rpm_pkgdb.specs.Checksums.{checksum_holds};
-ghost use Rattle.rpm_pkgdb.specs.Answers.{frame_in, IsFrame, IsOutside};
+ghost use Rattle.rpm_pkgdb.specs.Prelude.{AreParts, blob_in, bytes_of, checksum_holds, DiskFault, end_of, Files, frame_in, frame_of, is_framed, is_head, is_tail, IsFrame, IsOutside, Looks, Pkg, unit_at, Units, units_of, word};
 
 use crate::checksum::sums;
 use crate::reads::{read_unit, read_units};
@@ -22,8 +14,9 @@ use rpm_outside::Disk;
 pub enum GetFault {
     /// No slot has the number.
     NoSuch,
-    /// The framing of its blob is broken: the head's magic or number isn't right, the length is above 68157432 bytes or not that
-    /// of the block count, or the tail's length or magic isn't right. The head's generation isn't compared.
+    /// The framing of its blob is broken: the head's magic or number isn't right, the length is above 68157432 bytes
+    /// or not that of the block count, or the tail's length or magic isn't right. The head's generation isn't
+    /// compared.
     Bad,
     /// A call of the disk failed.
     DiskFault,
@@ -117,14 +110,18 @@ impl Blocks {
     }
 }
 
-/// Reads so many units into a vector, whatever it holds: its room is used again where it is enough, and let go first where it isn't.
-fn read_rest<D: Disk>(disk: &mut D, at: u64, count: u32, room: Vec<u8>) -> Result<Vec<u8>, GetFault>
+/// Reads so many units into a vector, whatever it holds: its room is used again where it is enough, and let go first
+/// where it isn't.
+fn read_into<D: Disk>(disk: &mut D, at: u64, count: u32, room: Vec<u8>) -> Result<Vec<u8>, GetFault>
     requires { IsTrue D.tells → at + count ≤ length (D.files disk.old).pkg }
     ensures long { IfOk result (λ v. length v.items ≡ 16 * count) }
-    ensures bytes { IfOk result (λ v. IsTrue D.tells → v.items ≡ bytes_of (take count (drop at (D.files disk.old).pkg))) }
+    ensures units { IfOk result (λ v. IsTrue D.tells
+        → units_of v.items ≡ take count (drop at (D.files disk.old).pkg)) }
+    ensures bytes { IfOk result (λ v. IsTrue D.tells
+        → v.items ≡ bytes_of (take count (drop at (D.files disk.old).pkg))) }
     ensures outside { IfErr result (λ e. IsOutside e) }
-    ensures looks { Looks D.tells D.files D.left_since D.moment D.bytes_read D.follows Pkg (16 * count) disk.old disk.new }
-    ensures cause { HasCauseAt (result ≡ Err GetFault.DiskFault) (D.faults disk.old) (D.faults disk.new) }
+    ensures looks { Looks D.Disk Pkg (16 * count) disk.old disk.new }
+    ensures cause { DiskFault D.Disk (result ≡ Err GetFault.DiskFault) disk.old disk.new }
 {
     let length = 16 * count as usize;
     let mut rest = room;
@@ -141,9 +138,76 @@ fn read_rest<D: Disk>(disk: &mut D, at: u64, count: u32, room: Vec<u8>) -> Resul
     Ok(rest)
 }
 
+/// The first unit, and the bytes after it.
+fn parted(bytes: Vec<u8>) -> Blocks
+    requires { 16 ≤ length bytes.items }
+    ensures head { result.head ≡ take 16 bytes.items }
+    ensures rest { result.rest.items ≡ drop 16 bytes.items }
+{
+    let mut head = [0u8; 16];
+    head.copy_from_slice(&bytes[..16]);
+    let mut rest = bytes;
+    let long = rest.len() - 16;
+    rest.copy_within(16.., 0);
+    rest.truncate(long);
+    Blocks { head, rest }
+}
+
+/// Reads the blocks of a number's slot by one call, and looks at the head then.
+fn read_together<D: Disk>(
+    disk: &mut D,
+    n: u32,
+    slot: Slot,
+    room: Vec<u8>,
+) -> Result<Blocks, GetFault>
+    requires within { IsTrue D.tells → end_of slot ≤ length (D.files disk.old).pkg }
+    requires some { 0 < slot.count }
+    ensures head { IfOk result (λ b. is_head n slot.count b.head ≡ true) }
+    ensures long { IfOk result (λ b. length b.rest.items ≡ 16 * (slot.count - 1)) }
+    ensures present { result ≢ Err GetFault.NoSuch }
+    ensures parts { IsTrue D.tells → AreParts n slot (D.files disk.old).pkg result }
+    ensures looks { Looks D.Disk Pkg (16 * slot.count) disk.old disk.new }
+    ensures cause { DiskFault D.Disk (result ≡ Err GetFault.DiskFault) disk.old disk.new }
+{
+    let bytes = read_into(disk, slot.offset as u64, slot.count, room)?;
+    let blocks = parted(bytes);
+    if !is_head(n, slot.count, &blocks.head) {
+        return Err(GetFault::Bad);
+    }
+    Ok(blocks)
+}
+
+// So many blocks at most, 64 KiB, come with their head by one call.
+const FEW: u32 = 4096;
+
+/// Reads the blocks of a number's slot: many of them once the head is there and right.
+fn read_parts<D: Disk>(disk: &mut D, n: u32, slot: Slot, room: Vec<u8>) -> Result<Blocks, GetFault>
+    requires within { IsTrue D.tells → end_of slot ≤ length (D.files disk.old).pkg }
+    requires some { 0 < slot.count }
+    ensures head { IfOk result (λ b. is_head n slot.count b.head ≡ true) }
+    ensures long { IfOk result (λ b. length b.rest.items ≡ 16 * (slot.count - 1)) }
+    ensures present { result ≢ Err GetFault.NoSuch }
+    ensures parts { IsTrue D.tells → AreParts n slot (D.files disk.old).pkg result }
+    ensures looks { Looks D.Disk Pkg (16 * slot.count) disk.old disk.new }
+    ensures cause { DiskFault D.Disk (result ≡ Err GetFault.DiskFault) disk.old disk.new }
+{
+    if slot.count <= FEW {
+        return read_together(disk, n, slot, room);
+    }
+    let Ok(head) = read_unit(disk, slot.offset as u64) else {
+        return Err(GetFault::DiskFault);
+    };
+    if !is_head(n, slot.count, &head) {
+        return Err(GetFault::Bad);
+    }
+    let rest = read_into(disk, slot.offset as u64 + 1, slot.count - 1, room)?;
+    Ok(Blocks { head, rest })
+}
+
 /// Reads the blocks of a number's slot, each once, into a vector whose room is used again.
 ///
-/// The head comes first: a slot may name any number of blocks, and only a right head bounds them by the greatest blob.
+/// Where they are many the head comes first: a slot may name any number of blocks, and only a right head bounds them
+/// by the greatest blob.
 pub fn read_blocks<D: Disk>(
     disk: &mut D,
     n: u32,
@@ -156,24 +220,15 @@ pub fn read_blocks<D: Disk>(
     ensures long { IfOk result (λ b. 12 ≤ length b.rest.items) }
     ensures told { IsTrue D.tells → IsFrame (frame_of n slot (D.files disk.old).pkg) result }
     ensures present { result ≢ Err GetFault.NoSuch }
-    ensures looks { Looks D.tells D.files D.left_since D.moment D.bytes_read D.follows Pkg (16 * slot.count) disk.old disk.new }
-    ensures cause { HasCauseAt (result ≡ Err GetFault.DiskFault) (D.faults disk.old) (D.faults disk.new) }
+    ensures looks { Looks D.Disk Pkg (16 * slot.count) disk.old disk.new }
+    ensures cause { DiskFault D.Disk (result ≡ Err GetFault.DiskFault) disk.old disk.new }
 {
     if slot.count == 0 {
         return Err(GetFault::Bad);
     }
-    let Ok(head) = read_unit(disk, slot.offset as u64) else {
-        return Err(GetFault::DiskFault);
-    };
-    if !is_head(n, slot.count, &head) {
+    let blocks = read_parts(disk, n, slot, room)?;
+    if !is_tail(word(&blocks.head, 3), &blocks.rest) {
         return Err(GetFault::Bad);
     }
-    let rest = match read_rest(disk, slot.offset as u64 + 1, slot.count - 1, room) {
-        Ok(rest) => rest,
-        Err(fault) => return Err(fault),
-    };
-    if !is_tail(word(&head, 3), &rest) {
-        return Err(GetFault::Bad);
-    }
-    Ok(Blocks { head, rest })
+    Ok(blocks)
 }

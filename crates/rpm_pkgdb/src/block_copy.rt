@@ -1,11 +1,7 @@
 //! Blocks that are copied within the file.
 
 ghost use Rattle.std.specs.Prelude.{◌≡◌, ℕ, ◌+◌, ◌*◌, ◌^◌, ◌≤◌, ◌<◌, ◌⊎◌, IsTrue, length, OnOk};
-ghost use Rattle.rpm_outside.specs.declared.disk.File.TheVariants.{Pkg};
-ghost use Rattle.rpm_outside.specs.Files.{Files, unit_at};
-ghost use Rattle.rpm_outside.specs.Causes.{HasCause};
-ghost use Rattle.rpm_outside.specs.Changes.{Changes};
-ghost use Rattle.rpm_pkgdb.specs.Stays.{SameOutside};
+ghost use Rattle.rpm_pkgdb.specs.Prelude.{Changes, DiskCause, Files, Pkg, SameOutside, unit_at};
 
 use crate::reads::read_units;
 use crate::writes::write_units;
@@ -17,10 +13,11 @@ pub fn copy_blocks<D: Disk>(disk: &mut D, from: u32, to: u32, count: u32) -> Res
     requires room { from + count ≤ 2 ^ 28 }
     requires apart { (to + count ≤ from) ⊎ (from + count ≤ to) }
     requires within { IsTrue D.tells → from + count ≤ length (D.files disk.old).pkg }
-    ensures copied { OnOk result (IsTrue D.tells → (i : ℕ) → i < count → unit_at (D.files disk.new).pkg (to + i) ≡ unit_at (D.files disk.old).pkg (from + i)) }
+    ensures copied { OnOk result (IsTrue D.tells → (i : ℕ) → i < count
+        → unit_at (D.files disk.new).pkg (to + i) ≡ unit_at (D.files disk.old).pkg (from + i)) }
     ensures long { OnOk result (IsTrue D.tells → 0 < count → to + count ≤ length (D.files disk.new).pkg) }
-    ensures copies { Changes D.tells D.files D.left_since D.moment D.bytes_read D.follows Pkg (SameOutside to count) (16 * count) disk.old disk.new }
-    ensures cause { HasCause (D.faults disk.old) (D.faults disk.new) result }
+    ensures copies { Changes D.Disk Pkg (SameOutside to count) (16 * count) disk.old disk.new }
+    ensures cause { DiskCause D.Disk result disk.old disk.new }
 {
     let mut page = [0u8; 4096];
     let mut done = 0;

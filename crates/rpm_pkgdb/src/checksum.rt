@@ -1,10 +1,10 @@
 //! Adler-32: two sums modulo 65521.
 
 ghost use Rattle.std.specs.Prelude.{◌≡◌, ◌+◌, ◌*◌, ◌%◌, ◌≤◌, ◌<◌, length, sum};
-ghost use Rattle.rpm_pkgdb.specs.Checksums.{sums};
-ghost use Rattle.rpm_pkgdb.specs.inner.Weights.{weights};
+ghost use Rattle.rpm_pkgdb.specs.Prelude.{sums, weights};
 
-/// How many bytes are added up with no remainder taken: the second sum, at most 65520 + 3840 * (65520 + 3840 * 255), fits a `u32`.
+/// How many bytes are added up with no remainder taken: the second sum, at most 65520 + 3840 * (65520 + 3840 * 255),
+/// fits a `u32`.
 const RUN: usize = 3840;
 
 /// The sum of a block.
@@ -19,7 +19,8 @@ fn total(block: &[u8; 64]) -> u32
     total
 }
 
-/// What a block adds to the second sum where the first was 0. No step waits for the one before, so a processor does several at once.
+/// What a block adds to the second sum where the first was 0. No step waits for the one before, so a processor does
+/// several at once.
 fn weighted(block: &[u8; 64]) -> u32
     ensures weighted { result ≡ weights block.now }
     ensures few { result ≤ 1044480 }

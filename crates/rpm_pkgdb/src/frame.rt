@@ -1,14 +1,7 @@
 //! The blocks of a blob that is written.
 
 ghost use Rattle.std.specs.Prelude.{◌≡◌, ℕ, ◌+◌, ◌-◌, ◌*◌, ◌/◌, ◌%◌, ◌^◌, ◌≤◌, ◌<◌, ◌++◌, IsTrue, length, take, drop, replicate, OnOk};
-ghost use Rattle.rpm_outside.specs.declared.disk.File.TheVariants.{Pkg};
-ghost use Rattle.rpm_outside.specs.Files.{Files, units_of, put};
-ghost use Rattle.rpm_outside.specs.Causes.{HasCause};
-ghost use Rattle.rpm_pkgdb.specs.Blobs.{blocks_for};
-ghost use Rattle.rpm_pkgdb.specs.Checksums.{adler};
-ghost use Rattle.rpm_pkgdb.specs.Framing.{head_of, tail_of, padding, summed, framed};
-ghost use Rattle.rpm_outside.specs.Changes.{Changes};
-ghost use Rattle.rpm_pkgdb.specs.Stays.{SameOutside};
+ghost use Rattle.rpm_pkgdb.specs.Prelude.{adler, blocks_for, Changes, DiskCause, Files, framed, head_of, padding, Pkg, put, SameOutside, summed, tail_of, units_of};
 
 use crate::checksum::sums;
 use crate::units::{blob_head, blob_tail};
@@ -37,7 +30,8 @@ fn last_bytes(rest: &[u8], tail: &[u8; 12], end: usize) -> [u8; 32]
     last
 }
 
-/// What follows the last whole unit of a blob: its last bytes, zeros and the tail, in one unit or two; and how many bytes they are.
+/// What follows the last whole unit of a blob: its last bytes, zeros and the tail, in one unit or two; and how many
+/// bytes they are.
 fn last_units(head: &[u8; 16], blob: &[u8]) -> ([u8; 32], usize)
     requires { length blob.now ≤ 68157432 }
     ensures bytes { take result.1 result.0 ≡ (drop (16 * (length blob.now / 16)) blob.now ++ padding (length blob.now))
@@ -59,9 +53,10 @@ fn write_some<D: Disk>(disk: &mut D, at: u64, bytes: &[u8]) -> Result<(), Failed
     requires whole { length bytes.now % 16 ≡ 0 }
     requires room { at + length bytes.now / 16 ≤ 2 ^ 28 }
     requires inside { IsTrue D.tells → at ≤ length (D.files disk.old).pkg }
-    ensures written { OnOk result (IsTrue D.tells → (D.files disk.new).pkg ≡ put at (units_of bytes.now) (D.files disk.old).pkg) }
-    ensures changes { Changes D.tells D.files D.left_since D.moment D.bytes_read D.follows Pkg (SameOutside at (length bytes.now / 16)) 0 disk.old disk.new }
-    ensures cause { HasCause (D.faults disk.old) (D.faults disk.new) result }
+    ensures written { OnOk result (IsTrue D.tells
+        → (D.files disk.new).pkg ≡ put at (units_of bytes.now) (D.files disk.old).pkg) }
+    ensures changes { Changes D.Disk Pkg (SameOutside at (length bytes.now / 16)) 0 disk.old disk.new }
+    ensures cause { DiskCause D.Disk result disk.old disk.new }
 {
     if bytes.is_empty() {
         return Ok(());
@@ -79,10 +74,10 @@ pub fn write_blob<D: Disk>(
 ) -> Result<(), Failed>
     requires few { length blob.now ≤ 68157432 }
     requires room { start + blocks_for (length blob.now) ≤ 2 ^ 28 }
-    ensures written { OnOk result (IsTrue D.tells → (D.files disk.new).pkg ≡ put start (units_of (framed number generation blob.now)) (D.files disk.old).pkg) }
-    ensures changes { Changes D.tells D.files D.left_since D.moment D.bytes_read D.follows Pkg (SameOutside start (blocks_for (length blob.now))) 0
-        disk.old disk.new }
-    ensures cause { HasCause (D.faults disk.old) (D.faults disk.new) result }
+    ensures written { OnOk result (IsTrue D.tells
+        → (D.files disk.new).pkg ≡ put start (units_of (framed number generation blob.now)) (D.files disk.old).pkg) }
+    ensures changes { Changes D.Disk Pkg (SameOutside start (blocks_for (length blob.now))) 0 disk.old disk.new }
+    ensures cause { DiskCause D.Disk result disk.old disk.new }
 {
     let head = blob_head(number, generation, blob.len() as u32);
     let whole = blob.len() / 16;

@@ -1,13 +1,7 @@
 //! Pages of free slots.
 
 ghost use Rattle.std.specs.Prelude.{◌≡◌, ℕ, ◌+◌, ◌*◌, ◌^◌, ◌≤◌, ◌<◌, IsTrue, length, OnOk};
-ghost use Rattle.rpm_outside.specs.declared.disk.File.TheVariants.{Pkg};
-ghost use Rattle.rpm_outside.specs.Files.{Files, unit_at};
-ghost use Rattle.rpm_outside.specs.Causes.{HasCause};
-ghost use Rattle.rpm_pkgdb.specs.Slots.{free};
-ghost use Rattle.rpm_outside.specs.Changes.{Changes};
-ghost use Rattle.rpm_pkgdb.specs.Stays.{SameOutside};
-ghost use Rattle.rpm_pkgdb.specs.Undamaged.{IsSlotUnit};
+ghost use Rattle.rpm_pkgdb.specs.Prelude.{Changes, DiskCause, Files, free, IsSlotUnit, Pkg, SameOutside, unit_at};
 
 use crate::freed_slot::FREE;
 use crate::units::slot_unit;
@@ -19,10 +13,11 @@ pub fn write_free_slots<D: Disk>(disk: &mut D, at: u32, count: u32) -> Result<()
     requires some { 1 ≤ count }
     requires few { count ≤ 256 }
     requires room { at + count ≤ 2 ^ 28 }
-    ensures slots { OnOk result (IsTrue D.tells → (i : ℕ) → at ≤ i → i < at + count → IsSlotUnit (unit_at (D.files disk.new).pkg i) free) }
+    ensures slots { OnOk result (IsTrue D.tells → (i : ℕ) → at ≤ i → i < at + count
+        → IsSlotUnit (unit_at (D.files disk.new).pkg i) free) }
     ensures long { OnOk result (IsTrue D.tells → at + count ≤ length (D.files disk.new).pkg) }
-    ensures changes { Changes D.tells D.files D.left_since D.moment D.bytes_read D.follows Pkg (SameOutside at count) 0 disk.old disk.new }
-    ensures cause { HasCause (D.faults disk.old) (D.faults disk.new) result }
+    ensures changes { Changes D.Disk Pkg (SameOutside at count) 0 disk.old disk.new }
+    ensures cause { DiskCause D.Disk result disk.old disk.new }
 {
     let units = [slot_unit(FREE); 256];
     let mut page = [0u8; 4096];

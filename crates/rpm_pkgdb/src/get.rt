@@ -1,16 +1,8 @@
 //! The blob of a number, read.
 
 ghost use Rattle.std.specs.Prelude.{◌≡◌, ◌≤◌, IsTrue, length, None, Some, Ok, Err, ◌↔◌, IfOk};
-ghost use Rattle.rpm_outside.specs.Causes.{HasCauseAt};
-ghost use Rattle.rpm_outside.specs.declared.disk.File.TheVariants.{Pkg};
-ghost use Rattle.rpm_outside.specs.Looks.{Looks};
+ghost use Rattle.rpm_pkgdb.specs.Prelude.{AnswerIs, blobs, checksums_hold, cost, DiskFault, frame_in, frames, given, given_blob, given_check, Keeps, Looks, Pkg, slot_with};
 ghost use Rattle.std.specs.FinMap as finite;
-ghost use Rattle.rpm_pkgdb.specs.Slots.{slot_with};
-ghost use Rattle.rpm_pkgdb.specs.Store.{Keeps};
-ghost use Rattle.rpm_pkgdb.specs.Blobs.{frames, blobs};
-ghost use Rattle.rpm_pkgdb.specs.Checksums.{checksums_hold};
-ghost use Rattle.rpm_pkgdb.specs.Costs.{cost};
-ghost use Rattle.rpm_pkgdb.specs.Answers.{AnswerIs, frame_in, given, given_blob, given_check};
 
 use crate::blob::{Blocks, Checked, GetFault, read_blocks};
 use crate::store::PkgDb;
@@ -25,8 +17,8 @@ impl PkgDb {
         ensures kept { IsTrue D.tells → Keeps (D.files disk.new).pkg self.now }
         ensures told { IsTrue D.tells → AnswerIs frame_in (frames (D.files disk.old).pkg self.now n) result }
         ensures absent { (result ≡ Err GetFault.NoSuch) ↔ (slot_with n self.now.slots ≡ None) }
-        ensures looks { Looks D.tells D.files D.left_since D.moment D.bytes_read D.follows Pkg (cost n self.now) disk.old disk.new }
-        ensures cause { HasCauseAt (result ≡ Err GetFault.DiskFault) (D.faults disk.old) (D.faults disk.new) }
+        ensures looks { Looks D.Disk Pkg (cost n self.now) disk.old disk.new }
+        ensures cause { DiskFault D.Disk (result ≡ Err GetFault.DiskFault) disk.old disk.new }
     {
         match self.slot_of(n) {
             None => Err(GetFault::NoSuch),
@@ -36,8 +28,9 @@ impl PkgDb {
 
     /// The blob of a number.
     ///
-    /// Reads the number's own blocks, each once: its first alone where the head is wrong. The bytes that are answered are those that
-    /// were read, without a copy.
+    /// Reads the number's own blocks, each once: 4096 or fewer by one call, whatever their head says, and of more the
+    /// first alone where the head is wrong. The bytes that are answered are those that were read, in the vector that
+    /// they were read into.
     ///
     /// # Errors
     ///
@@ -50,14 +43,14 @@ impl PkgDb {
         ensures kept { IsTrue D.tells → Keeps (D.files disk.new).pkg self.now }
         ensures told { IsTrue D.tells → AnswerIs given (finite.get (blobs (D.files disk.old).pkg self.now) n) result }
         ensures absent { (result ≡ Err GetFault.NoSuch) ↔ (slot_with n self.now.slots ≡ None) }
-        ensures looks { Looks D.tells D.files D.left_since D.moment D.bytes_read D.follows Pkg (cost n self.now) disk.old disk.new }
-        ensures cause { HasCauseAt (result ≡ Err GetFault.DiskFault) (D.faults disk.old) (D.faults disk.new) }
+        ensures looks { Looks D.Disk Pkg (cost n self.now) disk.old disk.new }
+        ensures cause { DiskFault D.Disk (result ≡ Err GetFault.DiskFault) disk.old disk.new }
     {
         self.get_in(disk, n, Vec::new(alloc))
     }
 
-    /// The blob of a number, as `get` gives it, in a vector of the caller's, whatever it holds. One that held a blob before has its room
-    /// already, and what of it is written over needn't be zeroed first.
+    /// The blob of a number, as `get` gives it, in a vector of the caller's, whatever it holds. One that held a blob
+    /// before has its room already, and what of it is written over needn't be zeroed first.
     ///
     /// # Errors
     ///
@@ -67,8 +60,8 @@ impl PkgDb {
         ensures kept { IsTrue D.tells → Keeps (D.files disk.new).pkg self.now }
         ensures told { IsTrue D.tells → AnswerIs given (finite.get (blobs (D.files disk.old).pkg self.now) n) result }
         ensures absent { (result ≡ Err GetFault.NoSuch) ↔ (slot_with n self.now.slots ≡ None) }
-        ensures looks { Looks D.tells D.files D.left_since D.moment D.bytes_read D.follows Pkg (cost n self.now) disk.old disk.new }
-        ensures cause { HasCauseAt (result ≡ Err GetFault.DiskFault) (D.faults disk.old) (D.faults disk.new) }
+        ensures looks { Looks D.Disk Pkg (cost n self.now) disk.old disk.new }
+        ensures cause { DiskFault D.Disk (result ≡ Err GetFault.DiskFault) disk.old disk.new }
     {
         match self.blocks(disk, n, room) {
             Err(fault) => Err(fault),
@@ -91,10 +84,11 @@ impl PkgDb {
     ) -> Result<bool, GetFault>
         requires keeps { IsTrue D.tells → Keeps (D.files disk.old).pkg self.now }
         ensures kept { IsTrue D.tells → Keeps (D.files disk.new).pkg self.now }
-        ensures told { IsTrue D.tells → AnswerIs (λ holds. holds) (checksums_hold (D.files disk.old).pkg self.now n) result }
+        ensures told { IsTrue D.tells → AnswerIs (λ holds. holds) (checksums_hold (D.files disk.old).pkg self.now n)
+            result }
         ensures absent { (result ≡ Err GetFault.NoSuch) ↔ (slot_with n self.now.slots ≡ None) }
-        ensures looks { Looks D.tells D.files D.left_since D.moment D.bytes_read D.follows Pkg (cost n self.now) disk.old disk.new }
-        ensures cause { HasCauseAt (result ≡ Err GetFault.DiskFault) (D.faults disk.old) (D.faults disk.new) }
+        ensures looks { Looks D.Disk Pkg (cost n self.now) disk.old disk.new }
+        ensures cause { DiskFault D.Disk (result ≡ Err GetFault.DiskFault) disk.old disk.new }
     {
         match self.blocks(disk, n, Vec::new(alloc)) {
             Err(fault) => Err(fault),
@@ -117,11 +111,13 @@ impl PkgDb {
     ) -> Result<Checked, GetFault>
         requires keeps { IsTrue D.tells → Keeps (D.files disk.old).pkg self.now }
         ensures kept { IsTrue D.tells → Keeps (D.files disk.new).pkg self.now }
-        ensures blob { IsTrue D.tells → AnswerIs given_blob (finite.get (blobs (D.files disk.old).pkg self.now) n) result }
-        ensures holds { IsTrue D.tells → AnswerIs given_check (checksums_hold (D.files disk.old).pkg self.now n) result }
+        ensures blob { IsTrue D.tells → AnswerIs given_blob (finite.get (blobs (D.files disk.old).pkg self.now) n)
+            result }
+        ensures holds { IsTrue D.tells → AnswerIs given_check (checksums_hold (D.files disk.old).pkg self.now n)
+            result }
         ensures absent { (result ≡ Err GetFault.NoSuch) ↔ (slot_with n self.now.slots ≡ None) }
-        ensures looks { Looks D.tells D.files D.left_since D.moment D.bytes_read D.follows Pkg (cost n self.now) disk.old disk.new }
-        ensures cause { HasCauseAt (result ≡ Err GetFault.DiskFault) (D.faults disk.old) (D.faults disk.new) }
+        ensures looks { Looks D.Disk Pkg (cost n self.now) disk.old disk.new }
+        ensures cause { DiskFault D.Disk (result ≡ Err GetFault.DiskFault) disk.old disk.new }
     {
         match self.blocks(disk, n, Vec::new(alloc)) {
             Err(fault) => Err(fault),

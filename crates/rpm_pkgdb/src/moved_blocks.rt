@@ -1,22 +1,7 @@
 //! Blocks that are moved out of the way of a new slot page.
 
 ghost use Rattle.std.specs.Prelude.{◌≡◌, ℕ, ◌+◌, ◌*◌, ◌^◌, ◌≤◌, ◌<◌, ◌⊎◌, IsTrue, length, Some, OnOk};
-ghost use Rattle.rpm_outside.specs.declared.disk.File.TheVariants.{Pkg};
-ghost use Rattle.rpm_outside.specs.Files.{Files, unit_at, blank};
-ghost use Rattle.rpm_outside.specs.Causes.{HasCause};
-ghost use Rattle.rpm_outside.specs.Crash.{LeavesOnly};
-ghost use Rattle.rpm_pkgdb.specs.Slots.{end_of, slot_at};
-ghost use Rattle.rpm_pkgdb.specs.Blobs.{blobs};
-ghost use Rattle.rpm_pkgdb.specs.inner.MoveLists.{AreMovesOf, IsMovable, with_moves, move_at};
-ghost use Rattle.rpm_pkgdb.specs.Store.{Store, Keeps};
-ghost use Rattle.rpm_outside.specs.Changes.{Stops, IsSettled, Changes};
-ghost use Rattle.rpm_pkgdb.specs.Stays.{SameOutside, AllStay};
-ghost use Rattle.rpm_pkgdb.specs.Quiet.{IsQuiet};
-ghost use Rattle.rpm_pkgdb.specs.inner.Still.{StandsStill};
-ghost use Rattle.rpm_pkgdb.specs.inner.Settings.{NoShorter, CanMove, StandsSet, WhileMoved, blocks_of, with_slot};
-ghost use Rattle.rpm_pkgdb.specs.Growing.{moved, moving_cost, next_end};
-ghost use Rattle.rpm_pkgdb.specs.Freed.{AreFreed, KeepsBlank};
-ghost use Rattle.rpm_pkgdb.specs.inner.Within.{EndsBy, MovesWithin};
+ghost use Rattle.rpm_pkgdb.specs.Prelude.{AreBlocksMoved, AreMoved, CanMove, CanMoveAll, Changes, DiskCause, end_of, IsMovable, IsSettled, move_at, moving_cost, NoShorter, Pkg, pkg, Quiet, SameOutside, slot_at, StandsStill, StopsIn, Store, unit_at, WhileMoved};
 
 use crate::block_copy::copy_blocks;
 use crate::slot::Slot;
@@ -30,11 +15,12 @@ fn copy_settled<D: Disk>(disk: &mut D, from: u32, to: u32, count: u32) -> Result
     requires room { from + count ≤ 2 ^ 28 }
     requires apart { (to + count ≤ from) ⊎ (from + count ≤ to) }
     requires within { IsTrue D.tells → from + count ≤ length (D.files disk.old).pkg }
-    ensures copied { OnOk result (IsTrue D.tells → (i : ℕ) → i < count → unit_at (D.files disk.new).pkg (to + i) ≡ unit_at (D.files disk.old).pkg (from + i)) }
+    ensures copied { OnOk result (IsTrue D.tells → (i : ℕ) → i < count
+        → unit_at (D.files disk.new).pkg (to + i) ≡ unit_at (D.files disk.old).pkg (from + i)) }
     ensures long { OnOk result (IsTrue D.tells → 0 < count → to + count ≤ length (D.files disk.new).pkg) }
-    ensures settled { OnOk result (IsTrue D.tells → IsSettled Pkg (D.files disk.new) (D.left_since disk.new (D.moment disk.new))) }
-    ensures copies { Changes D.tells D.files D.left_since D.moment D.bytes_read D.follows Pkg (SameOutside to count) (16 * count) disk.old disk.new }
-    ensures cause { HasCause (D.faults disk.old) (D.faults disk.new) result }
+    ensures settled { OnOk result (IsTrue D.tells → IsSettled D.Disk Pkg disk.new) }
+    ensures copies { Changes D.Disk Pkg (SameOutside to count) (16 * count) disk.old disk.new }
+    ensures cause { DiskCause D.Disk result disk.old disk.new }
 {
     copy_blocks(disk, from, to, count)?;
     settle(disk)
@@ -52,20 +38,12 @@ pub fn move_blocks<D: Disk>(
     requires end { end_of old ≤ 2 ^ 28 }
     requires room { to + old.count ≤ 2 ^ 28 }
     requires apart { (to + old.count ≤ old.offset) ⊎ (end_of old ≤ to) }
-    requires within { IsTrue D.tells → end_of old ≤ length (D.files disk.old).pkg }
-    ensures stands { OnOk result (IsTrue D.tells → (value : Store) → CanMove value place old to → Keeps (D.files disk.old).pkg value → StandsSet value
-        place (moved old to) (blocks_of old (D.files disk.old).pkg) (D.files disk.old).pkg (D.files disk.new).pkg) }
-    ensures zeros { OnOk result (IsTrue D.tells → (i : ℕ) → old.offset ≤ i → zeros_from ≤ i → i < end_of old → unit_at (D.files disk.new).pkg i ≡ blank) }
-    ensures blanks { OnOk result (IsTrue D.tells → KeepsBlank (place + 3) to old.count (D.files disk.old).pkg (D.files disk.new).pkg) }
-    ensures images { IsTrue D.tells → (value : Store) → CanMove value place old to → IsQuiet value (D.files disk.old)
-        (D.left_since disk.old (D.moment disk.old)) → LeavesOnly D.moment D.left_since disk.old disk.new
-        (Stops Pkg (WhileMoved value place old to (D.files disk.old).pkg) (D.left_since disk.old (D.moment disk.old))) }
-    ensures quiet { OnOk result (IsTrue D.tells → (value : Store) → CanMove value place old to → Keeps (D.files disk.old).pkg value
-        → IsQuiet (with_slot place (moved old to) value) (D.files disk.new) (D.left_since disk.new (D.moment disk.new))) }
-    ensures reach { OnOk result (IsTrue D.tells → (limit : ℕ) → place + 3 ≤ limit → end_of old ≤ limit → to + old.count ≤ limit
-        → EndsBy limit (D.files disk.old).pkg (D.files disk.new).pkg) }
-    ensures copies { Changes D.tells D.files D.left_since D.moment D.bytes_read D.follows Pkg NoShorter (16 * old.count) disk.old disk.new }
-    ensures cause { HasCause (D.faults disk.old) (D.faults disk.new) result }
+    requires within { IsTrue D.tells → end_of old ≤ length (pkg D.Disk disk.old) }
+    ensures moved { OnOk result (IsTrue D.tells → AreBlocksMoved D.Disk disk.old disk.new place old to zeros_from) }
+    ensures images { IsTrue D.tells → (value : Store) → CanMove value place old to → Quiet D.Disk disk.old value
+        → StopsIn D.Disk disk.old disk.new (WhileMoved value place old to (pkg D.Disk disk.old)) }
+    ensures copies { Changes D.Disk Pkg NoShorter (16 * old.count) disk.old disk.new }
+    ensures cause { DiskCause D.Disk result disk.old disk.new }
 {
     let end = old.offset + old.count;
     let at = old.offset.max(zeros_from).min(end);
@@ -97,27 +75,15 @@ pub fn move_all<D: Disk>(
     zeros_from: u32,
 ) -> Result<(), Failed>
     requires movable { (i : ℕ) → i < length moves.now → IsMovable slots.now (move_at moves.now i) }
-    requires within { IsTrue D.tells → (i : ℕ) → i < length moves.now → end_of (slot_at slots.now (move_at moves.now i).place) ≤ length (D.files disk.old).pkg }
-    ensures keeps { OnOk result (IsTrue D.tells → (value : Store) → 1 ≤ value.pages → value.slots ≡ slots.now → AreMovesOf value moves.now
-        → Keeps (D.files disk.old).pkg value → Keeps (D.files disk.new).pkg (with_moves value moves.now)) }
-    ensures blobs { OnOk result (IsTrue D.tells → (value : Store) → 1 ≤ value.pages → value.slots ≡ slots.now → AreMovesOf value moves.now
-        → Keeps (D.files disk.old).pkg value → blobs (D.files disk.new).pkg (with_moves value moves.now) ≡ blobs (D.files disk.old).pkg value) }
-    ensures others { OnOk result (IsTrue D.tells → (value : Store) → 1 ≤ value.pages → value.slots ≡ slots.now → AreMovesOf value moves.now
-        → Keeps (D.files disk.old).pkg value → AllStay value (D.files disk.old).pkg (with_moves value moves.now) (D.files disk.new).pkg) }
-    ensures zeros { OnOk result (IsTrue D.tells → (value : Store) → 1 ≤ value.pages → value.slots ≡ slots.now → AreMovesOf value moves.now
-        → Keeps (D.files disk.old).pkg value → zeros_from ≡ next_end value → AreFreed (next_end value) value.slots (with_moves value moves.now).slots
-        (D.files disk.new).pkg) }
-    ensures images { IsTrue D.tells → (value : Store) → 1 ≤ value.pages → value.slots ≡ slots.now → AreMovesOf value moves.now → IsQuiet value
-        (D.files disk.old) (D.left_since disk.old (D.moment disk.old)) → LeavesOnly D.moment D.left_since disk.old disk.new
-        (Stops Pkg (StandsStill value (D.files disk.old).pkg) (D.left_since disk.old (D.moment disk.old))) }
-    ensures quiet { OnOk result (IsTrue D.tells → (value : Store) → 1 ≤ value.pages → value.slots ≡ slots.now → AreMovesOf value moves.now
-        → IsQuiet value (D.files disk.old) (D.left_since disk.old (D.moment disk.old)) → IsQuiet (with_moves value moves.now) (D.files disk.new)
-        (D.left_since disk.new (D.moment disk.new))) }
-    ensures reach { OnOk result (IsTrue D.tells → (limit : ℕ) → ((i : ℕ) → i < length moves.now → MovesWithin limit slots.now (move_at moves.now i))
-        → EndsBy limit (D.files disk.old).pkg (D.files disk.new).pkg) }
-    ensures copies { Changes D.tells D.files D.left_since D.moment D.bytes_read D.follows Pkg NoShorter (moving_cost slots.now (Some moves.now)) disk.old
-        disk.new }
-    ensures cause { HasCause (D.faults disk.old) (D.faults disk.new) result }
+    requires within { IsTrue D.tells → (i : ℕ) → i < length moves.now
+        → end_of (slot_at slots.now (move_at moves.now i).place) ≤ length (pkg D.Disk disk.old) }
+    ensures moved { OnOk result (IsTrue D.tells
+        → AreMoved D.Disk disk.old disk.new slots.now moves.now moves.now zeros_from) }
+    ensures images { IsTrue D.tells → (value : Store) → CanMoveAll slots.now moves.now value
+        → Quiet D.Disk disk.old value
+        → StopsIn D.Disk disk.old disk.new (StandsStill value (pkg D.Disk disk.old)) }
+    ensures copies { Changes D.Disk Pkg NoShorter (moving_cost slots.now (Some moves.now)) disk.old disk.new }
+    ensures cause { DiskCause D.Disk result disk.old disk.new }
 {
     for k in 0..moves.len() {
         let next = moves[k];

@@ -1,12 +1,7 @@
 //! A slot page that a plan adds: the ranges that stand in its way, and where they go.
 
 ghost use Rattle.std.specs.Prelude.{◌≡◌, ◌≢◌, ℕ, List, ◌+◌, ◌*◌, ◌^◌, ◌≤◌, ◌<◌, ◌++◌, true, Some, Err, length, replicate, vec_len, MatchOption, OnOk, IfOk, slice_set};
-ghost use Rattle.rpm_pkgdb.specs.declared.slot.Slot.{Slot};
-ghost use Rattle.rpm_pkgdb.specs.Slots.{slot_at, free};
-ghost use Rattle.rpm_pkgdb.specs.Plans.{FitsNowhere, IsLeast, AreAllUsed};
-ghost use Rattle.rpm_pkgdb.specs.Growing.{moved, AreBehind, NeedsPage, next_end};
-ghost use Rattle.rpm_pkgdb.specs.Planned.{HoldsPage, CantMove};
-ghost use Rattle.rpm_pkgdb.specs.inner.Pages.{HasPlacesBefore, IsFirstBefore, IsRanged, IsPlanning, AllMoved};
+ghost use Rattle.rpm_pkgdb.specs.Prelude.{AllMoved, AreAllUsed, AreBehind, CantMove, FitsNowhere, free, HasPlacesBefore, HoldsPage, IsFirstBefore, IsLeast, IsPlanning, IsRanged, moved, NeedsPage, next_end, Slot, slot_at};
 
 use crate::freed_slot::FREE;
 use crate::moved_blocks::Move;
@@ -72,11 +67,15 @@ impl Page {
     fn add_move(&mut self, place: u32, end: u32) -> Result<(), PlanFault>
         requires ranged { (pages : ℕ) × (256 * pages ≤ end) × IsRanged pages self.old }
         requires first { IsFirstBefore self.old.slots.items end place }
-        ensures ranged { OnOk result ((pages : ℕ) → 256 * pages ≤ end → IsRanged pages self.old → IsRanged pages self.new) }
-        ensures planning { OnOk result ((slots : List Slot) → IsPlanning slots end self.old → IsPlanning slots end self.new) }
-        ensures moved { OnOk result ((to : ℕ) × (end ≤ to) × (self.new.slots.items ≡ slice_set self.old.slots.items place
+        ensures ranged { OnOk result ((pages : ℕ) → 256 * pages ≤ end → IsRanged pages self.old
+            → IsRanged pages self.new) }
+        ensures planning { OnOk result ((slots : List Slot) → IsPlanning slots end self.old
+            → IsPlanning slots end self.new) }
+        ensures moved { OnOk result ((to : ℕ) × (end ≤ to)
+            × (self.new.slots.items ≡ slice_set self.old.slots.items place
             (moved (slot_at self.old.slots.items place) to))) }
-        ensures full { result ≡ Err PlanFault.StoreFull → FitsNowhere self.old.slots.items (slot_at self.old.slots.items place).count end }
+        ensures full { result ≡ Err PlanFault.StoreFull
+            → FitsNowhere self.old.slots.items (slot_at self.old.slots.items place).count end }
         ensures kinds { result ≢ Err PlanFault.NumbersSpent }
     {
         let slot = at(&self.slots, place);
@@ -117,7 +116,8 @@ impl Page {
     pub fn fit(&self, count: u32, from: u32) -> Option<u32>
         requires some { 1 ≤ count }
         requires ranged { (pages : ℕ) × IsRanged pages self.now }
-        ensures { MatchOption result (FitsNowhere self.now.slots.items count from) (IsLeast self.now.slots.items count from) }
+        ensures { MatchOption result (FitsNowhere self.now.slots.items count from)
+            (IsLeast self.now.slots.items count from) }
     {
         self.used.first_fit(count, from)
     }
@@ -144,7 +144,8 @@ impl PkgDb {
         })
     }
 
-    /// Plans the moves that a slot page more asks for, one after the other by rising block, each to the least free place after it.
+    /// Plans the moves that a slot page more asks for, one after the other by rising block, each to the least free
+    /// place after it.
     fn plan_moves(&self, alloc: Global) -> Result<Page, PlanFault>
         requires made { 1 ≤ self.now.pages }
         requires room { 1 ≤ self.now.spare }
@@ -170,13 +171,14 @@ impl PkgDb {
 
     /// Plans a slot page more.
     ///
-    /// Takes a step a slot and a copy of the slots and of their ranges, and for each of the moves, which are at most 256, as many steps
-    /// as there are moves.
+    /// Takes a step a slot and a copy of the slots and of their ranges, and for each of the moves, which are at most
+    /// 256, as many steps as there are moves.
     pub(crate) fn plan_page(&self, alloc: Global) -> Result<Page, PlanFault>
         requires made { 1 ≤ self.now.pages }
         requires room { 1 ≤ self.now.spare }
         requires all { AreAllUsed self.now.slots }
-        ensures page { IfOk result (λ page. NeedsPage self.now true (Some page.moves.items) × HoldsPage self.now (Some page)) }
+        ensures page { IfOk result (λ page. NeedsPage self.now true (Some page.moves.items)
+            × HoldsPage self.now (Some page)) }
         ensures ranged { IfOk result (IsRanged (self.now.pages + 1)) }
         ensures full { result ≡ Err PlanFault.StoreFull → CantMove self.now.slots (next_end self.now) }
         ensures kinds { result ≢ Err PlanFault.NumbersSpent }

@@ -1,15 +1,7 @@
 //! Where a blob is to go, decided before anything is written.
 
 ghost use Rattle.std.specs.Prelude.{◌≡◌, ◌≢◌, ◌↔◌, ℕ, ◌+◌, ◌*◌, ◌^◌, ◌≤◌, ◌<◌, true, false, None, Some, Err, length, MatchOption, IfSome, IsSome, OnOk, OnErr, IfOk, is_none};
-ghost use Rattle.rpm_pkgdb.specs.Slots.{slot_at, slot_with, has_number, IsPackageNumber};
-ghost use Rattle.rpm_pkgdb.specs.Store.{next_number};
-ghost use Rattle.rpm_pkgdb.specs.Written.{with_spare, next_field, field_after};
-ghost use Rattle.rpm_pkgdb.specs.Plans.{slot_for, IsFirstFree, AreAllUsed, IsLeast, FitsNowhere};
-ghost use Rattle.rpm_pkgdb.specs.Planned.{IsPlan, IsFor, IsFull};
-ghost use Rattle.rpm_pkgdb.specs.Placing.{placed, placement_of};
-ghost use Rattle.rpm_pkgdb.specs.Blobs.{blocks_for};
-ghost use Rattle.rpm_pkgdb.specs.inner.Puts.{IsTargetFor};
-ghost use Rattle.rpm_pkgdb.specs.inner.Keeping.{AreUsedTo};
+ghost use Rattle.rpm_pkgdb.specs.Prelude.{AreAllUsed, AreUsedTo, blocks_for, field_after, FitsNowhere, has_number, IsFirstFree, IsFor, IsFull, IsLeast, IsPackageNumber, IsPlan, IsTargetFor, next_field, next_number, placed, placement_of, slot_at, slot_for, slot_with, with_spare};
 
 use crate::page_plan::Page;
 use crate::slot::Slot;
@@ -192,23 +184,26 @@ impl PkgDb {
 }
 
 impl PkgDb {
-    /// Decides where a blob of a length goes, under a number that is there or, for `None`, under a new one; and makes the room for it.
+    /// Decides where a blob of a length goes, under a number that is there or, for `None`, under a new one; and makes
+    /// the room for it.
     ///
-    /// The blob goes to the least free blocks after the slot pages, a new number to the first free slot. Nothing is read and nothing
-    /// written. The first plan of a value gathers the used ranges, a step a slot where they rise in the order of the file, and else n log n,
-    /// which is linear where they rise in a few runs; it takes 24 bytes a slot, and where they don't rise at most 12 more meanwhile. A later
-    /// one takes two binary searches, a step for each gap that is too narrow, and for a new number a step for each used slot from the last
-    /// one put on.
+    /// The blob goes to the least free blocks after the slot pages, a new number to the first free slot. Nothing is
+    /// read and nothing written. The first plan of a value gathers the used ranges, a step a slot where they rise in
+    /// the order of the file, and else n log n, which is linear where they rise in a few runs; it takes 24 bytes a
+    /// slot, and where they don't rise at most 12 more meanwhile. A later one takes two binary searches, a step for
+    /// each gap that is too narrow, and for a new number a step for each used slot from the last one put on.
     ///
-    /// A new number for which no slot is free asks for a slot page more. The blobs in its way are planned to move after it, by rising
-    /// block, each to the least free place; then the new blob. This takes a step a slot to find them and a copy of the slots and of their
-    /// ranges, 28 bytes a slot and 8 for each gap, until the put; and for each of them, which are at most 256, as many steps as there are
-    /// of them, and the ranges after it move in memory. In a row of additions each so pays a 256th of it.
+    /// A new number for which no slot is free asks for a slot page more. The blobs in its way are planned to move
+    /// after it, by rising block, each to the least free place; then the new blob. This takes a step a slot to find
+    /// them and a copy of the slots and of their ranges, 28 bytes a slot and 8 for each gap, until the put; and for
+    /// each of them, which are at most 256, as many steps as there are of them, and the ranges after it move in
+    /// memory. In a row of additions each so pays a 256th of it.
     ///
     /// # Errors
     ///
     /// - `NumbersSpent` exactly where a new number is asked for and the next one is 4294967295.
-    /// - `StoreFull` exactly where it doesn't come, the blob or one that has to move fits nowhere below 4 GiB, and there was memory.
+    /// - `StoreFull` exactly where it doesn't come, the blob or one that has to move fits nowhere below 4 GiB, and
+    ///   there was memory.
     /// - `NoMemory` where the room finds no memory.
     ///
     /// The value is as it was then.
@@ -269,7 +264,8 @@ impl Target {
         }
     }
 
-    /// The place before which all slots are used after the put, given one before it. A new number takes the first free slot.
+    /// The place before which all slots are used after the put, given one before it. A new number takes the first
+    /// free slot.
     pub(crate) fn free_after(&self, from: u32) -> u32
         requires { self.now.place < 2 ^ 28 }
         ensures new { self.now.is_new ≡ true → result ≡ self.now.place + 1 }

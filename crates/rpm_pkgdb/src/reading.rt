@@ -1,18 +1,13 @@
 //! The slots of the pages, read piece by piece.
 
-ghost use Rattle.std.specs.Prelude.{◌≡◌, ℕ, ◌+◌, ◌-◌, ◌*◌, ◌/◌, ◌%◌, ◌^◌, ◌≤◌, IsTrue, length, [], IfOk};
-ghost use Rattle.rpm_outside.specs.Files.{Files, units_of};
-ghost use Rattle.rpm_outside.specs.Causes.{HasCause};
-ghost use Rattle.rpm_outside.specs.declared.disk.File.TheVariants.{Pkg};
-ghost use Rattle.rpm_outside.specs.Looks.{Looks};
-ghost use Rattle.rpm_pkgdb.specs.Damages.{table};
-ghost use Rattle.rpm_pkgdb.specs.inner.Reading.{Adds, AreRead, IsRead};
-ghost use Rattle.rpm_pkgdb.specs.inner.Rising.{IsInOrder, HasRoom};
-ghost use Rattle.rpm_pkgdb.specs.inner.Tables.{AreNumbered};
+ghost use Rattle.std.specs.Prelude.{◌≡◌, ℕ, ◌+◌, ◌-◌, ◌*◌, ◌/◌, ◌%◌, ◌^◌, ◌≤◌, ◌<◌, IsTrue, length, [], true, None, IfOk};
+ghost use Rattle.rpm_pkgdb.specs.Prelude.{added, AreNumbered, AreRead, Awaits, DiskCause, Files, is_used, IsInOrder, IsRead, Looks, own_reason, Pkg, slot_of, table, units_of};
+ghost use Rattle.rpm_pkgdb.specs.inner.Reading.{Adds};
 
 use crate::reads::{read_units, unit_in};
 use crate::rising::Rising;
-use crate::slot::{Reason, own_reason, slot_of};
+use crate::slot::{BLOCKS, Reason, SLOT, own_reason, slot_of};
+use crate::words::word;
 use rpm_outside::{Disk, Failed};
 
 /// How many slots are read at a time.
@@ -25,26 +20,73 @@ pub struct Reading {
     pub reason: Option<Reason>,
 }
 
+/// Whether this is a slot that comes after all so far by number and by block. It is used and right by itself then.
+#[inline(always)]
+#[tactic(auto, unfolding(crate::specs::Damages::own_reason))]
+fn is_next(rising: &Rising, pages: u32, units: u64, unit: &[u8]) -> bool
+    requires unit { length unit.now ≡ 16 }
+    requires some { 1 ≤ pages }
+    requires block { 256 * pages ≤ rising.now.block }
+    requires number { 1 ≤ rising.now.number }
+    ensures own { result ≡ true → own_reason pages units unit.now ≡ None }
+    ensures used { result ≡ true → is_used (slot_of unit.now) ≡ true }
+{
+    let slot = slot_of(unit);
+    word(unit, 0) == SLOT
+        && rising.number <= slot.number as u64
+        && slot.number != u32::MAX
+        && rising.block <= slot.offset as u64
+        && slot.count != 0
+        && slot.offset as u64 + slot.count as u64 <= units.min(BLOCKS)
+}
+
+/// Adds the slot in a unit, or says what is wrong with it by itself.
+///
+/// One that comes next is most often met, and asked nothing else.
+#[inline(always)]
+fn add_unit(rising: &mut Rising, pages: u32, units: u64, unit: &[u8]) -> Option<Reason>
+    requires unit { length unit.now ≡ 16 }
+    requires some { 1 ≤ pages }
+    requires pages { 256 * pages ≤ 2 ^ 28 }
+    requires few { length rising.old.slots.items < 2 ^ 28 }
+    requires awaits { Awaits pages (length rising.old.slots.items + 1) rising.old }
+    requires order { IsInOrder rising.old }
+    ensures reason { result ≡ own_reason pages units unit.now }
+    ensures slots { rising.new.slots.items ≡ added rising.old.slots.items result (slot_of unit.now) }
+    ensures numbered { AreNumbered rising.old.slots.items → AreNumbered rising.new.slots.items }
+    ensures order { IsInOrder rising.new }
+    ensures awaits { (n : ℕ) → Awaits pages n rising.old → Awaits pages n rising.new }
+{
+    if is_next(rising, pages, units, unit) {
+        rising.push_used(slot_of(unit));
+        return None;
+    }
+    let reason = own_reason(pages, units, unit);
+    if reason.is_none() {
+        rising.push(slot_of(unit));
+    }
+    reason
+}
+
 /// Adds the slots in these bytes.
 fn add_own(rising: Rising, pages: u32, units: u64, bytes: &[u8]) -> Reading
+    requires some { 1 ≤ pages }
     requires pages { 256 * pages ≤ 2 ^ 28 }
     requires few { length rising.slots.items + length bytes.now / 16 ≤ 2 ^ 28 }
-    requires room { HasRoom (length rising.slots.items + length bytes.now / 16) rising }
+    requires awaits { Awaits pages (length rising.slots.items + length bytes.now / 16) rising }
     requires order { IsInOrder rising }
     requires numbered { AreNumbered rising.slots.items }
     ensures adds { Adds pages units (units_of bytes.now) rising.slots.items result }
     ensures order { IsInOrder result.rising }
     ensures numbered { AreNumbered result.rising.slots.items }
-    ensures room { (n : ℕ) → HasRoom n rising → HasRoom n result.rising }
+    ensures awaits { (n : ℕ) → Awaits pages n rising → Awaits pages n result.rising }
 {
     let mut rising = rising;
     for k in 0..bytes.len() / 16 {
-        let unit = unit_in(bytes, k);
-        let reason = own_reason(pages, units, unit);
+        let reason = add_unit(&mut rising, pages, units, unit_in(bytes, k));
         if reason.is_some() {
             return Reading { rising, reason };
         }
-        rising.push(slot_of(unit));
     }
     Reading {
         rising,
@@ -65,14 +107,15 @@ fn read_piece<D: Disk>(
     requires whole { length bytes.old % 16 ≡ 0 }
     requires few { length rising.slots.items + length bytes.old / 16 ≤ 256 * pages - 2 }
     requires within { IsTrue D.tells → 256 * pages ≤ length (D.files disk.old).pkg }
-    requires room { HasRoom (length rising.slots.items + length bytes.old / 16) rising }
+    requires awaits { Awaits pages (length rising.slots.items + length bytes.old / 16) rising }
     requires order { IsInOrder rising }
     requires read { AreRead (IsTrue D.tells) pages units (table pages (D.files disk.old).pkg) rising.slots.items }
-    ensures read { IfOk result (λ r. IsRead (IsTrue D.tells) pages units (table pages (D.files disk.old).pkg) (length rising.slots.items + length bytes.old / 16) r) }
+    ensures read { IfOk result (λ r. IsRead (IsTrue D.tells) pages units (table pages (D.files disk.old).pkg)
+        (length rising.slots.items + length bytes.old / 16) r) }
     ensures order { IfOk result (λ r. IsInOrder r.rising) }
-    ensures room { IfOk result (λ r. (n : ℕ) → HasRoom n rising → HasRoom n r.rising) }
-    ensures looks { Looks D.tells D.files D.left_since D.moment D.bytes_read D.follows Pkg (length bytes.old) disk.old disk.new }
-    ensures cause { HasCause (D.faults disk.old) (D.faults disk.new) result }
+    ensures awaits { IfOk result (λ r. (n : ℕ) → Awaits pages n rising → Awaits pages n r.rising) }
+    ensures looks { Looks D.Disk Pkg (length bytes.old) disk.old disk.new }
+    ensures cause { DiskCause D.Disk result disk.old disk.new }
 {
     read_units(disk, 2 + rising.slots.len() as u64, bytes)?;
     Ok(add_own(rising, pages, units, bytes))
@@ -90,11 +133,12 @@ pub fn read_pieces<D: Disk>(
     requires within { IsTrue D.tells → 256 * pages ≤ length (D.files disk.old).pkg }
     requires empty { rising.slots.items ≡ [] }
     requires order { IsInOrder rising }
-    requires room { HasRoom (256 * pages - 2) rising }
-    ensures read { IfOk result (λ r. IsRead (IsTrue D.tells) pages units (table pages (D.files disk.old).pkg) (256 * pages - 2) r) }
+    requires awaits { Awaits pages (256 * pages - 2) rising }
+    ensures read { IfOk result (λ r. IsRead (IsTrue D.tells) pages units (table pages (D.files disk.old).pkg)
+        (256 * pages - 2) r) }
     ensures order { IfOk result (λ r. IsInOrder r.rising) }
-    ensures looks { Looks D.tells D.files D.left_since D.moment D.bytes_read D.follows Pkg (16 * (256 * pages - 2)) disk.old disk.new }
-    ensures cause { HasCause (D.faults disk.old) (D.faults disk.new) result }
+    ensures looks { Looks D.Disk Pkg (16 * (256 * pages - 2)) disk.old disk.new }
+    ensures cause { DiskCause D.Disk result disk.old disk.new }
 {
     let count = 256 * pages - 2;
     let mut rising = rising;

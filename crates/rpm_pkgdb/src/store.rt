@@ -1,19 +1,8 @@
 //! The store in Packages.db.
 
 ghost use Rattle.std.specs.Prelude.{◌≡◌, ◌+◌, ◌-◌, ◌*◌, ◌/◌, ◌^◌, ◌≤◌, ◌<◌, ◌==◌, IsTrue, length, max, None, Some, Ok, Err, IfOk, IfErr, IsSome, is_some};
-ghost use Rattle.rpm_outside.specs.Files.{unit_at};
-ghost use Rattle.rpm_outside.specs.Causes.{HasCauseAt};
-ghost use Rattle.rpm_outside.specs.declared.disk.File.TheVariants.{Pkg};
-ghost use Rattle.rpm_outside.specs.Looks.{Looks};
-ghost use Rattle.rpm_pkgdb.specs.Words.{word};
-ghost use Rattle.rpm_pkgdb.specs.Slots.{slot_with, end_of, IsPackageNumber};
-ghost use Rattle.rpm_pkgdb.specs.Quiet.{HasSlot, with_free};
-ghost use Rattle.rpm_pkgdb.specs.Written.{erased};
-ghost use Rattle.rpm_pkgdb.specs.Damages.{head_reason};
-ghost use Rattle.rpm_pkgdb.specs.Store.{store, store_of, in_file, Keeps, blank_store, next_number, OpenIs};
-ghost use Rattle.rpm_pkgdb.specs.Pairs.{IsNext};
-ghost use Rattle.rpm_pkgdb.specs.Blobs.{blobs};
-ghost use Rattle.rpm_pkgdb.specs.Costs.{opening_cost};
+ghost use Rattle.rpm_pkgdb.specs.Prelude.{blank_store, blobs, end_of, erased, HasSlot, head_reason, in_file, IsNext, IsPackageNumber, Keeps, Looks, next_number, opening_cost, OpenIs, Pkg, slot_with, store, store_of, unit_at, with_free, word};
+ghost use Rattle.rpm_outside.specs.Frame as frame;
 
 use crate::numbers::Numbers;
 use crate::reads::read_unit;
@@ -31,8 +20,9 @@ pub struct DiskFault;
 
 /// The head and the slots of a `Packages.db`, read once.
 ///
-/// The blobs stay in the file: each call that takes the disk takes the one that the value was opened on, as long as that file says
-/// what the value keeps. In memory a value has 12 bytes a slot and 8 more a package; and 24 more a slot once a change was planned.
+/// The blobs stay in the file: each call that takes the disk takes the one that the value was opened on, as long as
+/// that file says what the value keeps. In memory a value has 12 bytes a slot and 8 more a package; and 24 more a
+/// slot once a change was planned.
 #[derive(Drop)]
 pub struct PkgDb {
     pub(crate) generation: u32,
@@ -110,16 +100,18 @@ impl PkgDb {
 
     /// Reads the head and all slots. Nothing is written.
     ///
-    /// A file without units, or whose unit 0 is all zeros, is blank: a store of no pages and no packages, whose next number is 1.
+    /// A file without units, or whose unit 0 is all zeros, is blank: a store of no pages and no packages, whose next
+    /// number is 1.
     ///
-    /// Reads 4096 bytes a page, each byte once, in pieces of 16 KiB up to the first slot that is damaged by itself; and at most unit 0
-    /// where the file is blank or its head is damaged. Room for the slots is taken first: 20 bytes a slot for as long as the value
-    /// lives, and while opening at most 12 more.
+    /// Reads 4096 bytes a page, each byte once, in pieces of 16 KiB up to the first slot that is damaged by itself;
+    /// and at most unit 0 where the file is blank or its head is damaged. Room for the slots is taken first: 20 bytes
+    /// a slot for as long as the value lives, and while opening at most 12 more.
     ///
-    /// Each used slot is compared with the next by number and by first block, which shows that no two of them meet: as they are read, where
-    /// they rise, as additions leave them, and else once they are put in order, by what doesn't rise alone. This takes n log n whatever
-    /// stands in them, and is linear where they rise in a few runs, as slot pages leave them, which move the first packages after the
-    /// others. Where that doesn't show it, two ordered maps find the first damage, which takes about ten times as long.
+    /// Each used slot is compared with the next by number and by first block, which shows that no two of them meet:
+    /// as they are read, where they rise, as additions leave them, and else once they are put in order, by what
+    /// doesn't rise alone. This takes n log n whatever stands in them, and is linear where they rise in a few runs,
+    /// as slot pages leave them, which move the first packages after the others. Where that doesn't show it, two
+    /// ordered maps find the first damage, which takes about ten times as long.
     ///
     /// No package has the number 0.
     ///
@@ -133,9 +125,10 @@ impl PkgDb {
         ensures kept { IfOk result (λ db. IsTrue D.tells → Keeps (D.files disk.new).pkg db) }
         ensures from_one { IfOk result (λ db. slot_with 0 db.slots ≡ None) }
         ensures fresh { IfOk result (λ db. db ≡ in_file db) }
-        ensures reads { IsTrue D.tells → D.bytes_read disk.new File.Pkg ≤ D.bytes_read disk.old File.Pkg + opening_cost (D.files disk.old).pkg }
-        ensures looks { Looks D.tells D.files D.left_since D.moment D.bytes_read D.follows Pkg (2 ^ 32) disk.old disk.new }
-        ensures cause { HasCauseAt (result ≡ Err OpenFault.DiskFault) (D.faults disk.old) (D.faults disk.new) }
+        ensures reads { IsTrue D.tells → D.bytes_read disk.new File.Pkg ≤ D.bytes_read disk.old File.Pkg + opening_cost
+            (D.files disk.old).pkg }
+        ensures looks { Looks D.Disk Pkg (2 ^ 32) disk.old disk.new }
+        ensures cause { frame.DiskFault D.Disk (result ≡ Err OpenFault.DiskFault) disk.old disk.new }
     {
         let Ok(units) = disk.len(File::Pkg) else {
             return Err(OpenFault::DiskFault);
@@ -169,8 +162,8 @@ impl PkgDb {
         ensures store { IsTrue D.tells → OpenIs (store_of (word 3 head.now) (D.files disk.old).pkg) result }
         ensures from_one { IfOk result (λ db. slot_with 0 db.slots ≡ None) }
         ensures fresh { IfOk result (λ db. db ≡ in_file db) }
-        ensures looks { Looks D.tells D.files D.left_since D.moment D.bytes_read D.follows Pkg (4096 * word 3 head.now - 16) disk.old disk.new }
-        ensures cause { HasCauseAt (result ≡ Err OpenFault.DiskFault) (D.faults disk.old) (D.faults disk.new) }
+        ensures looks { Looks D.Disk Pkg (4096 * word 3 head.now - 16) disk.old disk.new }
+        ensures cause { frame.DiskFault D.Disk (result ≡ Err OpenFault.DiskFault) disk.old disk.new }
     {
         let pages = word(head, 3);
         let Ok(next) = read_unit(disk, 1) else {
@@ -187,7 +180,7 @@ impl PkgDb {
             slots: table.slots,
             numbers: table.numbers,
             used: None,
-            free_from: 0,
+            free_from: table.free_from,
             spare: 0,
             stopped: false,
         })
@@ -256,8 +249,8 @@ impl PkgDb {
         (place, self.slots[place as usize])
     }
 
-    /// The number of the next package: the greater of the field in unit 1 and one above the greatest number of a slot. A field that
-    /// fell after is so passed over and is no damage (own).
+    /// The number of the next package: the greater of the field in unit 1 and one above the greatest number of a
+    /// slot. A field that fell after is so passed over and is no damage (own).
     pub fn next_number(&self) -> u32
         ensures { result ≡ next_number self.now }
     {

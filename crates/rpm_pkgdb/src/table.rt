@@ -1,21 +1,8 @@
 //! The slots of the pages, each read once.
 
 ghost use Rattle.std.specs.Prelude.{◌≡◌, ℕ, ◌-◌, ◌*◌, ◌^◌, ◌≤◌, [], IsTrue, true, length, None, Err, IfOk, IfErr, OnOk};
-ghost use Rattle.rpm_outside.specs.Files.{Files};
-ghost use Rattle.rpm_outside.specs.Causes.{HasCauseAt};
-ghost use Rattle.rpm_outside.specs.declared.disk.File.TheVariants.{Pkg};
-ghost use Rattle.rpm_outside.specs.Looks.{Looks};
-ghost use Rattle.rpm_pkgdb.specs.Slots.{slots_in};
-ghost use Rattle.rpm_pkgdb.specs.Damages.{table, table_fault};
-ghost use Rattle.rpm_pkgdb.specs.Store.{Says, SaysHere};
-ghost use Rattle.rpm_pkgdb.specs.inner.Maps.{HasPlaces};
-ghost use Rattle.rpm_pkgdb.specs.Pairs.{find_in};
-ghost use Rattle.rpm_pkgdb.specs.Undamaged.{AreSound};
-ghost use Rattle.rpm_pkgdb.specs.inner.Keys.{ArePairs, AreRising, AreRisingTo};
-ghost use Rattle.rpm_pkgdb.specs.inner.Meetings.{meeting};
-ghost use Rattle.rpm_pkgdb.specs.inner.Reading.{IsRead, fault_of};
-ghost use Rattle.rpm_pkgdb.specs.inner.Rising.{IsInOrder};
-ghost use Rattle.rpm_pkgdb.specs.inner.Tables.{AreBounded, AreNumbered, IsOutside};
+ghost use Rattle.rpm_pkgdb.specs.Prelude.{AreBounded, AreNumbered, ArePairs, AreRising, AreRisingTo, AreSound, DiskFault, fault_of, Files, find_in, HasPlaces, IsIndexed, IsInOrder, IsRead, Looks, meeting, Pkg, Says, SaysHere, slots_in, table, table_fault};
+ghost use Rattle.rpm_pkgdb.specs.inner.Tables.{IsOutside};
 
 use crate::keys::{Order, numbers_if_apart};
 use crate::numbers::Numbers;
@@ -31,6 +18,8 @@ use std::alloc::Global;
 pub struct Table {
     pub slots: Vec<Slot>,
     pub numbers: Numbers,
+    /// The place of the first free slot, and the end where there is none.
+    pub free_from: u32,
 }
 
 /// The numbers of slots with their places, or the first slot that meets an earlier one: each beside the earlier ones.
@@ -66,7 +55,8 @@ fn numbers_of(
     requires bounded { AreBounded slots.now }
     requires numbered { AreNumbered slots.now }
     requires pairs { ArePairs Order.Number slots.now (length slots.now) pairs.items }
-    requires numbers { numbers_rise ≡ true → (end : ℕ) × AreRising Order.Number slots.now pairs.items (length pairs.items) end }
+    requires numbers { numbers_rise ≡ true → (end : ℕ)
+        × AreRising Order.Number slots.now pairs.items (length pairs.items) end }
     requires blocks { blocks_rise ≡ true → (end : ℕ) × AreRisingTo slots.now (length slots.now) end }
     ensures places { IfOk result (λ numbers. HasPlaces (find_in numbers.pairs) slots.now) }
     ensures sound { OnOk result (meeting [] slots.now ≡ None) }
@@ -86,7 +76,7 @@ fn table_of(alloc: Global, rising: Rising) -> Result<Table, OpenFault>
     requires numbered { AreNumbered rising.slots.items }
     requires order { IsInOrder rising }
     ensures slots { IfOk result (λ t. t.slots.items ≡ rising.slots.items) }
-    ensures places { IfOk result (λ t. HasPlaces (find_in t.numbers.pairs) t.slots.items) }
+    ensures indexed { IfOk result IsIndexed }
     ensures numbered { IfOk result (λ t. AreNumbered t.slots.items) }
     ensures sound { OnOk result (meeting [] rising.slots.items ≡ None) }
     ensures says { IfErr result (λ e. SaysHere e (meeting [] rising.slots.items)) }
@@ -94,13 +84,18 @@ fn table_of(alloc: Global, rising: Rising) -> Result<Table, OpenFault>
     let Rising {
         slots,
         pairs,
+        free,
         numbers_rise,
         blocks_rise,
         number: _,
         block: _,
     } = rising;
     match numbers_of(alloc, &slots, pairs, numbers_rise, blocks_rise) {
-        Ok(numbers) => Ok(Table { slots, numbers }),
+        Ok(numbers) => Ok(Table {
+            free_from: free.unwrap_or(slots.len() as u32),
+            slots,
+            numbers,
+        }),
         Err(fault) => Err(fault),
     }
 }
@@ -112,7 +107,7 @@ fn table_read(alloc: Global, reading: Reading) -> Result<Table, OpenFault>
     requires numbered { AreNumbered reading.rising.slots.items }
     requires order { IsInOrder reading.rising }
     ensures slots { IfOk result (λ t. t.slots.items ≡ reading.rising.slots.items) }
-    ensures places { IfOk result (λ t. HasPlaces (find_in t.numbers.pairs) t.slots.items) }
+    ensures indexed { IfOk result IsIndexed }
     ensures numbered { IfOk result (λ t. AreNumbered t.slots.items) }
     ensures sound { OnOk result (fault_of reading ≡ None) }
     ensures all { OnOk result (reading.reason ≡ None) }
@@ -142,13 +137,14 @@ fn read_slots<D: Disk>(
     requires some { 1 ≤ pages }
     requires pages { 256 * pages ≤ 2 ^ 28 }
     requires within { IsTrue D.tells → 256 * pages ≤ length (D.files disk.old).pkg }
-    ensures read { IfOk result (λ r. IsRead (IsTrue D.tells) pages units (table pages (D.files disk.old).pkg) (256 * pages - 2) r) }
+    ensures read { IfOk result (λ r. IsRead (IsTrue D.tells) pages units (table pages (D.files disk.old).pkg)
+        (256 * pages - 2) r) }
     ensures order { IfOk result (λ r. IsInOrder r.rising) }
     ensures outside { IfErr result (λ e. IsOutside e) }
-    ensures looks { Looks D.tells D.files D.left_since D.moment D.bytes_read D.follows Pkg (16 * (256 * pages - 2)) disk.old disk.new }
-    ensures cause { HasCauseAt (result ≡ Err OpenFault.DiskFault) (D.faults disk.old) (D.faults disk.new) }
+    ensures looks { Looks D.Disk Pkg (16 * (256 * pages - 2)) disk.old disk.new }
+    ensures cause { DiskFault D.Disk (result ≡ Err OpenFault.DiskFault) disk.old disk.new }
 {
-    let Ok(rising) = Rising::with_capacity(alloc, (256 * pages - 2) as usize) else {
+    let Ok(rising) = Rising::before(alloc, pages) else {
         return Err(OpenFault::NoMemory);
     };
     match read_pieces(disk, rising, pages, units) {
@@ -167,15 +163,16 @@ pub fn read_table<D: Disk>(
     requires some { 1 ≤ pages }
     requires pages { 256 * pages ≤ 2 ^ 28 }
     requires within { IsTrue D.tells → 256 * pages ≤ length (D.files disk.old).pkg }
-    ensures places { IfOk result (λ t. HasPlaces (find_in t.numbers.pairs) t.slots.items) }
+    ensures indexed { IfOk result IsIndexed }
     ensures numbered { IfOk result (λ t. AreNumbered t.slots.items) }
     ensures count { IfOk result (λ t. length t.slots.items ≡ 256 * pages - 2) }
     ensures placed { IfOk result (λ t. AreSound pages (2 ^ 28) t.slots.items) }
     ensures slots { IfOk result (λ t. IsTrue D.tells → t.slots.items ≡ slots_in (table pages (D.files disk.old).pkg)) }
     ensures sound { OnOk result (IsTrue D.tells → table_fault pages units (table pages (D.files disk.old).pkg) ≡ None) }
-    ensures says { IfErr result (λ e. IsTrue D.tells → Says e (table_fault pages units (table pages (D.files disk.old).pkg))) }
-    ensures looks { Looks D.tells D.files D.left_since D.moment D.bytes_read D.follows Pkg (16 * (256 * pages - 2)) disk.old disk.new }
-    ensures cause { HasCauseAt (result ≡ Err OpenFault.DiskFault) (D.faults disk.old) (D.faults disk.new) }
+    ensures says { IfErr result (λ e. IsTrue D.tells
+        → Says e (table_fault pages units (table pages (D.files disk.old).pkg))) }
+    ensures looks { Looks D.Disk Pkg (16 * (256 * pages - 2)) disk.old disk.new }
+    ensures cause { DiskFault D.Disk (result ≡ Err OpenFault.DiskFault) disk.old disk.new }
 {
     match read_slots(alloc, disk, pages, units) {
         Ok(reading) => table_read(alloc, reading),

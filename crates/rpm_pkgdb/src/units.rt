@@ -1,9 +1,7 @@
 //! Units of the slot pages and heads of blobs, as bytes.
 
 ghost use Rattle.std.specs.Prelude.{◌≡◌, ◌++◌};
-ghost use Rattle.rpm_pkgdb.specs.Words.{word};
-ghost use Rattle.rpm_pkgdb.specs.Framing.{le, next_unit, head_of, tail_of};
-ghost use Rattle.rpm_pkgdb.specs.Undamaged.{IsSlotUnit, IsHeadUnit};
+ghost use Rattle.rpm_pkgdb.specs.Prelude.{head_of, IsHeadUnit, IsSlotUnit, le, next_unit, tail_of, word};
 
 use crate::blob::{HEAD, TAIL};
 use crate::slot::{MAGIC, SLOT, Slot};

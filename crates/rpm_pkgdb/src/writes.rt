@@ -1,12 +1,7 @@
 //! Units of the file, written and settled.
 
 ghost use Rattle.std.specs.Prelude.{◌≡◌, ℕ, ◌+◌, ◌*◌, ◌/◌, ◌%◌, ◌^◌, ◌≤◌, ◌<◌, ◌∷◌, [], IsTrue, length, OnOk};
-ghost use Rattle.rpm_outside.specs.declared.disk.File.TheVariants.{Pkg};
-ghost use Rattle.rpm_outside.specs.Files.{Files, Units, units_of, unit_at, put, blank};
-ghost use Rattle.rpm_outside.specs.Causes.{HasCause};
-ghost use Rattle.rpm_outside.specs.Crash.{Torn};
-ghost use Rattle.rpm_outside.specs.Changes.{Changes, IsSettled, IsSame};
-ghost use Rattle.rpm_pkgdb.specs.Stays.{SameOutside};
+ghost use Rattle.rpm_pkgdb.specs.Prelude.{blank, Changes, DiskCause, Files, IsSame, IsSettled, Pkg, put, SameOutside, Torn, unit_at, Units, units_of};
 
 use rpm_outside::{Disk, Failed, File};
 
@@ -15,18 +10,19 @@ pub fn write_units<D: Disk>(disk: &mut D, at: u64, bytes: &[u8]) -> Result<(), F
     requires some { 0 < length bytes.now }
     requires whole { length bytes.now % 16 ≡ 0 }
     requires room { at + length bytes.now / 16 ≤ 2 ^ 28 }
-    ensures written { OnOk result (IsTrue D.tells → (D.files disk.new).pkg ≡ put at (units_of bytes.now) (D.files disk.old).pkg) }
-    ensures changes { Changes D.tells D.files D.left_since D.moment D.bytes_read D.follows Pkg (Torn at (units_of bytes.now)) 0 disk.old disk.new }
-    ensures cause { HasCause (D.faults disk.old) (D.faults disk.new) result }
+    ensures written { OnOk result (IsTrue D.tells
+        → (D.files disk.new).pkg ≡ put at (units_of bytes.now) (D.files disk.old).pkg) }
+    ensures changes { Changes D.Disk Pkg (Torn at (units_of bytes.now)) 0 disk.old disk.new }
+    ensures cause { DiskCause D.Disk result disk.old disk.new }
 {
     disk.write_at(File::Pkg, at, bytes)
 }
 
 /// Settles Packages.db.
 pub fn settle<D: Disk>(disk: &mut D) -> Result<(), Failed>
-    ensures settled { OnOk result (IsTrue D.tells → IsSettled Pkg (D.files disk.new) (D.left_since disk.new (D.moment disk.new))) }
-    ensures changes { Changes D.tells D.files D.left_since D.moment D.bytes_read D.follows Pkg IsSame 0 disk.old disk.new }
-    ensures cause { HasCause (D.faults disk.old) (D.faults disk.new) result }
+    ensures settled { OnOk result (IsTrue D.tells → IsSettled D.Disk Pkg disk.new) }
+    ensures changes { Changes D.Disk Pkg IsSame 0 disk.old disk.new }
+    ensures cause { DiskCause D.Disk result disk.old disk.new }
 {
     disk.sync(File::Pkg)
 }
@@ -34,10 +30,11 @@ pub fn settle<D: Disk>(disk: &mut D) -> Result<(), Failed>
 /// Writes one unit and settles the file.
 pub fn write_one<D: Disk>(disk: &mut D, at: u64, unit: &[u8; 16]) -> Result<(), Failed>
     requires room { at < 2 ^ 28 }
-    ensures written { OnOk result (IsTrue D.tells → (D.files disk.new).pkg ≡ put at (unit.now ∷ []) (D.files disk.old).pkg) }
-    ensures settled { OnOk result (IsTrue D.tells → IsSettled Pkg (D.files disk.new) (D.left_since disk.new (D.moment disk.new))) }
-    ensures changes { Changes D.tells D.files D.left_since D.moment D.bytes_read D.follows Pkg (Torn at (unit.now ∷ [])) 0 disk.old disk.new }
-    ensures cause { HasCause (D.faults disk.old) (D.faults disk.new) result }
+    ensures written { OnOk result (IsTrue D.tells
+        → (D.files disk.new).pkg ≡ put at (unit.now ∷ []) (D.files disk.old).pkg) }
+    ensures settled { OnOk result (IsTrue D.tells → IsSettled D.Disk Pkg disk.new) }
+    ensures changes { Changes D.Disk Pkg (Torn at (unit.now ∷ [])) 0 disk.old disk.new }
+    ensures cause { DiskCause D.Disk result disk.old disk.new }
 {
     write_units(disk, at, unit)?;
     settle(disk)
@@ -46,9 +43,10 @@ pub fn write_one<D: Disk>(disk: &mut D, at: u64, unit: &[u8; 16]) -> Result<(), 
 /// Makes units zeros, a page in each write.
 pub fn write_zeros<D: Disk>(disk: &mut D, at: u32, count: u32) -> Result<(), Failed>
     requires room { at + count ≤ 2 ^ 28 }
-    ensures zeros { OnOk result (IsTrue D.tells → (i : ℕ) → at ≤ i → i < at + count → unit_at (D.files disk.new).pkg i ≡ blank) }
-    ensures changes { Changes D.tells D.files D.left_since D.moment D.bytes_read D.follows Pkg (SameOutside at count) 0 disk.old disk.new }
-    ensures cause { HasCause (D.faults disk.old) (D.faults disk.new) result }
+    ensures zeros { OnOk result (IsTrue D.tells → (i : ℕ) → at ≤ i → i < at + count
+        → unit_at (D.files disk.new).pkg i ≡ blank) }
+    ensures changes { Changes D.Disk Pkg (SameOutside at count) 0 disk.old disk.new }
+    ensures cause { DiskCause D.Disk result disk.old disk.new }
 {
     if count == 0 {
         return Ok(());

@@ -1,5 +1,5 @@
 -- What was read of a table of slots.
-use Rattle.std.specs.Prelude.{◌≡◌, ℕ, ◌+◌, ◌<◌, List, [], ◌++◌, length, take, Option, Some, None}
+use Rattle.std.specs.Prelude.{◌≡◌, ℕ, ◌+◌, ◌<◌, List, [], ◌∷◌, ◌++◌, length, take, Option, Some, None}
 use Rattle.std.specs.Option.{option_map, option_or}
 use Rattle.rpm_outside.specs.Files.{Units, unit_at}
 use Rattle.rpm_pkgdb.specs.declared.slot.Slot.{Slot}
@@ -10,6 +10,11 @@ use Rattle.rpm_pkgdb.specs.Slots.{slots_in}
 use Rattle.rpm_pkgdb.specs.Damages.{damage_at, own_reason}
 use Rattle.rpm_pkgdb.specs.inner.Tables.{AreOwn, AreNumbered}
 use Rattle.rpm_pkgdb.specs.inner.Meetings.{meeting}
+
+-- these slots and one more, if nothing is wrong with it
+abbrev pub added : List Slot → Option Reason → Slot → List Slot
+added slots None s = slots ++ s ∷ []
+added slots (Some reason) s = slots
 
 -- the end of these units comes after so many, or the first that isn't right by itself
 abbrev pub EndsAt : ℕ → ℕ → Units → ℕ → Option Reason → Type 0

@@ -5,7 +5,11 @@ use Rattle.rpm_pkgdb.specs.declared.slot.Slot.{Slot}
 use Rattle.rpm_pkgdb.specs.declared.slot.OpenFault.{OpenFault}
 use Rattle.rpm_pkgdb.specs.declared.slot.OpenFault.TheVariants.{Damaged, DiskFault, NoMemory}
 use Rattle.rpm_pkgdb.specs.Slots.{slot_at, is_used, end_of, IsPackageNumber}
+use Rattle.rpm_pkgdb.specs.declared.table.Table.{Table}
 use Rattle.rpm_pkgdb.specs.Damages.{own_reason}
+use Rattle.rpm_pkgdb.specs.Pairs.{find_in}
+use Rattle.rpm_pkgdb.specs.inner.Keeping.{AreUsedTo}
+use Rattle.rpm_pkgdb.specs.inner.Maps.{HasPlaces}
 
 -- each of the first so many units is a slot that is right by itself
 abbrev pub AreOwn : ℕ → ℕ → Units → ℕ → Type 0
@@ -18,6 +22,11 @@ AreNumbered slots = (k : ℕ) → k < length slots → is_used (slot_at slots k)
 -- each used slot has blocks, which end by the limit
 abbrev pub AreBounded : List Slot → Type 0
 AreBounded slots = (k : ℕ) → is_used (slot_at slots k) ≡ true → (0 < (slot_at slots k).count) × (end_of (slot_at slots k) ≤ 2 ^ 28)
+
+-- each used slot is found by its number, and the first free one is noted
+pub record IsIndexed (t : Table) : Type 0 where
+  pub places : HasPlaces (find_in t.numbers.pairs) t.slots.items
+  pub taken : AreUsedTo t.slots.items t.free_from
 
 -- a fault that is none of the file
 abbrev pub IsOutside : OpenFault → Type 0

@@ -5,7 +5,7 @@ use Rattle.rpm_outside.specs.Crash.{Torn}
 use Rattle.rpm_pkgdb.specs.Store.{Store, Keeps}
 use Rattle.rpm_pkgdb.specs.Undamaged.{IsHeadUnit}
 use Rattle.rpm_outside.specs.Changes.{IsSettled}
-use Rattle.rpm_pkgdb.proofs.Changing.{map_ok, both_ok, changes_then, stops_from, stops_then}
+use Rattle.rpm_pkgdb.proofs.Changing.{both_ok, changes_then, stops_from, stops_then}
 use Rattle.rpm_pkgdb.specs.Stays.{SameOutside}
 use Rattle.rpm_pkgdb.specs.Quiet.{StandsAs, Anything, BeforeOrAfter}
 use Rattle.rpm_pkgdb.proofs.Erases.{stands_by}
@@ -13,6 +13,7 @@ use Rattle.rpm_pkgdb.specs.inner.Grows.{with_page, CanGrow, HasFreePage}
 use Rattle.rpm_pkgdb.proofs.GrowLaws.{while_page, grown_stands, while_grown}
 use Rattle.rpm_pkgdb.proofs.Reaching.{unit_ends, outside_ends}
 use Rattle.rpm_pkgdb.proofs.FreedLaws.{page_blank}
+use Rattle.rpm_pkgdb.specs.inner.Moving.{CanGrowFrom}
 use Rattle.rpm_pkgdb.proofs.added_page.add_page.Goals as goal
 
 head_is : (unit : List ℕ) (generation pages : ℕ) (value : Store) → generation ≡ value.generation → pages ≡ value.pages
@@ -30,7 +31,10 @@ mid_stands value can pages file from mid same stands changed =
     while_page value can file from mid stands (subst (λ (q : ℕ). SameOutside (256 * q) 256 from mid) same changed)
 
 pub returns-in_err-write_free_page-clause-images : goal.returns-in_err-write_free_page-clause-images
-returns-in_err-write_free_page-clause-images g c = λ told value can gen same quiet.
+returns-in_err-write_free_page-clause-images g c = λ told value grows quiet.
+    let can = grows.can in
+    let gen = grows.generation_is in
+    let same = grows.pages_are in
     let D = g.D.Disk in
     let F0 = (D.files c.args.disk.now).pkg in
     stops_from _ _ _ _ _ _ told (SameOutside (256 * c.args.pages) 256)
@@ -38,7 +42,10 @@ returns-in_err-write_free_page-clause-images g c = λ told value can gen same qu
     (λ from image was changed. inl (mid_stands value can c.args.pages F0 from.pkg image.pkg same (quiet from was) changed))
 
 pub returns-clause-images : goal.returns-clause-images
-returns-clause-images g c = λ told value can gen same quiet.
+returns-clause-images g c = λ told value grows quiet.
+    let can = grows.can in
+    let gen = grows.generation_is in
+    let same = grows.pages_are in
     let D = g.D.Disk in
     let F0 = (D.files c.args.disk.now).pkg in
     let F1 = (D.files c.write_free_page.new.disk).pkg in
@@ -67,51 +74,34 @@ grown value can unit generation pages F0 F1 F2 gen same is keeps changed page wr
     subst (StandsAs (with_page value) F0) (sym written)
     (grown_stands value can unit (head_is unit generation pages value gen same is) F0 F1 mid (subst (λ (q : ℕ). HasFreePage q F1) same page))
 
-pub returns-clause-stands : goal.returns-clause-stands
-returns-clause-stands g c =
-    let D = g.D.Disk in
-    let F1 = (D.files c.write_free_page.new.disk).pkg in
-    let F2 = (D.files c.write_one.new.disk).pkg in
-    map_ok c.write_one.result (λ (written : IsTrue D.tells → F2 ≡ put 0 (c.head_unit.result ∷ []) F1) told value can gen same keeps.
-    grown value can c.head_unit.result c.args.generation c.args.pages (D.files c.args.disk.now).pkg F1 F2 gen same c.head_unit.ensures keeps
-    (c.write_free_page.ensures.changes.pkg told) (c.in_ok-write_free_page.ensures.page told) (written told)) c.write_one.ensures.written
-
-pub returns-clause-quiet : goal.returns-clause-quiet
-returns-clause-quiet g c =
-    let D = g.D.Disk in
-    let F0 = (D.files c.args.disk.now).pkg in
-    let F1 = (D.files c.write_free_page.new.disk).pkg in
-    let next = D.files c.write_one.new.disk in
-    let images = D.left_since c.write_one.new.disk (D.moment c.write_one.new.disk) in
-    both_ok c.write_one.result (λ (written : IsTrue D.tells → next.pkg ≡ put 0 (c.head_unit.result ∷ []) F1) (settled : IsTrue D.tells
-    → IsSettled Pkg next images) told value can gen same keeps image left.
-    let stands =
-    grown value can c.head_unit.result c.args.generation c.args.pages F0 F1 next.pkg gen same c.head_unit.ensures keeps
-    (c.write_free_page.ensures.changes.pkg told) (c.in_ok-write_free_page.ensures.page told) (written told) in
-    subst (StandsAs (with_page value) next.pkg) (sym (settled told image left)) (stands_by (with_page value) F0 next.pkg next.pkg stands stands))
-    c.write_one.ensures.written c.write_one.ensures.settled
-
 pub returns-clause-changes : goal.returns-clause-changes
 returns-clause-changes g c =
     changes_then _ _ _ _ _ _ g.met.D.Disk.follows_trans (SameOutside (256 * c.args.pages) 256)
     (Torn 0 (c.head_unit.result ∷ [])) Anything c.args.disk.now c.write_free_page.new.disk c.write_one.new.disk (λ x y r. tt)
     (λ x y z r s. tt) c.write_free_page.ensures.changes c.write_one.ensures.changes
 
-pub returns-clause-blanks : goal.returns-clause-blanks
-returns-clause-blanks g c =
+pub returns-clause-added : goal.returns-clause-added
+returns-clause-added g c =
     let D = g.D.Disk in
-    let F1 = (D.files c.write_free_page.new.disk).pkg in
-    let F2 = (D.files c.write_one.new.disk).pkg in
-    map_ok c.write_one.result (λ (written : IsTrue D.tells → F2 ≡ put 0 (c.head_unit.result ∷ []) F1) told.
-    page_blank c.args.pages c.head_unit.result (D.files c.args.disk.now).pkg F1 F2 (c.write_free_page.ensures.changes.pkg told) (written told))
-    c.write_one.ensures.written
-
-pub returns-clause-reach : goal.returns-clause-reach
-returns-clause-reach g c =
-    let D = g.D.Disk in
+    let unit = c.head_unit.result in
+    let gen = c.args.generation in
+    let pages = c.args.pages in
     let F0 = (D.files c.args.disk.now).pkg in
     let F1 = (D.files c.write_free_page.new.disk).pkg in
-    let F2 = (D.files c.write_one.new.disk).pkg in
-    map_ok c.write_one.result (λ (written : IsTrue D.tells → F2 ≡ put 0 (c.head_unit.result ∷ []) F1) told limit last short.
-    unit_ends limit 0 c.head_unit.result F1 F2 (omega arith) (written told)
-    (outside_ends limit (256 * c.args.pages) 256 F0 F1 (omega arith) (c.write_free_page.ensures.changes.pkg told) short)) c.write_one.ensures.written
+    let next = D.files c.write_one.new.disk in
+    let images = D.left_since c.write_one.new.disk (D.moment c.write_one.new.disk) in
+    both_ok c.write_one.result (λ (written : IsTrue D.tells → next.pkg ≡ put 0 (unit ∷ []) F1) (settled : IsTrue D.tells → IsSettled Pkg next images) told.
+    let first = c.write_free_page.ensures.changes.pkg told in
+    let last = written told in
+    let stands : (value : Store) → CanGrowFrom gen pages value → Keeps F0 value → StandsAs (with_page value) F0 next.pkg =
+    λ value from keeps. grown value from.can unit gen pages F0 F1 next.pkg from.generation_is from.pages_are c.head_unit.ensures keeps first
+    (c.in_ok-write_free_page.ensures.page told) last in
+    record {
+      stands = stands;
+      quiet = λ value from keeps image left.
+          let after = stands value from keeps in
+          subst (StandsAs (with_page value) next.pkg) (sym (settled told image left)) (stands_by (with_page value) F0 next.pkg next.pkg after after);
+      blanks = page_blank pages unit F0 F1 next.pkg first last;
+      reach = λ limit ends short.
+          unit_ends limit 0 unit F1 next.pkg (omega arith) last (outside_ends limit (256 * pages) 256 F0 F1 (omega arith) first short);
+    }) c.write_one.ensures.written c.write_one.ensures.settled

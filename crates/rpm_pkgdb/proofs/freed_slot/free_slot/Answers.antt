@@ -1,7 +1,9 @@
-use Rattle.std.proofs.Common.{◌+◌, [], ◌∷◌, refl, inr, arith}
+use Rattle.std.proofs.Common.{◌≡◌, ℕ, ◌+◌, ◌<◌, ◌≤◌, [], ◌∷◌, IsTrue, refl, inr, arith}
+use Rattle.rpm_outside.specs.Files.{unit_at, blank}
+use Rattle.rpm_pkgdb.specs.Slots.{end_of}
 use Rattle.rpm_outside.specs.Crash.{Torn}
 use Rattle.rpm_pkgdb.specs.Store.{Keeps}
-use Rattle.rpm_pkgdb.proofs.Changing.{on_ok, changes_then, stops_from, stops_then}
+use Rattle.rpm_pkgdb.proofs.Changing.{map_ok, changes_then, stops_from, stops_then}
 use Rattle.rpm_pkgdb.specs.Stays.{SameOutside}
 use Rattle.rpm_pkgdb.specs.Quiet.{BeforeOrAfter, with_free, Anything}
 use Rattle.rpm_pkgdb.proofs.Reaching.{unit_ends, outside_ends}
@@ -16,15 +18,6 @@ returns-in_err-write_one-clause-images g c = λ told value has quiet.
     stops_from _ _ _ _ _ _ told (Torn (2 + k) (c.slot_unit.result ∷ []))
     (BeforeOrAfter value (with_free k value) F0) c.args.disk.now c.write_one.new.disk c.write_one.ensures.changes
     (λ from image was torn. while_freed value k c.args.slot has c.slot_unit.result c.slot_unit.ensures F0 from.pkg image.pkg (quiet from was) torn)
-
-pub returns-clause-stands : goal.returns-clause-stands
-returns-clause-stands g c = on_ok c.write_zeros.result (λ told value has keeps.
-    let D = g.D.Disk in
-    let k = c.args.place in
-    let F0 = (D.files c.args.disk.now).pkg in
-    let mid = (D.files c.write_one.new.disk).pkg in
-    let was = freed value k c.args.slot has c.slot_unit.result c.slot_unit.ensures F0 mid keeps (c.in_ok-write_one.ensures.written told) in
-    zeroed value k c.args.slot has F0 mid mid (D.files c.write_zeros.new.disk).pkg was refl (c.write_zeros.ensures.changes.pkg told))
 
 pub returns-clause-images : goal.returns-clause-images
 returns-clause-images g c = λ told value has quiet.
@@ -42,28 +35,32 @@ returns-clause-images g c = λ told value has quiet.
     (stops_from _ _ _ _ _ _ told (SameOutside c.args.slot.offset c.args.slot.count) P c.write_one.new.disk c.write_zeros.new.disk c.write_zeros.ensures.changes
     (λ from image here same. inr (zeroed value k c.args.slot has F0 mid from.pkg image.pkg was (c.in_ok-write_one.ensures.settled told from here) same)))
 
-pub returns-clause-quiet : goal.returns-clause-quiet
-returns-clause-quiet g c = on_ok c.write_zeros.result (λ told value has keeps.
-    let D = g.D.Disk in
-    let k = c.args.place in
-    let F0 = (D.files c.args.disk.now).pkg in
-    let mid = (D.files c.write_one.new.disk).pkg in
-    let was = freed value k c.args.slot has c.slot_unit.result c.slot_unit.ensures F0 mid keeps (c.in_ok-write_one.ensures.written told) in
-    λ image here.
-    let r = c.write_zeros.ensures.changes.now told image here in
-    stands_by (with_free k value) F0 (D.files c.write_zeros.new.disk).pkg image.pkg
-    (zeroed value k c.args.slot has F0 mid mid (D.files c.write_zeros.new.disk).pkg was refl (c.write_zeros.ensures.changes.pkg told))
-    (zeroed value k c.args.slot has F0 mid r.from.pkg image.pkg was (c.in_ok-write_one.ensures.settled told r.from r.was) r.pkg))
-
 pub returns-clause-changes : goal.returns-clause-changes
 returns-clause-changes g c =
     changes_then _ _ _ _ _ _ g.met.D.Disk.follows_trans (Torn (2 + c.args.place) (c.slot_unit.result ∷ []))
     (SameOutside c.args.slot.offset c.args.slot.count) Anything c.args.disk.now c.write_one.new.disk c.write_zeros.new.disk
     (λ x y r. tt) (λ x y z r s. tt) c.write_one.ensures.changes c.write_zeros.ensures.changes
 
-pub returns-clause-reach : goal.returns-clause-reach
-returns-clause-reach g c = on_ok c.write_zeros.result (λ told limit place_ends slot_ends short.
+pub returns-clause-freed : goal.returns-clause-freed
+returns-clause-freed g c =
     let D = g.D.Disk in
+    let k = c.args.place in
+    let s = c.args.slot in
+    let unit = c.slot_unit.result in
+    let F0 = (D.files c.args.disk.now).pkg in
     let F1 = (D.files c.write_one.new.disk).pkg in
-    outside_ends limit c.args.slot.offset c.args.slot.count F1 (D.files c.write_zeros.new.disk).pkg slot_ends (c.write_zeros.ensures.changes.pkg told)
-    (unit_ends limit (2 + c.args.place) c.slot_unit.result (D.files c.args.disk.now).pkg F1 (omega arith) (c.in_ok-write_one.ensures.written told) short))
+    let F2 = (D.files c.write_zeros.new.disk).pkg in
+    map_ok c.write_zeros.result (λ (zeros : IsTrue D.tells → (i : ℕ) → s.offset ≤ i → i < end_of s → unit_at F2 i ≡ blank) told.
+    let first = c.in_ok-write_one.ensures.written told in
+    let same = c.write_zeros.ensures.changes.pkg told in
+    record {
+      stands = λ value has keeps. zeroed value k s has F0 F1 F1 F2 (freed value k s has unit c.slot_unit.ensures F0 F1 keeps first) refl same;
+      quiet = λ value has keeps image here.
+          let was = freed value k s has unit c.slot_unit.ensures F0 F1 keeps first in
+          let r = c.write_zeros.ensures.changes.now told image here in
+          stands_by (with_free k value) F0 F2 image.pkg (zeroed value k s has F0 F1 F1 F2 was refl same)
+          (zeroed value k s has F0 F1 r.from.pkg image.pkg was (c.in_ok-write_one.ensures.settled told r.from r.was) r.pkg);
+      zeros = zeros told;
+      reach = λ limit place_ends slot_ends short.
+          outside_ends limit s.offset s.count F1 F2 slot_ends same (unit_ends limit (2 + k) unit F0 F1 (omega arith) first short);
+    }) c.write_zeros.ensures.zeros

@@ -6,7 +6,7 @@ use Rattle.rpm_pkgdb.specs.Store.{is_blank}
 use Rattle.rpm_outside.specs.Changes.{IsSettled}
 use Rattle.rpm_pkgdb.proofs.Changing.{map_ok, both_ok, changes_weaker, changes_then, stops_from, stops_then}
 use Rattle.rpm_pkgdb.specs.Stays.{SameOutside}
-use Rattle.rpm_pkgdb.specs.Quiet.{Anything, IsFirstPage}
+use Rattle.rpm_pkgdb.specs.Quiet.{IsFirstPage}
 use Rattle.rpm_pkgdb.specs.Written.{MakesTo}
 use Rattle.rpm_pkgdb.proofs.ClearLaws.{put_elsewhere, torn_outside, outside_then, outside_wider}
 use Rattle.rpm_pkgdb.proofs.Makes.{says_blank, blank_after, while_first, while_headed, new_keeps, new_quiet}
@@ -54,12 +54,6 @@ returns-clause-quiet g c =
     (new_keeps value c.head_unit.result c.head_unit.ensures mid next.pkg (c.in_ok-write_first_page.ensures.page told) (written told)) (settled told))
     c.write_one.ensures.written c.write_one.ensures.settled
 
-pub returns-clause-changes : goal.returns-clause-changes
-returns-clause-changes g c =
-    changes_then _ _ _ _ _ _ g.met.D.Disk.follows_trans (SameOutside 1 255)
-    (Torn 0 (c.head_unit.result ∷ [])) Anything c.args.disk.now c.write_first_page.new.disk c.write_one.new.disk
-    (λ x y r. tt) (λ x y z r s. tt) c.write_first_page.ensures.changes c.write_one.ensures.changes
-
 -- the page but for unit 0, and then unit 0
 first_page : (x y : Units) → SameOutside 1 255 x y → SameOutside 0 256 x y
 first_page x y same = outside_wider 1 255 0 256 x y (omega arith) (omega arith) same
@@ -68,13 +62,13 @@ then_head : (unit : List ℕ) (x y z : Units) → SameOutside 1 255 x y → Torn
 then_head unit x y z same torn =
     outside_then 0 256 x y z (first_page x y same) (outside_wider 0 1 0 256 y z (omega arith) (omega arith) (torn_outside 0 (unit ∷ []) y z torn))
 
-pub returns-in_err-write_first_page-clause-alone : goal.returns-in_err-write_first_page-clause-alone
-returns-in_err-write_first_page-clause-alone g c =
+pub returns-in_err-write_first_page-clause-changes : goal.returns-in_err-write_first_page-clause-changes
+returns-in_err-write_first_page-clause-changes g c =
     changes_weaker _ _ _ _ _ _ (SameOutside 1 255) (SameOutside 0 256) c.args.disk.now c.write_first_page.new.disk first_page
     c.write_first_page.ensures.changes
 
-pub returns-clause-alone : goal.returns-clause-alone
-returns-clause-alone g c =
+pub returns-clause-changes : goal.returns-clause-changes
+returns-clause-changes g c =
     let unit = c.head_unit.result in
     changes_then _ _ _ _ _ _ g.met.D.Disk.follows_trans (SameOutside 1 255) (Torn 0 (unit ∷ [])) (SameOutside 0 256) c.args.disk.now
     c.write_first_page.new.disk c.write_one.new.disk first_page (then_head unit) c.write_first_page.ensures.changes c.write_one.ensures.changes

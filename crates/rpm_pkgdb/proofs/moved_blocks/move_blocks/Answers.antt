@@ -1,14 +1,14 @@
 use Rattle.std.proofs.Common.{◌≡◌, ℕ, IsTrue, inr, ◌+◌, ◌*◌, ◌-◌, ◌<◌, ◌≤◌, [], ◌∷◌, refl, arith}
 use Rattle.rpm_outside.specs.Crash.{Torn}
 use Rattle.rpm_pkgdb.specs.Slots.{end_of}
-use Rattle.rpm_pkgdb.specs.Store.{Keeps}
-use Rattle.rpm_pkgdb.proofs.Changing.{on_ok, map_ok, stops_from, copies_from, copies_weaker, copies_then, copies_stops_from, copies_stops_then}
+use Rattle.rpm_pkgdb.specs.Store.{Store, Keeps}
+use Rattle.rpm_pkgdb.proofs.Changing.{map_ok, stops_from, copies_from, copies_weaker, copies_then, copies_stops_from, copies_stops_then}
 use Rattle.rpm_pkgdb.proofs.FreedLaws.{moved_blank}
 use Rattle.rpm_outside.specs.Files.{unit_at, blank}
 use Rattle.rpm_pkgdb.specs.Stays.{SameOutside}
 use Rattle.rpm_pkgdb.specs.inner.Clear.{Holds}
 use Rattle.rpm_pkgdb.specs.Quiet.{Anything}
-use Rattle.rpm_pkgdb.specs.inner.Settings.{NoShorter, WhileMoved, blocks_of}
+use Rattle.rpm_pkgdb.specs.inner.Settings.{CanMove, NoShorter, WhileMoved, blocks_of}
 use Rattle.rpm_pkgdb.proofs.Reaching.{unit_ends, outside_ends}
 use Rattle.rpm_pkgdb.proofs.Moves.{move_set, held_after, while_copied, while_slot_moved, while_old_zeroed, moved_alike}
 use Rattle.rpm_pkgdb.proofs.moved_blocks.move_blocks.Goals as goal
@@ -78,44 +78,6 @@ returns-clause-images g c = λ told value can quiet.
     (c.copy_settled.ensures.copies.pkg told) holds (c.in_ok-write_one.ensures.written told) at n (omega (arith, c.min-at.ensures, c.max.ensures))
     (omega (arith, c.min-at.ensures, c.max.ensures)) from.pkg image.pkg (c.in_ok-write_one.ensures.settled told from was) same)))
 
-pub returns-clause-stands : goal.returns-clause-stands
-returns-clause-stands g c = on_ok c.write_zeros.result (λ told value can keeps.
-    let D = g.D.Disk in
-    let old = c.args.old in
-    let at = c.min-at.result in
-    let n = end_of old - at in
-    let F0 = (D.files c.args.disk.now).pkg in
-    let F1 = (D.files c.copy_settled.new.disk).pkg in
-    let F2 = (D.files c.write_one.new.disk).pkg in
-    let some : 0 < old.count = (move_set value c.args.place old c.args.to can F0 keeps).some in
-    let holds : Holds F1 c.args.to (blocks_of old F0) =
-    held_after value c.args.place old c.args.to can F0 keeps F1 (c.in_ok-copy_settled.ensures.long told some) (c.in_ok-copy_settled.ensures.copied told) in
-    while_old_zeroed value c.args.place old c.args.to can F0 keeps c.slot_unit.result c.slot_unit.ensures F1 F2 (c.copy_settled.ensures.copies.pkg told) holds
-    (c.in_ok-write_one.ensures.written told) at n (omega (arith, c.min-at.ensures, c.max.ensures)) (omega (arith, c.min-at.ensures, c.max.ensures)) F2
-    (D.files c.write_zeros.new.disk).pkg refl (c.write_zeros.ensures.changes.pkg told))
-
-pub returns-clause-quiet : goal.returns-clause-quiet
-returns-clause-quiet g c = on_ok c.write_zeros.result (λ told value can keeps image here.
-    let D = g.D.Disk in
-    let old = c.args.old in
-    let at = c.min-at.result in
-    let n = end_of old - at in
-    let F0 = (D.files c.args.disk.now).pkg in
-    let F1 = (D.files c.copy_settled.new.disk).pkg in
-    let F2 = (D.files c.write_one.new.disk).pkg in
-    let F3 = (D.files c.write_zeros.new.disk).pkg in
-    let some : 0 < old.count = (move_set value c.args.place old c.args.to can F0 keeps).some in
-    let holds : Holds F1 c.args.to (blocks_of old F0) =
-    held_after value c.args.place old c.args.to can F0 keeps F1 (c.in_ok-copy_settled.ensures.long told some) (c.in_ok-copy_settled.ensures.copied told) in
-    let low : old.offset ≤ at = omega (arith, c.min-at.ensures, c.max.ensures) in
-    let high : at + n ≤ end_of old = omega (arith, c.min-at.ensures, c.max.ensures) in
-    let past = c.write_zeros.ensures.changes.now told image here in
-    let third =
-    while_old_zeroed value c.args.place old c.args.to can F0 keeps c.slot_unit.result c.slot_unit.ensures F1 F2 (c.copy_settled.ensures.copies.pkg told) holds
-    (c.in_ok-write_one.ensures.written told) at n low high in
-    moved_alike value c.args.place old c.args.to can F0 keeps F3 image.pkg (third F2 F3 refl (c.write_zeros.ensures.changes.pkg told))
-    (third past.from.pkg image.pkg (c.in_ok-write_one.ensures.settled told past.from past.was) past.pkg))
-
 pub returns-in_err-copy_settled-clause-copies : goal.returns-in_err-copy_settled-clause-copies
 returns-in_err-copy_settled-clause-copies g c =
     let most = 16 * c.args.old.count in
@@ -144,24 +106,39 @@ returns-clause-copies g c =
     (copies_from _ _ _ _ _ _ (SameOutside c.min-at.result (end_of c.args.old - c.min-at.result)) NoShorter c.write_one.new.disk c.write_zeros.new.disk
     (λ x y r. r.no_shorter) c.write_zeros.ensures.changes)
 
-pub returns-clause-blanks : goal.returns-clause-blanks
-returns-clause-blanks g c =
+pub returns-clause-moved : goal.returns-clause-moved
+returns-clause-moved g c =
     let D = g.D.Disk in
+    let old = c.args.old in
+    let place = c.args.place in
+    let to = c.args.to in
+    let unit = c.slot_unit.result in
     let at = c.min-at.result in
-    let F3 = (D.files c.write_zeros.new.disk).pkg in
-    map_ok c.write_zeros.result (λ (zeros : IsTrue D.tells → (i : ℕ) → at ≤ i → i < at + (end_of c.args.old - at) → unit_at F3 i ≡ blank) told.
-    moved_blank c.args.place c.args.to c.args.old.count at (end_of c.args.old - at) c.slot_unit.result (D.files c.args.disk.now).pkg
-    (D.files c.copy_settled.new.disk).pkg (D.files c.write_one.new.disk).pkg F3 (c.copy_settled.ensures.copies.pkg told)
-    (c.in_ok-write_one.ensures.written told)
-    (c.write_zeros.ensures.changes.pkg told) (zeros told)) c.write_zeros.ensures.zeros
-
-pub returns-clause-reach : goal.returns-clause-reach
-returns-clause-reach g c = on_ok c.write_zeros.result (λ told limit place_ends old_ends new_ends short.
-    let D = g.D.Disk in
-    let at = c.min-at.result in
+    let n = end_of old - at in
     let F0 = (D.files c.args.disk.now).pkg in
     let F1 = (D.files c.copy_settled.new.disk).pkg in
     let F2 = (D.files c.write_one.new.disk).pkg in
-    outside_ends limit at (end_of c.args.old - at) F2 (D.files c.write_zeros.new.disk).pkg (omega (arith, c.min-at.ensures)) (c.write_zeros.ensures.changes.pkg told)
-    (unit_ends limit (2 + c.args.place) c.slot_unit.result F1 F2 (omega arith) (c.in_ok-write_one.ensures.written told)
-    (outside_ends limit c.args.to c.args.old.count F0 F1 new_ends (c.copy_settled.ensures.copies.pkg told) short)))
+    let F3 = (D.files c.write_zeros.new.disk).pkg in
+    let low : old.offset ≤ at = omega (arith, c.min-at.ensures, c.max.ensures) in
+    let high : at + n ≤ end_of old = omega (arith, c.min-at.ensures, c.max.ensures) in
+    map_ok c.write_zeros.result (λ (zeros : IsTrue D.tells → (i : ℕ) → at ≤ i → i < at + n → unit_at F3 i ≡ blank) told.
+    let first = c.copy_settled.ensures.copies.pkg told in
+    let second = c.in_ok-write_one.ensures.written told in
+    let same = c.write_zeros.ensures.changes.pkg told in
+    let holds : (value : Store) → CanMove value place old to → Keeps F0 value → Holds F1 to (blocks_of old F0) =
+    λ value can keeps. held_after value place old to can F0 keeps F1
+    (c.in_ok-copy_settled.ensures.long told (move_set value place old to can F0 keeps).some) (c.in_ok-copy_settled.ensures.copied told) in
+    record {
+      stands = λ value can keeps.
+          while_old_zeroed value place old to can F0 keeps unit c.slot_unit.ensures F1 F2 first (holds value can keeps) second at n low high F2 F3 refl same;
+      quiet = λ value can keeps image here.
+          let past = c.write_zeros.ensures.changes.now told image here in
+          let third = while_old_zeroed value place old to can F0 keeps unit c.slot_unit.ensures F1 F2 first (holds value can keeps) second at n low high in
+          moved_alike value place old to can F0 keeps F3 image.pkg (third F2 F3 refl same)
+          (third past.from.pkg image.pkg (c.in_ok-write_one.ensures.settled told past.from past.was) past.pkg);
+      zeros = λ i from zeros_from below. zeros told i (omega (arith, c.min-at.ensures, c.max.ensures)) (omega (arith, c.min-at.ensures, c.max.ensures));
+      blanks = moved_blank place to old.count at n unit F0 F1 F2 F3 first second same (zeros told);
+      reach = λ limit place_ends old_ends new_ends short.
+          outside_ends limit at n F2 F3 (omega (arith, c.min-at.ensures)) same
+          (unit_ends limit (2 + place) unit F1 F2 (omega arith) second (outside_ends limit to old.count F0 F1 new_ends first short));
+    }) c.write_zeros.ensures.zeros

@@ -11,7 +11,7 @@ use Rattle.rpm_pkgdb.specs.Framing.{framed, next_unit}
 use Rattle.rpm_pkgdb.proofs.ClearLaws.{put_elsewhere}
 use Rattle.rpm_pkgdb.proofs.FramingLaws.{count-framed}
 use Rattle.rpm_pkgdb.proofs.FreedLaws.{put_blank_all}
-use Rattle.rpm_pkgdb.proofs.Changing.{on_ok, map_ok, changes_then, stops_from, stops_then}
+use Rattle.rpm_pkgdb.proofs.Changing.{map_ok, changes_then, stops_from, stops_then}
 use Rattle.rpm_pkgdb.specs.Stays.{SameOutside}
 use Rattle.rpm_pkgdb.specs.Quiet.{Anything}
 use Rattle.rpm_pkgdb.specs.Plans.{slot_for}
@@ -81,35 +81,6 @@ returns-clause-images g c = λ told value can quiet.
     (c.in_ok-write_first.ensures.written told) (c.in_ok-write_one.ensures.written told) from.pkg image.pkg
     (c.in_ok-write_one.ensures.settled told from was) same)))
 
-pub returns-clause-stands : goal.returns-clause-stands
-returns-clause-stands g c = on_ok c.write_zeros.result (λ told value can keeps.
-    let D = g.D.Disk in
-    let target = c.args.target.now in
-    let F2 = (D.files c.write_one.new.disk).pkg in
-    let is = slot_is c.slot_unit.result target c.slot.result c.slot.ensures c.slot_unit.ensures in
-    third_phase value target c.args.generation c.args.old c.args.blob.now can c.slot_unit.result is (D.files c.args.disk.now).pkg
-    (D.files c.write_first.new.disk).pkg F2 keeps (c.in_ok-write_first.ensures.written told) (c.in_ok-write_one.ensures.written told) F2
-    (D.files c.write_zeros.new.disk).pkg refl (c.write_zeros.ensures.changes.pkg told))
-
-pub returns-clause-quiet : goal.returns-clause-quiet
-returns-clause-quiet g c = on_ok c.write_zeros.result (λ told value can keeps image here.
-    let D = g.D.Disk in
-    let target = c.args.target.now in
-    let blob = c.args.blob.now in
-    let F0 = (D.files c.args.disk.now).pkg in
-    let F1 = (D.files c.write_first.new.disk).pkg in
-    let F2 = (D.files c.write_one.new.disk).pkg in
-    let F3 = (D.files c.write_zeros.new.disk).pkg in
-    let is = slot_is c.slot_unit.result target c.slot.result c.slot.ensures c.slot_unit.ensures in
-    let first = c.in_ok-write_first.ensures.written told in
-    let second = c.in_ok-write_one.ensures.written told in
-    let past = c.write_zeros.ensures.changes.now told image here in
-    stand_alike value target c.args.generation c.args.old blob can F0 F3 image.pkg keeps
-    (third_phase value target c.args.generation c.args.old blob can c.slot_unit.result is F0 F1 F2 keeps first second F2 F3 refl
-    (c.write_zeros.ensures.changes.pkg told))
-    (third_phase value target c.args.generation c.args.old blob can c.slot_unit.result is F0 F1 F2 keeps first second past.from.pkg image.pkg
-    (c.in_ok-write_one.ensures.settled told past.from past.was) past.pkg))
-
 pub returns-clause-changes : goal.returns-clause-changes
 returns-clause-changes g c =
     let D = g.D.Disk in
@@ -131,40 +102,44 @@ returns-in_err-write_one-clause-changes g c =
     (Torn (2 + target.place) (c.slot_unit.result ∷ [])) Anything c.args.disk.now c.write_first.new.disk c.write_one.new.disk (λ x y r. tt)
     (λ x y z r s. tt) c.write_first.ensures.changes c.write_one.ensures.changes
 
-pub returns-clause-blanks : goal.returns-clause-blanks
-returns-clause-blanks g c =
+pub returns-clause-put : goal.returns-clause-put
+returns-clause-put g c =
     let D = g.D.Disk in
     let target = c.args.target.now in
-    let blob = c.args.blob.now in
+    let gen = c.args.generation in
     let old = c.args.old in
+    let blob = c.args.blob.now in
+    let us = units_of (framed target.number gen blob) in
+    let unit = c.slot_unit.result in
+    let is = slot_is unit target c.slot.result c.slot.ensures c.slot_unit.ensures in
+    let F0 = (D.files c.args.disk.now).pkg in
+    let F1 = (D.files c.write_first.new.disk).pkg in
+    let F2 = (D.files c.write_one.new.disk).pkg in
     let F3 = (D.files c.write_zeros.new.disk).pkg in
     map_ok c.write_zeros.result (λ (zeros : IsTrue D.tells → (i : ℕ) → old.offset ≤ i → i < end_of old → unit_at F3 i ≡ blank) told.
-    put_blank_all (next_field target) (units_of (framed target.number c.args.generation blob)) target.place target.start (blocks_for (length blob))
-    old.offset old.count c.slot_unit.result (D.files c.args.disk.now).pkg (D.files c.write_first.new.disk).pkg (D.files c.write_one.new.disk).pkg F3
-    (count-framed target.number c.args.generation blob) (c.in_ok-write_first.ensures.written told) (c.in_ok-write_one.ensures.written told)
-    (c.write_zeros.ensures.changes.pkg told) (zeros told)) c.write_zeros.ensures.zeros
-
-pub returns-clause-next : goal.returns-clause-next
-returns-clause-next g c = on_ok c.write_zeros.result (λ told none.
-    let D = g.D.Disk in
-    let target = c.args.target.now in
-    let F1 = (D.files c.write_first.new.disk).pkg in
-    let F2 = (D.files c.write_one.new.disk).pkg in
-    let F3 = (D.files c.write_zeros.new.disk).pkg in
-    let stays : unit_at F3 1 ≡ unit_at F1 1 =
-    (c.write_zeros.ensures.changes.pkg told).above 1 (omega (arith, ap (λ (s : Slot). s.offset) none, ap (λ (s : Slot). s.count) none))
-    ∙ ap (λ (u : Units). unit_at u 1) (c.in_ok-write_one.ensures.written told) ∙ put_elsewhere (2 + target.place) c.slot_unit.result F1 1 (omega arith) in
-    subst (λ (u : List ℕ). IfSome (next_field target) (λ n. u ≡ next_unit n)) (sym stays) (c.in_ok-write_first.ensures.next told))
-
-pub returns-clause-reach : goal.returns-clause-reach
-returns-clause-reach g c = on_ok c.write_zeros.result (λ told limit blob_ends_by place_ends old_ends short.
-    let D = g.D.Disk in
-    let target = c.args.target.now in
-    let blob = c.args.blob.now in
-    let us = units_of (framed target.number c.args.generation blob) in
-    let F1 = (D.files c.write_first.new.disk).pkg in
-    let F2 = (D.files c.write_one.new.disk).pkg in
-    outside_ends limit c.args.old.offset c.args.old.count F2 (D.files c.write_zeros.new.disk).pkg old_ends (c.write_zeros.ensures.changes.pkg told)
-    (unit_ends limit (2 + target.place) c.slot_unit.result F1 F2 (omega arith) (c.in_ok-write_one.ensures.written told)
-    (blob_ends limit target.start us (next_field target) (D.files c.args.disk.now).pkg F1
-    (omega (arith, blob_ends_by, count-framed target.number c.args.generation blob)) (omega arith) (c.in_ok-write_first.ensures.written told) short)))
+    let first = c.in_ok-write_first.ensures.written told in
+    let second = c.in_ok-write_one.ensures.written told in
+    let same = c.write_zeros.ensures.changes.pkg told in
+    record {
+      stands = λ value can keeps. third_phase value target gen old blob can unit is F0 F1 F2 keeps first second F2 F3 refl same;
+      quiet = λ value can keeps image here.
+          let past = c.write_zeros.ensures.changes.now told image here in
+          stand_alike value target gen old blob can F0 F3 image.pkg keeps
+          (third_phase value target gen old blob can unit is F0 F1 F2 keeps first second F2 F3 refl same)
+          (third_phase value target gen old blob can unit is F0 F1 F2 keeps first second past.from.pkg image.pkg
+          (c.in_ok-write_one.ensures.settled told past.from past.was) past.pkg);
+      next = λ none.
+          let stays : unit_at F3 1 ≡ unit_at F1 1 =
+          same.above 1 (omega (arith, ap (λ (s : Slot). s.offset) none, ap (λ (s : Slot). s.count) none))
+          ∙ ap (λ (u : Units). unit_at u 1) second ∙ put_elsewhere (2 + target.place) unit F1 1 (omega arith) in
+          subst (λ (u : List ℕ). IfSome (next_field target) (λ n. u ≡ next_unit n)) (sym stays) (c.in_ok-write_first.ensures.next told);
+      zeros = zeros told;
+      blanks =
+          put_blank_all (next_field target) us target.place target.start (blocks_for (length blob)) old.offset old.count unit F0 F1 F2 F3
+          (count-framed target.number gen blob) first second same (zeros told);
+      reach = λ limit blob_ends_by place_ends old_ends short.
+          outside_ends limit old.offset old.count F2 F3 old_ends same
+          (unit_ends limit (2 + target.place) unit F1 F2 (omega arith) second
+          (blob_ends limit target.start us (next_field target) F0 F1 (omega (arith, blob_ends_by, count-framed target.number gen blob)) (omega arith) first
+          short));
+    }) c.write_zeros.ensures.zeros

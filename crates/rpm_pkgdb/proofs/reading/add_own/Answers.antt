@@ -1,14 +1,13 @@
-use Rattle.std.proofs.Common.{◌≡◌, ℕ, ◌+◌, ◌/◌, ◌<◌, List, [], ◌∷◌, ◌++◌, length, take, None, sym, ap, ◌∙◌, subst, arith, length-append}
+use Rattle.std.proofs.Common.{◌≡◌, ℕ, ◌+◌, ◌/◌, ◌<◌, List, [], ◌∷◌, ◌++◌, length, take, true, Option, None, Some, is_some, refl, sym, ap, ◌∙◌, arith, length-append}
 use Rattle.std.proofs.lemmas.List.{append-nil, length-take}
 use Rattle.rpm_outside.specs.Files.{units_of}
 use Rattle.rpm_outside.specs.inner.Cuts.{length-cut_up}
 use Rattle.rpm_pkgdb.specs.declared.slot.Slot.{Slot}
-use Rattle.rpm_pkgdb.specs.Slots.{slots_in}
+use Rattle.rpm_pkgdb.specs.declared.slot.Reason.{Reason}
+use Rattle.rpm_pkgdb.specs.Slots.{slot_of, slots_in}
 use Rattle.rpm_pkgdb.specs.Damages.{own_reason}
-use Rattle.rpm_pkgdb.specs.inner.Tables.{AreNumbered}
-use Rattle.rpm_pkgdb.proofs.Sound.{placed_slot}
-use Rattle.rpm_pkgdb.proofs.Known.{numbered_push}
-use Rattle.rpm_pkgdb.proofs.OrderLaws.{room_less}
+use Rattle.rpm_pkgdb.specs.inner.Reading.{added}
+use Rattle.rpm_pkgdb.proofs.OrderLaws.{awaits_less}
 use Rattle.rpm_pkgdb.proofs.Steps.{length-slots_in, slots_in-none, slots_more}
 use Rattle.rpm_pkgdb.proofs.TableLaws.{own_more, none_of}
 use Rattle.rpm_pkgdb.proofs.ReadingLaws.{ends_early}
@@ -20,7 +19,7 @@ loop-k-init c = record {
   own = λ k below. absurd (omega (arith, below));
   order = c.requires.order;
   numbered = c.requires.numbered;
-  room = λ n room. room;
+  awaits = λ n has. has;
 }
 
 count : (bytes : List ℕ) (k : ℕ) (old now : List Slot) → now ≡ old ++ slots_in (take k (units_of bytes)) → k < length bytes / 16
@@ -37,13 +36,18 @@ count bytes k old now is below =
       below,
     )
 
-pub push-requires-clause-room : goal.push-requires-clause-room
-push-requires-clause-room c =
-    let n = count c.args.bytes.now c.loop-k.k c.args.rising.slots.items c.loop-k.rising.slots.items c.loop-k.invariant.slots c.loop-k-test.true in
-    room_less _ _ c.loop-k.rising (omega (arith, n, c.loop-k-test.true)) (c.loop-k.invariant.room _ c.requires.room)
+added_none : (slots : List Slot) (o : Option Reason) (s : Slot) → is_some o ≡ true → added slots o s ≡ slots
+added_none slots None s some = absurd cc
+added_none slots (Some reason) s some = refl
 
-pub push-requires-clause-few : goal.push-requires-clause-few
-push-requires-clause-few c =
+pub add_unit-reason-requires-clause-awaits : goal.add_unit-reason-requires-clause-awaits
+add_unit-reason-requires-clause-awaits c =
+    let n = count c.args.bytes.now c.loop-k.k c.args.rising.slots.items c.loop-k.rising.slots.items c.loop-k.invariant.slots c.loop-k-test.true in
+    awaits_less _ _ c.args.pages c.args.pages c.loop-k.rising (omega (arith, n, c.loop-k-test.true)) (omega arith)
+    (c.loop-k.invariant.awaits _ c.requires.awaits)
+
+pub add_unit-reason-requires-clause-few : goal.add_unit-reason-requires-clause-few
+add_unit-reason-requires-clause-few c =
     let n = count c.args.bytes.now c.loop-k.k c.args.rising.slots.items c.loop-k.rising.slots.items c.loop-k.invariant.slots c.loop-k-test.true in
     omega (arith, n, c.loop-k-test.true, c.requires.few)
 
@@ -52,19 +56,19 @@ loop-k-preserved c =
     let us = units_of c.args.bytes.now in
     let k = c.loop-k.k in
     let was = c.loop-k.invariant in
+    let old = c.loop-k.rising.slots.items in
+    let unit = c.unit_in.result.now in
+    let done = c.add_unit-reason.ensures in
     let below : k < length us = omega (arith, length-cut_up (length c.args.bytes.now / 16) c.args.bytes.now) in
-    let none : own_reason c.args.pages c.args.units c.unit_in-unit.result.now ≡ None =
-    none_of _ _ _ c.own_reason-reason.ensures c.is_some.ensures c.if-is_some.false in
+    let none : own_reason c.args.pages c.args.units unit ≡ None = none_of _ _ _ done.reason c.is_some.ensures c.if-is_some.false in
+    let new : c.add_unit-reason.new.rising.slots.items ≡ old ++ slot_of unit ∷ [] =
+    done.slots ∙ ap (λ (o : Option Reason). added old o (slot_of unit)) (done.reason ∙ none) in
     record {
-      slots =
-          slots_more c.args.rising.slots.items c.loop-k.rising.slots.items us k c.unit_in-unit.result.now below was.slots c.unit_in-unit.ensures.unit
-          c.push.new.self.slots.items (c.push.ensures.slots ∙ ap (λ (s : Slot). c.loop-k.rising.slots.items ++ s ∷ []) c.slot_of.ensures);
-      own = own_more c.args.pages c.args.units us k c.unit_in-unit.result.now was.own c.unit_in-unit.ensures.unit none;
-      order = c.push.ensures.order;
-      numbered = subst AreNumbered (sym c.push.ensures.slots) (numbered_push c.loop-k.rising.slots.items c.slot_of.result was.numbered (λ used.
-          let p = placed_slot c.args.pages c.args.units c.unit_in-unit.result.now c.slot_of.result none c.slot_of.ensures used in
-          (p.number, omega (arith, p.few, c.slot_of.type_inv))));
-      room = λ n room. c.push.ensures.room n (was.room n room);
+      slots = slots_more c.args.rising.slots.items old us k unit below was.slots c.unit_in.ensures.unit c.add_unit-reason.new.rising.slots.items new;
+      own = own_more c.args.pages c.args.units us k unit was.own c.unit_in.ensures.unit none;
+      order = done.order;
+      numbered = done.numbered was.numbered;
+      awaits = λ n has. done.awaits n (was.awaits n has);
     }
 
 pub returns-then-is_some-clause-adds : goal.returns-then-is_some-clause-adds
@@ -73,12 +77,17 @@ returns-then-is_some-clause-adds c =
     let below : c.loop-k.k < length us = omega (arith, length-cut_up (length c.args.bytes.now / 16) c.args.bytes.now, c.loop-k-test.true) in
     record {
       count = c.loop-k.k;
-      slots_are = c.loop-k.invariant.slots;
+      slots_are = c.add_unit-reason.ensures.slots
+          ∙ added_none c.loop-k.rising.slots.items c.add_unit-reason.result (slot_of c.unit_in.result.now) (sym c.is_some.ensures ∙ c.if-is_some.true)
+          ∙ c.loop-k.invariant.slots;
       own = c.loop-k.invariant.own;
-      ends = ends_early c.args.pages c.args.units us c.loop-k.k c.own_reason-reason.result below
-          (c.own_reason-reason.ensures ∙ ap (own_reason c.args.pages c.args.units) c.unit_in-unit.ensures.unit)
+      ends = ends_early c.args.pages c.args.units us c.loop-k.k c.add_unit-reason.result below
+          (c.add_unit-reason.ensures.reason ∙ ap (own_reason c.args.pages c.args.units) c.unit_in.ensures.unit)
           (sym c.is_some.ensures ∙ c.if-is_some.true);
     }
+
+pub returns-then-is_some-clause-awaits : goal.returns-then-is_some-clause-awaits
+returns-then-is_some-clause-awaits c = λ n has. c.add_unit-reason.ensures.awaits n (c.loop-k.invariant.awaits n has)
 
 pub returns-clause-adds : goal.returns-clause-adds
 returns-clause-adds c = record {

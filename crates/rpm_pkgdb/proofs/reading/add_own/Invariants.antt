@@ -1,7 +1,7 @@
 use Rattle.std.proofs.Common.{◌≡◌, ℕ, ◌++◌, take}
 use Rattle.rpm_outside.specs.Files.{units_of}
 use Rattle.rpm_pkgdb.specs.Slots.{slots_in}
-use Rattle.rpm_pkgdb.specs.inner.Rising.{IsInOrder, HasRoom}
+use Rattle.rpm_pkgdb.specs.inner.Rising.{IsInOrder, Awaits}
 use Rattle.rpm_pkgdb.specs.inner.Tables.{AreOwn, AreNumbered}
 use Rattle.rpm_pkgdb.proofs.reading.add_own.Given as goal
 
@@ -11,5 +11,5 @@ invariant-loop-k l = record {
   own : AreOwn l.pages l.units (units_of l.bytes) l.k;
   order : IsInOrder l.rising;
   numbered : AreNumbered l.rising.slots.items;
-  room : (n : ℕ) → HasRoom n l.initial.rising → HasRoom n l.rising;
+  awaits : (n : ℕ) → Awaits l.pages n l.initial.rising → Awaits l.pages n l.rising;
 }

@@ -2,7 +2,7 @@ use Rattle.std.proofs.Common.{◌≡◌, ℕ, ◌/◌, IsTrue, length, take, dro
 use Rattle.rpm_outside.specs.Files.{units_of}
 use Rattle.rpm_outside.specs.inner.Cuts.{length-cut_up}
 use Rattle.rpm_pkgdb.specs.Damages.{table}
-use Rattle.rpm_pkgdb.proofs.OrderLaws.{room_less}
+use Rattle.rpm_pkgdb.proofs.OrderLaws.{awaits_less}
 use Rattle.rpm_pkgdb.proofs.ReadingLaws.{piece_of_table, reading_more}
 use Rattle.rpm_pkgdb.proofs.reading.read_piece.Goals as goal
 
@@ -13,9 +13,9 @@ read_units-requires-clause-within g c = λ told.
 pub add_own-requires-clause-few : goal.add_own-requires-clause-few
 add_own-requires-clause-few g c = omega (arith, c.requires.few, c.requires.pages, c.read_units.auto.into)
 
-pub add_own-requires-clause-room : goal.add_own-requires-clause-room
-add_own-requires-clause-room g c =
-    room_less _ _ c.args.rising (omega (arith, c.read_units.auto.into)) c.requires.room
+pub add_own-requires-clause-awaits : goal.add_own-requires-clause-awaits
+add_own-requires-clause-awaits g c =
+    awaits_less _ _ c.args.pages c.args.pages c.args.rising (omega (arith, c.read_units.auto.into)) (omega arith) c.requires.awaits
 
 pub add_own-requires-clause-numbered : goal.add_own-requires-clause-numbered
 add_own-requires-clause-numbered g c = c.requires.read.numbered

@@ -13,7 +13,7 @@ loop-k-init g c = record {
   read = nothing_read _ _ _ _ _ c.requires.empty;
   count = omega (arith, ap length c.requires.empty);
   order = c.requires.order;
-  room = c.requires.room;
+  awaits = c.requires.awaits;
   looks = looks_more _ _ _ _ _ _ Pkg 0 _ _ _ (omega arith) (looks_none _ _ _ _ _ _ Pkg g.met.D.Disk.follows_refl c.args.disk.now);
   faults = omega arith;
 }
@@ -34,7 +34,7 @@ loop-k-preserved g c =
           (λ told. ap (λ (f : Files). table pages f.pkg) (was.looks.untouched told).same) done.read.slots;
       count = omega (arith, was.count, all, part, c.min-more.ensures, c.loop-k-test.true);
       order = done.order;
-      room = done.room (256 * pages - 2) was.room;
+      awaits = done.awaits (256 * pages - 2) was.awaits;
       looks = looks_then _ _ _ _ _ _ Pkg g.met.D.Disk.follows_trans (16 * length c.loop-k.rising.slots.items) (length (take (16 * more) buffer)) _
           c.args.disk.now c.loop-k.disk c.read_piece.new.disk (omega (arith, all, part)) was.looks done.looks;
       faults = omega (arith, was.faults, done.cause.later);

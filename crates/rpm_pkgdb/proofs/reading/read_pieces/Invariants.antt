@@ -3,7 +3,7 @@ use Rattle.rpm_outside.specs.Looks.{Looks}
 use Rattle.rpm_outside.specs.declared.disk.File.TheVariants.{Pkg}
 use Rattle.rpm_pkgdb.specs.Damages.{table}
 use Rattle.rpm_pkgdb.specs.inner.Reading.{AreRead}
-use Rattle.rpm_pkgdb.specs.inner.Rising.{IsInOrder, HasRoom}
+use Rattle.rpm_pkgdb.specs.inner.Rising.{IsInOrder, Awaits}
 use Rattle.rpm_pkgdb.proofs.reading.read_pieces.Given as goal
 
 abbrev pub invariant-loop-k : goal.invariant-loop-k
@@ -11,7 +11,7 @@ invariant-loop-k g l = record {
   read : AreRead (IsTrue g.D.Disk.tells) l.pages l.units (table l.pages (g.D.Disk.files l.initial.disk).pkg) l.rising.slots.items;
   count : length l.rising.slots.items ≡ min (1024 * l.k) (256 * l.pages - 2);
   order : IsInOrder l.rising;
-  room : HasRoom (256 * l.pages - 2) l.rising;
+  awaits : Awaits l.pages (256 * l.pages - 2) l.rising;
   looks : Looks g.D.Disk.tells g.D.Disk.files g.D.Disk.left_since g.D.Disk.moment g.D.Disk.bytes_read g.D.Disk.follows Pkg (16 * length l.rising.slots.items)
       l.initial.disk l.disk;
   faults : g.D.Disk.faults l.initial.disk ≤ g.D.Disk.faults l.disk;

@@ -1,40 +1,31 @@
-use Rattle.std.proofs.Common.{◌≡◌, ℕ, ◌+◌, List, [], ◌∷◌, ◌++◌, length, sym, ap, ◌∙◌, subst, arith}
+use Rattle.std.proofs.Common.{◌≡◌, ℕ, List, length, Option, Some, sym, ap, ◌∙◌, subst, arith}
+use Rattle.std.specs.Option.{option_or}
 use Rattle.rpm_pkgdb.specs.declared.slot.Slot.{Slot}
-use Rattle.rpm_pkgdb.specs.Slots.{end_of}
-use Rattle.rpm_pkgdb.specs.Pairs.{Pairs}
 use Rattle.rpm_pkgdb.specs.inner.Rising.{InOrder}
-use Rattle.rpm_pkgdb.proofs.OrderLaws.{order_free, order_used}
+use Rattle.rpm_pkgdb.proofs.OrderLaws.{order_free}
 use Rattle.rpm_pkgdb.proofs.Sound.{is_free, is_taken}
 use Rattle.rpm_pkgdb.proofs.rising.Rising.push.Goals as goal
+
+pub push_used-requires-clause-used : goal.push_used-requires-clause-used
+push_used-requires-clause-used c = is_taken c.args.slot c.if-slot-ne0.true
 
 pub overflow_cast-place : goal.overflow_cast-place
 overflow_cast-place c = omega (arith, c.len-place.ensures, c.args.self.now.slots.ok.0, c.requires.few)
 
 pub push_reserved-requires : goal.push_reserved-requires
-push_reserved-requires c = omega (arith, c.args.self.now.slots.ok.0, c.requires.room.slots)
+push_reserved-requires c = omega (arith, c.args.self.now.slots.ok.0, c.requires.awaits.slots)
 
-pub push_reserved-requires-then-slot-ne0 : goal.push_reserved-requires-then-slot-ne0
-push_reserved-requires-then-slot-ne0 c =
-    omega (arith, c.args.self.now.pairs.ok.0, c.args.self.now.slots.ok.0, c.requires.order.pairs_are.few, c.requires.room.pairs)
+pub returns-then-slot-ne0-clause-awaits : goal.returns-then-slot-ne0-clause-awaits
+returns-then-slot-ne0-clause-awaits c = λ pages n behind has.
+    c.push_used.ensures.awaits pages n (behind (is_taken c.args.slot c.if-slot-ne0.true)) has
 
-pub returns-then-slot-ne0-clause-order : goal.returns-then-slot-ne0-clause-order
-returns-then-slot-ne0-clause-order c =
+pub returns-clause-order : goal.returns-clause-order
+returns-clause-order c =
     let old = c.args.self.now in
-    let s = c.args.slot in
-    let numbers = c.still_rise-self.result in
-    let blocks = c.still_rise-self-then-slot-ne0.result in
     let place : c.len-place.result ≡ length old.slots.items = c.len-place.ensures ∙ old.slots.ok.0 in
-    let pairs : c.push_reserved-then-slot-ne0.new.self.items ≡ old.pairs.items ++ (s.number, length old.slots.items) ∷ [] =
-    c.push_reserved-then-slot-ne0.ensures.items ∙ ap (λ (n : ℕ). old.pairs.items ++ (s.number, n) ∷ []) place in
-    subst (λ (ss : List Slot). InOrder ss c.push_reserved-then-slot-ne0.new.self.items numbers blocks (s.number + 1) (end_of s))
-    (sym c.push_reserved.ensures.items)
-    (subst (λ (l : Pairs). InOrder (old.slots.items ++ s ∷ []) l numbers blocks (s.number + 1) (end_of s)) (sym pairs)
-    (order_used old.slots.items s old.pairs.items old.numbers_rise old.blocks_rise old.number old.block c.requires.order (is_taken s c.if-slot-ne0.true)
-    numbers blocks c.still_rise-self.ensures c.still_rise-self-then-slot-ne0.ensures))
-
-pub returns-else-slot-ne0-clause-order : goal.returns-else-slot-ne0-clause-order
-returns-else-slot-ne0-clause-order c =
-    let old = c.args.self.now in
-    subst (λ (ss : List Slot). InOrder ss old.pairs.items old.numbers_rise old.blocks_rise old.number old.block) (sym c.push_reserved.ensures.items)
-    (order_free old.slots.items c.args.slot old.pairs.items old.numbers_rise old.blocks_rise old.number old.block c.requires.order
-    (is_free c.args.slot c.if-slot-ne0.false))
+    let first = c.or-self.ensures ∙ ap (λ (n : ℕ). option_or old.free (Some n)) place in
+    subst (λ (o : Option ℕ). InOrder c.push_reserved.new.self.items old.pairs.items o old.numbers_rise old.blocks_rise old.number old.block) (sym first)
+    (subst (λ (ss : List Slot). InOrder ss old.pairs.items (option_or old.free (Some (length old.slots.items))) old.numbers_rise old.blocks_rise
+    old.number old.block) (sym c.push_reserved.ensures.items)
+    (order_free old.slots.items c.args.slot old.pairs.items old.free old.numbers_rise old.blocks_rise old.number old.block c.requires.order
+    (is_free c.args.slot c.if-slot-ne0.false)))

@@ -31,8 +31,8 @@ forget_slot-requires c =
     let i = c.self.inside in
     let is = subst (λ (v : Store). IsTarget v target) (sym c.self.view_is) c.requires.target in
     let made = subst (λ (v : Store). 1 ≤ v.pages) (sym c.self.view_is) c.requires.made in
-    let held = subst (λ (v : Store). target.is_new ≡ false → c.args.old ≡ slot_at v.slots target.place) (sym c.self.view_is) c.requires.held in
-    has_old_start i.numbers.pairs _ target is made c.self.invariant.kept c.args.old c.requires.new held i.used c.remember.new.used i.spare
+    let held = subst (λ (v : Store). target.is_new ≡ false → c.args.old ≡ slot_at v.slots target.place) (sym c.self.view_is) c.requires.old.held in
+    has_old_start i.numbers.pairs _ target is made c.self.invariant.kept c.args.old c.requires.old.new held i.used c.remember.new.used i.spare
     c.self.invariant.used (subst (λ (t : Slot). Remembers t i.used c.remember.new.used) c.slot-slot.ensures c.remember.ensures)
 
 pub invariant_of-self : goal.invariant_of-self
@@ -41,7 +41,7 @@ invariant_of-self c =
     let i = c.self.inside in
     let is = subst (λ (v : Store). IsTarget v target) (sym c.self.view_is) c.requires.target in
     let made = subst (λ (v : Store). 1 ≤ v.pages) (sym c.self.view_is) c.requires.made in
-    let held = subst (λ (v : Store). target.is_new ≡ false → c.args.old ≡ slot_at v.slots target.place) (sym c.self.view_is) c.requires.held in
+    let held = subst (λ (v : Store). target.is_new ≡ false → c.args.old ≡ slot_at v.slots target.place) (sym c.self.view_is) c.requires.old.held in
     let after : set i.slots.items target.place c.slot-slot.result ≡ set i.slots.items target.place (slot_for target) =
     ap (set i.slots.items target.place) c.slot-slot.ensures in
     let now = says i.numbers.pairs _ target is made c.self.invariant.kept c.note_number.new.numbers.pairs c.note_number.ensures.new
@@ -52,7 +52,7 @@ invariant_of-self c =
           (noted_kept i.numbers.pairs _ target is made c.self.invariant.kept c.note_number.new.numbers.pairs now);
       blank = λ none. absurd (omega (arith, made));
       used = subst (HasUsed c.forget_slot.new.used (i.spare - 1)) (sym after)
-          (noted_used i.numbers.pairs _ target is made c.self.invariant.kept c.args.old c.requires.new held i.used c.remember.new.used c.forget_slot.new.used
+          (noted_used i.numbers.pairs _ target is made c.self.invariant.kept c.args.old c.requires.old.new held i.used c.remember.new.used c.forget_slot.new.used
           i.spare c.self.invariant.used (subst (λ (t : Slot). Remembers t i.used c.remember.new.used) c.slot-slot.ensures c.remember.ensures)
           c.forget_slot.ensures);
       room = omega (arith, c.self.invariant.room, c.note_number.ensures.room);

@@ -1,17 +1,18 @@
-use Rattle.std.proofs.Common.{ℕ, List, ◌+◌, [], ◌∷◌, length, sym, ap, subst, ◌∙◌, arith}
-use Rattle.rpm_pkgdb.specs.Stays.{SameOutside, AllStay}
+use Rattle.std.proofs.Common.{ℕ, List, ◌+◌, [], ◌∷◌, length, sym, ap, subst, arith}
+use Rattle.rpm_pkgdb.specs.Stays.{SameOutside}
 use Rattle.rpm_pkgdb.proofs.ClearLaws.{torn_outside}
 use Rattle.rpm_pkgdb.proofs.StayLaws.{raised_stay}
 use Rattle.rpm_outside.specs.Crash.{Torn}
-use Rattle.rpm_pkgdb.specs.Store.{Store, Keeps}
+use Rattle.rpm_pkgdb.specs.Store.{Store}
 use Rattle.rpm_pkgdb.specs.Blobs.{blobs}
 use Rattle.rpm_pkgdb.proofs.Changing.{changes_weaker, stops_from}
-use Rattle.rpm_pkgdb.specs.Quiet.{IsQuiet}
 use Rattle.rpm_pkgdb.proofs.Made.{made}
 use Rattle.rpm_pkgdb.proofs.Reaching.{unit_ends}
 use Rattle.rpm_pkgdb.proofs.Raises.{while_raised, raised, raised_map, raises_to, raised_quiet}
 use Rattle.rpm_pkgdb.specs.Undamaged.{IsHeadUnit}
 use Rattle.rpm_pkgdb.specs.Written.{with_generation, RaisesTo}
+use Rattle.rpm_pkgdb.specs.Rewritten.{IsRaised}
+use Rattle.rpm_pkgdb.proofs.Written.{written}
 use Rattle.rpm_pkgdb.proofs.store.PkgDb.raise.Goals as goal
 
 abbrev higher : Store → Store
@@ -28,8 +29,8 @@ returns-in_default-clause-images g c = λ told quiet.
     let is = subst (IsHigher unit) c.self.view_is c.head_unit.ensures in
     let F0 = (D.files c.args.disk.now).pkg in
     stops_from _ _ _ _ _ _ told (Torn 0 (unit ∷ [])) (RaisesTo st (st.generation + 1) F0) c.args.disk.now c.write_one.new.disk c.write_one.ensures.changes
-    (λ from image was torn. raises_to st c.requires.made unit (st.generation + 1) is F0 image.pkg (c.requires.keeps told)
-    (while_raised st c.requires.made unit (st.generation + 1) is F0 from.pkg image.pkg (quiet from was) torn))
+    (λ from image was torn. raises_to st c.requires.ready.made unit (st.generation + 1) is F0 image.pkg (c.requires.ready.keeps told)
+    (while_raised st c.requires.ready.made unit (st.generation + 1) is F0 from.pkg image.pkg (quiet from was) torn))
 
 pub returns-clause-images : goal.returns-clause-images
 returns-clause-images g c = λ told quiet.
@@ -39,68 +40,42 @@ returns-clause-images g c = λ told quiet.
     let is = subst (IsHigher unit) c.self.view_is c.head_unit.ensures in
     let F0 = (D.files c.args.disk.now).pkg in
     stops_from _ _ _ _ _ _ told (Torn 0 (unit ∷ [])) (RaisesTo st (st.generation + 1) F0) c.args.disk.now c.write_one.new.disk c.write_one.ensures.changes
-    (λ from image was torn. raises_to st c.requires.made unit (st.generation + 1) is F0 image.pkg (c.requires.keeps told)
-    (while_raised st c.requires.made unit (st.generation + 1) is F0 from.pkg image.pkg (quiet from was) torn))
+    (λ from image was torn. raises_to st c.requires.ready.made unit (st.generation + 1) is F0 image.pkg (c.requires.ready.keeps told)
+    (while_raised st c.requires.ready.made unit (st.generation + 1) is F0 from.pkg image.pkg (quiet from was) torn))
 
-pub returns-clause-kept : goal.returns-clause-kept
-returns-clause-kept g c = λ told.
+pub returns-in_default-clause-changes : goal.returns-in_default-clause-changes
+returns-in_default-clause-changes g c =
+    let unit = c.head_unit.result in
+    changes_weaker _ _ _ _ _ _ (Torn 0 (unit ∷ [])) (SameOutside 0 1) c.args.disk.now c.write_one.new.disk (λ x y torn. torn_outside 0 (unit ∷ []) x y torn)
+    c.write_one.ensures.changes
+
+pub returns-clause-changes : goal.returns-clause-changes
+returns-clause-changes g c =
+    let unit = c.head_unit.result in
+    changes_weaker _ _ _ _ _ _ (Torn 0 (unit ∷ [])) (SameOutside 0 1) c.args.disk.now c.write_one.new.disk (λ x y torn. torn_outside 0 (unit ∷ []) x y torn)
+    c.write_one.ensures.changes
+
+pub returns-clause-raised : goal.returns-clause-raised
+returns-clause-raised g c = λ told.
     let D = g.D.Disk in
     let st = c.args.self.now in
     let unit = c.head_unit.result in
     let is = subst (IsHigher unit) c.self.view_is c.head_unit.ensures in
-    let F1 = (D.files c.write_one.new.disk).pkg in
-    subst (Keeps F1) (sym (ap higher c.self.view_is)) (raised st c.requires.made unit (st.generation + 1) is (D.files c.args.disk.now).pkg F1
-    (c.requires.keeps told) (c.in-Ok.ensures.written told)).keeps
-
-pub returns-clause-blobs : goal.returns-clause-blobs
-returns-clause-blobs g c = λ told.
-    let D = g.D.Disk in
-    let st = c.args.self.now in
-    let unit = c.head_unit.result in
-    let is = subst (IsHigher unit) c.self.view_is c.head_unit.ensures in
-    let F0 = (D.files c.args.disk.now).pkg in
-    let F1 = (D.files c.write_one.new.disk).pkg in
-    ap (blobs F1) (ap higher c.self.view_is) ∙ raised_map st c.requires.made unit (st.generation + 1) is F0 F1 (c.requires.keeps told)
-    (raised st c.requires.made unit (st.generation + 1) is F0 F1 (c.requires.keeps told) (c.in-Ok.ensures.written told))
-
-pub returns-clause-quiet : goal.returns-clause-quiet
-returns-clause-quiet g c = λ told.
-    let D = g.D.Disk in
-    let st = c.args.self.now in
-    let unit = c.head_unit.result in
-    let is = subst (IsHigher unit) c.self.view_is c.head_unit.ensures in
+    let a = c.args.disk.now in
     let next = c.write_one.new.disk in
-    subst (λ (v : Store). IsQuiet v (D.files next) (D.left_since next (D.moment next))) (sym (ap higher c.self.view_is))
-    (raised_quiet st c.requires.made unit (st.generation + 1) is (D.files c.args.disk.now) (D.files next) (D.left_since next (D.moment next))
-    (c.requires.keeps told) (c.in-Ok.ensures.written told) (c.in-Ok.ensures.settled told))
-
-pub returns-in_default-clause-alone : goal.returns-in_default-clause-alone
-returns-in_default-clause-alone g c =
-    let unit = c.head_unit.result in
-    changes_weaker _ _ _ _ _ _ (Torn 0 (unit ∷ [])) (SameOutside 0 1) c.args.disk.now c.write_one.new.disk (λ x y torn. torn_outside 0 (unit ∷ []) x y torn)
-    c.write_one.ensures.changes
-
-pub returns-clause-alone : goal.returns-clause-alone
-returns-clause-alone g c =
-    let unit = c.head_unit.result in
-    changes_weaker _ _ _ _ _ _ (Torn 0 (unit ∷ [])) (SameOutside 0 1) c.args.disk.now c.write_one.new.disk (λ x y torn. torn_outside 0 (unit ∷ []) x y torn)
-    c.write_one.ensures.changes
-
-pub returns-clause-others : goal.returns-clause-others
-returns-clause-others g c = λ told.
-    let D = g.D.Disk in
-    let st = c.args.self.now in
-    let unit = c.head_unit.result in
-    let is = subst (IsHigher unit) c.self.view_is c.head_unit.ensures in
-    let F0 = (D.files c.args.disk.now).pkg in
-    let F1 = (D.files c.write_one.new.disk).pkg in
-    subst (λ (v : Store). AllStay st F0 v F1) (sym (ap higher c.self.view_is))
-    (raised_stay st (st.generation + 1) F0 F1 c.requires.made (c.requires.keeps told)
-    (raised st c.requires.made unit (st.generation + 1) is F0 F1 (c.requires.keeps told) (c.in-Ok.ensures.written told)))
-
-pub returns-clause-reach : goal.returns-clause-reach
-returns-clause-reach g c = λ told.
-    let F0 = (g.D.Disk.files c.args.disk.now).pkg in
-    let is = made F0 c.args.self.now (c.requires.keeps told) c.requires.made in
-    unit_ends (length F0) 0 c.head_unit.result F0 (g.D.Disk.files c.write_one.new.disk).pkg (omega (arith, is.lawful.inside, is.lawful.some))
-    (c.in-Ok.ensures.written told) (omega arith)
+    let F0 = (D.files a).pkg in
+    let F1 = (D.files next).pkg in
+    let some = c.requires.ready.made in
+    let keeps = c.requires.ready.keeps told in
+    let put = c.in-Ok.ensures.written told in
+    let stands = raised st some unit (st.generation + 1) is F0 F1 keeps put in
+    let at = made F0 st keeps some in
+    subst (λ (v : Store). IsRaised D a next st v) (sym (ap higher c.self.view_is)) (record {
+      written =
+          written D next (higher st) (blobs F0 st) some stands.keeps
+          (raised_quiet st some unit (st.generation + 1) is (D.files a) (D.files next) (D.left_since next (D.moment next)) keeps put
+          (c.in-Ok.ensures.settled told))
+          (raised_map st some unit (st.generation + 1) is F0 F1 keeps stands);
+      others = raised_stay st (st.generation + 1) F0 F1 some keeps stands;
+      reach = unit_ends (length F0) 0 unit F0 F1 (omega (arith, at.lawful.inside, at.lawful.some)) put (omega arith);
+    })

@@ -49,7 +49,7 @@ invariant_of-result g c =
     let l = lawful c.args.units c.args.head.now c.requires.lawful in
     record {
       kept = record {
-        places = c.in-Ok-read_table.ensures.places;
+        places = c.in-Ok-read_table.ensures.indexed.places;
         numbered = c.in-Ok-read_table.ensures.numbered;
         sound = c.in-Ok-read_table.ensures.placed;
         limit = omega (arith, l.below, c.word-pages.ensures);
@@ -59,7 +59,7 @@ invariant_of-result g c =
       used = refl;
       room = omega arith;
       one = omega arith;
-      taken = λ k below. absurd (omega (arith, below));
+      taken = c.in-Ok-read_table.ensures.indexed.taken;
     }
 
 pub returns-clause-from_one : goal.returns-clause-from_one
