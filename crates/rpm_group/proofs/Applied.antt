@@ -6,7 +6,8 @@ use Rattle.rpm_outside.specs.declared.disk.File.{File}
 use Rattle.rpm_outside.specs.Files.{Units, Files, file_of, with_file, put, unit_at}
 use Rattle.rpm_outside.specs.Crash.{LeavesOnly}
 use Rattle.rpm_outside.specs.inner.Moments.{leaves_then, leaves_weaker}
-use Rattle.rpm_outside.specs.Logs.{Entry, LogState, Closed, Malformed, Open, word, is_head, entry_at, before, heads, with_entry, with_entries}
+use Rattle.rpm_outside.specs.Logs.{Entry, LogState, Closed, Malformed, Open, is_head, entry_at, before, heads, with_entry, with_entries}
+use Rattle.rpm_outside.specs.Words.{word}
 use Rattle.rpm_outside.specs.inner.LogRules.{heads_right, heads_wrong, heads_done, heads_more, head_parts, entry_units}
 use Rattle.rpm_outside.specs.Entries.{HasUnit, Covers}
 use Rattle.rpm_outside.specs.inner.EntryLaws.{within_changed}

@@ -7,7 +7,8 @@ use Rattle.rpm_outside.specs.inner.Puts.{length-put, put_before, put_inside}
 use Rattle.rpm_outside.specs.inner.History.{torn_file_whole}
 use Rattle.rpm_outside.specs.Changed.{ChangedIn}
 use Rattle.rpm_outside.specs.inner.ChangedLaws.{torn_changed, changed_more}
-use Rattle.rpm_outside.specs.Logs.{Entry, word}
+use Rattle.rpm_outside.specs.Logs.{Entry}
+use Rattle.rpm_outside.specs.Words.{word}
 use Rattle.rpm_outside.specs.LogWrites.{EntryIn, EntriesIn}
 use Rattle.rpm_outside.specs.inner.LogWriting.{entries_kept, entries_push}
 use Rattle.rpm_group.specs.Orders.{HeadsEndInZeros}

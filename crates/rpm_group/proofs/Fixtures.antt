@@ -2,7 +2,8 @@
 use Rattle.std.specs.Prelude.{◌≡◌, ℕ, List, [], ◌∷◌, refl, replicate}
 use Rattle.rpm_outside.specs.declared.disk.File.TheVariants.{Pkg}
 use Rattle.rpm_outside.specs.Files.{blank, put}
-use Rattle.rpm_outside.specs.Logs.{Closed, Malformed, Open, log_state, reopened, word, is_gate, is_head, entry_at, heads}
+use Rattle.rpm_outside.specs.Logs.{Closed, Malformed, Open, log_state, reopened, is_gate, is_head, entry_at, heads}
+use Rattle.rpm_outside.specs.Words.{word}
 
 -- `RpmL`, version 1, so many entries, the last unit
 gate : ℕ → ℕ → List ℕ

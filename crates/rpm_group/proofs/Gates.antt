@@ -3,7 +3,8 @@ use Rattle.std.proofs.Common.{◌≡◌, ℕ, suc, ◌+◌, true, false, length,
 use Rattle.std.specs.Prelude.{if◌then◌else◌, Bool}
 use Rattle.rpm_outside.specs.declared.disk.File.TheVariants.{Pkg, Idx, Log}
 use Rattle.rpm_outside.specs.Files.{Files, Units, unit_at}
-use Rattle.rpm_outside.specs.Logs.{Entry, LogState, Closed, Malformed, Open, word, is_blank, is_gate, is_head, entry_at, heads, log_state}
+use Rattle.rpm_outside.specs.Logs.{Entry, LogState, Closed, Malformed, Open, is_blank, is_gate, is_head, entry_at, heads, log_state}
+use Rattle.rpm_outside.specs.Words.{word}
 use Rattle.rpm_outside.specs.inner.LogLaws.{blank_closed}
 use Rattle.rpm_outside.specs.inner.LogRules.{gate_wrong, gate_right, gate_last, head_parts, after, after-wrong, after-open, after-push, heads_right, heads_wrong, heads_done, heads_more}
 use Rattle.rpm_group.specs.declared.log.Head.{Head}

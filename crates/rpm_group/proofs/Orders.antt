@@ -4,7 +4,8 @@ use Rattle.rpm_outside.specs.declared.disk.File.{File}
 use Rattle.rpm_outside.specs.declared.disk.File.TheVariants.{Log}
 use Rattle.rpm_outside.specs.Files.{Units, Files, with_file, unit_at, put}
 use Rattle.rpm_outside.specs.inner.Puts.{length-put, put_after}
-use Rattle.rpm_outside.specs.Logs.{Entry, word}
+use Rattle.rpm_outside.specs.Logs.{Entry}
+use Rattle.rpm_outside.specs.Words.{word}
 use Rattle.rpm_outside.specs.LogWrites.{EntriesIn}
 use Rattle.rpm_outside.specs.inner.LogWriting.{entries_kept, entries_end}
 use Rattle.rpm_group.specs.declared.layers.Layers.{Layers}

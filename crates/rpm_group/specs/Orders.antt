@@ -3,7 +3,8 @@ use Rattle.std.specs.Prelude.{◌≡◌, ℕ, ◌+◌, ◌≤◌, List, [], ◌�
 use Rattle.rpm_outside.specs.declared.disk.File.{File}
 use Rattle.rpm_outside.specs.declared.disk.File.TheVariants.{Pkg, Idx}
 use Rattle.rpm_outside.specs.Files.{Units, Files, unit_at}
-use Rattle.rpm_outside.specs.Logs.{Entry, word, unlogged, with_entries}
+use Rattle.rpm_outside.specs.Logs.{Entry, unlogged, with_entries}
+use Rattle.rpm_outside.specs.Words.{word}
 use Rattle.rpm_outside.specs.LogWrites.{EntriesIn}
 use Rattle.rpm_group.specs.declared.layers.Layers.{Layers}
 use Rattle.rpm_group.specs.Groups.{runs_of, needed}

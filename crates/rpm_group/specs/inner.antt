@@ -6,4 +6,5 @@ pub mod Leavings
 pub mod Behind
 pub mod Words
 pub mod Logged
+pub mod Over
 pub mod Grouped

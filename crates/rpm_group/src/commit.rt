@@ -1,9 +1,9 @@
 //! What an overlay holds becomes one change of the disk below.
 
 ghost use Rattle.std.specs.Prelude.{◌≡◌, ◌⊎◌, ◌↔◌, ℕ, ◌+◌, ◌-◌, ◌*◌, ◌/◌, ◌%◌, ◌<◌, ◌≤◌, ◌^◌, IsTrue, length, Ok, Err, OnOk, OnErr, IfOk, IfErr, List};
+ghost use Rattle.rpm_outside.specs.Frame.{images, LeavesIn, DiskFault, DiskCause, LeavesChanged};
 ghost use Rattle.rpm_outside.specs.Files.{Files, file_of, with_file};
 ghost use Rattle.rpm_outside.specs.Crash.{Untouched};
-ghost use Rattle.rpm_outside.specs.Causes.{HasCause, HasCauseAt};
 ghost use Rattle.rpm_outside.specs.Changed.{ChangedIn};
 ghost use Rattle.rpm_outside.specs.Logs.{Entry, Closed, Open, log_state, unlogged, with_entries, reopened};
 ghost use Rattle.rpm_outside.specs.Changes.{AreSettled, IsSettled};
@@ -11,11 +11,10 @@ ghost use Rattle.rpm_group.specs.inner.Logged.{CoversHeld};
 ghost use Rattle.rpm_group.specs.Orders.{IsLogged};
 ghost use Rattle.rpm_group.specs.inner.Behind.{KeepsBehind};
 ghost use Rattle.rpm_group.specs.inner.Leavings.{WasWithin};
-ghost use Rattle.rpm_group.specs.Groups.{runs_of, units_of_log, needed, longest_log, BeforeOrAfter};
+ghost use Rattle.rpm_group.specs.Groups.{runs_of, units_of_log, needed, BeforeOrAfter};
 ghost use Rattle.rpm_group.specs.inner.Grouped.{with_held, IsGroup, IsTail};
-ghost use Rattle.rpm_group.specs.Commits.{IsFull, CommitSays};
-ghost use Rattle.rpm_group.specs.Layers.{laid_files};
-ghost use Rattle.rpm_group.specs.Frame.{images, LeavesIn, LeavesChanged, ReadsLog, ReadsNothing, Unwritten};
+ghost use Rattle.rpm_group.specs.Commits.{IsCommit, IsFull, CommitSays};
+ghost use Rattle.rpm_group.specs.Frame.{ReadsLog, ReadsNothing, Unwritten};
 
 use crate::group::{Tail, apply_runs, log_runs};
 use crate::layers::Layers;
@@ -38,7 +37,7 @@ fn log_held<D: Disk>(disk: &mut D, held: &Layers, buffer: &mut Buffer) -> Result
     ensures settled { OnOk result (IsTrue D.tells → AreSettled (D.files disk.new) (images D.Disk disk.new)) }
     ensures images { IsTrue D.tells → LeavesChanged D.Disk File.Log 1 (2 ^ 28) disk.old disk.new }
     ensures reads { ReadsNothing D.Disk disk.old disk.new }
-    ensures cause { HasCause (D.faults disk.old) (D.faults disk.new) result }
+    ensures cause { DiskCause D.Disk result disk.old disk.new }
 {
     let start = Tail { at: 1, entries: 0 };
     let middle = log_runs(disk, &held.pkg, File::Pkg, start, buffer)?;
@@ -67,7 +66,7 @@ fn open_log<D: Disk>(disk: &mut D, tail: Tail) -> Result<(), Failed>
         → LeavesIn D.Disk disk.old disk.new (BeforeOrAfter (unlogged (D.files disk.old))
         (with_entries entries (unlogged (D.files disk.old)))) }
     ensures reads { ReadsNothing D.Disk disk.old disk.new }
-    ensures cause { HasCause (D.faults disk.old) (D.faults disk.new) result }
+    ensures cause { DiskCause D.Disk result disk.old disk.new }
 {
     let gate = unit_of(MAGIC, 1, tail.entries, (tail.at - 1) as u32);
     disk.write_at(File::Log, 0, &gate)?;
@@ -83,7 +82,7 @@ fn apply_held<D: Disk>(disk: &mut D, held: &Layers, buffer: &mut Buffer) -> Resu
     ensures images { IsTrue D.tells → (entries : List Entry) → IsGroup entries held.now
         → LeavesIn D.Disk disk.old disk.new (WasWithin entries (images D.Disk disk.old)) }
     ensures reads { ReadsLog D.Disk disk.old disk.new }
-    ensures cause { HasCause (D.faults disk.old) (D.faults disk.new) result }
+    ensures cause { DiskCause D.Disk result disk.old disk.new }
 {
     apply_runs(disk, &held.pkg, File::Pkg, buffer)?;
     apply_runs(disk, &held.idx, File::Idx, buffer)?;
@@ -104,7 +103,7 @@ fn write_group<D: Disk>(disk: &mut D, held: &Layers) -> Result<(), Failed>
     ensures images { IsTrue D.tells → LeavesIn D.Disk disk.old disk.new
         (BeforeOrAfter (unlogged (D.files disk.old)) (unlogged (with_held held.now (D.files disk.old)))) }
     ensures reads { ReadsLog D.Disk disk.old disk.new }
-    ensures cause { HasCause (D.faults disk.old) (D.faults disk.new) result }
+    ensures cause { DiskCause D.Disk result disk.old disk.new }
 {
     let mut buffer = [0u8; 65_536];
     let tail = log_held(disk, held, &mut buffer)?;
@@ -122,10 +121,11 @@ pub enum CommitFault {
     DiskFault,
 }
 
-/// Writes what is held as one change, or nothing where nothing is held. The log may have this many units.
-fn write_held<D: Disk>(disk: &mut D, held: &Layers, limit: u64) -> Result<(), CommitFault>
-    requires some { 0 < limit }
-    requires limit { limit ≤ 2 ^ 28 }
+// How many units a log may have.
+const MOST: u64 = 268_435_456;
+
+/// Writes what is held as one change, or nothing where nothing is held.
+fn write_held<D: Disk>(disk: &mut D, held: &Layers) -> Result<(), CommitFault>
     requires settled { IsTrue D.tells → AreSettled (D.files disk.old) (images D.Disk disk.old) }
     requires closed { IsTrue D.tells → log_state (D.files disk.old).log ≡ Closed }
     ensures files { OnOk result (IsTrue D.tells → unlogged (D.files disk.new)
@@ -135,12 +135,12 @@ fn write_held<D: Disk>(disk: &mut D, held: &Layers, limit: u64) -> Result<(), Co
     ensures settled { OnOk result (IsTrue D.tells → AreSettled (D.files disk.new) (images D.Disk disk.new)) }
     ensures images { IsTrue D.tells → LeavesIn D.Disk disk.old disk.new
         (BeforeOrAfter (unlogged (D.files disk.old)) (unlogged (with_held held.now (D.files disk.old)))) }
-    ensures says { CommitSays limit (needed held.now) result }
-    ensures full { limit < needed held.now → IsFull (needed held.now) result }
+    ensures says { CommitSays (2 ^ 28) (needed held.now) result }
+    ensures full { 2 ^ 28 < needed held.now → IsFull (needed held.now) result }
     ensures idle { needed held.now ≡ 1 → Unwritten D.Disk disk.old disk.new }
     ensures unwritten { IsFull (needed held.now) result → Unwritten D.Disk disk.old disk.new }
     ensures reads { ReadsLog D.Disk disk.old disk.new }
-    ensures cause { HasCauseAt (result ≡ Err CommitFault.DiskFault) (D.faults disk.old) (D.faults disk.new) }
+    ensures cause { DiskFault D.Disk (result ≡ Err CommitFault.DiskFault) disk.old disk.new }
 {
     let pkg = extent(&held.pkg.table, held.pkg.end as usize);
     let idx = extent(&held.idx.table, held.idx.end as usize);
@@ -148,7 +148,7 @@ fn write_held<D: Disk>(disk: &mut D, held: &Layers, limit: u64) -> Result<(), Co
     if units == 0 {
         return Ok(());
     }
-    if units >= limit {
+    if units >= MOST {
         return Err(CommitFault::LogFull { needed: 1 + units });
     }
     let Ok(()) = write_group(disk, held) else {
@@ -157,41 +157,8 @@ fn write_held<D: Disk>(disk: &mut D, held: &Layers, limit: u64) -> Result<(), Co
     Ok(())
 }
 
-// How many units a log may have.
-const MOST: u64 = 268_435_456;
-
 impl<D: Disk> Overlay<D> {
     ghost use Rattle.rpm_group.specs.Overlay.{overlay_below, overlay_held, overlay_starved};
-
-    /// Makes what is held one change, as `commit` does, with a log that may have this many units.
-    pub(crate) fn commit_within(self, limit: u64) -> (D, Result<(), CommitFault>)
-        requires some { 0 < limit }
-        requires limit { limit ≤ 2 ^ 28 }
-        requires starved { overlay_starved self ≡ 0 }
-        requires settled { IsTrue D.tells → AreSettled (D.files (overlay_below self))
-            (images D.Disk (overlay_below self)) }
-        requires closed { IsTrue D.tells → log_state (D.files (overlay_below self)).log ≡ Closed }
-        ensures files { OnOk result.1 (IsTrue D.tells
-            → unlogged (D.files result.0) ≡ unlogged (laid_files (overlay_held self) (D.files (overlay_below self)))) }
-        ensures closed { OnOk result.1 (IsTrue D.tells → log_state (D.files result.0).log ≡ Closed) }
-        ensures logged { OnOk result.1 (IsTrue D.tells → IsLogged (overlay_held self) (D.files result.0).log) }
-        ensures settled { OnOk result.1 (IsTrue D.tells → AreSettled (D.files result.0) (images D.Disk result.0)) }
-        ensures images { IsTrue D.tells → LeavesIn D.Disk (overlay_below self) result.0
-            (BeforeOrAfter (unlogged (D.files (overlay_below self)))
-            (unlogged (laid_files (overlay_held self) (D.files (overlay_below self))))) }
-        ensures says { CommitSays limit (needed (overlay_held self)) result.1 }
-        ensures full { limit < needed (overlay_held self) → IsFull (needed (overlay_held self)) result.1 }
-        ensures idle { needed (overlay_held self) ≡ 1 → Unwritten D.Disk (overlay_below self) result.0 }
-        ensures unwritten { IsFull (needed (overlay_held self)) result.1
-            → Unwritten D.Disk (overlay_below self) result.0 }
-        ensures reads { ReadsLog D.Disk (overlay_below self) result.0 }
-        ensures cause { HasCauseAt (result.1 ≡ Err CommitFault.DiskFault) (D.faults (overlay_below self))
-            (D.faults result.0) }
-    {
-        let (mut below, held) = self.into_parts();
-        let answer = write_held(&mut below, &held, limit);
-        (below, answer)
-    }
 
     /// Makes what is held of the two files one change of the disk below, and hands that back. What is held of the log
     /// is dropped.
@@ -212,25 +179,10 @@ impl<D: Disk> Overlay<D> {
         requires settled { IsTrue D.tells → AreSettled (D.files (overlay_below self))
             (images D.Disk (overlay_below self)) }
         requires closed { IsTrue D.tells → log_state (D.files (overlay_below self)).log ≡ Closed }
-        ensures files { OnOk result.1 (IsTrue D.tells
-            → unlogged (D.files result.0) ≡ unlogged (laid_files (overlay_held self) (D.files (overlay_below self)))) }
-        ensures closed { OnOk result.1 (IsTrue D.tells → log_state (D.files result.0).log ≡ Closed) }
-        ensures logged { OnOk result.1 (IsTrue D.tells → IsLogged (overlay_held self) (D.files result.0).log) }
-        ensures settled { OnOk result.1 (IsTrue D.tells → AreSettled (D.files result.0) (images D.Disk result.0)) }
-        ensures images { IsTrue D.tells → LeavesIn D.Disk (overlay_below self) result.0
-            (BeforeOrAfter (unlogged (D.files (overlay_below self)))
-            (unlogged (laid_files (overlay_held self) (D.files (overlay_below self))))) }
-        ensures says { CommitSays (2 ^ 28) (needed (overlay_held self)) result.1 }
-        ensures full { 2 ^ 28 < needed (overlay_held self) → IsFull (needed (overlay_held self)) result.1 }
-        ensures longest { needed (overlay_held self) ≤ longest_log
-            (laid_files (overlay_held self) (D.files (overlay_below self))) }
-        ensures idle { needed (overlay_held self) ≡ 1 → Unwritten D.Disk (overlay_below self) result.0 }
-        ensures unwritten { IsFull (needed (overlay_held self)) result.1
-            → Unwritten D.Disk (overlay_below self) result.0 }
-        ensures reads { ReadsLog D.Disk (overlay_below self) result.0 }
-        ensures cause { HasCauseAt (result.1 ≡ Err CommitFault.DiskFault) (D.faults (overlay_below self))
-            (D.faults result.0) }
+        ensures { IsCommit D.Disk (overlay_held self) result.1 (overlay_below self) result.0 }
     {
-        self.commit_within(MOST)
+        let (mut below, held) = self.into_parts();
+        let answer = write_held(&mut below, &held);
+        (below, answer)
     }
 }

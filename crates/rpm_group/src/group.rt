@@ -1,9 +1,9 @@
 //! What is held is written as one change: to the log, and from memory to the files.
 
 ghost use Rattle.std.specs.Prelude.{◌≡◌, ◌⊎◌, ℕ, ◌+◌, ◌-◌, ◌*◌, ◌/◌, ◌%◌, ◌<◌, ◌≤◌, ◌^◌, IsTrue, length, OnOk, OnErr, IfOk, IfErr, List, Err};
+ghost use Rattle.rpm_outside.specs.Frame.{images, LeavesIn, DiskCause, LeavesChanged};
 ghost use Rattle.rpm_outside.specs.Files.{Files, file_of, with_file};
 ghost use Rattle.rpm_outside.specs.Crash.{Untouched};
-ghost use Rattle.rpm_outside.specs.Causes.{HasCause, HasCauseAt};
 ghost use Rattle.rpm_outside.specs.Changed.{ChangedIn};
 ghost use Rattle.rpm_outside.specs.Logs.{Entry, Closed, log_state, unlogged, with_entries, reopened};
 ghost use Rattle.rpm_outside.specs.LogWrites.{EntriesIn};
@@ -12,7 +12,7 @@ ghost use Rattle.rpm_group.specs.Counts.{begins_run, count_below, log_units};
 ghost use Rattle.rpm_group.specs.Orders.{HeadsEndInZeros};
 ghost use Rattle.rpm_group.specs.inner.Logged.{Logged, CoversHeld};
 ghost use Rattle.rpm_group.specs.inner.Leavings.{WasWithin};
-ghost use Rattle.rpm_group.specs.Frame.{images, LeavesIn, LeavesChanged, ReadsNothing};
+ghost use Rattle.rpm_group.specs.Frame.{ReadsNothing};
 
 use crate::pages::Pages;
 use crate::scan::next_unit;
@@ -48,7 +48,7 @@ pub fn log_runs<D: Disk>(
         (D.files disk.new)) }
     ensures images { IsTrue D.tells → LeavesChanged D.Disk File.Log tail.at (2 ^ 28) disk.old disk.new }
     ensures reads { ReadsNothing D.Disk disk.old disk.new }
-    ensures cause { HasCause (D.faults disk.old) (D.faults disk.new) result }
+    ensures cause { DiskCause D.Disk result disk.old disk.new }
 {
     let end = pages.end as usize;
     let mut next = tail;
@@ -82,7 +82,7 @@ pub fn apply_runs<D: Disk>(
         → CoversHeld entries file pages.now.table.items pages.now.end
         → LeavesIn D.Disk disk.old disk.new (WasWithin entries (images D.Disk disk.old)) }
     ensures reads { ReadsNothing D.Disk disk.old disk.new }
-    ensures cause { HasCause (D.faults disk.old) (D.faults disk.new) result }
+    ensures cause { DiskCause D.Disk result disk.old disk.new }
 {
     let end = pages.end as usize;
     let mut at = 0;

@@ -1,15 +1,15 @@
 //! An overlay that holds the change of an open log.
 
 ghost use Rattle.std.specs.Prelude.{◌≡◌, ℕ, ◌+◌, ◌*◌, ◌/◌, ◌%◌, ◌<◌, ◌≤◌, ◌^◌, IsTrue, length, take, drop, Err, None, OnOk, IfOk, IfErr};
+ghost use Rattle.rpm_outside.specs.Frame.{LooksAt, DiskFault};
 ghost use Rattle.rpm_outside.specs.Files.{Files, file_of, with_file, put, unit_at};
-ghost use Rattle.rpm_outside.specs.Causes.{HasCause, HasCauseAt};
+ghost use Rattle.rpm_outside.specs.Causes.{HasCauseAt};
 ghost use Rattle.rpm_outside.specs.Logs.{log_state, with_entries, reopened};
 ghost use Rattle.rpm_group.specs.Readings.{entries_of, IsOpen};
 ghost use Rattle.rpm_group.specs.inner.LogReadings.{heads_behind};
 ghost use Rattle.rpm_outside.specs.declared.disk.File.TheVariants.{Log};
 ghost use Rattle.rpm_group.specs.Layers.{laid_files};
 ghost use Rattle.rpm_group.specs.Loads.{LoadSays, IsOutside};
-ghost use Rattle.rpm_group.specs.Frame.{LooksAt};
 
 use crate::layers::{Layers, no_layers};
 use crate::log::{Gate, Reading, read_head, read_log};
@@ -48,7 +48,7 @@ fn hold_piece<D: Disk>(
         (file_of file (laid_files held.old files))) (laid_files held.old files)) }
     ensures fault { IfErr result IsOutside }
     ensures looks { LooksAt D.Disk Log disk.old disk.new }
-    ensures cause { HasCauseAt (result ≡ Err LoadFault.DiskFault) (D.faults disk.old) (D.faults disk.new) }
+    ensures cause { DiskFault D.Disk (result ≡ Err LoadFault.DiskFault) disk.old disk.new }
 {
     let Ok(()) = disk.read_at(File::Log, from, bytes) else {
         return Err(LoadFault::DiskFault);
@@ -79,7 +79,7 @@ fn hold_units<D: Disk>(
         (laid_files held.old files)) }
     ensures fault { IfErr result IsOutside }
     ensures looks { LooksAt D.Disk Log disk.old disk.new }
-    ensures cause { HasCauseAt (result ≡ Err LoadFault.DiskFault) (D.faults disk.old) (D.faults disk.new) }
+    ensures cause { DiskFault D.Disk (result ≡ Err LoadFault.DiskFault) disk.old disk.new }
 {
     let mut page = [0u8; 4096];
     let mut done = 0u32;
@@ -109,7 +109,7 @@ fn hold_entries<D: Disk>(
         (laid_files held.old files)) }
     ensures fault { IfErr result (λ fault. IsTrue D.tells → IsOutside fault) }
     ensures looks { LooksAt D.Disk Log disk.old disk.new }
-    ensures cause { HasCauseAt (result ≡ Err LoadFault.DiskFault) (D.faults disk.old) (D.faults disk.new) }
+    ensures cause { DiskFault D.Disk (result ≡ Err LoadFault.DiskFault) disk.old disk.new }
 {
     let mut p = 1u64;
     for _k in 0..gate.entries {
@@ -137,7 +137,7 @@ pub fn hold_log<D: Disk>(alloc: Global, disk: &mut D, held: &mut Layers) -> Resu
         → laid_files held.new files ≡ with_entries (entries_of (log_state (D.files disk.old).log)) files) }
     ensures says { IsTrue D.tells → LoadSays (log_state (D.files disk.old).log) result }
     ensures looks { LooksAt D.Disk Log disk.old disk.new }
-    ensures cause { HasCauseAt (result ≡ Err LoadFault.DiskFault) (D.faults disk.old) (D.faults disk.new) }
+    ensures cause { DiskFault D.Disk (result ≡ Err LoadFault.DiskFault) disk.old disk.new }
 {
     let Ok(reading) = read_log(disk) else {
         return Err(LoadFault::DiskFault);

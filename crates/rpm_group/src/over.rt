@@ -1,6 +1,7 @@
 //! Reading what is held over what a disk has.
 
 ghost use Rattle.std.specs.Prelude.{◌≡◌, ℕ, ◌+◌, ◌-◌, ◌*◌, ◌/◌, ◌%◌, ◌<◌, ◌≤◌, ◌^◌, min, IsTrue, length, take, drop, OnOk, IfOk, false};
+ghost use Rattle.rpm_outside.specs.Frame.{Looks};
 ghost use Rattle.rpm_outside.specs.Files.{Files, Units, file_of, units_of, unit_at};
 ghost use Rattle.rpm_outside.specs.Causes.{HasCause, RoseBy};
 ghost use Rattle.rpm_outside.specs.Crash.{Untouched, bytes_for};
@@ -8,7 +9,7 @@ ghost use Rattle.rpm_group.specs.Held.{unit_in};
 ghost use Rattle.rpm_group.specs.Counts.{is_held};
 ghost use Rattle.rpm_group.specs.Layers.{laid_files};
 ghost use Rattle.rpm_group.specs.Spared.{CountsRead};
-ghost use Rattle.rpm_group.specs.Frame.{Looks};
+ghost use Rattle.rpm_group.specs.inner.Over.{ReadsOver};
 
 use crate::layers::Layers;
 use crate::pages::Pages;
@@ -116,11 +117,7 @@ fn read_units<D: Disk>(
     requires whole { length into.old % 16 ≡ 0 }
     requires within { IsTrue D.tells → unit + length into.old / 16 ≤ length
         (file_of file (laid_files layers.now (D.files below.old))) }
-    ensures units { OnOk result (IsTrue D.tells → units_of into.new
-        ≡ take (length into.old / 16) (drop unit (file_of file (laid_files layers.now (D.files below.old))))) }
-    ensures looks { Looks D.Disk file (length into.old) below.old below.new }
-    ensures reads { CountsRead D.bytes_read file (length into.old) below.old below.new spared.old spared.new }
-    ensures cause { HasCause (D.faults below.old) (D.faults below.new) result }
+    ensures { ReadsOver D.Disk layers.now file unit (length into.old) into.new result below.old below.new spared.old spared.new }
 {
     let pages = layers.file(file);
     if pages.covers(unit, into.len() as u64 / 16) {
@@ -143,11 +140,7 @@ pub fn read_over<D: Disk>(
     requires whole { length into.old % 16 ≡ 0 }
     requires within { IsTrue D.tells → unit + length into.old / 16 ≤ length
         (file_of file (laid_files layers.now (D.files below.old))) }
-    ensures units { OnOk result (IsTrue D.tells → units_of into.new
-        ≡ take (length into.old / 16) (drop unit (file_of file (laid_files layers.now (D.files below.old))))) }
-    ensures looks { Looks D.Disk file (length into.old) below.old below.new }
-    ensures reads { CountsRead D.bytes_read file (length into.old) below.old below.new spared.old spared.new }
-    ensures cause { HasCause (D.faults below.old) (D.faults below.new) result }
+    ensures { ReadsOver D.Disk layers.now file unit (length into.old) into.new result below.old below.new spared.old spared.new }
 {
     if layers.file(file).copy_held(unit, into) {
         spared.add(file, into.len());

@@ -1,8 +1,8 @@
 //! What a crash left of a change is finished.
 
 ghost use Rattle.std.specs.Prelude.{◌≡◌, ◌↔◌, ℕ, ◌+◌, ◌*◌, ◌/◌, ◌%◌, ◌<◌, ◌≤◌, ◌^◌, IsTrue, length, take, drop, Ok, Err, None, true, OnOk, IfOk, IfErr};
+ghost use Rattle.rpm_outside.specs.Frame.{images, LeavesIn, DiskFault, DiskCause, LeavesChanged};
 ghost use Rattle.rpm_outside.specs.Files.{Files, file_of, with_file, put, unit_at};
-ghost use Rattle.rpm_outside.specs.Causes.{HasCause, HasCauseAt};
 ghost use Rattle.rpm_outside.specs.Entries.{Within};
 ghost use Rattle.rpm_outside.specs.Logs.{Closed, log_state, unlogged, with_entries, reopened};
 ghost use Rattle.rpm_group.specs.Readings.{entries_of, IsOpen};
@@ -13,7 +13,7 @@ ghost use Rattle.rpm_group.specs.inner.Leavings.{WasWithin};
 ghost use Rattle.rpm_outside.specs.declared.disk.File.TheVariants.{Log};
 ghost use Rattle.rpm_outside.specs.Looks.{LooksAt};
 ghost use Rattle.rpm_outside.specs.Changes.{AreSettled, IsSettled};
-ghost use Rattle.rpm_group.specs.Frame.{images, LeavesIn, LeavesChanged, ReadsLog};
+ghost use Rattle.rpm_group.specs.Frame.{ReadsLog};
 
 use crate::log::{Gate, Reading, read_head, read_log};
 use rpm_outside::{Disk, Failed, File};
@@ -33,7 +33,7 @@ pub fn settle<D: Disk>(disk: &mut D) -> Result<(), Failed>
     ensures settled { OnOk result (IsTrue D.tells → AreSettled (D.files disk.new) (images D.Disk disk.new)) }
     ensures images { IsTrue D.tells → LeavesIn D.Disk disk.old disk.new (images D.Disk disk.old) }
     ensures reads { ReadsLog D.Disk disk.old disk.new }
-    ensures cause { HasCause (D.faults disk.old) (D.faults disk.new) result }
+    ensures cause { DiskCause D.Disk result disk.old disk.new }
 {
     settle_files(disk)?;
     disk.sync(File::Log)
@@ -46,7 +46,7 @@ pub fn settle_files<D: Disk>(disk: &mut D) -> Result<(), Failed>
     ensures idx { OnOk result (IsTrue D.tells → IsSettled File.Idx (D.files disk.new) (images D.Disk disk.new)) }
     ensures images { IsTrue D.tells → LeavesIn D.Disk disk.old disk.new (images D.Disk disk.old) }
     ensures reads { ReadsLog D.Disk disk.old disk.new }
-    ensures cause { HasCause (D.faults disk.old) (D.faults disk.new) result }
+    ensures cause { DiskCause D.Disk result disk.old disk.new }
 {
     disk.sync(File::Pkg)?;
     disk.sync(File::Idx)?;
@@ -70,7 +70,7 @@ fn copy_piece<D: Disk>(
         (file_of file (D.files disk.old))) (D.files disk.old)) }
     ensures images { IsTrue D.tells → LeavesChanged D.Disk file at (at + length bytes.old / 16) disk.old disk.new }
     ensures reads { ReadsLog D.Disk disk.old disk.new }
-    ensures cause { HasCause (D.faults disk.old) (D.faults disk.new) result }
+    ensures cause { DiskCause D.Disk result disk.old disk.new }
 {
     disk.read_at(File::Log, from, bytes)?;
     disk.write_at(file, at, bytes)?;
@@ -95,7 +95,7 @@ fn copy_units<D: Disk>(
         (D.files disk.old)) }
     ensures images { IsTrue D.tells → LeavesChanged D.Disk file at (at + count) disk.old disk.new }
     ensures reads { ReadsLog D.Disk disk.old disk.new }
-    ensures cause { HasCause (D.faults disk.old) (D.faults disk.new) result }
+    ensures cause { DiskCause D.Disk result disk.old disk.new }
 {
     let mut page = [0u8; 4096];
     let mut done = 0u32;
@@ -119,7 +119,7 @@ fn copy_entries<D: Disk>(disk: &mut D, gate: Gate) -> Result<Option<u64>, Failed
     ensures images { IsTrue D.tells → LeavesIn D.Disk disk.old disk.new
         (WasWithin (entries_of (heads_behind gate (D.files disk.old).log)) (images D.Disk disk.old)) }
     ensures reads { ReadsLog D.Disk disk.old disk.new }
-    ensures cause { HasCause (D.faults disk.old) (D.faults disk.new) result }
+    ensures cause { DiskCause D.Disk result disk.old disk.new }
 {
     let mut p = 1u64;
     for _k in 0..gate.entries {
@@ -144,7 +144,7 @@ fn apply_entries<D: Disk>(disk: &mut D, gate: Gate) -> Result<Option<u64>, Faile
     ensures images { IsTrue D.tells → LeavesIn D.Disk disk.old disk.new
         (WasWithin (entries_of (heads_behind gate (D.files disk.old).log)) (images D.Disk disk.old)) }
     ensures reads { ReadsLog D.Disk disk.old disk.new }
-    ensures cause { HasCause (D.faults disk.old) (D.faults disk.new) result }
+    ensures cause { DiskCause D.Disk result disk.old disk.new }
 {
     let fault = copy_entries(disk, gate)?;
     settle_files(disk)?;
@@ -164,7 +164,7 @@ pub fn close_log<D: Disk>(disk: &mut D) -> Result<(), Failed>
     ensures settled { OnOk result (IsTrue D.tells → AreSettled (D.files disk.new) (images D.Disk disk.new)) }
     ensures images { IsTrue D.tells → LeavesIn D.Disk disk.old disk.new (ReopensAs (unlogged (D.files disk.old))) }
     ensures reads { ReadsLog D.Disk disk.old disk.new }
-    ensures cause { HasCause (D.faults disk.old) (D.faults disk.new) result }
+    ensures cause { DiskCause D.Disk result disk.old disk.new }
 {
     disk.write_at(File::Log, 0, &[0u8; 16])?;
     disk.sync(File::Log)?;
@@ -184,7 +184,7 @@ fn finish<D: Disk>(disk: &mut D, gate: Gate) -> Result<bool, RecoverFault>
     ensures settled { OnOk result (IsTrue D.tells → AreSettled (D.files disk.new) (images D.Disk disk.new)) }
     ensures images { IsTrue D.tells → LeavesIn D.Disk disk.old disk.new (ReopensAs (reopened (D.files disk.old))) }
     ensures reads { ReadsLog D.Disk disk.old disk.new }
-    ensures cause { HasCauseAt (result ≡ Err RecoverFault.DiskFault) (D.faults disk.old) (D.faults disk.new) }
+    ensures cause { DiskFault D.Disk (result ≡ Err RecoverFault.DiskFault) disk.old disk.new }
 {
     let Ok(fault) = apply_entries(disk, gate) else {
         return Err(RecoverFault::DiskFault);
@@ -217,7 +217,7 @@ pub fn recover<D: Disk>(disk: &mut D) -> Result<bool, RecoverFault>
     ensures stands { IsTrue D.tells → reopened (D.files disk.new) ≡ reopened (D.files disk.old) }
     ensures images { IsTrue D.tells → LeavesIn D.Disk disk.old disk.new (ReopensAsOneOf (images D.Disk disk.old)) }
     ensures reads { ReadsLog D.Disk disk.old disk.new }
-    ensures cause { HasCauseAt (result ≡ Err RecoverFault.DiskFault) (D.faults disk.old) (D.faults disk.new) }
+    ensures cause { DiskFault D.Disk (result ≡ Err RecoverFault.DiskFault) disk.old disk.new }
 {
     let Ok(()) = settle(disk) else {
         return Err(RecoverFault::DiskFault);

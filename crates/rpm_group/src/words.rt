@@ -1,10 +1,11 @@
 //! Numbers as they stand in a unit.
 
 ghost use Rattle.std.specs.Prelude.{◌≡◌, ℕ, ◌+◌, ◌*◌, ◌≤◌, length};
-ghost use Rattle.rpm_outside.specs.Logs.{word, is_blank};
+ghost use Rattle.rpm_outside.specs.Logs.{is_blank};
+ghost use Rattle.rpm_outside.specs.Words.{word};
 
 /// The number in bytes 4k to 4k + 3.
-#[tactic(auto, unfolding(rpm_outside::specs::Logs::word))]
+#[tactic(auto, unfolding(rpm_outside::specs::Words::word))]
 pub fn word(unit: &[u8], k: usize) -> u32
     requires { 4 * k + 4 ≤ length unit.now }
     ensures { result ≡ word k unit.now }

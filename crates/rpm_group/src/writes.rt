@@ -1,13 +1,13 @@
 //! Runs of held units are written to a disk.
 
 ghost use Rattle.std.specs.Prelude.{◌≡◌, ℕ, ◌+◌, ◌-◌, ◌*◌, ◌/◌, ◌%◌, ◌<◌, ◌≤◌, ◌^◌, IsTrue, true, length, OnOk, ◌∷◌, List};
+ghost use Rattle.rpm_outside.specs.Frame.{DiskCause, LeavesChanged};
 ghost use Rattle.rpm_outside.specs.Files.{Files, file_of, with_file, units_of, put};
-ghost use Rattle.rpm_outside.specs.Causes.{HasCause};
-ghost use Rattle.rpm_outside.specs.Logs.{word};
+ghost use Rattle.rpm_outside.specs.Words.{word};
 ghost use Rattle.rpm_outside.specs.LogWrites.{number_of};
 ghost use Rattle.rpm_group.specs.inner.HeldUnits.{units_held, AreHeld};
 ghost use Rattle.rpm_group.specs.inner.Words.{IsUnitOf, IsHeadOf};
-ghost use Rattle.rpm_group.specs.Frame.{LeavesChanged, ReadsNothing};
+ghost use Rattle.rpm_group.specs.Frame.{ReadsNothing};
 
 use crate::table::{Table, lay};
 use rpm_outside::{Disk, Failed, File};
@@ -16,7 +16,7 @@ use rpm_outside::{Disk, Failed, File};
 pub type Buffer = [u8; 65_536];
 
 /// A unit of four numbers.
-#[tactic(auto, unfolding(rpm_outside::specs::Logs::word))]
+#[tactic(auto, unfolding(rpm_outside::specs::Words::word))]
 pub fn unit_of(first: u32, second: u32, third: u32, fourth: u32) -> [u8; 16]
     ensures { IsUnitOf first second third fourth result }
 {
@@ -60,7 +60,7 @@ fn write_piece<D: Disk>(
         (file_of file (D.files disk.old))) (D.files disk.old)) }
     ensures images { IsTrue D.tells → LeavesChanged D.Disk file at (at + length bytes.old / 16) disk.old disk.new }
     ensures reads { ReadsNothing D.Disk disk.old disk.new }
-    ensures cause { HasCause (D.faults disk.old) (D.faults disk.new) result }
+    ensures cause { DiskCause D.Disk result disk.old disk.new }
 {
     lay(table, from, bytes);
     disk.write_at(file, at, bytes)?;
@@ -87,7 +87,7 @@ pub fn write_run<D: Disk>(
         (D.files disk.old)) }
     ensures images { IsTrue D.tells → LeavesChanged D.Disk file at (at + (end - from)) disk.old disk.new }
     ensures reads { ReadsNothing D.Disk disk.old disk.new }
-    ensures cause { HasCause (D.faults disk.old) (D.faults disk.new) result }
+    ensures cause { DiskCause D.Disk result disk.old disk.new }
 {
     let mut done = from;
     while done < end {
@@ -118,7 +118,7 @@ pub fn log_run<D: Disk>(
         (D.files disk.old).log) (D.files disk.old))) }
     ensures images { IsTrue D.tells → LeavesChanged D.Disk File.Log at (at + 1 + (end - from)) disk.old disk.new }
     ensures reads { ReadsNothing D.Disk disk.old disk.new }
-    ensures cause { HasCause (D.faults disk.old) (D.faults disk.new) result }
+    ensures cause { DiskCause D.Disk result disk.old disk.new }
 {
     let head = head_of(file, from as u32, (end - from) as u32);
     disk.write_at(File::Log, at, &head)?;

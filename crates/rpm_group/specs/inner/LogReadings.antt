@@ -2,7 +2,8 @@
 use Rattle.std.specs.Prelude.{◌≡◌, ℕ, ◌+◌, ◌<◌, ◌≤◌, ◌^◌, length, true, false, Option, Some, None}
 use Rattle.rpm_outside.specs.declared.disk.File.TheVariants.{Log}
 use Rattle.rpm_outside.specs.Files.{Units, unit_at}
-use Rattle.rpm_outside.specs.Logs.{LogState, Closed, Malformed, word, is_head, entry_at, heads, log_state}
+use Rattle.rpm_outside.specs.Logs.{LogState, Closed, Malformed, is_head, entry_at, heads, log_state}
+use Rattle.rpm_outside.specs.Words.{word}
 use Rattle.rpm_group.specs.declared.log.Gate.{Gate}
 use Rattle.rpm_group.specs.declared.log.Head.{Head}
 use Rattle.rpm_group.specs.declared.log.Reading.{Reading}

@@ -1,7 +1,7 @@
 -- Units of four numbers.
 use Rattle.std.specs.Prelude.{◌≡◌, ℕ, List, length}
 use Rattle.rpm_outside.specs.declared.disk.File.{File}
-use Rattle.rpm_outside.specs.Logs.{word}
+use Rattle.rpm_outside.specs.Words.{word}
 use Rattle.rpm_outside.specs.LogWrites.{number_of}
 
 pub record IsUnitOf (first second third fourth : ℕ) (unit : List ℕ) : Type 0 where

@@ -1,29 +1,41 @@
-use Rattle.std.proofs.Common.{◌≡◌, ◌+◌, ◌/◌, true, false, length, take, drop, refl, sym, ap, ◌∙◌, arith}
+use Rattle.std.proofs.Common.{◌≡◌, ℕ, ◌+◌, ◌/◌, true, false, length, take, drop, refl, sym, ap, subst, ◌∙◌, arith}
 use Rattle.rpm_outside.specs.Files.{Units, Files, file_of}
+use Rattle.rpm_outside.specs.inner.Looking.{read_none}
 use Rattle.rpm_group.specs.declared.pages.Pages.{Pages}
 use Rattle.rpm_group.specs.Layers.{laid_file, file_of-laid}
 use Rattle.rpm_group.specs.inner.HeldUnits.{AreHeld}
+use Rattle.rpm_group.specs.inner.Over.{ReadsOver}
 use Rattle.rpm_group.proofs.Laids.{length-laid}
 use Rattle.rpm_group.proofs.Readouts.{read_laid}
 use Rattle.rpm_group.proofs.Spares.{counts_spared}
 use Rattle.rpm_group.proofs.over.read_over.Goals as goal
 
-pub returns-then-copy_held-clause-units : goal.returns-then-copy_held-clause-units
-returns-then-copy_held-clause-units g c = λ told.
-    let files : Files = g.D.Disk.files c.args.below.now in
-    let unit = c.args.unit in
-    let n = length c.args.into.now / 16 in
-    let pages = c.file.result.now in
-    let file : Units = file_of c.args.file files in
-    let held : AreHeld pages.table.items unit (unit + n) = c.if-copy_held.ensures.held refl in
-    read_laid pages.table.items pages.end file unit n c.args.into.now c.copy_held.new.into pages.past
-    (omega (arith, c.copy_held.auto.into)) (sym c.copy_held.auto.into)
-    (omega (arith, length-laid pages.table.items pages.end file, c.if-copy_held.ensures.within refl))
-    (λ k below unheld. absurd (let e : true ≡ false = sym (held (unit + k) (omega arith) (omega arith)) ∙ unheld in cc))
-    (c.if-copy_held.ensures.lays refl)
-    ∙ ap (λ (p : Pages). take n (drop unit (laid_file p file))) c.file.ensures
-    ∙ ap (λ (us : Units). take n (drop unit us)) (sym (file_of-laid c.args.file c.args.layers.now files))
+pub returns-then-copy_held : goal.returns-then-copy_held
+returns-then-copy_held g c = record {
+  units = λ told.
+      let files : Files = g.D.Disk.files c.args.below.now in
+      let unit = c.args.unit in
+      let n = length c.args.into.now / 16 in
+      let pages = c.file.result.now in
+      let file : Units = file_of c.args.file files in
+      let held : AreHeld pages.table.items unit (unit + n) = c.if-copy_held.ensures.held refl in
+      read_laid pages.table.items pages.end file unit n c.args.into.now c.copy_held.new.into pages.past
+      (omega (arith, c.copy_held.auto.into)) (sym c.copy_held.auto.into)
+      (omega (arith, length-laid pages.table.items pages.end file, c.if-copy_held.ensures.within refl))
+      (λ k below unheld. absurd (let e : true ≡ false = sym (held (unit + k) (omega arith) (omega arith)) ∙ unheld in cc))
+      (c.if-copy_held.ensures.lays refl)
+      ∙ ap (λ (p : Pages). take n (drop unit (laid_file p file))) c.file.ensures
+      ∙ ap (λ (us : Units). take n (drop unit us)) (sym (file_of-laid c.args.file c.args.layers.now files));
+  looks = record {
+    untouched = λ told. record { same = refl; images = λ t image left. left; kept = λ t image left. left };
+    moment_stays = refl;
+    reads = read_none c.args.file (length c.args.into.now) (g.D.Disk.bytes_read c.args.below.now);
+    goes_on = g.met.D.Disk.follows_refl c.args.below.now;
+  };
+  reads = counts_spared g.D.Disk.bytes_read c.args.file _ _ c.args.below.now c.args.below.now c.args.spared.now c.add.new.self c.copy_held.auto.into (λ f. refl) c.add.ensures;
+  cause = record { later = omega arith; failed = tt };
+}
 
-pub returns-then-copy_held-clause-reads : goal.returns-then-copy_held-clause-reads
-returns-then-copy_held-clause-reads g c = counts_spared g.D.Disk.bytes_read c.args.file _ _ c.args.below.now c.args.below.now c.args.spared.now
-    c.add.new.self c.copy_held.auto.into (λ f. refl) c.add.ensures
+pub returns : goal.returns
+returns g c = subst (λ (n : ℕ). ReadsOver g.D.Disk c.args.layers.now c.args.file c.args.unit n c.read_units.new.into c.read_units.result
+    c.args.below.now c.read_units.new.below c.args.spared.now c.read_units.new.spared) c.copy_held.auto.into c.read_units.ensures

@@ -1,5 +1,6 @@
 use Rattle.std.proofs.Common.{◌≡◌, ◌+◌, ◌/◌, true, false, length, take, drop, refl, sym, ap, ◌∙◌, arith}
 use Rattle.rpm_outside.specs.Files.{Units, Files, file_of}
+use Rattle.rpm_outside.specs.inner.Looking.{read_none}
 use Rattle.rpm_group.specs.declared.pages.Pages.{Pages}
 use Rattle.rpm_group.specs.Layers.{laid_file, file_of-laid}
 use Rattle.rpm_group.specs.inner.HeldUnits.{AreHeld}
@@ -8,22 +9,32 @@ use Rattle.rpm_group.proofs.Readouts.{read_laid}
 use Rattle.rpm_group.proofs.Spares.{counts_spared}
 use Rattle.rpm_group.proofs.over.read_units.Goals as goal
 
-pub returns-then-covers-clause-units : goal.returns-then-covers-clause-units
-returns-then-covers-clause-units g c = λ told.
-    let files : Files = g.D.Disk.files c.args.below.now in
-    let unit = c.args.unit in
-    let n = length c.args.into.now / 16 in
-    let pages = c.file-pages.result.now in
-    let file : Units = file_of c.args.file files in
-    let held : AreHeld pages.table.items unit (unit + n) = λ i low high. c.if-covers.ensures.held refl i low (omega (arith, high)) in
-    read_laid pages.table.items pages.end file unit n c.args.into.now c.lay.new.into pages.past
-    (omega (arith, c.lay.auto.into)) (sym c.lay.auto.into)
-    (omega (arith, length-laid pages.table.items pages.end file, c.if-covers.ensures.within refl))
-    (λ k below unheld. absurd (let e : true ≡ false = sym (held (unit + k) (omega arith) (omega arith)) ∙ unheld in cc))
-    c.lay.ensures
-    ∙ ap (λ (p : Pages). take n (drop unit (laid_file p file))) c.file-pages.ensures
-    ∙ ap (λ (us : Units). take n (drop unit us)) (sym (file_of-laid c.args.file c.args.layers.now files))
+pub returns-then-covers : goal.returns-then-covers
+returns-then-covers g c = record {
+  units = λ told.
+      let files : Files = g.D.Disk.files c.args.below.now in
+      let unit = c.args.unit in
+      let n = length c.args.into.now / 16 in
+      let pages = c.file-pages.result.now in
+      let file : Units = file_of c.args.file files in
+      let held : AreHeld pages.table.items unit (unit + n) = λ i low high. c.if-covers.ensures.held refl i low (omega (arith, high)) in
+      read_laid pages.table.items pages.end file unit n c.args.into.now c.lay.new.into pages.past
+      (omega (arith, c.lay.auto.into)) (sym c.lay.auto.into)
+      (omega (arith, length-laid pages.table.items pages.end file, c.if-covers.ensures.within refl))
+      (λ k below unheld. absurd (let e : true ≡ false = sym (held (unit + k) (omega arith) (omega arith)) ∙ unheld in cc))
+      c.lay.ensures
+      ∙ ap (λ (p : Pages). take n (drop unit (laid_file p file))) c.file-pages.ensures
+      ∙ ap (λ (us : Units). take n (drop unit us)) (sym (file_of-laid c.args.file c.args.layers.now files));
+  looks = record {
+    untouched = λ told. record { same = refl; images = λ t image left. left; kept = λ t image left. left };
+    moment_stays = refl;
+    reads = read_none c.args.file (length c.args.into.now) (g.D.Disk.bytes_read c.args.below.now);
+    goes_on = g.met.D.Disk.follows_refl c.args.below.now;
+  };
+  reads = counts_spared g.D.Disk.bytes_read c.args.file _ _ c.args.below.now c.args.below.now c.args.spared.now c.add.new.self refl (λ f. refl) c.add.ensures;
+  cause = record { later = omega arith; failed = tt };
+}
 
-pub returns-then-covers-clause-reads : goal.returns-then-covers-clause-reads
-returns-then-covers-clause-reads g c = counts_spared g.D.Disk.bytes_read c.args.file _ _ c.args.below.now c.args.below.now c.args.spared.now
-    c.add.new.self refl (λ f. refl) c.add.ensures
+pub returns : goal.returns
+returns g c =
+    let partly = c.read_partly.ensures in record { units = partly.units; looks = partly.looks; reads = partly.reads; cause = partly.cause }

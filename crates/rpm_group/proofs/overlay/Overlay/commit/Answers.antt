@@ -1,5 +1,20 @@
 use Rattle.rpm_group.proofs.Longest.{needed_most}
 use Rattle.rpm_group.proofs.overlay.Overlay.commit.Goals as goal
 
-pub returns-clause-longest : goal.returns-clause-longest
-returns-clause-longest g c = needed_most c.args.self.held (g.D.Disk.files c.args.self.below)
+pub returns : goal.returns
+returns g c =
+    let w = c.write_held-answer.ensures in
+    rw (← c.into_parts-below.ensures.below, ← c.into_parts-below.ensures.held) (record {
+      files = w.files;
+      closed = w.closed;
+      logged = w.logged;
+      settled = w.settled;
+      images = w.images;
+      says = w.says;
+      full = w.full;
+      longest = needed_most c.into_parts-below.result.1 (g.D.Disk.files c.into_parts-below.result.0);
+      idle = w.idle;
+      unwritten = w.unwritten;
+      reads = w.reads;
+      cause = w.cause;
+    })
