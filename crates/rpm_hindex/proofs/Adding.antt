@@ -5,7 +5,7 @@ use Rattle.std.proofs.lemmas.List.{get_or_append_left, get_or-append_right}
 use Rattle.std.proofs.lemmas.Bool.{cases_Bool, cases_eq, cond-true, cond-false, ltb-false, le-ltb}
 use Rattle.rpm_outside.specs.Files.{Units, units_of, unit_at, bytes_of, blank}
 use Rattle.rpm_outside.specs.inner.Cuts.{length-cut_up}
-use Rattle.rpm_hindex.specs.Words.{word}
+use Rattle.rpm_outside.specs.Words.{word}
 use Rattle.rpm_hindex.specs.Rows.{hash_of}
 use Rattle.rpm_hindex.specs.Sizes.{first_record, record_units}
 use Rattle.rpm_hindex.specs.inner.Making.{record_of}

@@ -1,7 +1,7 @@
 -- A record as it was read.
 use Rattle.std.proofs.Common.{◌≡◌, ℕ, ◌+◌, ◌/◌, ◌%◌, ◌^◌, List, take, ap, sym, ◌∙◌}
 use Rattle.rpm_outside.specs.Files.{Files, unit_at, bytes_of}
-use Rattle.rpm_hindex.specs.Words.{word}
+use Rattle.rpm_outside.specs.Words.{word}
 use Rattle.rpm_hindex.specs.Rows.{Row}
 use Rattle.rpm_hindex.specs.Index.{Index, key_at, row_at, run}
 

@@ -1,7 +1,7 @@
 -- Chains, link by link.
 use Rattle.std.proofs.Common.{◌≡◌, ℕ, zero, suc, ◌+◌, ◌/◌, ◌%◌, ◌^◌, ◌<◌, ◌≤◌, List, [], ◌∷◌, ◌++◌, true, false, cond, eqb, ltb, leb, Result, Ok, Err, refl, sym, ap, ◌∙◌, arith, inl, inr}
 use Rattle.std.proofs.lemmas.Bool.{cases_Bool, cond-true, cond-false, and_parts, eq-eqb, ne_eqb, eqb-true, eqb-false, ltb-true, leb-true, and_from, and_left, and_right}
-use Rattle.rpm_hindex.specs.Words.{word}
+use Rattle.rpm_outside.specs.Words.{word}
 use Rattle.rpm_hindex.specs.Rows.{hash_of}
 use Rattle.rpm_hindex.specs.Index.{Index, key_at, is_link, is_placed, is_sound, follow, behind, chain, next_at, units_at, row_at, bucket_of}
 

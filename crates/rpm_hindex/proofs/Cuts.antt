@@ -12,7 +12,7 @@ use Rattle.rpm_outside.specs.Files.{Units, units_of, unit_at}
 use Rattle.rpm_hindex.specs.declared.heads.Head.{Head}
 use Rattle.rpm_hindex.specs.declared.spots.Spot.{Spot}
 use Rattle.rpm_hindex.specs.declared.change.Change.{Change}
-use Rattle.rpm_hindex.specs.Words.{word}
+use Rattle.rpm_outside.specs.Words.{word}
 use Rattle.rpm_hindex.specs.Sizes.{first_record}
 use Rattle.rpm_hindex.specs.Rows.{Row, times}
 use Rattle.rpm_hindex.specs.inner.Records.{IsOpen}

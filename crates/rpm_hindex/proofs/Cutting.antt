@@ -2,7 +2,7 @@
 use Rattle.std.proofs.Common.{◌≡◌, ℕ, ◌+◌, ◌-◌, ◌/◌, ◌%◌, ◌^◌, ◌<◌, ◌≤◌, List, [], ◌∷◌, ◌++◌, take, map, Bool, true, ◌&&◌, cond, refl, sym, ap, ◌∙◌, arith, subst}
 use Rattle.std.specs.List.{Contains, filter, sum_by, flat_map, range_with_len}
 use Rattle.rpm_outside.specs.Files.{Units, bytes_of}
-use Rattle.rpm_hindex.specs.Words.{word}
+use Rattle.rpm_outside.specs.Words.{word}
 use Rattle.rpm_hindex.specs.Rows.{Row, times, same_row as same_rows}
 use Rattle.rpm_hindex.specs.Sizes.{key_units}
 use Rattle.rpm_hindex.specs.Index.{Index, is_link, next_at, units_at, row_at, key_at, length_at, run, places_of, all_places, rows_of}

@@ -3,7 +3,7 @@ use Rattle.std.proofs.Common.{◌≡◌, ℕ, zero, suc, ◌+◌, ◌/◌, ◌%�
 use Rattle.std.specs.List.{Contains, sum_by, flat_map, range_with_len}
 use Rattle.std.proofs.lemmas.Bool.{and_from, eq-eqb, lt-ltb, le-leb, cases_eq}
 use Rattle.rpm_outside.specs.Files.{Units, bytes_of}
-use Rattle.rpm_hindex.specs.Words.{word}
+use Rattle.rpm_outside.specs.Words.{word}
 use Rattle.rpm_hindex.specs.Rows.{Row}
 use Rattle.rpm_hindex.specs.Sizes.{first_record, key_units}
 use Rattle.rpm_hindex.specs.Index.{Index, is_link, is_sound, is_placed, next_at, units_at, row_at, key_at, length_at, run, bucket_of, all_places, places_of, rows_of}

@@ -10,15 +10,15 @@ use Rattle.rpm_outside.specs.inner.Cuts.{length-cut_up, unit_at-cut_up}
 use Rattle.rpm_outside.specs.inner.Puts.{put_inside}
 use Rattle.rpm_hindex.specs.declared.plan.Work.{Work}
 use Rattle.rpm_hindex.specs.declared.plan.Work.TheVariants.{InPlace, Scratch}
-use Rattle.rpm_hindex.specs.Words.{word}
+use Rattle.rpm_outside.specs.Words.{word}
 use Rattle.rpm_hindex.specs.Rows.{Row, times, SameRows}
-use Rattle.rpm_hindex.specs.Sizes.{doubled, bucket_count, is_bucket_count, live_of, record_units, key_units}
+use Rattle.rpm_hindex.specs.Sizes.{doubled, bucket_count, is_bucket_count, index_units, units_for, live_of, record_units, key_units}
 use Rattle.rpm_hindex.specs.Index.{Index, index_in, records, rows_of, row_at, all_places, units_at, length_at, run}
 use Rattle.rpm_hindex.specs.Whole.{IsWhole}
 use Rattle.rpm_hindex.specs.Plans.{CanWrite, LeavesOrder, IsPlanFor, HasChanged, after, buckets_after, second_after, units_after, after_tail, after_units}
 use Rattle.rpm_hindex.specs.inner.Changes.{HasLess}
 use Rattle.rpm_hindex.specs.Refusals.{HasRoomFor}
-use Rattle.rpm_hindex.proofs.Counts.{times-append}
+use Rattle.rpm_hindex.proofs.Counts.{times-append, times_none}
 use Rattle.rpm_hindex.proofs.Orders.{count_parts, ordered_parts}
 use Rattle.rpm_hindex.proofs.Same.{units_same_rows, length_same_rows, live_same_rows}
 
@@ -86,6 +86,14 @@ changed_least x count live drops adds old new whole less changed =
       omega (arith, length_same_rows (rows_of x ++ adds) new same, length-append (rows_of x) adds, few.0, whole.records),
       omega (arith, live_same_rows (rows_of x ++ adds) new same, live-append (rows_of x) adds, few.1, whole.live),
     )
+
+-- rows that are added have room where the counts of an index leave it
+pub room_by_counts : (x : Index) (count live : ℕ) (adds : List Row) → IsWhole count live x
+    → index_units (count + length adds) (live + live_of adds) ≤ 2 ^ 28 → HasRoomFor [] adds (rows_of x)
+room_by_counts x count live adds whole fits = λ new changed.
+    let least = changed_least x count live [] adds (rows_of x) new whole (λ row. omega (arith, times_none row)) changed in
+    let same : units_for new ≡ index_units (count + length adds) (live_of new) = ap (λ (n : ℕ). index_units n (live_of new)) least.0 in
+    omega (arith, same, least.1, fits)
 
 -- ---- what a plan leaves
 

@@ -7,7 +7,7 @@ use Rattle.std.proofs.lemmas.List.Elements.{at_from_Contains}
 use Rattle.std.proofs.lemmas.List.Folds.{list_all_at}
 use Rattle.std.proofs.lemmas.List.FromFn.{get_or-range_with_len, length-range_with_len}
 use Rattle.rpm_outside.specs.Files.{Units, unit_at, blank}
-use Rattle.rpm_hindex.specs.Words.{word}
+use Rattle.rpm_outside.specs.Words.{word}
 use Rattle.rpm_hindex.specs.Rows.{Row, hash_of}
 use Rattle.rpm_hindex.specs.Sizes.{index_units, bucket_count, is_bucket_count}
 use Rattle.rpm_hindex.specs.Index.{Index, index_in, chain, is_sound, row_at, units_at, places_of, all_places, rows_of, records}

@@ -13,7 +13,7 @@ use Rattle.rpm_hindex.specs.declared.faults.PrepareFault.TheVariants.{IndexFull,
 use Rattle.rpm_hindex.specs.declared.change.Change.{Change}
 use Rattle.rpm_hindex.specs.declared.heads.Head.{Head}
 use Rattle.rpm_hindex.specs.declared.spots.Spot.{Spot}
-use Rattle.rpm_hindex.specs.Words.{word}
+use Rattle.rpm_outside.specs.Words.{word}
 use Rattle.rpm_hindex.specs.Rows.{Row}
 use Rattle.rpm_hindex.specs.Answers.{HitsAre}
 use Rattle.rpm_hindex.specs.Sizes.{first_record, record_units}

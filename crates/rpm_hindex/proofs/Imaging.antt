@@ -7,7 +7,7 @@ use Rattle.std.proofs.lemmas.Nat.{from_le_bytes-to_le_bytes_4}
 use Rattle.std.proofs.lemmas.Bool.{cases_eq}
 use Rattle.rpm_outside.specs.Files.{Units, units_of, unit_at}
 use Rattle.rpm_outside.specs.inner.Cuts.{length-cut_up, unit_at-cut_up}
-use Rattle.rpm_hindex.specs.Words.{word, bytes_of_word, unit_of_words}
+use Rattle.rpm_outside.specs.Words.{word, bytes_of_word, unit_of_words}
 use Rattle.rpm_hindex.specs.Rows.{Row, times}
 use Rattle.rpm_hindex.specs.Sizes.{first_record, live_of, is_bucket_count}
 use Rattle.rpm_hindex.specs.Index.{Index, index_in, places_of}

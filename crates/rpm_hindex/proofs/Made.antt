@@ -6,7 +6,7 @@ use Rattle.std.proofs.lemmas.List.Elements.{All-replicate}
 use Rattle.std.proofs.lemmas.Nat.{div-mul-add, mod-mul-add}
 use Rattle.rpm_outside.specs.Files.{Units, cut_up, units_of, bytes_of, unit_at}
 use Rattle.rpm_outside.specs.inner.Cuts.{length-cut_up, bytes_of-cut_up}
-use Rattle.rpm_hindex.specs.Words.{word, unit_of_words}
+use Rattle.rpm_outside.specs.Words.{word, unit_of_words}
 use Rattle.rpm_hindex.specs.Rows.{Row}
 use Rattle.rpm_hindex.specs.Sizes.{key_units, record_units}
 use Rattle.rpm_hindex.specs.inner.Making.{record_of, padding}

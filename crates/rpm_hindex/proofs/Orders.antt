@@ -7,7 +7,7 @@ use Rattle.std.proofs.lemmas.List.FromFn.{get_or-range_with_len, length-range_wi
 use Rattle.std.proofs.Math.Nat.{pow-le-pow_right}
 use Rattle.std.proofs.lemmas.Nat.{pow_pos}
 use Rattle.rpm_outside.specs.Files.{Units}
-use Rattle.rpm_hindex.specs.Words.{word}
+use Rattle.rpm_outside.specs.Words.{word}
 use Rattle.rpm_hindex.specs.Sizes.{first_record, is_bucket_count}
 use Rattle.rpm_hindex.specs.State.{State, Keeps, is_in_order, is_ordered, is_headed, buckets_of}
 use Rattle.rpm_hindex.specs.declared.chain.Extent.{Extent}

@@ -4,7 +4,7 @@ use Rattle.std.specs.Prelude.{Option}
 use Rattle.std.proofs.lemmas.Bool.{cond-true, cond-false, eq-eqb, ne_eqb}
 use Rattle.rpm_hindex.specs.Index.{bucket_unit}
 use Rattle.rpm_hindex.specs.declared.heads.Head.{Head}
-use Rattle.rpm_hindex.specs.Words.{word, unit_of_words}
+use Rattle.rpm_outside.specs.Words.{word, unit_of_words}
 use Rattle.rpm_hindex.specs.inner.Changes.{HasWord, Puts, PutsOne, PutsWithin, SetsNext}
 use Rattle.rpm_hindex.proofs.UnitWords.{word_0, word_1, word_2, word_3}
 

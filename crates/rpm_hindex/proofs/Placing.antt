@@ -23,7 +23,7 @@ use Rattle.rpm_hindex.specs.Plans.{after, after_units, after_tail, IsPlanFor, Is
 use Rattle.rpm_hindex.specs.Sizes.{first_record, is_bucket_count}
 use Rattle.rpm_hindex.specs.State.{is_ordered}
 use Rattle.rpm_hindex.specs.declared.change.Change.{Change}
-use Rattle.rpm_hindex.specs.Words.{word, unit_of_words}
+use Rattle.rpm_outside.specs.Words.{word, unit_of_words}
 use Rattle.rpm_hindex.specs.Index.{Index, index_in, bucket_unit, records, rows_of, places_of}
 use Rattle.rpm_hindex.specs.inner.Changes.{patch_of, unit_after, changing, CanGo, IsWorkOf, AddsRows, HasLess, IsStarted, is_kept}
 use Rattle.rpm_hindex.proofs.Extends.{Extends, whole_same, rows_same, has_same, stands_in}

@@ -7,7 +7,7 @@ use Rattle.std.proofs.lemmas.List.Folds.{list_any_at}
 use Rattle.std.proofs.Math.Nat.{pow-le-pow_right, pow-succ'}
 use Rattle.rpm_outside.specs.Files.{units_of, unit_at}
 use Rattle.rpm_outside.specs.inner.Cuts.{unit_at-cut_up}
-use Rattle.rpm_hindex.specs.Words.{word}
+use Rattle.rpm_outside.specs.Words.{word}
 use Rattle.rpm_hindex.specs.Rows.{Row}
 use Rattle.rpm_hindex.specs.Sizes.{doubled, bucket_count, is_bucket_count, first_record, live_of, units_for}
 use Rattle.rpm_hindex.specs.State.{is_ordered, EndsInZero}

@@ -3,7 +3,7 @@ use Rattle.std.proofs.Common.{◌≡◌, ℕ, ◌<◌, ◌^◌, ◌∷◌, [], r
 use Rattle.std.proofs.lemmas.Bool.{cond-true}
 use Rattle.rpm_outside.specs.Files.{Units, unit_at, put}
 use Rattle.rpm_outside.specs.inner.Puts.{put_inside}
-use Rattle.rpm_hindex.specs.Words.{word}
+use Rattle.rpm_outside.specs.Words.{word}
 use Rattle.rpm_hindex.specs.State.{sealed, is_headed, buckets_of, seal_unit, magic}
 use Rattle.rpm_hindex.specs.Whole.{IsWellFormed}
 use Rattle.rpm_hindex.specs.Images.{IsSealed}

@@ -3,7 +3,7 @@ use Rattle.std.proofs.Common.{◌≡◌, ℕ, ◌+◌, ◌/◌, ◌%◌, ◌<◌
 use Rattle.rpm_outside.specs.Files.{Units, unit_at, put, units_of}
 use Rattle.rpm_outside.specs.inner.Cuts.{length-cut_up, unit_at-cut_up}
 use Rattle.rpm_outside.specs.inner.Puts.{length-put, put_before, put_inside, put_after}
-use Rattle.rpm_hindex.specs.Words.{word}
+use Rattle.rpm_outside.specs.Words.{word}
 use Rattle.rpm_hindex.specs.Index.{index_in, records, places_of}
 use Rattle.rpm_hindex.specs.Padding.{AddsPadded}
 use Rattle.rpm_hindex.specs.Whole.{IsWhole, IsWellFormed}

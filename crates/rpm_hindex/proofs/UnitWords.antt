@@ -2,7 +2,7 @@
 use Rattle.std.proofs.Common.{◌≡◌, ℕ, ◌^◌, ◌<◌, List, length, true, refl, ap, ◌∙◌, arith}
 use Rattle.std.proofs.lemmas.Nat.{from_le_bytes-to_le_bytes_4}
 use Rattle.std.proofs.lemmas.Bool.{and_from, eq-eqb, cond-true}
-use Rattle.rpm_hindex.specs.Words.{word, bytes_of_word, unit_of_words}
+use Rattle.rpm_outside.specs.Words.{word, bytes_of_word, unit_of_words}
 use Rattle.rpm_hindex.specs.State.{is_current, is_in_order, is_headed, is_ordered, sealed, seal_unit, magic}
 
 module _ (a b c d : ℕ) where

@@ -1,4 +1,3 @@
-pub mod Words
 pub mod Rows
 pub mod Sizes
 pub mod Index
@@ -13,3 +12,4 @@ pub mod Answers
 pub mod Refusals
 pub mod Prepared
 pub mod inner
+pub mod Prelude

@@ -8,7 +8,7 @@ use Rattle.rpm_hindex.specs.declared.plan.Work.TheVariants.{InPlace, Scratch}
 use Rattle.rpm_hindex.specs.Rows.{Row, times}
 use Rattle.rpm_hindex.specs.Index.{Index, index_in, records}
 use Rattle.rpm_hindex.specs.Padding.{ArePadded, AddsPadded}
-use Rattle.rpm_hindex.specs.Words.{word}
+use Rattle.rpm_outside.specs.Words.{word}
 use Rattle.rpm_hindex.specs.Sizes.{live_of, units_for, bucket_count}
 use Rattle.rpm_hindex.specs.Whole.{IsWellFormed}
 use Rattle.rpm_hindex.specs.State.{is_ordered}

@@ -6,7 +6,7 @@ use Rattle.rpm_hindex.specs.declared.faults.RewriteFault.TheVariants.{IndexFull,
 use Rattle.rpm_hindex.specs.Rows.{Row}
 use Rattle.rpm_hindex.specs.Sizes.{bucket_count, units_for}
 use Rattle.rpm_hindex.specs.State.{State, EndsInZero}
-use Rattle.rpm_hindex.specs.Words.{word}
+use Rattle.rpm_outside.specs.Words.{word}
 
 -- the fault that the file can't hold so many units, exactly where it can't
 abbrev pub IsFull : {T : Type 0} → ℕ → Result T RewriteFault → Type 0

@@ -1,7 +1,7 @@
 -- The first two units of an index.
 use Rattle.std.specs.Prelude.{◌≡◌, ℕ, ◌-◌, ◌*◌, ◌^◌, List, length, Bool, ◌&&◌, ◌==◌, nat_le, if◌then◌else◌, min}
 use Rattle.rpm_outside.specs.Files.{Units, unit_at}
-use Rattle.rpm_hindex.specs.Words.{word, unit_of_words}
+use Rattle.rpm_outside.specs.Words.{word, unit_of_words}
 use Rattle.rpm_hindex.specs.Sizes.{first_record, is_bucket_count}
 
 -- what a value keeps of the file: its first two units and how many it has; and how many buckets sealing would write, 0 where

@@ -2,7 +2,7 @@
 use Rattle.std.specs.Prelude.{◌≡◌, ℕ, ◌+◌, ◌<◌, ◌≤◌, length, IsOk}
 use Rattle.std.specs.List.{sum_by, Contains}
 use Rattle.rpm_outside.specs.Files.{Units, unit_at}
-use Rattle.rpm_hindex.specs.Words.{word}
+use Rattle.rpm_outside.specs.Words.{word}
 use Rattle.rpm_hindex.specs.Index.{Index, chain, all_places, units_at, index_in}
 
 -- each chain is well formed, no two records share a unit, and there are so many records of so many units

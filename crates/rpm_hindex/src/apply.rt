@@ -1,15 +1,7 @@
 //! Writing a change of the index.
 
 ghost use Rattle.std.specs.Prelude.{◌≡◌, ℕ, ◌+◌, ◌*◌, ◌/◌, ◌%◌, ◌^◌, ◌≤◌, ◌<◌, ◌∷◌, [], List, IsTrue, true, length, max, OnOk, IfOk, IfErr};
-ghost use Rattle.rpm_outside.specs.Files.{Files, Units, units_of, unit_at, put};
-ghost use Rattle.rpm_outside.specs.Causes.{HasCause};
-ghost use Rattle.rpm_hindex.specs.Rows.{Row};
-ghost use Rattle.rpm_hindex.specs.Index.{index_in, records};
-ghost use Rattle.rpm_hindex.specs.State.{State, Keeps, is_ordered};
-ghost use Rattle.rpm_outside.specs.declared.disk.File.TheVariants.{Idx};
-ghost use Rattle.rpm_outside.specs.Changes.{Changes, IsSettled};
-ghost use Rattle.rpm_hindex.specs.Images.{SameSeal, VoidOrSameSeal};
-ghost use Rattle.rpm_hindex.specs.Plans.{ArePatches, CanWrite, patch_at, after, after_units, after_tail, buckets_after, second_after, units_after, LeavesOrder, IsPlanFor, IsChanged, IsPaddedPlan, WritesPadded};
+ghost use Rattle.rpm_hindex.specs.Prelude.{after, after_tail, after_units, ArePatches, buckets_after, CanWrite, Changes, DiskCause, Files, Idx, index_in, is_ordered, IsChanged, IsPaddedPlan, IsPlanFor, IsSettled, Keeps, LeavesOrder, patch_at, put, records, Row, SameSeal, second_after, State, unit_at, Units, units_after, units_of, VoidOrSameSeal, WritesPadded};
 
 use crate::faults::IndexDiskFault;
 use crate::index::Hindex;
@@ -21,19 +13,22 @@ use rpm_outside::Disk;
 fn write_patch<D: Disk>(disk: &mut D, patch: Patch) -> Result<(), IndexDiskFault>
     requires behind { 1 ≤ patch.unit }
     requires room { patch.unit < 2 ^ 28 }
-    ensures written { OnOk result (IsTrue D.tells → (D.files disk.new).idx ≡ put patch.unit (patch.words ∷ []) (D.files disk.old).idx) }
-    ensures changes { Changes D.tells D.files D.left_since D.moment D.bytes_read D.follows Idx SameSeal 0 disk.old disk.new }
-    ensures cause { HasCause (D.faults disk.old) (D.faults disk.new) result }
+    ensures written { OnOk result (IsTrue D.tells
+        → (D.files disk.new).idx ≡ put patch.unit (patch.words ∷ []) (D.files disk.old).idx) }
+    ensures changes { Changes D.Disk Idx SameSeal 0 disk.old disk.new }
+    ensures cause { DiskCause D.Disk result disk.old disk.new }
 {
     write_units(disk, patch.unit as u64, &patch.words)
 }
 
 /// Writes the units that change.
 fn write_patches<D: Disk>(disk: &mut D, patches: &[Patch]) -> Result<(), IndexDiskFault>
-    requires { (k : ℕ) → k < length patches.now → (1 ≤ (patch_at patches.now k).unit) × ((patch_at patches.now k).unit < 2 ^ 28) }
-    ensures written { OnOk result (IsTrue D.tells → (D.files disk.new).idx ≡ after_units patches.now (D.files disk.old).idx) }
-    ensures changes { Changes D.tells D.files D.left_since D.moment D.bytes_read D.follows Idx SameSeal 0 disk.old disk.new }
-    ensures cause { HasCause (D.faults disk.old) (D.faults disk.new) result }
+    requires { (k : ℕ) → k < length patches.now → (1 ≤ (patch_at patches.now k).unit)
+        × ((patch_at patches.now k).unit < 2 ^ 28) }
+    ensures written { OnOk result (IsTrue D.tells
+        → (D.files disk.new).idx ≡ after_units patches.now (D.files disk.old).idx) }
+    ensures changes { Changes D.Disk Idx SameSeal 0 disk.old disk.new }
+    ensures cause { DiskCause D.Disk result disk.old disk.new }
 {
     for k in 0..patches.len() {
         let Ok(()) = write_patch(disk, patches[k]) else {
@@ -48,9 +43,10 @@ fn write_tail<D: Disk>(disk: &mut D, used: u32, tail: &[u8]) -> Result<(), Index
     requires behind { 1 ≤ used }
     requires whole { length tail.now % 16 ≡ 0 }
     requires room { used + length tail.now / 16 ≤ 2 ^ 28 }
-    ensures written { OnOk result (IsTrue D.tells → (D.files disk.new).idx ≡ after_tail used tail.now (D.files disk.old).idx) }
-    ensures changes { Changes D.tells D.files D.left_since D.moment D.bytes_read D.follows Idx SameSeal 0 disk.old disk.new }
-    ensures cause { HasCause (D.faults disk.old) (D.faults disk.new) result }
+    ensures written { OnOk result (IsTrue D.tells
+        → (D.files disk.new).idx ≡ after_tail used tail.now (D.files disk.old).idx) }
+    ensures changes { Changes D.Disk Idx SameSeal 0 disk.old disk.new }
+    ensures cause { DiskCause D.Disk result disk.old disk.new }
 {
     if tail.is_empty() {
         return Ok(());
@@ -62,15 +58,17 @@ fn write_tail<D: Disk>(disk: &mut D, used: u32, tail: &[u8]) -> Result<(), Index
 fn write_records<D: Disk>(disk: &mut D, patches: &Patches) -> Result<(), IndexDiskFault>
     requires units { (k : ℕ) → k < length patches.now.units.items → (1 ≤ (patch_at patches.now.units.items k).unit)
         × ((patch_at patches.now.units.items k).unit < 2 ^ 28) }
-    requires within { (k : ℕ) → k < length patches.now.units.items → (patch_at patches.now.units.items k).unit < patches.now.used }
+    requires within { (k : ℕ) → k < length patches.now.units.items
+        → (patch_at patches.now.units.items k).unit < patches.now.used }
     requires behind { 1 ≤ patches.now.used }
     requires whole { length patches.now.tail.items % 16 ≡ 0 }
     requires room { patches.now.used + length patches.now.tail.items / 16 ≤ 2 ^ 28 }
     requires fits { IsTrue D.tells → patches.now.used ≤ length (D.files disk.old).idx }
-    ensures written { OnOk result (IsTrue D.tells → (D.files disk.new).idx ≡ after_tail patches.now.used patches.now.tail.items
+    ensures written { OnOk result (IsTrue D.tells
+        → (D.files disk.new).idx ≡ after_tail patches.now.used patches.now.tail.items
         (after_units patches.now.units.items (D.files disk.old).idx)) }
-    ensures changes { Changes D.tells D.files D.left_since D.moment D.bytes_read D.follows Idx SameSeal 0 disk.old disk.new }
-    ensures cause { HasCause (D.faults disk.old) (D.faults disk.new) result }
+    ensures changes { Changes D.Disk Idx SameSeal 0 disk.old disk.new }
+    ensures cause { DiskCause D.Disk result disk.old disk.new }
 {
     let Ok(()) = write_tail(disk, patches.used, &patches.tail) else {
         return Err(IndexDiskFault);
@@ -80,10 +78,11 @@ fn write_records<D: Disk>(disk: &mut D, patches: &Patches) -> Result<(), IndexDi
 
 /// Writes unit 1, and settles the file.
 fn write_counts<D: Disk>(disk: &mut D, second: [u8; 16]) -> Result<(), IndexDiskFault>
-    ensures written { OnOk result (IsTrue D.tells → (D.files disk.new).idx ≡ put 1 (second ∷ []) (D.files disk.old).idx) }
-    ensures settled { OnOk result (IsTrue D.tells → IsSettled Idx (D.files disk.new) (D.left_since disk.new (D.moment disk.new))) }
-    ensures changes { Changes D.tells D.files D.left_since D.moment D.bytes_read D.follows Idx SameSeal 0 disk.old disk.new }
-    ensures cause { HasCause (D.faults disk.old) (D.faults disk.new) result }
+    ensures written { OnOk result (IsTrue D.tells
+        → (D.files disk.new).idx ≡ put 1 (second ∷ []) (D.files disk.old).idx) }
+    ensures settled { OnOk result (IsTrue D.tells → IsSettled D.Disk Idx disk.new) }
+    ensures changes { Changes D.Disk Idx SameSeal 0 disk.old disk.new }
+    ensures cause { DiskCause D.Disk result disk.old disk.new }
 {
     let patch = Patch {
         unit: 1,
@@ -103,13 +102,16 @@ impl Hindex {
         ensures pending { OnOk result (self.new.pending ≡ patches.now.buckets) }
         ensures second { OnOk result (self.new.second ≡ patches.now.second) }
         ensures units { OnOk result (patches.now.used + length patches.now.tail.items / 16 ≤ self.new.units) }
-        ensures grows { OnOk result (self.new.units ≤ max self.old.units (patches.now.used + length patches.now.tail.items / 16)) }
+        ensures grows { OnOk result (self.new.units ≤ max self.old.units
+            (patches.now.used + length patches.now.tail.items / 16)) }
         ensures kept { OnOk result (IsTrue D.tells → Keeps (D.files disk.new).idx self.new) }
-        ensures written { OnOk result (IsTrue D.tells → (D.files disk.new).idx ≡ put 1 (patches.now.second ∷ [])
-            (after_tail patches.now.used patches.now.tail.items (after_units patches.now.units.items (D.files disk.old).idx))) }
-        ensures settled { OnOk result (IsTrue D.tells → IsSettled Idx (D.files disk.new) (D.left_since disk.new (D.moment disk.new))) }
-        ensures changes { Changes D.tells D.files D.left_since D.moment D.bytes_read D.follows Idx SameSeal 0 disk.old disk.new }
-        ensures cause { HasCause (D.faults disk.old) (D.faults disk.new) result }
+        ensures written { OnOk result (IsTrue D.tells
+            → (D.files disk.new).idx ≡ put 1 (patches.now.second ∷ [])
+            (after_tail patches.now.used patches.now.tail.items
+            (after_units patches.now.units.items (D.files disk.old).idx))) }
+        ensures settled { OnOk result (IsTrue D.tells → IsSettled D.Disk Idx disk.new) }
+        ensures changes { Changes D.Disk Idx SameSeal 0 disk.old disk.new }
+        ensures cause { DiskCause D.Disk result disk.old disk.new }
     {
         let Ok(()) = write_records(disk, patches) else {
             return Err(IndexDiskFault);
@@ -131,7 +133,8 @@ impl Hindex {
     ///
     /// # Errors
     ///
-    /// `IndexDiskFault` only where the disk's count of faults rose. What the value keeps is then no more said of the file.
+    /// `IndexDiskFault` only where the disk's count of faults rose. What the value keeps is then no more said of the
+    /// file.
     pub fn apply<D: Disk>(&mut self, disk: &mut D, plan: IndexPlan) -> Result<(), IndexDiskFault>
         requires plan { CanWrite self.old.units plan.work }
         requires keeps { IsTrue D.tells → Keeps (D.files disk.old).idx self.old }
@@ -139,16 +142,22 @@ impl Hindex {
         ensures second { OnOk result (self.new.second ≡ second_after plan.work) }
         ensures units { OnOk result (units_after plan.work ≤ self.new.units) }
         ensures grows { OnOk result (self.new.units ≤ max self.old.units (units_after plan.work)) }
-        ensures ordered { OnOk result (LeavesOrder plan.work → is_ordered self.new.pending self.new.second self.new.units ≡ true) }
+        ensures ordered { OnOk result (LeavesOrder plan.work
+            → is_ordered self.new.pending self.new.second self.new.units ≡ true) }
         ensures kept { OnOk result (IsTrue D.tells → Keeps (D.files disk.new).idx self.new) }
-        ensures written { OnOk result (IsTrue D.tells → (D.files disk.new).idx ≡ after plan.work (D.files disk.old).idx) }
-        ensures rows { OnOk result (IsTrue D.tells → (drops adds : List Row) (buckets : ℕ) → IsPlanFor drops adds buckets (D.files disk.old).idx
-            plan.work → IsChanged drops adds (records buckets (D.files disk.old).idx) (buckets_after plan.work) (D.files disk.new).idx) }
-        ensures padded { OnOk result (IsTrue D.tells → (buckets : ℕ) → IsPaddedPlan buckets (D.files disk.old).idx plan.work → WritesPadded plan.work
-            (index_in buckets (D.files disk.old).idx) (index_in (buckets_after plan.work) (D.files disk.new).idx)) }
-        ensures settled { OnOk result (IsTrue D.tells → IsSettled Idx (D.files disk.new) (D.left_since disk.new (D.moment disk.new))) }
-        ensures changes { Changes D.tells D.files D.left_since D.moment D.bytes_read D.follows Idx VoidOrSameSeal 0 disk.old disk.new }
-        ensures cause { HasCause (D.faults disk.old) (D.faults disk.new) result }
+        ensures written { OnOk result (IsTrue D.tells
+            → (D.files disk.new).idx ≡ after plan.work (D.files disk.old).idx) }
+        ensures rows { OnOk result (IsTrue D.tells → (drops adds : List Row) (buckets : ℕ)
+            → IsPlanFor drops adds buckets (D.files disk.old).idx plan.work
+            → IsChanged drops adds (records buckets (D.files disk.old).idx) (buckets_after plan.work)
+            (D.files disk.new).idx) }
+        ensures padded { OnOk result (IsTrue D.tells → (buckets : ℕ)
+            → IsPaddedPlan buckets (D.files disk.old).idx plan.work
+            → WritesPadded plan.work (index_in buckets (D.files disk.old).idx)
+            (index_in (buckets_after plan.work) (D.files disk.new).idx)) }
+        ensures settled { OnOk result (IsTrue D.tells → IsSettled D.Disk Idx disk.new) }
+        ensures changes { Changes D.Disk Idx VoidOrSameSeal 0 disk.old disk.new }
+        ensures cause { DiskCause D.Disk result disk.old disk.new }
     {
         match &plan.work {
             Work::InPlace(patches) => self.patch(disk, patches),

@@ -1,7 +1,7 @@
 //! The bucket of a key.
 
 ghost use Rattle.std.specs.Prelude.{◌≡◌, ℕ, ◌<◌, ◌%◌};
-ghost use Rattle.rpm_hindex.specs.Rows.{fnv, hash_of};
+ghost use Rattle.rpm_hindex.specs.Prelude.{fnv, hash_of};
 
 /// 32-bit FNV-1a, carried on.
 fn fnv(hash: u32, bytes: &[u8]) -> u32

@@ -1,21 +1,7 @@
 //! The chain of a bucket.
 
 ghost use Rattle.std.specs.Prelude.{◌≡◌, ℕ, ◌+◌, ◌-◌, ◌*◌, ◌/◌, ◌%◌, ◌^◌, ◌≤◌, ◌<◌, ◌==◌, IsTrue, true, length, map, List, Result, IfOk, IfErr, OnOk, Ok, Err};
-ghost use Rattle.std.specs.List.{sum_by};
-ghost use Rattle.rpm_outside.specs.declared.disk.File.{File};
-ghost use Rattle.rpm_outside.specs.Files.{Files, Units, unit_at};
-ghost use Rattle.rpm_outside.specs.Causes.{HasCauseAt};
-ghost use Rattle.rpm_hindex.specs.Words.{word};
-ghost use Rattle.rpm_hindex.specs.Rows.{Row, hash_of};
-ghost use Rattle.rpm_hindex.specs.Sizes.{first_record};
-ghost use Rattle.rpm_hindex.specs.Index.{Index, index_in, chain, follow, is_link, is_placed, next_at, length_at, units_at, row_at, bucket_unit, records};
-ghost use Rattle.rpm_hindex.specs.Whole.{IsWellFormed};
-ghost use Rattle.rpm_hindex.specs.State.{State, Keeps, is_in_order, buckets_of};
-ghost use Rattle.rpm_outside.specs.declared.disk.File.TheVariants.{Idx};
-ghost use Rattle.rpm_outside.specs.Looks.{Looks, LooksAt};
-ghost use Rattle.rpm_hindex.specs.inner.Records.{IsOpen};
-ghost use Rattle.rpm_hindex.specs.inner.Spots.{IsNext};
-ghost use Rattle.rpm_hindex.specs.Answers.{AsOften, AreHits, FindIs, IsFaultOf, ChainCosts, AddsHit, has_key, IsRising, times_hit};
+ghost use Rattle.rpm_hindex.specs.Prelude.{AddsHit, AreHits, AsOften, bucket_unit, buckets_of, chain, ChainCosts, DiskFault, File, Files, FindIs, first_record, follow, has_key, hash_of, Idx, Index, index_in, is_in_order, is_link, is_placed, IsFaultOf, IsNext, IsOpen, IsRising, IsWellFormed, Keeps, length_at, Looks, LooksAt, next_at, records, Row, row_at, State, sum_by, times_hit, unit_at, Units, units_at, word};
 
 use crate::bucket::bucket_of;
 use crate::faults::FindFault;
@@ -24,8 +10,7 @@ use crate::hits::{Hit, Hits};
 use crate::index::Hindex;
 use crate::reads::read_unit;
 use crate::sizes::record_units;
-use crate::words::word;
-use rpm_outside::{Disk, File};
+use rpm_outside::{Disk, File, word};
 use std::alloc::Global;
 
 /// How many buckets an index has, and the first unit after its records.
@@ -54,7 +39,8 @@ pub fn is_link(extent: Extent, at: u32) -> bool
 pub fn is_placed(extent: Extent, at: u32, head: &[u8]) -> bool
     requires whole { length head.now ≡ 16 }
     requires few { extent.buckets ≤ 2 ^ 28 }
-    ensures { (x : Index) → x.buckets ≡ extent.buckets → x.used ≡ extent.used → head.now ≡ x.unit at → result ≡ is_placed x at }
+    ensures { (x : Index) → x.buckets ≡ extent.buckets → x.used ≡ extent.used → head.now ≡ x.unit at
+        → result ≡ is_placed x at }
 {
     let next = word(head, 0);
     let units = record_units(word(head, 1) % 268_435_456);
@@ -67,13 +53,15 @@ pub fn read_bucket<D: Disk>(disk: &mut D, extent: Extent, bucket: u32) -> Result
     requires bucket { bucket < extent.buckets }
     requires open { IsTrue D.tells → IsOpen extent (D.files disk.old).idx }
     ensures words { IfOk result (λ b. IsTrue D.tells → b.words ≡ unit_at (D.files disk.old).idx (bucket_unit bucket)) }
-    ensures word { IfOk result (λ b. IsTrue D.tells → (b.at ≡ (index_in extent.buckets (D.files disk.old).idx).head bucket)
+    ensures word { IfOk result (λ b. IsTrue D.tells
+        → (b.at ≡ (index_in extent.buckets (D.files disk.old).idx).head bucket)
         × (is_link (index_in extent.buckets (D.files disk.old).idx) b.at ≡ true)) }
     ensures within { IfOk result (λ b. 0 < b.at → b.at < extent.used) }
     ensures linked { IfOk result (λ b. IsNext extent.buckets extent.used b.at) }
-    ensures fault { IfErr result (λ e. IsTrue D.tells → IsFaultOf (chain (index_in extent.buckets (D.files disk.old).idx) bucket) e) }
-    ensures looks { Looks D.tells D.files D.left_since D.moment D.bytes_read D.follows Idx 16 disk.old disk.new }
-    ensures cause { HasCauseAt (result ≡ Err FindFault.DiskFault) (D.faults disk.old) (D.faults disk.new) }
+    ensures fault { IfErr result (λ e. IsTrue D.tells
+        → IsFaultOf (chain (index_in extent.buckets (D.files disk.old).idx) bucket) e) }
+    ensures looks { Looks D.Disk Idx 16 disk.old disk.new }
+    ensures cause { DiskFault D.Disk (result ≡ Err FindFault.DiskFault) disk.old disk.new }
 {
     let unit = 2 + bucket as u64 / 4;
     let Ok(words) = read_unit(disk, unit) else {
@@ -88,8 +76,9 @@ pub fn read_bucket<D: Disk>(disk: &mut D, extent: Extent, bucket: u32) -> Result
 
 /// Adds the hit of a record, where it has the key.
 fn push_hit(hits: &mut Vec<Hit>, met: Met) -> Result<(), FindFault>
-    ensures hits { OnOk result ((kind : ℕ) (key : List ℕ) (row : Row) → met.is_wanted ≡ has_key kind key row → row.number ≡ met.head.number
-        → row.place ≡ met.head.place → AddsHit kind key row hits.old.items hits.new.items) }
+    ensures hits { OnOk result ((kind : ℕ) (key : List ℕ) (row : Row) → met.is_wanted ≡ has_key kind key row
+        → row.number ≡ met.head.number → row.place ≡ met.head.place
+        → AddsHit kind key row hits.old.items hits.new.items) }
     ensures memory { IfErr result (λ e. e ≡ FindFault.NoMemory) }
 {
     if !met.is_wanted {
@@ -118,12 +107,15 @@ fn collect<D: Disk>(
     requires some { 0 < extent.buckets }
     requires open { IsTrue D.tells → IsOpen extent (D.files disk.old).idx }
     requires within { 0 < from → from < extent.used }
-    ensures told { IsTrue D.tells → FindIs (λ places hits. AsOften kind key.now (map (row_at (unit_at (D.files disk.old).idx)) places) hits.items)
-        (follow (index_in extent.buckets (D.files disk.old).idx) (hash_of kind key.now % extent.buckets) from from) result }
-    ensures cost { IsTrue D.tells → ChainCosts (follow (index_in extent.buckets (D.files disk.old).idx) (hash_of kind key.now % extent.buckets) from
-        from) (units_at (unit_at (D.files disk.old).idx)) (D.bytes_read disk.old File.Idx) (D.bytes_read disk.new File.Idx) }
-    ensures looks { LooksAt D.tells D.files D.left_since D.moment D.bytes_read D.follows Idx disk.old disk.new }
-    ensures cause { HasCauseAt (result ≡ Err FindFault.DiskFault) (D.faults disk.old) (D.faults disk.new) }
+    ensures told { IsTrue D.tells → FindIs (λ places hits. AsOften kind key.now
+        (map (row_at (unit_at (D.files disk.old).idx)) places) hits.items)
+        (follow (index_in extent.buckets (D.files disk.old).idx) (hash_of kind key.now % extent.buckets) from from)
+        result }
+    ensures cost { IsTrue D.tells → ChainCosts
+        (follow (index_in extent.buckets (D.files disk.old).idx) (hash_of kind key.now % extent.buckets) from from)
+        (units_at (unit_at (D.files disk.old).idx)) (D.bytes_read disk.old File.Idx) (D.bytes_read disk.new File.Idx) }
+    ensures looks { LooksAt D.Disk Idx disk.old disk.new }
+    ensures cause { DiskFault D.Disk (result ≡ Err FindFault.DiskFault) disk.old disk.new }
 {
     let bucket = bucket_of(kind, key, extent.buckets);
     let mut hits = Vec::new(alloc);
@@ -153,12 +145,15 @@ fn gather<D: Disk>(
     requires few { extent.buckets ≤ 2 ^ 28 }
     requires some { 0 < extent.buckets }
     requires open { IsTrue D.tells → IsOpen extent (D.files disk.old).idx }
-    ensures told { IsTrue D.tells → FindIs (λ places hits. AsOften kind key.now (map (row_at (unit_at (D.files disk.old).idx)) places) hits.items)
+    ensures told { IsTrue D.tells → FindIs (λ places hits. AsOften kind key.now
+        (map (row_at (unit_at (D.files disk.old).idx)) places) hits.items)
         (chain (index_in extent.buckets (D.files disk.old).idx) (hash_of kind key.now % extent.buckets)) result }
-    ensures cost { IsTrue D.tells → ChainCosts (chain (index_in extent.buckets (D.files disk.old).idx) (hash_of kind key.now % extent.buckets))
-        (units_at (unit_at (D.files disk.old).idx)) (D.bytes_read disk.old File.Idx + 16) (D.bytes_read disk.new File.Idx) }
-    ensures looks { LooksAt D.tells D.files D.left_since D.moment D.bytes_read D.follows Idx disk.old disk.new }
-    ensures cause { HasCauseAt (result ≡ Err FindFault.DiskFault) (D.faults disk.old) (D.faults disk.new) }
+    ensures cost { IsTrue D.tells → ChainCosts
+        (chain (index_in extent.buckets (D.files disk.old).idx) (hash_of kind key.now % extent.buckets))
+        (units_at (unit_at (D.files disk.old).idx)) (D.bytes_read disk.old File.Idx + 16)
+        (D.bytes_read disk.new File.Idx) }
+    ensures looks { LooksAt D.Disk Idx disk.old disk.new }
+    ensures cause { DiskFault D.Disk (result ≡ Err FindFault.DiskFault) disk.old disk.new }
 {
     let bucket = bucket_of(kind, key, extent.buckets);
     match read_bucket(disk, extent, bucket) {
@@ -190,8 +185,8 @@ impl Hindex {
 
     /// The packages that have a key, by rising number and place.
     ///
-    /// Reads the unit of the bucket's word and the units of that bucket's records, each once. Takes memory for the longest key, and for
-    /// the hits.
+    /// Reads the unit of the bucket's word and the units of that bucket's records, each once. Takes memory for the
+    /// longest key, and for the hits.
     ///
     /// # Errors
     ///
@@ -208,15 +203,19 @@ impl Hindex {
         requires order { is_in_order self.now ≡ true }
         requires keeps { IsTrue D.tells → Keeps (D.files disk.old).idx self.now }
         ensures kept { IsTrue D.tells → Keeps (D.files disk.new).idx self.now }
-        ensures told { IsTrue D.tells → FindIs (λ places hits. AreHits kind key.now (map (row_at (unit_at (D.files disk.old).idx)) places) hits)
-            (chain (index_in (buckets_of self.now.first) (D.files disk.old).idx) (hash_of kind key.now % buckets_of self.now.first)) result }
-        ensures rows { IfOk result (λ hits. IsTrue D.tells → IsWellFormed (buckets_of self.now.first) (D.files disk.old).idx → AreHits kind key.now
-            (records (buckets_of self.now.first) (D.files disk.old).idx) hits) }
-        ensures cost { IsTrue D.tells → ChainCosts (chain (index_in (buckets_of self.now.first) (D.files disk.old).idx)
-            (hash_of kind key.now % buckets_of self.now.first)) (units_at (unit_at (D.files disk.old).idx)) (D.bytes_read disk.old File.Idx + 16)
-            (D.bytes_read disk.new File.Idx) }
-        ensures looks { LooksAt D.tells D.files D.left_since D.moment D.bytes_read D.follows Idx disk.old disk.new }
-        ensures cause { HasCauseAt (result ≡ Err FindFault.DiskFault) (D.faults disk.old) (D.faults disk.new) }
+        ensures told { IsTrue D.tells → FindIs (λ places hits. AreHits kind key.now
+            (map (row_at (unit_at (D.files disk.old).idx)) places) hits)
+            (chain (index_in (buckets_of self.now.first) (D.files disk.old).idx)
+            (hash_of kind key.now % buckets_of self.now.first)) result }
+        ensures rows { IfOk result (λ hits. IsTrue D.tells
+            → IsWellFormed (buckets_of self.now.first) (D.files disk.old).idx
+            → AreHits kind key.now (records (buckets_of self.now.first) (D.files disk.old).idx) hits) }
+        ensures cost { IsTrue D.tells → ChainCosts
+            (chain (index_in (buckets_of self.now.first) (D.files disk.old).idx)
+            (hash_of kind key.now % buckets_of self.now.first)) (units_at (unit_at (D.files disk.old).idx))
+            (D.bytes_read disk.old File.Idx + 16) (D.bytes_read disk.new File.Idx) }
+        ensures looks { LooksAt D.Disk Idx disk.old disk.new }
+        ensures cause { DiskFault D.Disk (result ≡ Err FindFault.DiskFault) disk.old disk.new }
     {
         match gather(alloc, disk, self.extent(), kind, key) {
             Ok(hits) => Ok(sorted(hits)),

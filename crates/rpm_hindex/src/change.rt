@@ -1,21 +1,7 @@
 //! A change that is being worked out.
 
 ghost use Rattle.std.specs.Prelude.{◌≡◌, ℕ, ◌+◌, ◌*◌, ◌/◌, ◌%◌, ◌^◌, ◌≤◌, ◌<◌, IsTrue, true, length, [], ◌∷◌, None, List, Result, OnOk, IfOk, IfErr, Err};
-ghost use Rattle.std.specs.Ordering.{nat_cmp};
-ghost use Rattle.std.specs.BTreeMap.{get};
-ghost use Rattle.std.specs.BTreeSet.{contains};
-ghost use Rattle.rpm_outside.specs.Files.{unit_at};
-ghost use Rattle.rpm_outside.specs.Causes.{HasCauseAt};
-ghost use Rattle.rpm_outside.specs.declared.disk.File.TheVariants.{Idx};
-ghost use Rattle.rpm_outside.specs.Looks.{Looks, LooksAt};
-ghost use Rattle.rpm_hindex.specs.inner.Records.{IsOpen};
-ghost use Rattle.rpm_hindex.specs.Rows.{hash_of, row_nth};
-ghost use Rattle.rpm_hindex.specs.Sizes.{record_units, first_record};
-ghost use Rattle.rpm_hindex.specs.inner.Changes.{CanGo, IsHonest, IsChainFault, IsOther, Puts, Drops, is_kept};
-ghost use Rattle.rpm_hindex.specs.inner.Ongoing.{CanStart, DropsRows, GoesOn, Grows, HasAdded, IsDropFault, one_row};
-ghost use Rattle.rpm_hindex.specs.Refusals.{IsFaulty};
-ghost use Rattle.rpm_hindex.specs.Index.{index_in, chain, units_at};
-ghost use Rattle.rpm_hindex.specs.Answers.{IsFaultOf, ChainCosts};
+ghost use Rattle.rpm_hindex.specs.Prelude.{CanGo, CanStart, chain, ChainCosts, contains, DiskFault, Drops, DropsRows, first_record, get, GoesOn, Grows, HasAdded, hash_of, Idx, index_in, is_kept, IsChainFault, IsDropFault, IsFaultOf, IsFaulty, IsHonest, IsOpen, IsOther, Looks, LooksAt, nat_cmp, one_row, Puts, record_units, row_nth, unit_at, units_at};
 
 use crate::bucket::bucket_of;
 use crate::chain::{Extent, is_link};
@@ -26,12 +12,12 @@ use crate::row_search::{Start, find_row};
 use crate::rows::{RowRef, Rows};
 use crate::sizes::record_units;
 use crate::spots::Spot;
-use crate::words::word;
-use rpm_outside::Disk;
+use rpm_outside::{Disk, word};
 use std::alloc::Global;
 use std::collections::{BTreeMap, BTreeSet};
 
-/// The units that change, the records after all others, the places of the records that were dropped, and the numbers of unit 1.
+/// The units that change, the records after all others, the places of the records that were dropped, and the numbers
+/// of unit 1.
 #[derive(Drop)]
 pub struct Change {
     pub extent: Extent,
@@ -46,7 +32,8 @@ pub struct Change {
 pub fn prepare_fault(fault: FindFault) -> PrepareFault
     ensures other { IsOther result }
     ensures fault { (said : Result (List ℕ) ℕ) → IsFaultOf said fault → IsChainFault said result }
-    ensures same { (result ≡ PrepareFault.DiskFault → fault ≡ FindFault.DiskFault) × (fault ≡ FindFault.DiskFault → result ≡ PrepareFault.DiskFault) }
+    ensures same { (result ≡ PrepareFault.DiskFault → fault ≡ FindFault.DiskFault)
+        × (fault ≡ FindFault.DiskFault → result ≡ PrepareFault.DiskFault) }
 {
     match fault {
         FindFault::BadIndex { unit } => PrepareFault::BadIndex { unit },
@@ -68,7 +55,8 @@ fn put_dropped(dropped: &mut BTreeSet<u32>, at: u32) -> Result<(), PrepareFault>
 
 /// Lets a bucket's next row be looked for after this spot's record.
 fn put_start(starts: &mut BTreeMap<u32, Start>, bucket: u32, spot: Spot) -> Result<(), PrepareFault>
-    ensures put { OnOk result (Puts (λ b. get nat_cmp starts.old b) (λ b. get nat_cmp starts.new b) bucket (record { before = spot.before; at = spot.behind })) }
+    ensures put { OnOk result (Puts (λ b. get nat_cmp starts.old b) (λ b. get nat_cmp starts.new b) bucket
+        (record { before = spot.before; at = spot.behind })) }
     ensures memory { IfErr result (λ e. e ≡ PrepareFault.NoMemory) }
 {
     let start = Start {
@@ -130,11 +118,12 @@ impl Change {
             (one_row row.entry.kind row.entry.key.now row.entry.number row.entry.place) self.old self.new) }
         ensures refused { IfErr result (λ e. IsTrue D.tells → IsDropFault (D.files disk.old).idx
             (one_row row.entry.kind row.entry.key.now row.entry.number row.entry.place) self.old e) }
-        ensures cost { IsTrue D.tells → ChainCosts (chain (index_in self.old.extent.buckets (D.files disk.old).idx)
-            (hash_of row.entry.kind row.entry.key.now % self.old.extent.buckets)) (units_at (unit_at (D.files disk.old).idx))
-            (D.bytes_read disk.old Idx + 16) (D.bytes_read disk.new Idx) }
-        ensures looks { LooksAt D.tells D.files D.left_since D.moment D.bytes_read D.follows Idx disk.old disk.new }
-        ensures cause { HasCauseAt (result ≡ Err PrepareFault.DiskFault) (D.faults disk.old) (D.faults disk.new) }
+        ensures cost { IsTrue D.tells → ChainCosts
+            (chain (index_in self.old.extent.buckets (D.files disk.old).idx)
+            (hash_of row.entry.kind row.entry.key.now % self.old.extent.buckets))
+            (units_at (unit_at (D.files disk.old).idx)) (D.bytes_read disk.old Idx + 16) (D.bytes_read disk.new Idx) }
+        ensures looks { LooksAt D.Disk Idx disk.old disk.new }
+        ensures cause { DiskFault D.Disk (result ≡ Err PrepareFault.DiskFault) disk.old disk.new }
     {
         let bucket = bucket_of(row.kind, row.key, self.extent.buckets);
         let found = match find_row(alloc, disk, self.extent, bucket, &self.dropped, starts, row) {
@@ -173,7 +162,8 @@ impl Change {
         requires go { CanGo self.old }
         requires kind { row.kind < 16 }
         requires short { length row.key.now < 2 ^ 28 }
-        requires room { self.old.extent.used + length self.old.tail.items / 16 + record_units (length row.key.now) ≤ 2 ^ 28 }
+        requires room { self.old.extent.used + length self.old.tail.items / 16 + record_units (length row.key.now) ≤ 2
+            ^ 28 }
         requires count { self.old.records < 2 * self.old.extent.buckets }
         requires open { IsTrue D.tells → IsOpen self.old.extent (D.files disk.old).idx }
         ensures grows { OnOk result (Grows self.old self.new 1 (record_units (length row.entry.key.now))) }
@@ -182,8 +172,8 @@ impl Change {
             (one_row row.entry.kind row.entry.key.now row.entry.number row.entry.place) self.old self.new) }
         ensures bad { IfErr result (λ e. IsTrue D.tells → IsHonest self.old (D.files disk.old).idx
             → IsFaulty self.old.extent.buckets (D.files disk.old).idx e) }
-        ensures looks { Looks D.tells D.files D.left_since D.moment D.bytes_read D.follows Idx 16 disk.old disk.new }
-        ensures cause { HasCauseAt (result ≡ Err PrepareFault.DiskFault) (D.faults disk.old) (D.faults disk.new) }
+        ensures looks { Looks D.Disk Idx 16 disk.old disk.new }
+        ensures cause { DiskFault D.Disk (result ≡ Err PrepareFault.DiskFault) disk.old disk.new }
     {
         let bucket = bucket_of(row.kind, row.key, self.extent.buckets);
         let words = match words_of(&self.units, disk, bucket) {
@@ -224,7 +214,8 @@ impl Change {
 /// Row i of these.
 pub fn row_ref(rows: &Rows, i: usize) -> RowRef<'_>
     requires { i < length rows.now }
-    ensures row { (record { kind = result.kind; key = result.key.now; number = result.number; place = result.place }) ≡ row_nth rows.now i }
+    ensures row { (record { kind = result.kind; key = result.key.now; number = result.number; place = result.place })
+        ≡ row_nth rows.now i }
     ensures kind { result.kind < 16 }
     ensures short { length result.key.now < 2 ^ 28 }
 {

@@ -1,16 +1,7 @@
 //! The rows that a change drops.
 
 ghost use Rattle.std.specs.Prelude.{◌≡◌, ◌+◌, ◌*◌, ◌/◌, ◌%◌, ◌^◌, ◌≤◌, ◌<◌, IsTrue, true, false, length, ◌++◌, OnOk, IfErr, Err};
-ghost use Rattle.rpm_outside.specs.Causes.{HasCauseAt};
-ghost use Rattle.rpm_outside.specs.declared.disk.File.TheVariants.{Idx};
-ghost use Rattle.rpm_outside.specs.Looks.{LooksAt};
-ghost use Rattle.rpm_hindex.specs.inner.Records.{IsOpen};
-ghost use Rattle.rpm_hindex.specs.inner.Changes.{CanGo, IsHonest, IsFresh, HasNoFault, HasFault, IsOther};
-ghost use Rattle.rpm_hindex.specs.inner.Ongoing.{DropsRows, GoesOn, IsDropFault};
-ghost use Rattle.rpm_hindex.specs.Refusals.{IsBad, IsBadFor};
-ghost use Rattle.rpm_hindex.specs.Index.{index_in};
-ghost use Rattle.rpm_hindex.specs.Costs.{chains_bytes};
-ghost use Rattle.rpm_hindex.specs.Whole.{IsWellFormed};
+ghost use Rattle.rpm_hindex.specs.Prelude.{CanGo, chains_bytes, DiskFault, DropsRows, GoesOn, HasFault, HasNoFault, Idx, index_in, IsBad, IsBadFor, IsDropFault, IsFresh, IsHonest, IsOpen, IsOther, IsWellFormed, LooksAt};
 
 use crate::chain::Extent;
 use crate::change::{Change, prepare_fault, row_ref};
@@ -21,8 +12,8 @@ use rpm_outside::Disk;
 use std::alloc::Global;
 use std::collections::BTreeMap;
 
-/// Drops a record of each of these rows, where there is one. The last row first: a package's rows stand in their chains newest first, so that
-/// each is met at once after the one that was dropped before it.
+/// Drops a record of each of these rows, where there is one. The last row first: a package's rows stand in their
+/// chains newest first, so that each is met at once after the one that was dropped before it.
 fn drop_each<D: Disk>(
     alloc: Global,
     disk: &mut D,
@@ -36,10 +27,11 @@ fn drop_each<D: Disk>(
     ensures none { OnOk result (length rows.now ≡ 0 → change.new ≡ change.old) }
     ensures dropped { OnOk result (IsTrue D.tells → DropsRows (D.files disk.old).idx rows.now change.old change.new) }
     ensures refused { IfErr result (λ e. IsTrue D.tells → IsDropFault (D.files disk.old).idx rows.now change.old e) }
-    ensures cost { IsTrue D.tells → IsWellFormed change.old.extent.buckets (D.files disk.old).idx → D.bytes_read disk.new Idx ≤ D.bytes_read disk.old
-        Idx + chains_bytes (index_in change.old.extent.buckets (D.files disk.old).idx) rows.now }
-    ensures looks { LooksAt D.tells D.files D.left_since D.moment D.bytes_read D.follows Idx disk.old disk.new }
-    ensures cause { HasCauseAt (result ≡ Err PrepareFault.DiskFault) (D.faults disk.old) (D.faults disk.new) }
+    ensures cost { IsTrue D.tells → IsWellFormed change.old.extent.buckets (D.files disk.old).idx
+        → D.bytes_read disk.new Idx ≤ D.bytes_read disk.old Idx + chains_bytes
+        (index_in change.old.extent.buckets (D.files disk.old).idx) rows.now }
+    ensures looks { LooksAt D.Disk Idx disk.old disk.new }
+    ensures cause { DiskFault D.Disk (result ≡ Err PrepareFault.DiskFault) disk.old disk.new }
 {
     let mut starts = BTreeMap::new(alloc);
     let mut left = rows.len();
@@ -58,8 +50,8 @@ fn check_chains<D: Disk>(alloc: Global, disk: &mut D, extent: Extent) -> Result<
     requires open { IsTrue D.tells → IsOpen extent (D.files disk.old).idx }
     ensures none { OnOk result (IsTrue D.tells → HasNoFault (index_in extent.buckets (D.files disk.old).idx)) }
     ensures fault { IfErr result (λ e. IsTrue D.tells → HasFault (index_in extent.buckets (D.files disk.old).idx) e) }
-    ensures looks { LooksAt D.tells D.files D.left_since D.moment D.bytes_read D.follows Idx disk.old disk.new }
-    ensures cause { HasCauseAt (result ≡ Err FindFault.DiskFault) (D.faults disk.old) (D.faults disk.new) }
+    ensures looks { LooksAt D.Disk Idx disk.old disk.new }
+    ensures cause { DiskFault D.Disk (result ≡ Err FindFault.DiskFault) disk.old disk.new }
 {
     let mut buffer = Vec::new(alloc);
     for bucket in 0..extent.buckets {
@@ -81,8 +73,8 @@ fn is_count_fault(fault: PrepareFault) -> bool
     }
 }
 
-/// Drops a record of each of these rows, where there is one. That unit 1 counts too little is said only where no chain has a fault: all
-/// are read then.
+/// Drops a record of each of these rows, where there is one. That unit 1 counts too little is said only where no
+/// chain has a fault: all are read then.
 pub fn drop_rows<D: Disk>(
     alloc: Global,
     disk: &mut D,
@@ -97,13 +89,15 @@ pub fn drop_rows<D: Disk>(
     ensures dropped { OnOk result (IsTrue D.tells → DropsRows (D.files disk.old).idx rows.now change.old change.new) }
     ensures bad { IfErr result (λ e. IsTrue D.tells → IsHonest change.old (D.files disk.old).idx
         → IsBad change.old.extent.buckets (D.files disk.old).idx e) }
-    ensures counts { IfErr result (λ e. IsTrue D.tells → IsFresh change.old (D.files disk.old).idx → IsHonest change.old (D.files disk.old).idx
+    ensures counts { IfErr result (λ e. IsTrue D.tells → IsFresh change.old (D.files disk.old).idx
+        → IsHonest change.old (D.files disk.old).idx
         → IsBadFor rows.now change.old.extent.buckets (D.files disk.old).idx e) }
-    ensures cost { IsTrue D.tells → IsWellFormed change.old.extent.buckets (D.files disk.old).idx → IsHonest change.old (D.files disk.old).idx
-        → D.bytes_read disk.new Idx ≤ D.bytes_read disk.old
-        Idx + chains_bytes (index_in change.old.extent.buckets (D.files disk.old).idx) rows.now }
-    ensures looks { LooksAt D.tells D.files D.left_since D.moment D.bytes_read D.follows Idx disk.old disk.new }
-    ensures cause { HasCauseAt (result ≡ Err PrepareFault.DiskFault) (D.faults disk.old) (D.faults disk.new) }
+    ensures cost { IsTrue D.tells → IsWellFormed change.old.extent.buckets (D.files disk.old).idx
+        → IsHonest change.old (D.files disk.old).idx
+        → D.bytes_read disk.new Idx ≤ D.bytes_read disk.old Idx + chains_bytes
+        (index_in change.old.extent.buckets (D.files disk.old).idx) rows.now }
+    ensures looks { LooksAt D.Disk Idx disk.old disk.new }
+    ensures cause { DiskFault D.Disk (result ≡ Err PrepareFault.DiskFault) disk.old disk.new }
 {
     let extent = change.extent;
     let Err(fault) = drop_each(alloc, disk, change, rows) else {

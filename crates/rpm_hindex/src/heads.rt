@@ -1,23 +1,14 @@
 //! The first unit of a record, and whether the record is looked for.
 
 ghost use Rattle.std.specs.Prelude.{◌≡◌, ℕ, ◌+◌, ◌*◌, ◌/◌, ◌%◌, ◌^◌, ◌≤◌, ◌<◌, ◌⊎◌, IsTrue, true, false, length, IfOk, IfErr, Ok, Err, Some, None, if◌then◌else◌};
-ghost use Rattle.rpm_outside.specs.Files.{unit_at};
-ghost use Rattle.rpm_outside.specs.Causes.{HasCauseAt};
-ghost use Rattle.rpm_outside.specs.Looks.{Looks, LooksAt};
-ghost use Rattle.rpm_outside.specs.declared.disk.File.TheVariants.{Idx};
-ghost use Rattle.rpm_hindex.specs.Rows.{hash_of};
-ghost use Rattle.rpm_hindex.specs.Index.{index_in, follow, is_placed, is_sound, row_at, length_at, units_at};
-ghost use Rattle.rpm_hindex.specs.Answers.{IsFaultOf, has_key, is_wanted};
-ghost use Rattle.rpm_hindex.specs.inner.Records.{IsOpen};
-ghost use Rattle.rpm_hindex.specs.inner.Spots.{FallsTo, IsHead, IsAhead, IsMet};
+ghost use Rattle.rpm_hindex.specs.Prelude.{DiskFault, FallsTo, follow, has_key, hash_of, Idx, index_in, is_placed, is_sound, is_wanted, IsAhead, IsFaultOf, IsHead, IsMet, IsOpen, length_at, Looks, LooksAt, row_at, unit_at, units_at};
 
 use crate::bucket::bucket_of;
 use crate::chain::{Extent, is_placed};
 use crate::faults::FindFault;
 use crate::hits::Hit;
 use crate::reads::{read_key_into, read_unit};
-use crate::words::word;
-use rpm_outside::Disk;
+use rpm_outside::{Disk, word};
 
 /// Where a record stands, and the numbers of its first unit but for its next.
 #[derive(Clone, Copy)]
@@ -52,9 +43,10 @@ pub fn read_head<D: Disk>(disk: &mut D, extent: Extent, at: u32) -> Result<Ahead
     ensures here { IfOk result (λ a. a.head.at ≡ at) }
     ensures next { IfOk result (λ a. FallsTo extent.buckets extent.used at a.next) }
     ensures ahead { IfOk result (λ a. IsTrue D.tells → IsAhead (index_in extent.buckets (D.files disk.old).idx) at a) }
-    ensures fault { IfErr result (λ e. IsTrue D.tells → (b : ℕ) → IsFaultOf (follow (index_in extent.buckets (D.files disk.old).idx) b at at) e) }
-    ensures looks { Looks D.tells D.files D.left_since D.moment D.bytes_read D.follows Idx 16 disk.old disk.new }
-    ensures cause { HasCauseAt (result ≡ Err FindFault.DiskFault) (D.faults disk.old) (D.faults disk.new) }
+    ensures fault { IfErr result (λ e. IsTrue D.tells → (b : ℕ)
+        → IsFaultOf (follow (index_in extent.buckets (D.files disk.old).idx) b at at) e) }
+    ensures looks { Looks D.Disk Idx 16 disk.old disk.new }
+    ensures cause { DiskFault D.Disk (result ≡ Err FindFault.DiskFault) disk.old disk.new }
 {
     let Ok(unit) = read_unit(disk, at as u64) else {
         return Err(FindFault::DiskFault);
@@ -93,13 +85,14 @@ fn is_of_bucket(
 
 /// Whether two kinds and two keys are the same.
 fn is_key(kind: u8, key: &[u8], other_kind: u8, other: &[u8]) -> bool
-    ensures { (number place : ℕ) → result ≡ has_key kind key.now (record { kind = other_kind; key = other.now; number = number; place = place }) }
+    ensures { (number place : ℕ) → result ≡ has_key kind key.now
+        (record { kind = other_kind; key = other.now; number = number; place = place }) }
 {
     kind == other_kind && key == other
 }
 
-/// Reads the key of a record, whose first unit was read, into a buffer: whether it is this kind's key, which is of the bucket. A function
-/// of its own, so that passing a record stays short.
+/// Reads the key of a record, whose first unit was read, into a buffer: whether it is this kind's key, which is of
+/// the bucket. A function of its own, so that passing a record stays short.
 #[inline(never)]
 pub fn meets_key<D: Disk>(
     disk: &mut D,
@@ -117,13 +110,16 @@ pub fn meets_key<D: Disk>(
     requires placed { IsTrue D.tells → is_placed (index_in extent.buckets (D.files disk.old).idx) head.at ≡ true }
     requires head { IsTrue D.tells → IsHead (unit_at (D.files disk.old).idx) head }
     requires bucket { hash_of kind key.now % extent.buckets ≡ bucket }
-    ensures same { IfOk result (λ is. IsTrue D.tells → is ≡ has_key kind key.now (row_at (unit_at (D.files disk.old).idx) head.at)) }
-    ensures sound { IfOk result (λ is. IsTrue D.tells → is_sound (index_in extent.buckets (D.files disk.old).idx) bucket head.at ≡ true) }
+    ensures same { IfOk result (λ is. IsTrue D.tells
+        → is ≡ has_key kind key.now (row_at (unit_at (D.files disk.old).idx) head.at)) }
+    ensures sound { IfOk result (λ is. IsTrue D.tells
+        → is_sound (index_in extent.buckets (D.files disk.old).idx) bucket head.at ≡ true) }
     ensures long { IfOk result (λ is. IsTrue D.tells → length (row_at (unit_at (D.files disk.old).idx) head.at).key
         ≡ length_at (unit_at (D.files disk.old).idx) head.at) }
-    ensures fault { IfErr result (λ e. IsTrue D.tells → IsFaultOf (follow (index_in extent.buckets (D.files disk.old).idx) bucket head.at head.at) e) }
-    ensures looks { Looks D.tells D.files D.left_since D.moment D.bytes_read D.follows Idx (16 * ((head.size % 2 ^ 28 + 15) / 16)) disk.old disk.new }
-    ensures cause { HasCauseAt (result ≡ Err FindFault.DiskFault) (D.faults disk.old) (D.faults disk.new) }
+    ensures fault { IfErr result (λ e. IsTrue D.tells
+        → IsFaultOf (follow (index_in extent.buckets (D.files disk.old).idx) bucket head.at head.at) e) }
+    ensures looks { Looks D.Disk Idx (16 * ((head.size % 2 ^ 28 + 15) / 16)) disk.old disk.new }
+    ensures cause { DiskFault D.Disk (result ≡ Err FindFault.DiskFault) disk.old disk.new }
 {
     let length = head.size % 268_435_456;
     if let Err(fault) = read_key_into(disk, head.at as u64 + 1, length, buffer) {
@@ -141,8 +137,10 @@ pub fn meets_key<D: Disk>(
 
 /// Whether a record has the number and place that are looked for, where only one is.
 fn may_be(head: Head, only: Option<Hit>) -> bool
-    ensures yes { result ≡ true → (hit : Hit) → only ≡ Some hit → (hit.number ≡ head.number) × (hit.place ≡ head.place) }
-    ensures no { result ≡ false → (hit : Hit) × (only ≡ Some hit) × (hit.number ≡ head.number → hit.place ≡ head.place → ⊥) }
+    ensures yes { result ≡ true → (hit : Hit) → only ≡ Some hit → (hit.number ≡ head.number)
+        × (hit.place ≡ head.place) }
+    ensures no { result ≡ false → (hit : Hit) × (only ≡ Some hit)
+        × (hit.number ≡ head.number → hit.place ≡ head.place → ⊥) }
 {
     match only {
         Some(hit) => hit.number == head.number && hit.place == head.place,
@@ -150,8 +148,8 @@ fn may_be(head: Head, only: Option<Hit>) -> bool
     }
 }
 
-/// Reads the record at a unit that a link names, and its key only where the record has the number and place that are looked for. Inlined, so
-/// that the walk for a key makes no such test.
+/// Reads the record at a unit that a link names, and its key only where the record has the number and place that are
+/// looked for. Inlined, so that the walk for a key makes no such test.
 #[inline(always)]
 pub fn meet<D: Disk>(
     disk: &mut D,
@@ -171,14 +169,16 @@ pub fn meet<D: Disk>(
     requires bucket { hash_of kind key.now % extent.buckets ≡ bucket }
     ensures here { IfOk result (λ m. m.head.at ≡ at) }
     ensures next { IfOk result (λ m. FallsTo extent.buckets extent.used at m.next) }
-    ensures met { IfOk result (λ m. IsTrue D.tells → IsMet (index_in extent.buckets (D.files disk.old).idx) at (is_wanted kind key.now only) m) }
+    ensures met { IfOk result (λ m. IsTrue D.tells
+        → IsMet (index_in extent.buckets (D.files disk.old).idx) at (is_wanted kind key.now only) m) }
     ensures sound { IfOk result (λ m. IsTrue D.tells → (only ≡ None) ⊎ (m.is_wanted ≡ true)
         → is_sound (index_in extent.buckets (D.files disk.old).idx) bucket at ≡ true) }
-    ensures fault { IfErr result (λ e. IsTrue D.tells → IsFaultOf (follow (index_in extent.buckets (D.files disk.old).idx) bucket at at) e) }
-    ensures cost { IsTrue D.tells → is_sound (index_in extent.buckets (D.files disk.old).idx) bucket at ≡ true → D.bytes_read disk.new Idx
-        ≤ D.bytes_read disk.old Idx + 16 * units_at (unit_at (D.files disk.old).idx) at }
-    ensures looks { LooksAt D.tells D.files D.left_since D.moment D.bytes_read D.follows Idx disk.old disk.new }
-    ensures cause { HasCauseAt (result ≡ Err FindFault.DiskFault) (D.faults disk.old) (D.faults disk.new) }
+    ensures fault { IfErr result (λ e. IsTrue D.tells
+        → IsFaultOf (follow (index_in extent.buckets (D.files disk.old).idx) bucket at at) e) }
+    ensures cost { IsTrue D.tells → is_sound (index_in extent.buckets (D.files disk.old).idx) bucket at ≡ true
+        → D.bytes_read disk.new Idx ≤ D.bytes_read disk.old Idx + 16 * units_at (unit_at (D.files disk.old).idx) at }
+    ensures looks { LooksAt D.Disk Idx disk.old disk.new }
+    ensures cause { DiskFault D.Disk (result ≡ Err FindFault.DiskFault) disk.old disk.new }
 {
     let Ahead { next, head } = match read_head(disk, extent, at) {
         Ok(ahead) => ahead,

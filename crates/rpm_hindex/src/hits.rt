@@ -1,7 +1,7 @@
 //! What is found of a key.
 
 ghost use Rattle.std.specs.Prelude.{◌≡◌, ℕ, ◌<◌, length, slice_index_or};
-ghost use Rattle.rpm_hindex.specs.Answers.{hit_at};
+ghost use Rattle.rpm_hindex.specs.Prelude.{hit_at};
 
 use std::marker::Model;
 

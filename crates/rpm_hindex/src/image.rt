@@ -1,16 +1,13 @@
 //! An index made from scratch in memory.
 
 ghost use Rattle.std.specs.Prelude.{◌≡◌, ℕ, ◌+◌, ◌*◌, ◌/◌, ◌%◌, ◌^◌, ◌≤◌, ◌<◌, ◌++◌, ◌∷◌, [], List, length, drop, take, true, OnOk, IfOk};
-ghost use Rattle.std.specs.List.{flat_map};
-ghost use Rattle.rpm_hindex.specs.Words.{bytes_of_word, unit_of_words};
-ghost use Rattle.rpm_hindex.specs.Rows.{Row};
-ghost use Rattle.rpm_hindex.specs.Sizes.{record_units, first_record, live_of, is_bucket_count};
-ghost use Rattle.rpm_hindex.specs.inner.Drafts.{IsDraft, IsImage};
+ghost use Rattle.rpm_hindex.specs.Prelude.{bytes_of_word, first_record, flat_map, is_bucket_count, IsDraft, IsImage, live_of, record_units, Row, unit_of_words};
 
 use crate::bucket::bucket_of;
 use crate::records::push_record;
 use crate::rows::Rows;
-use crate::words::{push_word, unit_of_words};
+use crate::words::push_word;
+use rpm_outside::unit_of_words;
 use std::alloc::{AllocError, Global};
 
 /// The words of the buckets, and the units from unit 1 on, of which those before the records are still zeros.
@@ -70,9 +67,11 @@ fn add_record(
     requires kind { kind < 16 }
     requires key { length key.now < 2 ^ 28 }
     ensures heads { OnOk result (length draft.new.heads.items ≡ length draft.old.heads.items) }
-    ensures long { OnOk result (length draft.new.bytes.items ≡ length draft.old.bytes.items + 16 * record_units (length key.now)) }
+    ensures long { OnOk result (length draft.new.bytes.items ≡ length draft.old.bytes.items + 16 * record_units
+        (length key.now)) }
     ensures rows { OnOk result ((rows : List Row) → IsDraft rows draft.old.heads.items draft.old.bytes.items
-        → IsDraft (rows ++ record { kind = kind; key = key.now; number = number; place = place } ∷ []) draft.new.heads.items draft.new.bytes.items) }
+        → IsDraft (rows ++ record { kind = kind; key = key.now; number = number; place = place } ∷ [])
+        draft.new.heads.items draft.new.bytes.items) }
 {
     let at = 1 + (draft.bytes.len() / 16) as u32;
     let bucket = bucket_of(kind, key, draft.heads.len() as u32) as usize;
@@ -96,7 +95,8 @@ fn add_records(draft: &mut Draft, rows: &Rows) -> Result<(), AllocError>
     requires room { 1 + length draft.old.bytes.items / 16 + live_of rows.now ≤ 2 ^ 28 }
     ensures heads { OnOk result (length draft.new.heads.items ≡ length draft.old.heads.items) }
     ensures long { OnOk result (length draft.new.bytes.items ≡ length draft.old.bytes.items + 16 * live_of rows.now) }
-    ensures rows { OnOk result (IsDraft [] draft.old.heads.items draft.old.bytes.items → IsDraft rows.now draft.new.heads.items draft.new.bytes.items) }
+    ensures rows { OnOk result (IsDraft [] draft.old.heads.items draft.old.bytes.items
+        → IsDraft rows.now draft.new.heads.items draft.new.bytes.items) }
 {
     for i in 0..rows.len() {
         let head = rows.head(i);

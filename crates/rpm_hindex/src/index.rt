@@ -1,23 +1,16 @@
 //! The index in Hindex.db.
 
 ghost use Rattle.std.specs.Prelude.{◌≡◌, ℕ, ◌+◌, ◌-◌, ◌*◌, ◌^◌, ◌≤◌, ◌<◌, IsTrue, true, IfOk, OnOk, Err, length};
-ghost use Rattle.rpm_outside.specs.Files.{Files, unit_at};
-ghost use Rattle.rpm_outside.specs.Causes.{HasCause};
-ghost use Rattle.rpm_hindex.specs.Words.{word};
-ghost use Rattle.rpm_hindex.specs.Sizes.{first_record};
-ghost use Rattle.rpm_hindex.specs.State.{State, state_of, Keeps, is_headed, is_ordered, is_in_order, is_current, buckets_of};
-ghost use Rattle.rpm_outside.specs.declared.disk.File.TheVariants.{Idx};
-ghost use Rattle.rpm_outside.specs.Looks.{Looks};
+ghost use Rattle.rpm_hindex.specs.Prelude.{buckets_of, DiskCause, Files, first_record, Idx, is_current, is_headed, is_in_order, is_ordered, Keeps, Looks, State, state_of, unit_at, word};
 
 use crate::faults::IndexDiskFault;
 use crate::reads::unit_or_zeros;
 use crate::sizes::{UNITS, is_bucket_count};
-use crate::words::word;
-use rpm_outside::{Disk, File};
+use rpm_outside::{Disk, File, word};
 use std::marker::Model;
 
-/// The first two units of a `Hindex.db`, read once. The records stay in the file: each call that takes the disk takes the one that the
-/// value was opened on, as long as that file says what the value keeps.
+/// The first two units of a `Hindex.db`, read once. The records stay in the file: each call that takes the disk takes
+/// the one that the value was opened on, as long as that file says what the value keeps.
 #[derive(Drop)]
 pub struct Hindex {
     pub first: [u8; 16],
@@ -77,8 +70,8 @@ impl Hindex {
         ensures state { IfOk result (λ index. IsTrue D.tells → index ≡ state_of (D.files disk.old).idx) }
         ensures kept { IfOk result (λ index. IsTrue D.tells → Keeps (D.files disk.new).idx index) }
         ensures nothing_pending { IfOk result (λ index. index.pending ≡ 0) }
-        ensures looks { Looks D.tells D.files D.left_since D.moment D.bytes_read D.follows Idx 32 disk.old disk.new }
-        ensures cause { HasCause (D.faults disk.old) (D.faults disk.new) result }
+        ensures looks { Looks D.Disk Idx 32 disk.old disk.new }
+        ensures cause { DiskCause D.Disk result disk.old disk.new }
     {
         let Ok(units) = disk.len(File::Idx) else {
             return Err(IndexDiskFault);

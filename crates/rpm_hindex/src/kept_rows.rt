@@ -1,18 +1,7 @@
 //! The rows of a chain that a change keeps.
 
 ghost use Rattle.std.specs.Prelude.{◌≡◌, ℕ, ◌+◌, ◌*◌, ◌/◌, ◌%◌, ◌^◌, ◌≤◌, ◌<◌, ◌++◌, ◌∷◌, [], IsTrue, true, map, length, IsOk, OnOk, IfErr, Err, if◌then◌else◌};
-ghost use Rattle.std.specs.Ordering.{nat_cmp};
-ghost use Rattle.std.specs.BTreeSet.{contains};
-ghost use Rattle.std.specs.List.{filter};
-ghost use Rattle.rpm_outside.specs.Files.{unit_at};
-ghost use Rattle.rpm_outside.specs.Causes.{HasCauseAt};
-ghost use Rattle.rpm_outside.specs.Looks.{Looks, LooksAt};
-ghost use Rattle.rpm_outside.specs.declared.disk.File.TheVariants.{Idx};
-ghost use Rattle.rpm_hindex.specs.Index.{index_in, chain, follow, is_placed, is_sound, row_at};
-ghost use Rattle.rpm_hindex.specs.Answers.{FindIs, IsFaultOf};
-ghost use Rattle.rpm_hindex.specs.inner.Records.{IsOpen};
-ghost use Rattle.rpm_hindex.specs.inner.Changes.{is_kept};
-ghost use Rattle.rpm_hindex.specs.inner.Spots.{IsHead, IsNext};
+ghost use Rattle.rpm_hindex.specs.Prelude.{chain, contains, DiskFault, filter, FindIs, follow, Idx, index_in, is_kept, is_placed, is_sound, IsFaultOf, IsHead, IsNext, IsOpen, Looks, LooksAt, nat_cmp, row_at, unit_at};
 
 use crate::bucket::bucket_of;
 use crate::chain::{Extent, read_bucket};
@@ -40,12 +29,15 @@ fn push_row<D: Disk>(
     requires some_at { 0 < head.at }
     requires placed { IsTrue D.tells → is_placed (index_in extent.buckets (D.files disk.old).idx) head.at ≡ true }
     requires head { IsTrue D.tells → IsHead (unit_at (D.files disk.old).idx) head }
-    ensures row { OnOk result (IsTrue D.tells → rows.new ≡ (if is_kept then rows.old ++ row_at (unit_at (D.files disk.old).idx) head.at ∷ []
-        else rows.old)) }
-    ensures sound { OnOk result (IsTrue D.tells → is_sound (index_in extent.buckets (D.files disk.old).idx) bucket head.at ≡ true) }
-    ensures fault { IfErr result (λ e. IsTrue D.tells → IsFaultOf (follow (index_in extent.buckets (D.files disk.old).idx) bucket head.at head.at) e) }
-    ensures looks { Looks D.tells D.files D.left_since D.moment D.bytes_read D.follows Idx (16 * ((head.size % 2 ^ 28 + 15) / 16)) disk.old disk.new }
-    ensures cause { HasCauseAt (result ≡ Err FindFault.DiskFault) (D.faults disk.old) (D.faults disk.new) }
+    ensures row { OnOk result (IsTrue D.tells
+        → rows.new ≡ (if is_kept then rows.old ++ row_at (unit_at (D.files disk.old).idx) head.at ∷ [] else
+        rows.old)) }
+    ensures sound { OnOk result (IsTrue D.tells
+        → is_sound (index_in extent.buckets (D.files disk.old).idx) bucket head.at ≡ true) }
+    ensures fault { IfErr result (λ e. IsTrue D.tells
+        → IsFaultOf (follow (index_in extent.buckets (D.files disk.old).idx) bucket head.at head.at) e) }
+    ensures looks { Looks D.Disk Idx (16 * ((head.size % 2 ^ 28 + 15) / 16)) disk.old disk.new }
+    ensures cause { DiskFault D.Disk (result ≡ Err FindFault.DiskFault) disk.old disk.new }
 {
     let length = head.size % 268_435_456;
     if let Err(fault) = read_key_into(disk, head.at as u64 + 1, length, buffer) {
@@ -81,10 +73,11 @@ fn push_from<D: Disk>(
     requires some { 0 < extent.buckets }
     requires open { IsTrue D.tells → IsOpen extent (D.files disk.old).idx }
     requires linked { IsNext extent.buckets extent.used from }
-    ensures told { IsTrue D.tells → FindIs (λ places done. rows.new ≡ rows.old ++ map (row_at (unit_at (D.files disk.old).idx))
-        (filter (is_kept (λ p. contains nat_cmp dropped.now p)) places)) (follow (index_in extent.buckets (D.files disk.old).idx) bucket from from) result }
-    ensures looks { LooksAt D.tells D.files D.left_since D.moment D.bytes_read D.follows Idx disk.old disk.new }
-    ensures cause { HasCauseAt (result ≡ Err FindFault.DiskFault) (D.faults disk.old) (D.faults disk.new) }
+    ensures told { IsTrue D.tells → FindIs (λ places done. rows.new ≡ rows.old ++ map
+        (row_at (unit_at (D.files disk.old).idx)) (filter (is_kept (λ p. contains nat_cmp dropped.now p)) places))
+        (follow (index_in extent.buckets (D.files disk.old).idx) bucket from from) result }
+    ensures looks { LooksAt D.Disk Idx disk.old disk.new }
+    ensures cause { DiskFault D.Disk (result ≡ Err FindFault.DiskFault) disk.old disk.new }
 {
     let mut at = from;
     while at != 0 {
@@ -101,8 +94,8 @@ fn push_from<D: Disk>(
     Ok(())
 }
 
-/// Adds the rows of a bucket's chain, in its order, but for those whose records are dropped. Each record is read once, its key into a buffer,
-/// which grows where it is too short.
+/// Adds the rows of a bucket's chain, in its order, but for those whose records are dropped. Each record is read
+/// once, its key into a buffer, which grows where it is too short.
 pub fn push_chain<D: Disk>(
     disk: &mut D,
     extent: Extent,
@@ -114,10 +107,11 @@ pub fn push_chain<D: Disk>(
     requires few { extent.buckets ≤ 2 ^ 28 }
     requires bucket { bucket < extent.buckets }
     requires open { IsTrue D.tells → IsOpen extent (D.files disk.old).idx }
-    ensures told { IsTrue D.tells → FindIs (λ places done. rows.new ≡ rows.old ++ map (row_at (unit_at (D.files disk.old).idx))
-        (filter (is_kept (λ p. contains nat_cmp dropped.now p)) places)) (chain (index_in extent.buckets (D.files disk.old).idx) bucket) result }
-    ensures looks { LooksAt D.tells D.files D.left_since D.moment D.bytes_read D.follows Idx disk.old disk.new }
-    ensures cause { HasCauseAt (result ≡ Err FindFault.DiskFault) (D.faults disk.old) (D.faults disk.new) }
+    ensures told { IsTrue D.tells → FindIs (λ places done. rows.new ≡ rows.old ++ map
+        (row_at (unit_at (D.files disk.old).idx)) (filter (is_kept (λ p. contains nat_cmp dropped.now p)) places))
+        (chain (index_in extent.buckets (D.files disk.old).idx) bucket) result }
+    ensures looks { LooksAt D.Disk Idx disk.old disk.new }
+    ensures cause { DiskFault D.Disk (result ≡ Err FindFault.DiskFault) disk.old disk.new }
 {
     match read_bucket(disk, extent, bucket) {
         Ok(found) => push_from(disk, extent, bucket, found.at, dropped, rows, buffer),
@@ -137,9 +131,10 @@ pub fn check_chain<D: Disk>(
     requires bucket { bucket < extent.buckets }
     requires open { IsTrue D.tells → IsOpen extent (D.files disk.old).idx }
     ensures none { OnOk result (IsTrue D.tells → IsOk (chain (index_in extent.buckets (D.files disk.old).idx) bucket)) }
-    ensures fault { IfErr result (λ e. IsTrue D.tells → IsFaultOf (chain (index_in extent.buckets (D.files disk.old).idx) bucket) e) }
-    ensures looks { LooksAt D.tells D.files D.left_since D.moment D.bytes_read D.follows Idx disk.old disk.new }
-    ensures cause { HasCauseAt (result ≡ Err FindFault.DiskFault) (D.faults disk.old) (D.faults disk.new) }
+    ensures fault { IfErr result (λ e. IsTrue D.tells
+        → IsFaultOf (chain (index_in extent.buckets (D.files disk.old).idx) bucket) e) }
+    ensures looks { LooksAt D.Disk Idx disk.old disk.new }
+    ensures cause { DiskFault D.Disk (result ≡ Err FindFault.DiskFault) disk.old disk.new }
 {
     let dropped = BTreeSet::new(alloc);
     let mut rows = Rows::new(alloc);

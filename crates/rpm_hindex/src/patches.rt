@@ -1,24 +1,14 @@
 //! Units that a change writes anew.
 
 ghost use Rattle.std.specs.Prelude.{◌≡◌, ℕ, ◌+◌, ◌*◌, ◌/◌, ◌%◌, ◌^◌, ◌≤◌, ◌<◌, IsTrue, true, List, length, unwrap_or, if◌then◌else◌, ◌==◌, OnOk, IfOk, IfErr, Err};
-ghost use Rattle.std.specs.Ordering.{nat_cmp};
-ghost use Rattle.std.specs.BTreeMap.{get};
-ghost use Rattle.rpm_outside.specs.Files.{Units, unit_at};
-ghost use Rattle.rpm_outside.specs.Causes.{HasCauseAt};
-ghost use Rattle.rpm_outside.specs.declared.disk.File.TheVariants.{Idx};
-ghost use Rattle.rpm_outside.specs.Looks.{Looks};
-ghost use Rattle.rpm_hindex.specs.Words.{word};
-ghost use Rattle.rpm_hindex.specs.Index.{bucket_unit};
-ghost use Rattle.rpm_hindex.specs.inner.Changes.{Puts, PutsOne, HasWord, SetsBucket, SetsNext, unit_after, PutsWithin, Unlinks, IsOther, IsWithout};
-ghost use Rattle.rpm_hindex.specs.inner.Spots.{IsHeadWithin};
+ghost use Rattle.rpm_hindex.specs.Prelude.{bucket_unit, DiskFault, get, HasWord, Idx, IsHeadWithin, IsOther, IsWithout, Looks, nat_cmp, Puts, PutsOne, PutsWithin, SetsBucket, SetsNext, unit_after, unit_at, Units, Unlinks, word};
 
 use crate::chain::Extent;
 use crate::faults::PrepareFault;
 use crate::heads::Head;
 use crate::reads::read_unit;
 use crate::spots::Spot;
-use crate::words::{unit_of_words, word};
-use rpm_outside::Disk;
+use rpm_outside::{Disk, unit_of_words, word};
 use std::collections::BTreeMap;
 
 /// Number j of a unit, or another one, where j is k.
@@ -65,10 +55,11 @@ pub fn words_of<D: Disk>(
     bucket: u32,
 ) -> Result<[u8; 16], PrepareFault>
     requires { IsTrue D.tells → bucket_unit bucket < length (D.files disk.old).idx }
-    ensures words { IfOk result (λ w. IsTrue D.tells → w ≡ unit_after (λ q. get nat_cmp units.now q) (D.files disk.old).idx (bucket_unit bucket)) }
+    ensures words { IfOk result (λ w. IsTrue D.tells
+        → w ≡ unit_after (λ q. get nat_cmp units.now q) (D.files disk.old).idx (bucket_unit bucket)) }
     ensures fault { IfErr result (λ e. e ≡ PrepareFault.DiskFault) }
-    ensures looks { Looks D.tells D.files D.left_since D.moment D.bytes_read D.follows Idx 16 disk.old disk.new }
-    ensures cause { HasCauseAt (result ≡ Err PrepareFault.DiskFault) (D.faults disk.old) (D.faults disk.new) }
+    ensures looks { Looks D.Disk Idx 16 disk.old disk.new }
+    ensures cause { DiskFault D.Disk (result ≡ Err PrepareFault.DiskFault) disk.old disk.new }
 {
     let unit = 2 + bucket / 4;
     if let Some(words) = units.get(&unit) {
@@ -97,23 +88,14 @@ fn set_bucket(
     bucket: u32,
     at: u32,
 ) -> Result<(), PrepareFault>
-    ensures puts { OnOk result (PutsOne (λ q. get nat_cmp units.old q) (λ q. get nat_cmp units.new q) (bucket_unit bucket)) }
-    ensures sets { OnOk result ((file : Units) → words.now ≡ unit_at file (bucket_unit bucket) → SetsBucket file (λ q. get nat_cmp units.old q)
-        (λ q. get nat_cmp units.new q) bucket at) }
+    ensures puts { OnOk result (PutsOne (λ q. get nat_cmp units.old q) (λ q. get nat_cmp units.new q)
+        (bucket_unit bucket)) }
+    ensures sets { OnOk result ((file : Units) → words.now ≡ unit_at file (bucket_unit bucket)
+        → SetsBucket file (λ q. get nat_cmp units.old q) (λ q. get nat_cmp units.new q) bucket at) }
     ensures memory { IfErr result (λ e. e ≡ PrepareFault.NoMemory) }
 {
     let now = words_or(units, 2 + bucket / 4, words);
     put_unit(units, 2 + bucket / 4, with_word(&now, bucket % 4, at))
-}
-
-/// A unit of four numbers.
-fn unit_of_four(a: u32, b: u32, c: u32, d: u32) -> [u8; 16]
-    ensures zero { word 0 result ≡ a }
-    ensures one { word 1 result ≡ b }
-    ensures two { word 2 result ≡ c }
-    ensures three { word 3 result ≡ d }
-{
-    unit_of_words(a, b, c, d)
 }
 
 /// Lets a record name this unit as its next.
@@ -121,7 +103,7 @@ fn set_next(units: &mut BTreeMap<u32, [u8; 16]>, head: Head, next: u32) -> Resul
     ensures sets { OnOk result (SetsNext (λ q. get nat_cmp units.old q) (λ q. get nat_cmp units.new q) head next) }
     ensures memory { IfErr result (λ e. e ≡ PrepareFault.NoMemory) }
 {
-    let unit = unit_of_four(next, head.size, head.number, head.place);
+    let unit = unit_of_words(next, head.size, head.number, head.place);
     put_unit(units, head.at, unit)
 }
 
@@ -136,8 +118,8 @@ pub fn unlink(
     requires within { IsHeadWithin extent.used spot.before }
     requires behind { bucket_unit bucket < extent.used }
     ensures puts { OnOk result (PutsWithin extent.used (λ q. get nat_cmp units.old q) (λ q. get nat_cmp units.new q)) }
-    ensures sets { OnOk result ((file : Units) → words.now ≡ unit_at file (bucket_unit bucket) → Unlinks file (λ q. get nat_cmp units.old q)
-        (λ q. get nat_cmp units.new q) bucket spot.before spot.behind) }
+    ensures sets { OnOk result ((file : Units) → words.now ≡ unit_at file (bucket_unit bucket)
+        → Unlinks file (λ q. get nat_cmp units.old q) (λ q. get nat_cmp units.new q) bucket spot.before spot.behind) }
     ensures memory { IfErr result (λ e. e ≡ PrepareFault.NoMemory) }
 {
     match spot.before {

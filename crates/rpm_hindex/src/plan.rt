@@ -1,20 +1,7 @@
 //! What a change of the index will write.
 
 ghost use Rattle.std.specs.Prelude.{◌≡◌, ℕ, ◌+◌, ◌*◌, ◌/◌, ◌%◌, ◌^◌, ◌≤◌, ◌<◌, IsTrue, true, length, map, reverse, ◌++◌, OnOk, IfOk, IfErr, Err};
-ghost use Rattle.std.specs.Ordering.{nat_cmp};
-ghost use Rattle.std.specs.BTreeMap.{keys};
-ghost use Rattle.std.specs.BTreeSet.{contains};
-ghost use Rattle.std.specs.List.Sorted.{IsStrictlySortedBy};
-ghost use Rattle.rpm_outside.specs.Causes.{HasCauseAt};
-ghost use Rattle.rpm_outside.specs.declared.disk.File.TheVariants.{Idx};
-ghost use Rattle.rpm_outside.specs.Looks.{Looks, LooksAt};
-ghost use Rattle.rpm_hindex.specs.inner.Records.{IsOpen};
-ghost use Rattle.rpm_hindex.specs.Sizes.{first_record, live_of};
-ghost use Rattle.rpm_hindex.specs.Plans.{CanWrite};
-ghost use Rattle.rpm_hindex.specs.inner.Ongoing.{Grows, HasAdded, LeavesWhole};
-ghost use Rattle.rpm_hindex.specs.inner.Changes.{CanGo, IsHonest, IsOther, IsTooLarge, IsWorkOf, IsScratchOf, kept_of, is_kept, patch_of};
-ghost use Rattle.rpm_hindex.specs.Refusals.{IsFaulty};
-ghost use Rattle.rpm_hindex.specs.Index.{index_in};
+ghost use Rattle.rpm_hindex.specs.Prelude.{CanGo, CanWrite, contains, DiskFault, first_record, Grows, HasAdded, Idx, index_in, is_kept, IsFaulty, IsHonest, IsOpen, IsOther, IsScratchOf, IsStrictlySortedBy, IsTooLarge, IsWorkOf, kept_of, keys, LeavesWhole, live_of, Looks, LooksAt, nat_cmp, patch_of};
 
 use crate::chain::Extent;
 use crate::change::{Change, prepare_fault, row_ref};
@@ -23,8 +10,7 @@ use crate::image::Image;
 use crate::kept_rows::push_chain;
 use crate::rewrite::image_of;
 use crate::rows::Rows;
-use crate::words::unit_of_words;
-use rpm_outside::Disk;
+use rpm_outside::{Disk, unit_of_words};
 use std::alloc::{AllocError, Global};
 use std::collections::{BTreeMap, BTreeSet};
 
@@ -70,8 +56,8 @@ pub fn add_rows<D: Disk>(disk: &mut D, change: &mut Change, rows: &Rows) -> Resu
     ensures added { OnOk result (IsTrue D.tells → HasAdded (D.files disk.old).idx rows.now change.old change.new) }
     ensures bad { IfErr result (λ e. IsTrue D.tells → IsHonest change.old (D.files disk.old).idx
         → IsFaulty change.old.extent.buckets (D.files disk.old).idx e) }
-    ensures looks { Looks D.tells D.files D.left_since D.moment D.bytes_read D.follows Idx (16 * length rows.now) disk.old disk.new }
-    ensures cause { HasCauseAt (result ≡ Err PrepareFault.DiskFault) (D.faults disk.old) (D.faults disk.new) }
+    ensures looks { Looks D.Disk Idx (16 * length rows.now) disk.old disk.new }
+    ensures cause { DiskFault D.Disk (result ≡ Err PrepareFault.DiskFault) disk.old disk.new }
 {
     for i in 0..rows.len() {
         if let Err(fault) = change.add_row(disk, row_ref(rows, i)) {
@@ -86,11 +72,14 @@ pub fn has_room(change: &Change, adds: &Rows, limit: u64) -> bool
     requires limit { limit ≤ 2 ^ 28 }
     requires go { CanGo change.now }
     requires none { length change.now.tail.items ≡ 0 }
-    ensures least { change.now.records + length adds.now ≤ 2 * change.now.extent.buckets → change.now.extent.used + live_of adds.now ≤ limit
-        → change.now.extent.used + live_of adds.now ≤ first_record change.now.extent.buckets + 2 * (change.now.live + live_of adds.now) → result ≡ true }
+    ensures least { change.now.records + length adds.now ≤ 2 * change.now.extent.buckets
+        → change.now.extent.used + live_of adds.now ≤ limit
+        → change.now.extent.used + live_of adds.now ≤ first_record change.now.extent.buckets + 2
+        * (change.now.live + live_of adds.now) → result ≡ true }
     ensures count { result ≡ true → change.now.records + length adds.now ≤ 2 * change.now.extent.buckets }
     ensures room { result ≡ true → change.now.extent.used + live_of adds.now ≤ limit }
-    ensures half { result ≡ true → change.now.extent.used ≤ first_record change.now.extent.buckets + 2 * change.now.live + live_of adds.now }
+    ensures half { result ≡ true → change.now.extent.used ≤ first_record change.now.extent.buckets + 2
+        * change.now.live + live_of adds.now }
 {
     let more = adds.live();
     let records = change.records as u64 + adds.len() as u64;
@@ -162,8 +151,8 @@ fn kept_rows<D: Disk>(
     ensures rows { IfOk result (λ rows. IsTrue D.tells → rows ≡ kept_of (index_in extent.buckets (D.files disk.old).idx)
         (is_kept (λ p. contains nat_cmp dropped.now p))) }
     ensures bad { IfErr result (λ e. IsTrue D.tells → IsFaulty extent.buckets (D.files disk.old).idx e) }
-    ensures looks { LooksAt D.tells D.files D.left_since D.moment D.bytes_read D.follows Idx disk.old disk.new }
-    ensures cause { HasCauseAt (result ≡ Err PrepareFault.DiskFault) (D.faults disk.old) (D.faults disk.new) }
+    ensures looks { LooksAt D.Disk Idx disk.old disk.new }
+    ensures cause { DiskFault D.Disk (result ≡ Err PrepareFault.DiskFault) disk.old disk.new }
 {
     let mut rows = Rows::new(alloc);
     let mut buffer = Vec::new(alloc);
@@ -186,7 +175,8 @@ fn append_rows(rows: &mut Rows, others: &Rows) -> Result<(), AllocError>
     Ok(())
 }
 
-/// What is written from scratch. The kept rows are added from the last to the first, so that those of a chain stand in it as they did.
+/// What is written from scratch. The kept rows are added from the last to the first, so that those of a chain stand
+/// in it as they did.
 pub fn from_scratch<D: Disk>(
     alloc: Global,
     disk: &mut D,
@@ -198,11 +188,12 @@ pub fn from_scratch<D: Disk>(
     ensures leaves { IfOk result (λ plan. LeavesWhole plan.work) }
     ensures full { IfErr result (λ e. IsTrue D.tells → IsTooLarge (reverse (kept_of (index_in change.now.extent.buckets
         (D.files disk.old).idx) (is_kept (λ p. contains nat_cmp change.now.dropped p))) ++ adds.now) e) }
-    ensures made { IfOk result (λ plan. IsTrue D.tells → IsScratchOf (reverse (kept_of (index_in change.now.extent.buckets
-        (D.files disk.old).idx) (is_kept (λ p. contains nat_cmp change.now.dropped p))) ++ adds.now) plan.work) }
+    ensures made { IfOk result (λ plan. IsTrue D.tells
+        → IsScratchOf (reverse (kept_of (index_in change.now.extent.buckets (D.files disk.old).idx)
+        (is_kept (λ p. contains nat_cmp change.now.dropped p))) ++ adds.now) plan.work) }
     ensures bad { IfErr result (λ e. IsTrue D.tells → IsFaulty change.now.extent.buckets (D.files disk.old).idx e) }
-    ensures looks { LooksAt D.tells D.files D.left_since D.moment D.bytes_read D.follows Idx disk.old disk.new }
-    ensures cause { HasCauseAt (result ≡ Err PrepareFault.DiskFault) (D.faults disk.old) (D.faults disk.new) }
+    ensures looks { LooksAt D.Disk Idx disk.old disk.new }
+    ensures cause { DiskFault D.Disk (result ≡ Err PrepareFault.DiskFault) disk.old disk.new }
 {
     let mut rows = match kept_rows(alloc, disk, change.extent, &change.dropped) {
         Ok(rows) => rows,

@@ -1,21 +1,7 @@
 //! Working out a change of the index.
 
-ghost use Rattle.std.specs.Prelude.{◌≡◌, ℕ, ◌+◌, ◌*◌, ◌/◌, ◌%◌, ◌^◌, ◌≤◌, ◌<◌, IsTrue, true, length, map, ◌++◌, OnOk, IfOk, IfErr, Err};
-ghost use Rattle.std.specs.Ordering.{nat_cmp};
-ghost use Rattle.std.specs.BTreeSet.{contains};
-ghost use Rattle.rpm_outside.specs.Files.{Units};
-ghost use Rattle.rpm_outside.specs.Causes.{HasCauseAt};
-ghost use Rattle.rpm_hindex.specs.Sizes.{is_bucket_count};
-ghost use Rattle.rpm_outside.specs.declared.disk.File.TheVariants.{Idx};
-ghost use Rattle.rpm_outside.specs.Looks.{LooksAt};
-ghost use Rattle.rpm_hindex.specs.inner.Records.{IsOpen};
-ghost use Rattle.rpm_hindex.specs.State.{Keeps, is_in_order, buckets_of};
-ghost use Rattle.rpm_hindex.specs.Plans.{CanWrite};
-ghost use Rattle.rpm_hindex.specs.Prepared.{IsPrepared, IsUnprepared};
-ghost use Rattle.rpm_hindex.specs.inner.Changes.{CanGo, IsStarted, IsHonest, IsFresh, is_kept};
-ghost use Rattle.rpm_hindex.specs.Index.{index_in};
-ghost use Rattle.rpm_hindex.specs.Costs.{chains_bytes, StaysWithin, StaysInPlace};
-ghost use Rattle.rpm_hindex.specs.Whole.{IsWellFormed};
+ghost use Rattle.std.specs.Prelude.{◌≡◌, ℕ, ◌+◌, ◌*◌, ◌/◌, ◌%◌, ◌^◌, ◌≤◌, ◌<◌, IsTrue, true, length, map, [], ◌++◌, OnOk, IfOk, IfErr, Err};
+ghost use Rattle.rpm_hindex.specs.Prelude.{buckets_of, CanGo, CanWrite, chains_bytes, contains, DiskFault, HasRoomFor, Idx, index_in, is_bucket_count, is_in_order, is_kept, IsFresh, IsHonest, IsOpen, IsPrepared, IsStarted, IsUnprepared, IsWellFormed, Keeps, LooksAt, nat_cmp, records, StaysInPlace, StaysWithin, Units};
 
 use crate::change::Change;
 use crate::dropped_rows::drop_rows;
@@ -23,12 +9,26 @@ use crate::faults::PrepareFault;
 use crate::index::Hindex;
 use crate::plan::{IndexPlan, add_rows, from_scratch, has_room, in_place};
 use crate::rows::Rows;
-use crate::sizes::UNITS;
-use crate::words::word;
-use rpm_outside::Disk;
+use crate::sizes::{UNITS, index_units};
+use rpm_outside::{Disk, word};
 use std::alloc::Global;
 
 impl Hindex {
+    /// Whether the rows that the index holds, with these, surely need no more than 268435456 units in one made from
+    /// scratch, by what unit 1 counts. Reads nothing.
+    pub fn has_room_for(&self, adds: &Rows) -> bool
+        ensures { result ≡ true → (file : Units) → Keeps file self.now
+            → IsWellFormed (buckets_of self.now.first) file
+            → HasRoomFor [] adds.now (records (buckets_of self.now.first) file) }
+    {
+        if adds.live() > UNITS {
+            return false;
+        }
+        let records = word(&self.second, 1) as u64 + adds.len() as u64;
+        let live = word(&self.second, 2) as u64 + adds.live();
+        index_units(records, live) <= UNITS
+    }
+
     /// No change yet.
     fn start(&self, alloc: Global) -> Change
         requires order { is_in_order self.now ≡ true }
@@ -38,7 +38,8 @@ impl Hindex {
         ensures fits { result.extent.used ≤ self.now.units }
         ensures buckets { result.extent.buckets ≡ buckets_of self.now.first }
         ensures dropped { (p : ℕ) → is_kept (λ q. contains nat_cmp result.dropped q) p ≡ true }
-        ensures whole { (file : Units) → Keeps file self.now → IsWellFormed (buckets_of self.now.first) file → IsStarted result file }
+        ensures whole { (file : Units) → Keeps file self.now → IsWellFormed (buckets_of self.now.first) file
+            → IsStarted result file }
         ensures honest { (file : Units) → Keeps file self.now → IsHonest result file }
         ensures fresh { (file : Units) → Keeps file self.now → IsFresh result file }
         ensures open { (file : Units) → Keeps file self.now → IsOpen result.extent file }
@@ -63,11 +64,12 @@ impl Hindex {
         ensures can { IfOk result (λ plan. CanWrite self.now.units plan.work) }
         ensures prepared { IfOk result (λ plan. IsPrepared D.Disk disk.old self.now drops.now adds.now plan.work) }
         ensures refused { IfErr result (IsUnprepared D.Disk disk.old self.now drops.now adds.now) }
-        ensures cost { IsTrue D.tells → IsWellFormed (buckets_of self.now.first) (D.files disk.old).idx → StaysWithin limit drops.now adds.now
-            (buckets_of self.now.first) (D.files disk.old).idx → D.bytes_read disk.new Idx ≤ D.bytes_read disk.old Idx + chains_bytes
+        ensures cost { IsTrue D.tells → IsWellFormed (buckets_of self.now.first) (D.files disk.old).idx
+            → StaysWithin limit drops.now adds.now (buckets_of self.now.first) (D.files disk.old).idx
+            → D.bytes_read disk.new Idx ≤ D.bytes_read disk.old Idx + chains_bytes
             (index_in (buckets_of self.now.first) (D.files disk.old).idx) drops.now + 16 * length adds.now }
-        ensures looks { LooksAt D.tells D.files D.left_since D.moment D.bytes_read D.follows Idx disk.old disk.new }
-        ensures cause { HasCauseAt (result ≡ Err PrepareFault.DiskFault) (D.faults disk.old) (D.faults disk.new) }
+        ensures looks { LooksAt D.Disk Idx disk.old disk.new }
+        ensures cause { DiskFault D.Disk (result ≡ Err PrepareFault.DiskFault) disk.old disk.new }
     {
         let mut change = self.start(alloc);
         if let Err(fault) = drop_rows(alloc, disk, &mut change, drops) {
@@ -82,24 +84,26 @@ impl Hindex {
         in_place(alloc, change)
     }
 
-    /// Works out a change of the index: drops a record of each of these rows, where there is one, and then adds records. Writes nothing,
-    /// and takes all memory that the change needs.
+    /// Works out a change of the index: drops a record of each of these rows, where there is one, and then adds
+    /// records. Writes nothing, and takes all memory that the change needs.
     ///
-    /// Drops the last row first, and looks for each after the one of its bucket that was dropped before it; only where it isn't there, from
-    /// the front of the chain as far as that one. So the rows of a package, which stand in their chains in the other order than it added
-    /// them, are found in one pass: those of one bucket cost the records from its front to the last of them once, and not for each row.
+    /// Drops the last row first, and looks for each after the one of its bucket that was dropped before it; only
+    /// where it isn't there, from the front of the chain as far as that one. So the rows of a package, which stand in
+    /// their chains in the other order than it added them, are found in one pass: those of one bucket cost the
+    /// records from its front to the last of them once, and not for each row.
     ///
-    /// Reads of each dropped row's bucket 16 bytes, of the records on the way to the row's own 16 bytes each and the keys of those that
-    /// have the row's number and place, and 16 bytes for each added row; and all chains, where the index must be made from scratch:
-    /// where it would have more than two records a bucket, more than 268435456 units, or more units without records than with. A fault of
-    /// a chain after the row's record, or in a key that isn't read, isn't met, unless all chains are read. Where one is met, that chain
-    /// is read anew from its front.
+    /// Reads of each dropped row's bucket 16 bytes, of the records on the way to the row's own 16 bytes each and the
+    /// keys of those that have the row's number and place, and 16 bytes for each added row; and all chains, where the
+    /// index must be made from scratch: where it would have more than two records a bucket, more than 268435456
+    /// units, or more units without records than with. A fault of a chain after the row's record, or in a key that
+    /// isn't read, isn't met, unless all chains are read. Where one is met, that chain is read anew from its front.
     ///
     /// # Errors
     ///
-    /// - `BadIndex` only where `unit` is the first fault of a bucket's chain, or is 1, where unit 1 counts less than the chains hold, and less
-    ///   than the change drops.
-    /// - `IndexFull` where the rows after the change, made from scratch, need more than 268435456 units, and only there: `needed` of them.
+    /// - `BadIndex` only where `unit` is the first fault of a bucket's chain, or is 1, where unit 1 counts less than
+    ///   the chains hold, and less than the change drops.
+    /// - `IndexFull` where the rows after the change, made from scratch, need more than 268435456 units, and only
+    ///   there: `needed` of them.
     /// - `DiskFault` only where the disk's count of faults rose.
     /// - `NoMemory` where the change finds no memory.
     pub fn prepare<D: Disk>(
@@ -114,11 +118,12 @@ impl Hindex {
         ensures can { IfOk result (λ plan. CanWrite self.now.units plan.work) }
         ensures prepared { IfOk result (λ plan. IsPrepared D.Disk disk.old self.now drops.now adds.now plan.work) }
         ensures refused { IfErr result (IsUnprepared D.Disk disk.old self.now drops.now adds.now) }
-        ensures cost { IsTrue D.tells → IsWellFormed (buckets_of self.now.first) (D.files disk.old).idx → StaysInPlace drops.now adds.now
-            (buckets_of self.now.first) (D.files disk.old).idx → D.bytes_read disk.new Idx ≤ D.bytes_read disk.old Idx + chains_bytes
+        ensures cost { IsTrue D.tells → IsWellFormed (buckets_of self.now.first) (D.files disk.old).idx
+            → StaysInPlace drops.now adds.now (buckets_of self.now.first) (D.files disk.old).idx
+            → D.bytes_read disk.new Idx ≤ D.bytes_read disk.old Idx + chains_bytes
             (index_in (buckets_of self.now.first) (D.files disk.old).idx) drops.now + 16 * length adds.now }
-        ensures looks { LooksAt D.tells D.files D.left_since D.moment D.bytes_read D.follows Idx disk.old disk.new }
-        ensures cause { HasCauseAt (result ≡ Err PrepareFault.DiskFault) (D.faults disk.old) (D.faults disk.new) }
+        ensures looks { LooksAt D.Disk Idx disk.old disk.new }
+        ensures cause { DiskFault D.Disk (result ≡ Err PrepareFault.DiskFault) disk.old disk.new }
     {
         self.prepare_within(alloc, disk, drops, adds, UNITS)
     }

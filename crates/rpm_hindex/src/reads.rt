@@ -1,12 +1,7 @@
 //! Units of the file.
 
 ghost use Rattle.std.specs.Prelude.{◌≡◌, ℕ, ◌+◌, ◌-◌, ◌*◌, ◌/◌, ◌%◌, ◌^◌, ◌≤◌, ◌<◌, IsTrue, length, take, drop, OnOk, IfOk, IfErr, Err};
-ghost use Rattle.rpm_outside.specs.Files.{Files, Units, units_of, unit_at, bytes_of, blank};
-ghost use Rattle.rpm_outside.specs.Causes.{HasCause, HasCauseAt};
-ghost use Rattle.rpm_outside.specs.declared.disk.File.TheVariants.{Idx};
-ghost use Rattle.rpm_outside.specs.Looks.{Looks};
-ghost use Rattle.rpm_hindex.specs.Index.{run};
-ghost use Rattle.rpm_hindex.specs.Answers.{IsOutside};
+ghost use Rattle.rpm_hindex.specs.Prelude.{blank, bytes_of, DiskCause, DiskFault, Files, Idx, IsOutside, Looks, run, unit_at, Units, units_of};
 
 use crate::faults::FindFault;
 use rpm_outside::{Disk, Failed, File};
@@ -16,9 +11,10 @@ use std::alloc::Global;
 fn read_units<D: Disk>(disk: &mut D, unit: u64, into: &mut [u8]) -> Result<(), Failed>
     requires whole { length into.old % 16 ≡ 0 }
     requires within { IsTrue D.tells → unit + length into.old / 16 ≤ length (D.files disk.old).idx }
-    ensures bytes { OnOk result (IsTrue D.tells → into.new ≡ bytes_of (take (length into.old / 16) (drop unit (D.files disk.old).idx))) }
-    ensures looks { Looks D.tells D.files D.left_since D.moment D.bytes_read D.follows Idx (length into.old) disk.old disk.new }
-    ensures cause { HasCause (D.faults disk.old) (D.faults disk.new) result }
+    ensures bytes { OnOk result (IsTrue D.tells
+        → into.new ≡ bytes_of (take (length into.old / 16) (drop unit (D.files disk.old).idx))) }
+    ensures looks { Looks D.Disk Idx (length into.old) disk.old disk.new }
+    ensures cause { DiskCause D.Disk result disk.old disk.new }
 {
     disk.read_at(File::Idx, unit, into)?;
     Ok(())
@@ -28,8 +24,8 @@ fn read_units<D: Disk>(disk: &mut D, unit: u64, into: &mut [u8]) -> Result<(), F
 pub fn read_unit<D: Disk>(disk: &mut D, at: u64) -> Result<[u8; 16], Failed>
     requires { IsTrue D.tells → at < length (D.files disk.old).idx }
     ensures unit { IfOk result (λ unit. IsTrue D.tells → unit ≡ unit_at (D.files disk.old).idx at) }
-    ensures looks { Looks D.tells D.files D.left_since D.moment D.bytes_read D.follows Idx 16 disk.old disk.new }
-    ensures cause { HasCause (D.faults disk.old) (D.faults disk.new) result }
+    ensures looks { Looks D.Disk Idx 16 disk.old disk.new }
+    ensures cause { DiskCause D.Disk result disk.old disk.new }
 {
     let mut unit = [0u8; 16];
     read_units(disk, at, &mut unit)?;
@@ -40,8 +36,8 @@ pub fn read_unit<D: Disk>(disk: &mut D, at: u64) -> Result<[u8; 16], Failed>
 pub fn unit_or_zeros<D: Disk>(disk: &mut D, units: u64, at: u64) -> Result<[u8; 16], Failed>
     requires { IsTrue D.tells → units ≡ length (D.files disk.old).idx }
     ensures unit { IfOk result (λ unit. IsTrue D.tells → unit ≡ unit_at (D.files disk.old).idx at) }
-    ensures looks { Looks D.tells D.files D.left_since D.moment D.bytes_read D.follows Idx 16 disk.old disk.new }
-    ensures cause { HasCause (D.faults disk.old) (D.faults disk.new) result }
+    ensures looks { Looks D.Disk Idx 16 disk.old disk.new }
+    ensures cause { DiskCause D.Disk result disk.old disk.new }
 {
     if at >= units {
         return Ok([0; 16]);
@@ -54,9 +50,10 @@ fn read_front<D: Disk>(disk: &mut D, unit: u64, long: usize, into: &mut [u8]) ->
     requires whole { long % 16 ≡ 0 }
     requires room { long ≤ length into.old }
     requires within { IsTrue D.tells → unit + long / 16 ≤ length (D.files disk.old).idx }
-    ensures bytes { OnOk result (IsTrue D.tells → take long into.new ≡ bytes_of (take (long / 16) (drop unit (D.files disk.old).idx))) }
-    ensures looks { Looks D.tells D.files D.left_since D.moment D.bytes_read D.follows Idx long disk.old disk.new }
-    ensures cause { HasCause (D.faults disk.old) (D.faults disk.new) result }
+    ensures bytes { OnOk result (IsTrue D.tells
+        → take long into.new ≡ bytes_of (take (long / 16) (drop unit (D.files disk.old).idx))) }
+    ensures looks { Looks D.Disk Idx long disk.old disk.new }
+    ensures cause { DiskCause D.Disk result disk.old disk.new }
 {
     read_units(disk, unit, &mut into[..long])
 }
@@ -75,8 +72,8 @@ fn lengthen(buffer: &mut Vec<u8>, long: usize) -> Result<(), FindFault>
     Ok(())
 }
 
-/// Reads a key of so many bytes, which begins with this unit, and the zeros after it to the front of a buffer, which grows where it is
-/// too short.
+/// Reads a key of so many bytes, which begins with this unit, and the zeros after it to the front of a buffer, which
+/// grows where it is too short.
 pub fn read_key_into<D: Disk>(
     disk: &mut D,
     at: u64,
@@ -89,8 +86,8 @@ pub fn read_key_into<D: Disk>(
     ensures bytes { OnOk result (IsTrue D.tells → take size buffer.new.items
         ≡ take size (bytes_of (run (unit_at (D.files disk.old).idx) at ((size + 15) / 16)))) }
     ensures outside { IfErr result (λ e. IsOutside e) }
-    ensures looks { Looks D.tells D.files D.left_since D.moment D.bytes_read D.follows Idx (16 * ((size + 15) / 16)) disk.old disk.new }
-    ensures cause { HasCauseAt (result ≡ Err FindFault.DiskFault) (D.faults disk.old) (D.faults disk.new) }
+    ensures looks { Looks D.Disk Idx (16 * ((size + 15) / 16)) disk.old disk.new }
+    ensures cause { DiskFault D.Disk (result ≡ Err FindFault.DiskFault) disk.old disk.new }
 {
     let long = 16 * ((size as usize + 15) / 16);
     if let Err(fault) = lengthen(buffer, long) {

@@ -1,10 +1,9 @@
 //! Records that are to be written.
 
 ghost use Rattle.std.specs.Prelude.{◌≡◌, ℕ, ◌+◌, ◌*◌, ◌/◌, ◌%◌, ◌^◌, ◌≤◌, ◌<◌, ◌++◌, length, take, drop, replicate, OnOk};
-ghost use Rattle.rpm_outside.specs.Files.{bytes_of};
-ghost use Rattle.rpm_hindex.specs.inner.Making.{record_of, padding};
+ghost use Rattle.rpm_hindex.specs.Prelude.{bytes_of, padding, record_of};
 
-use crate::words::unit_of_words;
+use rpm_outside::unit_of_words;
 use std::alloc::AllocError;
 
 /// Adds a key, padded with zeros to whole units.

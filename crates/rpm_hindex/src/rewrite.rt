@@ -1,19 +1,7 @@
 //! Making the index from scratch.
 
 ghost use Rattle.std.specs.Prelude.{◌≡◌, ℕ, ◌+◌, ◌*◌, ◌/◌, ◌%◌, ◌^◌, ◌≤◌, ◌<◌, ◌++◌, ◌∷◌, [], IsTrue, true, length, take, max, ◌≢◌, Err, OnOk, IfOk, IfErr};
-ghost use Rattle.rpm_outside.specs.Files.{Files, Units, units_of, unit_at, blank, put};
-ghost use Rattle.rpm_outside.specs.Causes.{HasCause, HasCauseAt};
-ghost use Rattle.rpm_hindex.specs.Rows.{Row, SameRows};
-ghost use Rattle.rpm_hindex.specs.Sizes.{bucket_count, units_for};
-ghost use Rattle.rpm_hindex.specs.State.{State, Keeps, is_ordered};
-ghost use Rattle.rpm_hindex.specs.Index.{index_in, records};
-ghost use Rattle.rpm_hindex.specs.Padding.{ArePadded};
-ghost use Rattle.rpm_hindex.specs.Whole.{IsWellFormed};
-ghost use Rattle.rpm_hindex.specs.inner.Drafts.{IsImage, IsReplaced, Holds};
-ghost use Rattle.rpm_outside.specs.declared.disk.File.TheVariants.{Idx};
-ghost use Rattle.rpm_outside.specs.Changes.{Changes, IsSettled};
-ghost use Rattle.rpm_hindex.specs.Images.{SameSeal, VoidOrSame};
-ghost use Rattle.rpm_hindex.specs.Rewrites.{IsFull, IsRefused, IsRewritten};
+ghost use Rattle.rpm_hindex.specs.Prelude.{ArePadded, blank, bucket_count, Changes, DiskCause, DiskFault, Files, Holds, Idx, index_in, is_ordered, IsFull, IsImage, IsRefused, IsReplaced, IsRewritten, IsSettled, IsWellFormed, Keeps, put, records, Row, SameRows, SameSeal, State, unit_at, Units, units_for, units_of, VoidOrSame};
 
 use crate::faults::{IndexDiskFault, RewriteFault};
 use crate::image::Image;
@@ -44,11 +32,11 @@ pub fn image_of(alloc: Global, rows: &Rows) -> Result<Image, RewriteFault>
 }
 
 impl Hindex {
-    /// Makes the first unit zeros, writes an index of these rows from scratch, and settles the file. The index isn't sealed then. No unit of it is
-    /// dead: it has as many as `index_units` says.
+    /// Makes the first unit zeros, writes an index of these rows from scratch, and settles the file. The index isn't
+    /// sealed then. No unit of it is dead: it has as many as `index_units` says.
     ///
-    /// Reads nothing. All memory is taken before the first write: once that of the rows, and 8 bytes a bucket. Records go out in one
-    /// large write, and the time is linear in the rows.
+    /// Reads nothing. All memory is taken before the first write: once that of the rows, and 8 bytes a bucket.
+    /// Records go out in one large write, and the time is linear in the rows.
     ///
     /// # Errors
     ///
@@ -68,12 +56,13 @@ impl Hindex {
         ensures ordered { OnOk result (is_ordered self.new.pending self.new.second self.new.units ≡ true) }
         ensures kept { OnOk result (IsTrue D.tells → Keeps (D.files disk.new).idx self.new) }
         ensures whole { OnOk result (IsTrue D.tells → IsWellFormed self.new.pending (D.files disk.new).idx) }
-        ensures rows { OnOk result (IsTrue D.tells → SameRows rows.now (records self.new.pending (D.files disk.new).idx)) }
+        ensures rows { OnOk result (IsTrue D.tells
+            → SameRows rows.now (records self.new.pending (D.files disk.new).idx)) }
         ensures padded { OnOk result (IsTrue D.tells → ArePadded (index_in self.new.pending (D.files disk.new).idx)) }
-        ensures settled { OnOk result (IsTrue D.tells → IsSettled Idx (D.files disk.new) (D.left_since disk.new (D.moment disk.new))) }
+        ensures settled { OnOk result (IsTrue D.tells → IsSettled D.Disk Idx disk.new) }
         ensures refused { IfErr result (λ e. IsRefused e → (self.new ≡ self.old) × (disk.new ≡ disk.old)) }
-        ensures changes { Changes D.tells D.files D.left_since D.moment D.bytes_read D.follows Idx VoidOrSame 0 disk.old disk.new }
-        ensures cause { HasCauseAt (result ≡ Err RewriteFault.DiskFault) (D.faults disk.old) (D.faults disk.new) }
+        ensures changes { Changes D.Disk Idx VoidOrSame 0 disk.old disk.new }
+        ensures cause { DiskFault D.Disk (result ≡ Err RewriteFault.DiskFault) disk.old disk.new }
     {
         let image = match image_of(alloc, rows) {
             Ok(image) => image,
@@ -96,9 +85,9 @@ impl Hindex {
         ensures written { OnOk result (IsTrue D.tells → (D.files disk.new).idx ≡ put 1 (units_of image.now.bytes.items)
             (put 0 (blank ∷ []) (D.files disk.old).idx)) }
         ensures held { OnOk result (IsTrue D.tells → Holds (units_of image.now.bytes.items) (D.files disk.new).idx) }
-        ensures settled { OnOk result (IsTrue D.tells → IsSettled Idx (D.files disk.new) (D.left_since disk.new (D.moment disk.new))) }
-        ensures changes { Changes D.tells D.files D.left_since D.moment D.bytes_read D.follows Idx VoidOrSame 0 disk.old disk.new }
-        ensures cause { HasCause (D.faults disk.old) (D.faults disk.new) result }
+        ensures settled { OnOk result (IsTrue D.tells → IsSettled D.Disk Idx disk.new) }
+        ensures changes { Changes D.Disk Idx VoidOrSame 0 disk.old disk.new }
+        ensures cause { DiskCause D.Disk result disk.old disk.new }
     {
         let Ok(()) = self.void(disk) else {
             return Err(IndexDiskFault);
@@ -122,10 +111,11 @@ impl Hindex {
           pending = image.now.buckets;
         }) }
         ensures kept { OnOk result (IsTrue D.tells → Keeps (D.files disk.new).idx self.new) }
-        ensures written { OnOk result (IsTrue D.tells → (D.files disk.new).idx ≡ put 1 (units_of image.now.bytes.items) (D.files disk.old).idx) }
-        ensures settled { OnOk result (IsTrue D.tells → IsSettled Idx (D.files disk.new) (D.left_since disk.new (D.moment disk.new))) }
-        ensures changes { Changes D.tells D.files D.left_since D.moment D.bytes_read D.follows Idx SameSeal 0 disk.old disk.new }
-        ensures cause { HasCause (D.faults disk.old) (D.faults disk.new) result }
+        ensures written { OnOk result (IsTrue D.tells
+            → (D.files disk.new).idx ≡ put 1 (units_of image.now.bytes.items) (D.files disk.old).idx) }
+        ensures settled { OnOk result (IsTrue D.tells → IsSettled D.Disk Idx disk.new) }
+        ensures changes { Changes D.Disk Idx SameSeal 0 disk.old disk.new }
+        ensures cause { DiskCause D.Disk result disk.old disk.new }
     {
         let Ok(()) = write_synced(disk, 1, &image.bytes) else {
             return Err(IndexDiskFault);

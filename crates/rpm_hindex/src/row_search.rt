@@ -1,21 +1,7 @@
 //! A row's record in its bucket's chain.
 
 ghost use Rattle.std.specs.Prelude.{◌≡◌, ℕ, ◌+◌, ◌*◌, ◌/◌, ◌%◌, ◌^◌, ◌≤◌, ◌<◌, IsTrue, List, IfOk, IfErr, Ok, Err, None, Some, Option};
-ghost use Rattle.std.specs.Ordering.{nat_cmp};
-ghost use Rattle.std.specs.BTreeMap.{get};
-ghost use Rattle.std.specs.BTreeSet.{contains};
-ghost use Rattle.rpm_outside.specs.Files.{unit_at};
-ghost use Rattle.rpm_outside.specs.Causes.{HasCauseAt};
-ghost use Rattle.rpm_outside.specs.Looks.{LooksAt};
-ghost use Rattle.rpm_outside.specs.declared.disk.File.TheVariants.{Idx};
-ghost use Rattle.rpm_hindex.specs.Rows.{hash_of};
-ghost use Rattle.rpm_hindex.specs.Index.{index_in, chain, follow, units_at, bucket_unit};
-ghost use Rattle.rpm_hindex.specs.Answers.{IsFaultOf, IsOutside, ChainCosts};
-ghost use Rattle.rpm_hindex.specs.inner.Records.{IsOpen};
-ghost use Rattle.rpm_hindex.specs.inner.Changes.{is_kept};
-ghost use Rattle.rpm_hindex.specs.inner.Spots.{IsNext, IsPath, PathCosts, IsWithin, IsLinked, IsSoundSpot, IsFoundFrom, IsFound};
-ghost use Rattle.rpm_hindex.specs.inner.Ongoing.{CanStart};
-ghost use Rattle.rpm_hindex.specs.inner.Starts.{IsStart, StandsWithin, StandWithin};
+ghost use Rattle.rpm_hindex.specs.Prelude.{bucket_unit, CanStart, chain, ChainCosts, contains, DiskFault, follow, get, hash_of, Idx, index_in, is_kept, IsFaultOf, IsFound, IsFoundFrom, IsLinked, IsNext, IsOpen, IsOutside, IsPath, IsSoundSpot, IsStart, IsWithin, LooksAt, nat_cmp, PathCosts, StandsWithin, StandWithin, unit_at, units_at};
 
 use crate::chain::{Extent, read_bucket};
 use crate::faults::FindFault;
@@ -27,7 +13,8 @@ use rpm_outside::Disk;
 use std::alloc::Global;
 use std::collections::{BTreeMap, BTreeSet};
 
-/// Where the next row of a bucket is looked for first: after the last record that was dropped, and the kept record before that one.
+/// Where the next row of a bucket is looked for first: after the last record that was dropped, and the kept record
+/// before that one.
 #[derive(Clone, Copy)]
 pub struct Start {
     pub before: Option<Head>,
@@ -41,7 +28,8 @@ pub struct Found {
     pub spot: Option<Spot>,
 }
 
-/// The spot of a row in its bucket's chain, whose first record stands there: it is looked for after the start, and then before it.
+/// The spot of a row in its bucket's chain, whose first record stands there: it is looked for after the start, and
+/// then before it.
 fn find_around<D: Disk>(
     alloc: Global,
     disk: &mut D,
@@ -57,22 +45,27 @@ fn find_around<D: Disk>(
     requires open { IsTrue D.tells → IsOpen extent (D.files disk.old).idx }
     requires linked { IsNext extent.buckets extent.used first }
     requires stands { StandsWithin extent.buckets extent.used start }
-    requires start { IsTrue D.tells → (places : List ℕ) → IsPath (index_in extent.buckets (D.files disk.old).idx) bucket first places 0
-        → IsStart (index_in extent.buckets (D.files disk.old).idx) bucket first (is_kept (λ p. contains nat_cmp dropped.now p)) start }
+    requires start { IsTrue D.tells → (places : List ℕ)
+        → IsPath (index_in extent.buckets (D.files disk.old).idx) bucket first places 0
+        → IsStart (index_in extent.buckets (D.files disk.old).idx) bucket first
+        (is_kept (λ p. contains nat_cmp dropped.now p)) start }
     requires bucket { hash_of row.kind row.key.now % extent.buckets ≡ bucket }
     ensures within { IfOk result (IsWithin extent.used) }
     ensures linked { IfOk result (IsLinked extent.buckets extent.used) }
-    ensures sound { IfOk result (λ spot. IsTrue D.tells → IsSoundSpot (index_in extent.buckets (D.files disk.old).idx) bucket spot) }
+    ensures sound { IfOk result (λ spot. IsTrue D.tells
+        → IsSoundSpot (index_in extent.buckets (D.files disk.old).idx) bucket spot) }
     ensures found { IfOk result (λ spot. IsTrue D.tells → (places : List ℕ)
         → IsPath (index_in extent.buckets (D.files disk.old).idx) bucket first places 0
-        → IsFoundFrom (index_in extent.buckets (D.files disk.old).idx) bucket first 0 (is_kept (λ p. contains nat_cmp dropped.now p))
-        (record { kind = row.entry.kind; key = row.entry.key.now; number = row.entry.number; place = row.entry.place }) spot) }
+        → IsFoundFrom (index_in extent.buckets (D.files disk.old).idx) bucket first 0
+        (is_kept (λ p. contains nat_cmp dropped.now p))
+        (record { kind = row.entry.kind; key = row.entry.key.now; number = row.entry.number; place = row.entry.place })
+        spot) }
     ensures fault { IfErr result (λ e. IsTrue D.tells → (places : List ℕ)
         → IsPath (index_in extent.buckets (D.files disk.old).idx) bucket first places 0 → IsOutside e) }
-    ensures cost { IsTrue D.tells → PathCosts (index_in extent.buckets (D.files disk.old).idx) bucket first 0 (D.bytes_read disk.old Idx)
-        (D.bytes_read disk.new Idx) }
-    ensures looks { LooksAt D.tells D.files D.left_since D.moment D.bytes_read D.follows Idx disk.old disk.new }
-    ensures cause { HasCauseAt (result ≡ Err FindFault.DiskFault) (D.faults disk.old) (D.faults disk.new) }
+    ensures cost { IsTrue D.tells → PathCosts (index_in extent.buckets (D.files disk.old).idx) bucket first 0
+        (D.bytes_read disk.old Idx) (D.bytes_read disk.new Idx) }
+    ensures looks { LooksAt D.Disk Idx disk.old disk.new }
+    ensures cause { DiskFault D.Disk (result ≡ Err FindFault.DiskFault) disk.old disk.new }
 {
     let found = match find_spot(alloc, disk, extent, bucket, start.at, 0, dropped, row) {
         Ok(found) => found,
@@ -88,7 +81,8 @@ fn find_around<D: Disk>(
     }
 }
 
-/// The spot of a row in its bucket's chain, whose first record stands there: from the bucket's start on, where there is one.
+/// The spot of a row in its bucket's chain, whose first record stands there: from the bucket's start on, where there
+/// is one.
 fn find_from<D: Disk>(
     alloc: Global,
     disk: &mut D,
@@ -104,23 +98,28 @@ fn find_from<D: Disk>(
     requires open { IsTrue D.tells → IsOpen extent (D.files disk.old).idx }
     requires linked { IsNext extent.buckets extent.used first }
     requires stand { StandWithin extent.buckets extent.used (λ b. get nat_cmp starts.now b) }
-    requires starts { IsTrue D.tells → (places : List ℕ) → IsPath (index_in extent.buckets (D.files disk.old).idx) bucket first places 0
-        → (s : Start) → get nat_cmp starts.now bucket ≡ Some s
-        → IsStart (index_in extent.buckets (D.files disk.old).idx) bucket first (is_kept (λ p. contains nat_cmp dropped.now p)) s }
+    requires starts { IsTrue D.tells → (places : List ℕ)
+        → IsPath (index_in extent.buckets (D.files disk.old).idx) bucket first places 0 → (s : Start)
+        → get nat_cmp starts.now bucket ≡ Some s
+        → IsStart (index_in extent.buckets (D.files disk.old).idx) bucket first
+        (is_kept (λ p. contains nat_cmp dropped.now p)) s }
     requires bucket { hash_of row.kind row.key.now % extent.buckets ≡ bucket }
     ensures within { IfOk result (IsWithin extent.used) }
     ensures linked { IfOk result (IsLinked extent.buckets extent.used) }
-    ensures sound { IfOk result (λ spot. IsTrue D.tells → IsSoundSpot (index_in extent.buckets (D.files disk.old).idx) bucket spot) }
+    ensures sound { IfOk result (λ spot. IsTrue D.tells
+        → IsSoundSpot (index_in extent.buckets (D.files disk.old).idx) bucket spot) }
     ensures found { IfOk result (λ spot. IsTrue D.tells → (places : List ℕ)
         → IsPath (index_in extent.buckets (D.files disk.old).idx) bucket first places 0
-        → IsFoundFrom (index_in extent.buckets (D.files disk.old).idx) bucket first 0 (is_kept (λ p. contains nat_cmp dropped.now p))
-        (record { kind = row.entry.kind; key = row.entry.key.now; number = row.entry.number; place = row.entry.place }) spot) }
+        → IsFoundFrom (index_in extent.buckets (D.files disk.old).idx) bucket first 0
+        (is_kept (λ p. contains nat_cmp dropped.now p))
+        (record { kind = row.entry.kind; key = row.entry.key.now; number = row.entry.number; place = row.entry.place })
+        spot) }
     ensures fault { IfErr result (λ e. IsTrue D.tells → (places : List ℕ)
         → IsPath (index_in extent.buckets (D.files disk.old).idx) bucket first places 0 → IsOutside e) }
-    ensures cost { IsTrue D.tells → PathCosts (index_in extent.buckets (D.files disk.old).idx) bucket first 0 (D.bytes_read disk.old Idx)
-        (D.bytes_read disk.new Idx) }
-    ensures looks { LooksAt D.tells D.files D.left_since D.moment D.bytes_read D.follows Idx disk.old disk.new }
-    ensures cause { HasCauseAt (result ≡ Err FindFault.DiskFault) (D.faults disk.old) (D.faults disk.new) }
+    ensures cost { IsTrue D.tells → PathCosts (index_in extent.buckets (D.files disk.old).idx) bucket first 0
+        (D.bytes_read disk.old Idx) (D.bytes_read disk.new Idx) }
+    ensures looks { LooksAt D.Disk Idx disk.old disk.new }
+    ensures cause { DiskFault D.Disk (result ≡ Err FindFault.DiskFault) disk.old disk.new }
 {
     match starts.get(&bucket) {
         Some(start) => find_around(alloc, disk, extent, bucket, first, dropped, *start, row),
@@ -139,10 +138,11 @@ fn first_fault<D: Disk>(
     requires few { extent.buckets ≤ 2 ^ 28 }
     requires bucket { bucket < extent.buckets }
     requires open { IsTrue D.tells → IsOpen extent (D.files disk.old).idx }
-    requires bad { IsTrue D.tells → (places : List ℕ) → chain (index_in extent.buckets (D.files disk.old).idx) bucket ≡ Ok places → ⊥ }
+    requires bad { IsTrue D.tells → (places : List ℕ)
+        → chain (index_in extent.buckets (D.files disk.old).idx) bucket ≡ Ok places → ⊥ }
     ensures fault { IsTrue D.tells → IsFaultOf (chain (index_in extent.buckets (D.files disk.old).idx) bucket) result }
-    ensures looks { LooksAt D.tells D.files D.left_since D.moment D.bytes_read D.follows Idx disk.old disk.new }
-    ensures cause { HasCauseAt (result ≡ FindFault.DiskFault) (D.faults disk.old) (D.faults disk.new) }
+    ensures looks { LooksAt D.Disk Idx disk.old disk.new }
+    ensures cause { DiskFault D.Disk (result ≡ FindFault.DiskFault) disk.old disk.new }
 {
     let mut buffer = Vec::new(alloc);
     match check_chain(alloc, disk, extent, bucket, &mut buffer) {
@@ -170,15 +170,19 @@ pub fn find_row<D: Disk>(
     ensures words { IfOk result (λ f. IsTrue D.tells → f.words ≡ unit_at (D.files disk.old).idx (bucket_unit bucket)) }
     ensures within { IfOk result (λ f. IsWithin extent.used f.spot) }
     ensures linked { IfOk result (λ f. IsLinked extent.buckets extent.used f.spot) }
-    ensures sound { IfOk result (λ f. IsTrue D.tells → IsSoundSpot (index_in extent.buckets (D.files disk.old).idx) bucket f.spot) }
-    ensures found { IfOk result (λ f. IsTrue D.tells → IsFound (index_in extent.buckets (D.files disk.old).idx) bucket
+    ensures sound { IfOk result (λ f. IsTrue D.tells
+        → IsSoundSpot (index_in extent.buckets (D.files disk.old).idx) bucket f.spot) }
+    ensures found { IfOk result (λ f. IsTrue D.tells
+        → IsFound (index_in extent.buckets (D.files disk.old).idx) bucket
         (is_kept (λ p. contains nat_cmp dropped.now p))
-        (record { kind = row.entry.kind; key = row.entry.key.now; number = row.entry.number; place = row.entry.place }) f.spot) }
-    ensures fault { IfErr result (λ e. IsTrue D.tells → IsFaultOf (chain (index_in extent.buckets (D.files disk.old).idx) bucket) e) }
+        (record { kind = row.entry.kind; key = row.entry.key.now; number = row.entry.number; place = row.entry.place })
+        f.spot) }
+    ensures fault { IfErr result (λ e. IsTrue D.tells
+        → IsFaultOf (chain (index_in extent.buckets (D.files disk.old).idx) bucket) e) }
     ensures cost { IsTrue D.tells → ChainCosts (chain (index_in extent.buckets (D.files disk.old).idx) bucket)
         (units_at (unit_at (D.files disk.old).idx)) (D.bytes_read disk.old Idx + 16) (D.bytes_read disk.new Idx) }
-    ensures looks { LooksAt D.tells D.files D.left_since D.moment D.bytes_read D.follows Idx disk.old disk.new }
-    ensures cause { HasCauseAt (result ≡ Err FindFault.DiskFault) (D.faults disk.old) (D.faults disk.new) }
+    ensures looks { LooksAt D.Disk Idx disk.old disk.new }
+    ensures cause { DiskFault D.Disk (result ≡ Err FindFault.DiskFault) disk.old disk.new }
 {
     let head = match read_bucket(disk, extent, bucket) {
         Ok(head) => head,

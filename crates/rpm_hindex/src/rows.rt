@@ -1,9 +1,7 @@
 //! Rows that an index is made of.
 
 ghost use Rattle.std.specs.Prelude.{◌≡◌, ℕ, ◌+◌, ◌≤◌, ◌<◌, ◌^◌, ◌++◌, ◌∷◌, [], length, take, drop, reverse, IfOk, OnOk, OnErr, slice_index_or};
-ghost use Rattle.rpm_hindex.specs.Rows.{Row, row_nth};
-ghost use Rattle.rpm_hindex.specs.Sizes.{live_of};
-ghost use Rattle.rpm_hindex.specs.inner.Packed.{row_in};
+ghost use Rattle.rpm_hindex.specs.Prelude.{live_of, Row, row_in, row_nth};
 
 use crate::sizes::record_units;
 use std::alloc::{AllocError, Global};
@@ -87,7 +85,8 @@ impl Rows {
         requires some { 1 ≤ kind }
         requires kind { kind ≤ 15 }
         requires key { length key.now < 268435456 }
-        ensures ok { OnOk result (self.new ≡ self.old ++ record { kind = kind; key = key.now; number = number; place = place } ∷ []) }
+        ensures ok { OnOk result (self.new ≡ self.old ++ record
+            { kind = kind; key = key.now; number = number; place = place } ∷ []) }
         ensures err { OnErr result (self.new ≡ self.old) }
     {
         self.add(kind, key, number, place)
@@ -97,7 +96,8 @@ impl Rows {
     pub fn add(&mut self, kind: u8, key: &[u8], number: u32, place: u32) -> Result<(), AllocError>
         requires kind { kind ≤ 15 }
         requires key { length key.now < 268435456 }
-        ensures ok { OnOk result (self.new ≡ self.old ++ record { kind = kind; key = key.now; number = number; place = place } ∷ []) }
+        ensures ok { OnOk result (self.new ≡ self.old ++ record
+            { kind = kind; key = key.now; number = number; place = place } ∷ []) }
         ensures err { OnErr result (self.new ≡ self.old) }
     {
         let length = key.len() as u32;

@@ -1,7 +1,7 @@
 //! How large an index is.
 
 ghost use Rattle.std.specs.Prelude.{◌≡◌, ℕ, ◌+◌, ◌*◌, ◌/◌, ◌^◌, ◌≤◌, ◌<◌};
-ghost use Rattle.rpm_hindex.specs.Sizes.{is_bucket_count, bucket_count, index_units, record_units, first_record};
+ghost use Rattle.rpm_hindex.specs.Prelude.{bucket_count, first_record, index_units, is_bucket_count, record_units};
 
 /// The most units that an index has: 4 GiB.
 pub const UNITS: u64 = 268_435_456;
@@ -31,8 +31,9 @@ pub fn bucket_count(records: u64) -> u64
     buckets
 }
 
-/// The units of an index of so many records, which have so many units, made from scratch: two, one for each four buckets, and those of
-/// the records. The buckets are the least power of two that is at least 64 and at least half the records.
+/// The units of an index of so many records, which have so many units, made from scratch: two, one for each four
+/// buckets, and those of the records. The buckets are the least power of two that is at least 64 and at least half
+/// the records.
 pub fn index_units(records: u64, live: u64) -> u64
     requires records { records ≤ 1152921504606846976 }
     requires live { live ≤ 1152921504606846976 }

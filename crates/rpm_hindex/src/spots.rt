@@ -1,17 +1,7 @@
 //! Where a row's record stands in its chain.
 
 ghost use Rattle.std.specs.Prelude.{◌≡◌, ℕ, ◌+◌, ◌*◌, ◌/◌, ◌%◌, ◌^◌, ◌≤◌, ◌<◌, ◌&&◌, IsTrue, false, List, IfOk, IfErr, Ok, Err, Some, if◌then◌else◌, Option};
-ghost use Rattle.std.specs.Ordering.{nat_cmp};
-ghost use Rattle.std.specs.BTreeSet.{contains};
-ghost use Rattle.rpm_outside.specs.Causes.{HasCauseAt};
-ghost use Rattle.rpm_outside.specs.Looks.{LooksAt};
-ghost use Rattle.rpm_outside.specs.declared.disk.File.TheVariants.{Idx};
-ghost use Rattle.rpm_hindex.specs.Rows.{hash_of};
-ghost use Rattle.rpm_hindex.specs.Index.{index_in};
-ghost use Rattle.rpm_hindex.specs.Answers.{IsOutside};
-ghost use Rattle.rpm_hindex.specs.inner.Records.{IsOpen};
-ghost use Rattle.rpm_hindex.specs.inner.Changes.{is_kept};
-ghost use Rattle.rpm_hindex.specs.inner.Spots.{IsNext, IsPath, OnWay, PathCosts, SkipsTo, IsWithin, IsLinked, IsSoundSpot, IsFoundFrom};
+ghost use Rattle.rpm_hindex.specs.Prelude.{contains, DiskFault, hash_of, Idx, index_in, is_kept, IsFoundFrom, IsLinked, IsNext, IsOpen, IsOutside, IsPath, IsSoundSpot, IsWithin, LooksAt, nat_cmp, OnWay, PathCosts, SkipsTo};
 
 use crate::chain::Extent;
 use crate::faults::FindFault;
@@ -30,8 +20,8 @@ pub struct Spot {
     pub behind: u32,
 }
 
-/// The first unit of the first record from this one on that isn't dropped, or the unit as far as which it looks. Reads no keys. A function
-/// of its own, as `meets_key` is.
+/// The first unit of the first record from this one on that isn't dropped, or the unit as far as which it looks.
+/// Reads no keys. A function of its own, as `meets_key` is.
 #[inline(never)]
 fn skip_dropped<D: Disk>(
     disk: &mut D,
@@ -46,12 +36,14 @@ fn skip_dropped<D: Disk>(
     ensures linked { IfOk result (IsNext extent.buckets extent.used) }
     ensures skips { IfOk result (λ to. IsTrue D.tells → (b : ℕ) (front : List ℕ)
         → IsPath (index_in extent.buckets (D.files disk.old).idx) b from front end
-        → SkipsTo (index_in extent.buckets (D.files disk.old).idx) b end (is_kept (λ p. contains nat_cmp dropped.now p)) from to) }
-    ensures fault { IfErr result (λ e. IsTrue D.tells → (b : ℕ) → OnWay (index_in extent.buckets (D.files disk.old).idx) b from end (IsOutside e)) }
+        → SkipsTo (index_in extent.buckets (D.files disk.old).idx) b end
+        (is_kept (λ p. contains nat_cmp dropped.now p)) from to) }
+    ensures fault { IfErr result (λ e. IsTrue D.tells → (b : ℕ)
+        → OnWay (index_in extent.buckets (D.files disk.old).idx) b from end (IsOutside e)) }
     ensures cost { IsTrue D.tells → (b : ℕ) → PathCosts (index_in extent.buckets (D.files disk.old).idx) b from end
         (D.bytes_read disk.old Idx) (D.bytes_read disk.new Idx) }
-    ensures looks { LooksAt D.tells D.files D.left_since D.moment D.bytes_read D.follows Idx disk.old disk.new }
-    ensures cause { HasCauseAt (result ≡ Err FindFault.DiskFault) (D.faults disk.old) (D.faults disk.new) }
+    ensures looks { LooksAt D.Disk Idx disk.old disk.new }
+    ensures cause { DiskFault D.Disk (result ≡ Err FindFault.DiskFault) disk.old disk.new }
 {
     let mut at = from;
     while at > end && dropped.contains(&at) {
@@ -82,8 +74,8 @@ fn last_dropped(dropped: &BTreeSet<u32>, end: u32) -> u32
     }
 }
 
-/// The last place that is dropped as far as the next record on the way, where the one as far as this record is known. Records on the way
-/// have ever lower places, so few of them have it looked for anew.
+/// The last place that is dropped as far as the next record on the way, where the one as far as this record is known.
+/// Records on the way have ever lower places, so few of them have it looked for anew.
 #[inline(always)]
 fn dropped_to(dropped: &BTreeSet<u32>, last: u32, at: u32, next: u32) -> u32
     requires falls { next < at }
@@ -110,9 +102,9 @@ fn last_kept(dropped: &BTreeSet<u32>, last: u32, before: Option<Head>, head: Hea
     }
 }
 
-/// The spot of a row in its bucket's chain from this unit on, as far as another. Reads the first units of the chain to the row's record and
-/// of those after it that are dropped, and the keys of records that have the row's number and place. So a chain that isn't well formed may
-/// have a spot too.
+/// The spot of a row in its bucket's chain from this unit on, as far as another. Reads the first units of the chain
+/// to the row's record and of those after it that are dropped, and the keys of records that have the row's number and
+/// place. So a chain that isn't well formed may have a spot too.
 pub fn find_spot<D: Disk>(
     alloc: Global,
     disk: &mut D,
@@ -130,16 +122,20 @@ pub fn find_spot<D: Disk>(
     requires bucket { hash_of row.kind row.key.now % extent.buckets ≡ bucket }
     ensures within { IfOk result (IsWithin extent.used) }
     ensures linked { IfOk result (IsLinked extent.buckets extent.used) }
-    ensures sound { IfOk result (λ spot. IsTrue D.tells → IsSoundSpot (index_in extent.buckets (D.files disk.old).idx) bucket spot) }
+    ensures sound { IfOk result (λ spot. IsTrue D.tells
+        → IsSoundSpot (index_in extent.buckets (D.files disk.old).idx) bucket spot) }
     ensures found { IfOk result (λ spot. IsTrue D.tells → (front : List ℕ)
         → IsPath (index_in extent.buckets (D.files disk.old).idx) bucket from front end
-        → IsFoundFrom (index_in extent.buckets (D.files disk.old).idx) bucket from end (is_kept (λ p. contains nat_cmp dropped.now p))
-        (record { kind = row.entry.kind; key = row.entry.key.now; number = row.entry.number; place = row.entry.place }) spot) }
-    ensures fault { IfErr result (λ e. IsTrue D.tells → OnWay (index_in extent.buckets (D.files disk.old).idx) bucket from end (IsOutside e)) }
-    ensures cost { IsTrue D.tells → PathCosts (index_in extent.buckets (D.files disk.old).idx) bucket from end (D.bytes_read disk.old Idx)
-        (D.bytes_read disk.new Idx) }
-    ensures looks { LooksAt D.tells D.files D.left_since D.moment D.bytes_read D.follows Idx disk.old disk.new }
-    ensures cause { HasCauseAt (result ≡ Err FindFault.DiskFault) (D.faults disk.old) (D.faults disk.new) }
+        → IsFoundFrom (index_in extent.buckets (D.files disk.old).idx) bucket from end
+        (is_kept (λ p. contains nat_cmp dropped.now p))
+        (record { kind = row.entry.kind; key = row.entry.key.now; number = row.entry.number; place = row.entry.place })
+        spot) }
+    ensures fault { IfErr result (λ e. IsTrue D.tells
+        → OnWay (index_in extent.buckets (D.files disk.old).idx) bucket from end (IsOutside e)) }
+    ensures cost { IsTrue D.tells → PathCosts (index_in extent.buckets (D.files disk.old).idx) bucket from end
+        (D.bytes_read disk.old Idx) (D.bytes_read disk.new Idx) }
+    ensures looks { LooksAt D.Disk Idx disk.old disk.new }
+    ensures cause { DiskFault D.Disk (result ≡ Err FindFault.DiskFault) disk.old disk.new }
 {
     let mut buffer = Vec::new(alloc);
     let mut before = None;

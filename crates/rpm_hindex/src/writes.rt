@@ -1,30 +1,21 @@
 //! Writing the index.
 
 ghost use Rattle.std.specs.Prelude.{◌≡◌, ℕ, ◌+◌, ◌*◌, ◌/◌, ◌%◌, ◌^◌, ◌≤◌, ◌<◌, ◌++◌, ◌∷◌, [], IsTrue, true, length, max, OnOk, IfOk, IfErr};
-ghost use Rattle.rpm_outside.specs.Files.{Files, Units, units_of, unit_at, blank, put};
-ghost use Rattle.rpm_outside.specs.Causes.{HasCause};
-ghost use Rattle.rpm_outside.specs.Crash.{Torn};
-ghost use Rattle.rpm_hindex.specs.State.{State, Keeps, is_ordered, is_current, seal_unit};
-ghost use Rattle.rpm_hindex.specs.Index.{index_in, records};
-ghost use Rattle.rpm_hindex.specs.Padding.{AddsPadded};
-ghost use Rattle.rpm_hindex.specs.Whole.{IsWellFormed};
-ghost use Rattle.rpm_outside.specs.declared.disk.File.TheVariants.{Idx};
-ghost use Rattle.rpm_outside.specs.Changes.{Changes, IsSame, IsSettled};
-ghost use Rattle.rpm_hindex.specs.Images.{VoidOrSame, SealedOrSame, IsSealed};
+ghost use Rattle.rpm_hindex.specs.Prelude.{AddsPadded, blank, Changes, DiskCause, Files, Idx, index_in, is_current, is_ordered, IsSame, IsSealed, IsSettled, IsWellFormed, Keeps, put, records, seal_unit, SealedOrSame, State, Torn, unit_at, Units, units_of, VoidOrSame};
 
 use crate::faults::IndexDiskFault;
 use crate::index::{Hindex, MAGIC};
-use crate::words::unit_of_words;
-use rpm_outside::{Disk, File};
+use rpm_outside::{Disk, File, unit_of_words};
 
 /// Writes units of Hindex.db.
 pub fn write_units<D: Disk>(disk: &mut D, unit: u64, bytes: &[u8]) -> Result<(), IndexDiskFault>
     requires some { 0 < length bytes.now }
     requires whole { length bytes.now % 16 ≡ 0 }
     requires room { unit + length bytes.now / 16 ≤ 2 ^ 28 }
-    ensures written { OnOk result (IsTrue D.tells → (D.files disk.new).idx ≡ put unit (units_of bytes.now) (D.files disk.old).idx) }
-    ensures changes { Changes D.tells D.files D.left_since D.moment D.bytes_read D.follows Idx (Torn unit (units_of bytes.now)) 0 disk.old disk.new }
-    ensures cause { HasCause (D.faults disk.old) (D.faults disk.new) result }
+    ensures written { OnOk result (IsTrue D.tells
+        → (D.files disk.new).idx ≡ put unit (units_of bytes.now) (D.files disk.old).idx) }
+    ensures changes { Changes D.Disk Idx (Torn unit (units_of bytes.now)) 0 disk.old disk.new }
+    ensures cause { DiskCause D.Disk result disk.old disk.new }
 {
     let Ok(()) = disk.write_at(File::Idx, unit, bytes) else {
         return Err(IndexDiskFault);
@@ -35,9 +26,9 @@ pub fn write_units<D: Disk>(disk: &mut D, unit: u64, bytes: &[u8]) -> Result<(),
 /// Settles Hindex.db.
 pub fn sync<D: Disk>(disk: &mut D) -> Result<(), IndexDiskFault>
     ensures same { IsTrue D.tells → (D.files disk.new).idx ≡ (D.files disk.old).idx }
-    ensures settled { OnOk result (IsTrue D.tells → IsSettled Idx (D.files disk.new) (D.left_since disk.new (D.moment disk.new))) }
-    ensures changes { Changes D.tells D.files D.left_since D.moment D.bytes_read D.follows Idx IsSame 0 disk.old disk.new }
-    ensures cause { HasCause (D.faults disk.old) (D.faults disk.new) result }
+    ensures settled { OnOk result (IsTrue D.tells → IsSettled D.Disk Idx disk.new) }
+    ensures changes { Changes D.Disk Idx IsSame 0 disk.old disk.new }
+    ensures cause { DiskCause D.Disk result disk.old disk.new }
 {
     let Ok(()) = disk.sync(File::Idx) else {
         return Err(IndexDiskFault);
@@ -50,10 +41,11 @@ pub fn write_synced<D: Disk>(disk: &mut D, unit: u64, bytes: &[u8]) -> Result<()
     requires some { 0 < length bytes.now }
     requires whole { length bytes.now % 16 ≡ 0 }
     requires room { unit + length bytes.now / 16 ≤ 2 ^ 28 }
-    ensures written { OnOk result (IsTrue D.tells → (D.files disk.new).idx ≡ put unit (units_of bytes.now) (D.files disk.old).idx) }
-    ensures settled { OnOk result (IsTrue D.tells → IsSettled Idx (D.files disk.new) (D.left_since disk.new (D.moment disk.new))) }
-    ensures changes { Changes D.tells D.files D.left_since D.moment D.bytes_read D.follows Idx (Torn unit (units_of bytes.now)) 0 disk.old disk.new }
-    ensures cause { HasCause (D.faults disk.old) (D.faults disk.new) result }
+    ensures written { OnOk result (IsTrue D.tells
+        → (D.files disk.new).idx ≡ put unit (units_of bytes.now) (D.files disk.old).idx) }
+    ensures settled { OnOk result (IsTrue D.tells → IsSettled D.Disk Idx disk.new) }
+    ensures changes { Changes D.Disk Idx (Torn unit (units_of bytes.now)) 0 disk.old disk.new }
+    ensures cause { DiskCause D.Disk result disk.old disk.new }
 {
     let Ok(()) = write_units(disk, unit, bytes) else {
         return Err(IndexDiskFault);
@@ -65,19 +57,23 @@ pub fn write_synced<D: Disk>(disk: &mut D, unit: u64, bytes: &[u8]) -> Result<()
 }
 
 impl Hindex {
-    /// Makes the first unit zeros, and settles the file: the index isn't sealed then. Takes no memory and reads nothing.
+    /// Makes the first unit zeros, and settles the file: the index isn't sealed then. Takes no memory and reads
+    /// nothing.
     ///
     /// # Errors
     ///
-    /// `IndexDiskFault` only where the disk's count of faults rose. What the value keeps is then no more said of the file.
+    /// `IndexDiskFault` only where the disk's count of faults rose. What the value keeps is then no more said of the
+    /// file.
     pub fn void<D: Disk>(&mut self, disk: &mut D) -> Result<(), IndexDiskFault>
         requires keeps { IsTrue D.tells → Keeps (D.files disk.old).idx self.old }
-        ensures state { OnOk result (self.new ≡ record { first = blank; second = self.old.second; units = max self.old.units 1; pending = 0 }) }
+        ensures state { OnOk result (self.new ≡ record
+            { first = blank; second = self.old.second; units = max self.old.units 1; pending = 0 }) }
         ensures kept { OnOk result (IsTrue D.tells → Keeps (D.files disk.new).idx self.new) }
-        ensures voided { OnOk result (IsTrue D.tells → (D.files disk.new).idx ≡ put 0 (blank ∷ []) (D.files disk.old).idx) }
-        ensures settled { OnOk result (IsTrue D.tells → IsSettled Idx (D.files disk.new) (D.left_since disk.new (D.moment disk.new))) }
-        ensures changes { Changes D.tells D.files D.left_since D.moment D.bytes_read D.follows Idx VoidOrSame 0 disk.old disk.new }
-        ensures cause { HasCause (D.faults disk.old) (D.faults disk.new) result }
+        ensures voided { OnOk result (IsTrue D.tells
+            → (D.files disk.new).idx ≡ put 0 (blank ∷ []) (D.files disk.old).idx) }
+        ensures settled { OnOk result (IsTrue D.tells → IsSettled D.Disk Idx disk.new) }
+        ensures changes { Changes D.Disk Idx VoidOrSame 0 disk.old disk.new }
+        ensures cause { DiskCause D.Disk result disk.old disk.new }
     {
         let Ok(()) = write_synced(disk, 0, &[0; 16]) else {
             return Err(IndexDiskFault);
@@ -92,7 +88,8 @@ impl Hindex {
     ///
     /// # Errors
     ///
-    /// `IndexDiskFault` only where the disk's count of faults rose. What the value keeps is then no more said of the file.
+    /// `IndexDiskFault` only where the disk's count of faults rose. What the value keeps is then no more said of the
+    /// file.
     pub fn seal<D: Disk>(&mut self, disk: &mut D, generation: u32) -> Result<(), IndexDiskFault>
         requires written { 0 < self.old.pending }
         requires keeps { IsTrue D.tells → Keeps (D.files disk.old).idx self.old }
@@ -103,20 +100,23 @@ impl Hindex {
           pending = 0;
         }) }
         ensures kept { OnOk result (IsTrue D.tells → Keeps (D.files disk.new).idx self.new) }
-        ensures sealed { OnOk result (IsTrue D.tells → (D.files disk.new).idx ≡ put 0 (seal_unit generation self.old.pending ∷ []) (D.files disk.old).idx) }
-        ensures current { OnOk result (is_ordered self.old.pending self.old.second self.old.units ≡ true → is_current generation self.new ≡ true) }
-        ensures whole { OnOk result (IsTrue D.tells → IsWellFormed self.old.pending (D.files disk.old).idx → IsWellFormed self.old.pending
-            (D.files disk.new).idx) }
-        ensures records { OnOk result (IsTrue D.tells → IsWellFormed self.old.pending (D.files disk.old).idx → records self.old.pending
-            (D.files disk.new).idx ≡ records self.old.pending (D.files disk.old).idx) }
+        ensures sealed { OnOk result (IsTrue D.tells
+            → (D.files disk.new).idx ≡ put 0 (seal_unit generation self.old.pending ∷ []) (D.files disk.old).idx) }
+        ensures current { OnOk result (is_ordered self.old.pending self.old.second self.old.units ≡ true
+            → is_current generation self.new ≡ true) }
+        ensures whole { OnOk result (IsTrue D.tells → IsWellFormed self.old.pending (D.files disk.old).idx
+            → IsWellFormed self.old.pending (D.files disk.new).idx) }
+        ensures records { OnOk result (IsTrue D.tells → IsWellFormed self.old.pending (D.files disk.old).idx
+            → records self.old.pending (D.files disk.new).idx ≡ records self.old.pending (D.files disk.old).idx) }
         ensures padded { OnOk result (IsTrue D.tells → IsWellFormed self.old.pending (D.files disk.old).idx → AddsPadded
             (index_in self.old.pending (D.files disk.old).idx) (index_in self.old.pending (D.files disk.new).idx)) }
-        ensures whichever { IsTrue D.tells → IsWellFormed self.old.pending (D.files disk.old).idx → IsSealed generation self.old.pending
-            (D.files disk.old).idx (put 0 (seal_unit generation self.old.pending ∷ []) (D.files disk.old).idx) }
-        ensures settled { OnOk result (IsTrue D.tells → IsSettled Idx (D.files disk.new) (D.left_since disk.new (D.moment disk.new))) }
-        ensures changes { Changes D.tells D.files D.left_since D.moment D.bytes_read D.follows Idx
-            (SealedOrSame (seal_unit generation self.old.pending)) 0 disk.old disk.new }
-        ensures cause { HasCause (D.faults disk.old) (D.faults disk.new) result }
+        ensures whichever { IsTrue D.tells → IsWellFormed self.old.pending (D.files disk.old).idx
+            → IsSealed generation self.old.pending (D.files disk.old).idx
+            (put 0 (seal_unit generation self.old.pending ∷ []) (D.files disk.old).idx) }
+        ensures settled { OnOk result (IsTrue D.tells → IsSettled D.Disk Idx disk.new) }
+        ensures changes { Changes D.Disk Idx (SealedOrSame (seal_unit generation self.old.pending)) 0 disk.old
+            disk.new }
+        ensures cause { DiskCause D.Disk result disk.old disk.new }
     {
         let first = unit_of_words(MAGIC, 2, generation, self.pending);
         let Ok(()) = write_synced(disk, 0, &first) else {

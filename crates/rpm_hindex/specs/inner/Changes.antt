@@ -12,7 +12,7 @@ use Rattle.rpm_hindex.specs.declared.plan.Work.{Work}
 use Rattle.rpm_hindex.specs.declared.plan.Work.TheVariants.{InPlace, Scratch}
 use Rattle.rpm_hindex.specs.declared.faults.PrepareFault.{PrepareFault}
 use Rattle.rpm_hindex.specs.declared.faults.PrepareFault.TheVariants.{IndexFull, BadIndex, DiskFault, NoMemory}
-use Rattle.rpm_hindex.specs.Words.{word, unit_of_words}
+use Rattle.rpm_outside.specs.Words.{word, unit_of_words}
 use Rattle.rpm_hindex.specs.Rows.{Row, times}
 use Rattle.rpm_hindex.specs.Sizes.{first_record, bucket_count, units_for, live_of}
 use Rattle.rpm_hindex.specs.inner.Drafts.{IsImage}

@@ -1,7 +1,7 @@
 -- An index that is being made in memory.
 use Rattle.std.specs.Prelude.{◌≡◌, ℕ, ◌+◌, ◌-◌, ◌/◌, ◌%◌, ◌<◌, ◌≤◌, List, length, max, slice_index, take}
 use Rattle.rpm_outside.specs.Files.{Units, blank, units_of, unit_at}
-use Rattle.rpm_hindex.specs.Words.{word}
+use Rattle.rpm_outside.specs.Words.{word}
 use Rattle.rpm_hindex.specs.Rows.{Row, SameRows}
 use Rattle.rpm_hindex.specs.Sizes.{first_record, live_of}
 use Rattle.rpm_hindex.specs.Index.{Index, index_in, rows_of, records}

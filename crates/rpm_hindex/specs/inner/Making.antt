@@ -1,7 +1,7 @@
 -- Records that are to be written.
 use Rattle.std.specs.Prelude.{ℕ, ◌+◌, ◌*◌, ◌-◌, ◌^◌, List, ◌∷◌, ◌++◌, length, replicate}
 use Rattle.rpm_outside.specs.Files.{Units, cut_up}
-use Rattle.rpm_hindex.specs.Words.{unit_of_words}
+use Rattle.rpm_outside.specs.Words.{unit_of_words}
 use Rattle.rpm_hindex.specs.Sizes.{key_units}
 
 -- the zeros after a key of so many bytes

@@ -55,7 +55,7 @@ pub record IsDropFault (file : Units) (drops : List Row) (old : Change) (fault :
 
 -- a step added these rows to a file
 pub record HasAdded (file : Units) (adds : List Row) (old new : Change) : Type 0 where
-  pub adds' : IsWhole old.records old.live (changing old file) → AddsRows old new file adds
+  pub rows : IsWhole old.records old.live (changing old file) → AddsRows old new file adds
   pub honest : IsHonest old file → IsHonest new file
 
 -- what is written can be written to each file, and leaves unit 1 in order
@@ -69,4 +69,4 @@ module _ {D : Type 0} (d : disk.Ghosts D) where
   pub record CanStart (at : D) (extent : Extent) (kept : ℕ → Bool) (starts : ℕ → Option Start)
       : Type 0 where
     pub stand : StandWithin extent.buckets extent.used starts
-    pub starts' : IsTrue d.tells → AreStarts (index_in extent.buckets (d.files at).idx) kept starts
+    pub chained : IsTrue d.tells → AreStarts (index_in extent.buckets (d.files at).idx) kept starts

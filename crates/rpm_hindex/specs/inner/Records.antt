@@ -2,7 +2,7 @@
 use Rattle.std.specs.Prelude.{◌≡◌, ◌%◌, ◌≤◌, length}
 use Rattle.rpm_outside.specs.Files.{Units, unit_at}
 use Rattle.rpm_hindex.specs.declared.chain.Extent.{Extent}
-use Rattle.rpm_hindex.specs.Words.{word}
+use Rattle.rpm_outside.specs.Words.{word}
 use Rattle.rpm_hindex.specs.Sizes.{first_record}
 
 -- the file has so many buckets, and its records end there

@@ -5,7 +5,7 @@ use Rattle.rpm_hindex.specs.declared.heads.Head.{Head}
 use Rattle.rpm_hindex.specs.declared.heads.Ahead.{Ahead}
 use Rattle.rpm_hindex.specs.declared.heads.Met.{Met}
 use Rattle.rpm_hindex.specs.declared.spots.Spot.{Spot}
-use Rattle.rpm_hindex.specs.Words.{word}
+use Rattle.rpm_outside.specs.Words.{word}
 use Rattle.rpm_hindex.specs.Rows.{Row, same_row}
 use Rattle.rpm_hindex.specs.Sizes.{first_record}
 use Rattle.rpm_hindex.specs.Index.{Index, is_link, is_placed, is_sound, chain, next_at, length_at, units_at, row_at}

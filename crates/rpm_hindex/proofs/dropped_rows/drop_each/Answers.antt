@@ -79,7 +79,7 @@ drop_row-requires-clause-starts g c =
     let l = c.loop-left in
     record {
       stand = subst (λ (e : Extent). StandWithin e.buckets e.used (λ b. get nat_cmp l.starts b)) (sym l.invariant.extent) l.invariant.stand;
-      starts' = λ told. starts_here g.D.Disk.files c.args.disk.now l.disk c.args.change.now.extent l.change.extent
+      chained = λ told. starts_here g.D.Disk.files c.args.disk.now l.disk c.args.change.now.extent l.change.extent
           (is_kept (λ p. contains nat_cmp l.change.dropped p))
           (λ b. get nat_cmp l.starts b) (sym ((l.invariant.looks.untouched told).same)) (sym l.invariant.extent) (l.invariant.starts told);
     }
@@ -101,7 +101,7 @@ loop-left-preserved g c =
           c.in_default.ensures.starts.stand;
       starts = λ told. starts_here g.D.Disk.files l.disk c.args.disk.now l.change.extent c.args.change.now.extent
           (is_kept (λ p. contains nat_cmp c.drop_row.new.self.dropped p)) (λ b. get nat_cmp c.drop_row.new.starts b)
-          ((l.invariant.looks.untouched told).same) l.invariant.extent (c.in_default.ensures.starts.starts' told);
+          ((l.invariant.looks.untouched told).same) l.invariant.extent (c.in_default.ensures.starts.chained told);
       less = λ told whole.
           let first : Change = c.args.change.now in
           let file : Files = g.D.Disk.files c.args.disk.now in

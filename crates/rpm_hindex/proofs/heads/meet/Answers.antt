@@ -1,7 +1,7 @@
 use Rattle.std.proofs.Common.{◌≡◌, ℕ, true, length, sym, ap, ◌∙◌, inl, inr}
 use Rattle.std.specs.Prelude.{Option, Some, None}
 use Rattle.rpm_outside.specs.Files.{Files, unit_at}
-use Rattle.rpm_hindex.specs.Words.{word}
+use Rattle.rpm_outside.specs.Words.{word}
 use Rattle.rpm_hindex.specs.declared.hits.Hit.{Hit}
 use Rattle.rpm_hindex.specs.Index.{index_in, is_sound, row_at, length_at}
 use Rattle.rpm_hindex.specs.Answers.{has_key, is_wanted, row_of_hit}

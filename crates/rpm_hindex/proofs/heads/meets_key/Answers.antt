@@ -1,7 +1,7 @@
 use Rattle.std.proofs.Common.{◌≡◌, ℕ, ◌/◌, ◌%◌, ◌^◌, ◌≤◌, List, length, take, ap, sym, ◌∙◌, refl, arith}
 use Rattle.std.proofs.lemmas.List.{length-take-le}
 use Rattle.rpm_outside.specs.Files.{Files}
-use Rattle.rpm_hindex.specs.Words.{word}
+use Rattle.rpm_outside.specs.Words.{word}
 use Rattle.rpm_hindex.specs.Rows.{hash_of, Row}
 use Rattle.rpm_hindex.specs.Index.{Index, index_in, key_at}
 use Rattle.rpm_hindex.specs.Answers.{has_key}

@@ -60,7 +60,7 @@ loop-i-preserved g c =
           → AddsRows c.loop-i.change c.add_row.new.self f.idx (row_nth rows i ∷ [])) ((c.loop-i.invariant.looks.untouched told).same)
           (subst (λ (r : Row). IsWhole c.loop-i.change.records c.loop-i.change.live (changing c.loop-i.change (g.D.Disk.files c.loop-i.disk).idx)
           → AddsRows c.loop-i.change c.add_row.new.self (g.D.Disk.files c.loop-i.disk).idx (r ∷ [])) c.row_ref.ensures.row
-          (c.in_default.ensures.added told).adds') in
+          (c.in_default.ensures.added told).rows) in
           subst (AddsRows c.args.change.now c.add_row.new.self file.idx) (sym (next_rows rows i lt)) (rows_then c.args.change.now c.loop-i.change
           c.add_row.new.self file.idx (take i rows) (row_nth rows i) (c.loop-i.invariant.adds told whole) more);
       honest = λ told is. subst (λ (f : Files). IsHonest c.loop-i.change f.idx → IsHonest c.add_row.new.self f.idx)
@@ -88,7 +88,7 @@ returns-clause-added g c = λ told.
     let rows = c.args.rows.now in
     let all : take c.loop-i.i rows ≡ rows = take_all c.loop-i.i rows (omega (arith, c.loop-i-test.false, c.len-i-end.ensures)) in
     record {
-      adds' = λ whole. subst (AddsRows c.args.change.now c.loop-i.change (g.D.Disk.files c.args.disk.now).idx) all (c.loop-i.invariant.adds told whole);
+      rows = λ whole. subst (AddsRows c.args.change.now c.loop-i.change (g.D.Disk.files c.args.disk.now).idx) all (c.loop-i.invariant.adds told whole);
       honest = c.loop-i.invariant.honest told;
     }
 

@@ -3,7 +3,7 @@ use Rattle.std.proofs.lemmas.List.{length-replicate}
 use Rattle.std.specs.Prelude.{OnOk, Result, Ok, Err}
 use Rattle.rpm_outside.specs.Files.{bytes_of}
 use Rattle.rpm_outside.specs.inner.Cuts.{bytes_of-cut_up}
-use Rattle.rpm_hindex.specs.Words.{unit_of_words}
+use Rattle.rpm_outside.specs.Words.{unit_of_words}
 use Rattle.rpm_hindex.specs.Sizes.{key_units}
 use Rattle.rpm_hindex.specs.inner.Making.{padding, record_of}
 use Rattle.rpm_hindex.proofs.records.push_record.Goals as goal

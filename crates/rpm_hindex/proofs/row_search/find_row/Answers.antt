@@ -109,7 +109,7 @@ find_from-requires-clause-starts g c = λ told.
     let word = c.in-Ok.ensures.word told in
     let kept : ℕ → Bool = is_kept (λ p. contains nat_cmp c.args.dropped.now p) in
     let here : (places : List ℕ) → IsPath x b at places 0 → (s : Start) → get nat_cmp c.args.starts.now b ≡ Some s → IsStart x b at kept s =
-    λ places path s is. subst (λ (n : ℕ). IsStart x b n kept s) (sym word.0) (c.requires.starts.starts' told b s is places
+    λ places path s is. subst (λ (n : ℕ). IsStart x b n kept s) (sym word.0) (c.requires.starts.chained told b s is places
     (chain_is x b at word.0 word.1 ∙ path_follow x b at places path)) in
     subst (λ (f : Files). (places : List ℕ) → IsPath (index_in B f.idx) b at places 0 → (s : Start) → get nat_cmp c.args.starts.now b ≡ Some s
     → IsStart (index_in B f.idx) b at kept s) (sym ((c.in-Ok.ensures.looks.untouched told).same)) here

@@ -5,7 +5,7 @@ use Rattle.rpm_hindex.proofs.Going.{go_on, bucket_within}
 use Rattle.rpm_hindex.proofs.Adding.{row_added}
 use Rattle.rpm_hindex.proofs.Honest.{bad_head, bad_memory, adds_honest}
 use Rattle.rpm_outside.specs.Files.{Files}
-use Rattle.rpm_hindex.specs.Words.{word}
+use Rattle.rpm_outside.specs.Words.{word}
 use Rattle.rpm_hindex.specs.Index.{is_link}
 use Rattle.rpm_hindex.specs.inner.Changes.{changing}
 use Rattle.rpm_hindex.proofs.Results.{on_ok, if_err}
@@ -55,7 +55,7 @@ returns-clause-added g c = on_ok c.put_unit.result _ _ (λ put told.
     ∙ ap (λ (n : ℕ). length s.tail.items + n) (length-bytes c.word-next.result row.kind row.key.now row.number row.place) in
     let longer : length s.tail.items / 16 < length c.push_record.new.bytes.items / 16 = omega (arith, long, c.requires.go.whole) in
     record {
-      adds' = λ whole. row_added s d file.idx c.requires.go row.kind row.key.now row.number row.place c.bucket_of-bucket.result
+      rows = λ whole. row_added s d file.idx c.requires.go row.kind row.key.now row.number row.place c.bucket_of-bucket.result
           c.used-used.result c.word-next.result c.in-Ok.words c.with_word.result
           c.bucket_of-bucket.ensures.bucket c.bucket_of-bucket.ensures.within (c.in-Ok.ensures.words told) c.used-used.ensures c.with_word.ensures put
           c.word-next.ensures

@@ -180,7 +180,7 @@ returns-clause-starts g c = on_ok c.put_dropped.result _ _ (λ put.
           (λ a. get nat_cmp c.put_start.new.starts a) b (record { before = c.in-Some.spot.before; at = c.in-Some.spot.behind })
           c.in_default-put_start.ensures.put (record { linked = linked.0; within = within; front = linked.1 })
           (λ a t other is. c.requires.starts.stand a t is);
-      starts' = λ told.
+      chained = λ told.
           let x : Index = index_in s.extent.buckets (g.D.Disk.files c.args.disk.now).idx in
           let row : Row = record { kind = c.args.row.kind; key = c.args.row.key.now; number = c.args.row.number; place = c.args.row.place } in
           let f = subst (λ (o : Option Spot). IsFound x b (is_kept (λ p. contains nat_cmp s.dropped p)) row o) c.in-Some.is
@@ -188,5 +188,5 @@ returns-clause-starts g c = on_ok c.put_dropped.result _ _ (λ put.
           starts_next x b (is_kept (λ p. contains nat_cmp s.dropped p)) (is_kept (λ p. contains nat_cmp c.put_dropped.new.dropped p)) row c.in-Some.spot
           (λ a. get nat_cmp c.args.starts.now a) (λ a. get nat_cmp c.put_start.new.starts a)
           (loses (λ p. contains nat_cmp s.dropped p) (λ p. contains nat_cmp c.put_dropped.new.dropped p) c.in-Some.spot.at put)
-          (subst (IsSoundSpot x b) c.in-Some.is (c.in-Ok.ensures.sound told)) f.found c.in_default-put_start.ensures.put (c.requires.starts.starts' told);
+          (subst (IsSoundSpot x b) c.in-Some.is (c.in-Ok.ensures.sound told)) f.found c.in_default-put_start.ensures.put (c.requires.starts.chained told);
     }) c.put_dropped.ensures.put

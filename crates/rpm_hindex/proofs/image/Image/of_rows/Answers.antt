@@ -1,6 +1,6 @@
 use Rattle.std.proofs.Common.{◌≡◌, ℕ, ◌+◌, ◌*◌, ◌++◌, List, length, drop, ap, ◌∙◌, arith, length-append}
 use Rattle.std.specs.List.{flat_map}
-use Rattle.rpm_hindex.specs.Words.{bytes_of_word}
+use Rattle.rpm_outside.specs.Words.{bytes_of_word}
 use Rattle.rpm_hindex.specs.Sizes.{first_record, live_of}
 use Rattle.rpm_hindex.proofs.Orders.{few, Few}
 use Rattle.rpm_hindex.proofs.Drafting.{length-le-live}

@@ -104,7 +104,7 @@ returns-clause-prepared g c = if_ok_two c.in_place.result _ _ _ (λ plan can mad
           let all : HasLess drops (records last.extent.buckets file.idx) (rows_of (changing mid file.idx)) = λ r.
           left.rows' r ∙ ap (λ (n : ℕ). times r (records n file.idx) - times r drops) (sym last_is) in
           let more = subst (λ (f : Files). IsWhole mid.records mid.live (changing mid f.idx) → AddsRows mid last f.idx adds)
-          ((c.drop_rows.ensures.looks.untouched told).same) (c.in_default-add_rows.ensures.added told).adds' in
+          ((c.drop_rows.ensures.looks.untouched told).same) (c.in_default-add_rows.ensures.added told).rows in
           let plan_is = place_plan mid last drops adds file.idx plan.work add.go c.in_place.ensures.ordered made (more left.cut.whole) all
           (omega (arith, add.go.records, add.go.few)) (omega (arith, add.go.live, add.go.room)) in
           let makes = subst (λ (n : ℕ). IsPlanFor drops adds n file.idx plan.work) last_is plan_is in

@@ -1,5 +1,5 @@
 use Rattle.std.proofs.Common.{sym, subst, ap, ◌∙◌, arith, ℕ, List, length, ◌+◌, ◌≤◌, ◌^◌}
-use Rattle.rpm_hindex.specs.Words.{word}
+use Rattle.rpm_outside.specs.Words.{word}
 use Rattle.rpm_hindex.specs.Sizes.{bucket_count, first_record, live_of}
 use Rattle.rpm_outside.specs.Files.{Units}
 use Rattle.rpm_hindex.specs.Rows.{SameRows}

@@ -1,6 +1,6 @@
 use Rattle.std.proofs.Common.{ℕ, length, sym, ap, ◌∙◌, arith, subst}
 use Rattle.rpm_hindex.specs.Sizes.{is_bucket_count}
-use Rattle.rpm_hindex.specs.Words.{word}
+use Rattle.rpm_outside.specs.Words.{word}
 use Rattle.rpm_hindex.specs.declared.chain.Extent.{Extent}
 use Rattle.rpm_hindex.specs.State.{State}
 use Rattle.rpm_hindex.specs.inner.Records.{IsOpen}
