@@ -14,6 +14,7 @@ pub mod SealedRows
 pub mod Changed
 pub mod Both
 pub mod Halves
+pub mod OwedRows
 pub mod Left
 pub mod SameLogs
 pub mod Prepared

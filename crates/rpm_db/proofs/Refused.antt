@@ -1,9 +1,12 @@
 -- What a fault says.
-use Rattle.std.proofs.Common.{◌≡◌, ℕ, true, false, refl}
+use Rattle.std.proofs.Common.{◌≡◌, ℕ, ◌^◌, ◌≤◌, List, length, true, false, Ok, Err, refl, arith}
 use Rattle.rpm_db.specs.declared.change_fault.ChangeFault.{ChangeFault}
 use Rattle.rpm_db.specs.declared.change_fault.ChangeFault.TheVariants.{BadHeader, NoSuch, NumbersSpent, GenerationSpent, StoreFull, IndexFull, BadIndex, Stopped, DiskFault, NoMemory}
-use Rattle.rpm_db.specs.Database.{Database, holds}
-use Rattle.rpm_db.specs.Refusals.{LaterCause, EraseCause, IsOfIndex, IsRefusal, is_stopping}
+use Rattle.rpm_outside.specs.Files.{Units}
+use Rattle.rpm_header.specs.Header.{Header, header}
+use Rattle.rpm_pkgdb.specs.Planned.{IsFull}
+use Rattle.rpm_db.specs.Database.{Database, holds, next_number}
+use Rattle.rpm_db.specs.Refusals.{AddIs, LaterCause, EraseCause, IsOfIndex, IsOfReading, IsOfRoom, IsRefusal, FullCause, BadCause, is_stopping}
 
 -- after the generation and the room in the store
 pub later_of_index : (generation : ℕ) (full : Type 0) (fault : ChangeFault) → IsOfIndex fault → (generation ≡ 4294967295 → ⊥) → ¬ full
@@ -69,3 +72,44 @@ erase_cause db n (BadIndex unit) going here later = (going, here, later)
 erase_cause db n Stopped going here later = absurd later
 erase_cause db n DiskFault going here later = (going, here, later)
 erase_cause db n NoMemory going here later = (going, here, later)
+
+-- a fault of the store says nothing of the index, and of the disk
+pub room_index : (needed : ℕ) (idx : Units) (fault : ChangeFault) → IsOfRoom fault
+    → FullCause needed fault × (BadCause idx fault × (fault ≡ DiskFault → ⊥))
+room_index needed idx GenerationSpent is = (tt, (tt, λ e. cc))
+room_index needed idx StoreFull is = (tt, (tt, λ e. cc))
+room_index needed idx NoMemory is = (tt, (tt, λ e. cc))
+room_index needed idx (BadHeader f) is = absurd is
+room_index needed idx NoSuch is = absurd is
+room_index needed idx NumbersSpent is = absurd is
+room_index needed idx (IndexFull told) is = absurd is
+room_index needed idx (BadIndex unit) is = absurd is
+room_index needed idx Stopped is = absurd is
+room_index needed idx DiskFault is = absurd is
+
+-- where the index has room for so many units, it is a fault of reading
+pub reading_of : (fault : ChangeFault) (needed : ℕ) → IsOfIndex fault → FullCause needed fault → needed ≤ 2 ^ 28 → IsOfReading fault
+reading_of (IndexFull told) needed is full fits = omega (arith, full.0, fits)
+reading_of (BadIndex unit) needed is full fits = full
+reading_of DiskFault needed is full fits = tt
+reading_of NoMemory needed is full fits = tt
+reading_of (BadHeader f) needed is full fits = is
+reading_of NoSuch needed is full fits = is
+reading_of NumbersSpent needed is full fits = is
+reading_of GenerationSpent needed is full fits = is
+reading_of StoreFull needed is full fits = is
+reading_of Stopped needed is full fits = is
+
+-- a header that is added, to a value that isn't stopped and has a number left
+pub add_cause : (db : Database) (bytes : List ℕ) (own : Header) (fault : ChangeFault) → db.stopped ≡ false → header bytes ≡ Ok own
+    → (next_number db ≡ 4294967295 → ⊥) → LaterCause db.store.generation (IsFull db.store true (length own.blob)) fault → AddIs {A = ℕ} db bytes (Err fault)
+add_cause db bytes own (BadHeader f) going read left later = absurd later
+add_cause db bytes own NoSuch going read left later = absurd later
+add_cause db bytes own NumbersSpent going read left later = absurd later
+add_cause db bytes own GenerationSpent going read left later = (left, record { going = going; own = own; read = read; later = later })
+add_cause db bytes own StoreFull going read left later = (left, record { going = going; own = own; read = read; later = later })
+add_cause db bytes own (IndexFull needed) going read left later = (left, record { going = going; own = own; read = read; later = later })
+add_cause db bytes own (BadIndex unit) going read left later = (left, record { going = going; own = own; read = read; later = later })
+add_cause db bytes own Stopped going read left later = absurd later
+add_cause db bytes own DiskFault going read left later = (left, record { going = going; own = own; read = read; later = later })
+add_cause db bytes own NoMemory going read left later = (left, record { going = going; own = own; read = read; later = later })

@@ -14,10 +14,6 @@ pub map_err : {A E P Q : Type 0} (r : Result A E) → (P → Q) → OnErr r P �
 map_err (Ok a) f p = tt
 map_err (Err e) f p = f p
 
-pub four_ok : {A E P Q R S Z : Type 0} (r : Result A E) → (P → Q → R → S → Z) → OnOk r P → OnOk r Q → OnOk r R → OnOk r S → OnOk r Z
-four_ok (Ok a) f p q x y = f p q x y
-four_ok (Err e) f p q x y = tt
-
 pub five_ok : {A E P Q R S U Z : Type 0} (r : Result A E) → (P → Q → R → S → U → Z) → OnOk r P → OnOk r Q → OnOk r R → OnOk r S → OnOk r U
     → OnOk r Z
 five_ok (Ok a) f p q x y u = f p q x y u

@@ -1,7 +1,10 @@
 pub mod Answers
+pub mod Asked
 pub mod Changed
 pub mod Changes
 pub mod Database
+pub mod Frame
+pub mod Gathering
 pub mod Inits
 pub mod Lawful
 pub mod Openings
@@ -14,3 +17,4 @@ pub mod Runs
 pub mod State
 pub mod Verdicts
 pub mod inner
+pub mod Prelude

@@ -120,3 +120,10 @@ IsOfIndex (BadIndex unit) = Unit {0}
 IsOfIndex DiskFault = Unit {0}
 IsOfIndex NoMemory = Unit {0}
 IsOfIndex _ = ⊥
+
+-- a fault of the store, before anything is written
+abbrev pub IsOfRoom : ChangeFault → Type 0
+IsOfRoom GenerationSpent = Unit {0}
+IsOfRoom StoreFull = Unit {0}
+IsOfRoom NoMemory = Unit {0}
+IsOfRoom _ = ⊥

@@ -2,6 +2,8 @@
 pub mod Above
 pub mod Both
 pub mod Faults
+pub mod Filling
+pub mod FromOne
 pub mod Kept
 pub mod Laws
 pub mod LawfulLaws

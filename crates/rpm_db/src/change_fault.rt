@@ -1,7 +1,7 @@
 //! Why a database isn't changed.
 
 ghost use Rattle.std.specs.Prelude.{◌≡◌};
-ghost use Rattle.rpm_db.specs.declared.change_fault.ChangeFault.TheVariants.{BadHeader};
+ghost use Rattle.rpm_db.specs.Prelude.{BadHeader};
 
 use rpm_header::HeaderFault;
 use thiserror::Error;
@@ -30,7 +30,7 @@ pub enum ChangeFault {
     /// A chain of the index isn't well formed: the unit of its first fault; or unit 1 counts too little.
     #[error("Hindex.db is damaged")]
     BadIndex { unit: u64 },
-    /// An earlier changing call of this value failed at the disk.
+    /// An earlier changing call of this value failed at the disk, or additions to it go on.
     #[error("the database was stopped")]
     Stopped,
     /// A call of the disk failed.

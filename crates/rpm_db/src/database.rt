@@ -2,23 +2,9 @@
 
 ghost use Rattle.std.specs.Prelude.{◌≡◌, ◌≢◌, ℕ, ◌+◌, ◌^◌, ◌≤◌, IsTrue, true, false, not, is_some, None, Err, IfOk};
 ghost use Rattle.std.specs.FinMap as finite;
-ghost use Rattle.rpm_outside.specs.Files.{Units};
-ghost use Rattle.rpm_outside.specs.Causes.{HasCauseAt};
-ghost use Rattle.rpm_outside.specs.Changes.{IsSettled};
-ghost use Rattle.rpm_outside.specs.declared.disk.File.TheVariants.{Pkg, Idx};
-ghost use Rattle.rpm_outside.specs.Looks.{Looks};
-ghost use Rattle.rpm_pkgdb.specs.Store.{store};
+ghost use Rattle.rpm_db.specs.Prelude.{DiskFault, holds, Idx, images, is_blank, is_indexed, IsFresh, IsNext, IsOpened, IsQuiet, IsSettled, Looks, next, next_number, opening_cost, OpeningReads, OpenIs, Pkg, ReachesMade, Remade, Runs, slot_with, state, StaysLawful, store, StoreIs, Units, units_needed};
+ghost use Rattle.rpm_db.specs.Database.{Keeps};
 ghost use Rattle.rpm_pkgdb.specs.Store as pkgdb;
-ghost use Rattle.rpm_pkgdb.specs.Slots.{slot_with};
-ghost use Rattle.rpm_pkgdb.specs.Costs.{opening_cost};
-ghost use Rattle.rpm_pkgdb.specs.Quiet.{IsQuiet};
-ghost use Rattle.rpm_db.specs.Changes.{next};
-ghost use Rattle.rpm_db.specs.State.{state};
-ghost use Rattle.rpm_db.specs.Database.{Keeps, OpenIs, IsNext, holds, is_blank, is_indexed, next_number};
-ghost use Rattle.rpm_db.specs.Lawful.{Remade, StaysLawful};
-ghost use Rattle.rpm_db.specs.Openings.{IsFresh, IsOpened, OpeningReads, StoreIs, units_needed};
-ghost use Rattle.rpm_db.specs.Reaches.{ReachesMade};
-ghost use Rattle.rpm_db.specs.Runs.{Runs};
 
 use crate::indexing::{index_for, settle};
 use crate::open_fault::DbOpenFault;
@@ -53,32 +39,36 @@ fn open_store<D: Disk>(alloc: Global, disk: &mut D) -> Result<PkgDb, DbOpenFault
     ensures kept { IfOk result (λ value. IsTrue D.tells → pkgdb.Keeps (D.files disk.new).pkg value) }
     ensures from_one { IfOk result (λ value. slot_with 0 value.slots ≡ None) }
     ensures going { IfOk result (λ value. value.is_stopped ≡ false) }
-    ensures reads { IsTrue D.tells → D.bytes_read disk.new File.Pkg ≤ D.bytes_read disk.old File.Pkg + opening_cost (D.files disk.old).pkg }
-    ensures looks { Looks D.tells D.files D.left_since D.moment D.bytes_read D.follows Pkg (2 ^ 32) disk.old disk.new }
-    ensures cause { HasCauseAt (result ≡ Err DbOpenFault.DiskFault) (D.faults disk.old) (D.faults disk.new) }
+    ensures reads { IsTrue D.tells → D.bytes_read disk.new File.Pkg ≤ D.bytes_read disk.old File.Pkg + opening_cost
+        (D.files disk.old).pkg }
+    ensures looks { Looks D.Disk Pkg (2 ^ 32) disk.old disk.new }
+    ensures cause { DiskFault D.Disk (result ≡ Err DbOpenFault.DiskFault) disk.old disk.new }
 {
     let store = PkgDb::open(alloc, disk)?;
     Ok(store)
 }
 
 impl Db {
-    /// Settles both files, and opens the database with its index, which is made from the packages where it isn't current. A database
-    /// that is blank is opened without an index, and nothing is written.
+    /// Settles both files, and opens the database with its index, which is made from the packages where it isn't
+    /// current. A database that is blank is opened without an index, and nothing is written.
     ///
     /// Beside the two syncs it does what `open_settled` does, and answers what that answers.
     pub fn open<D: Disk>(alloc: Global, disk: &mut D) -> Result<Db, DbOpenFault>
         ensures opened { IsTrue D.tells → IsOpened (D.files disk.old) (D.files disk.new) result }
         ensures fresh { IfOk result IsFresh }
-        ensures quiet { IfOk result (λ db. IsTrue D.tells → IsQuiet db.store (D.files disk.new) (D.left_since disk.new (D.moment disk.new))) }
-        ensures durable { IfOk result (λ _db. IsTrue D.tells → IsSettled Pkg (D.files disk.new) (D.left_since disk.new (D.moment disk.new))) }
-        ensures settled { IfOk result (λ _db. IsTrue D.tells → IsSettled Idx (D.files disk.new) (D.left_since disk.new (D.moment disk.new))) }
+        ensures quiet { IfOk result (λ db. IsTrue D.tells
+            → IsQuiet db.store (D.files disk.new) (images D.Disk disk.new)) }
+        ensures durable { IfOk result (λ _db. IsTrue D.tells → IsSettled D.Disk Pkg disk.new) }
+        ensures settled { IfOk result (λ _db. IsTrue D.tells → IsSettled D.Disk Idx disk.new) }
         ensures stops { IsTrue D.tells → StaysLawful D.moment D.left_since disk.old disk.new }
-        ensures reads { IsTrue D.tells → OpeningReads (D.files disk.old) (D.bytes_read disk.old File.Pkg) (D.bytes_read disk.new File.Pkg) }
-        ensures reach { IfOk result (λ _db. IsTrue D.tells → ReachesMade (units_needed (D.files disk.old).pkg (store (D.files disk.old).pkg))
-            (D.files disk.old).idx (D.files disk.new).idx) }
+        ensures reads { IsTrue D.tells → OpeningReads (D.files disk.old) (D.bytes_read disk.old File.Pkg)
+            (D.bytes_read disk.new File.Pkg) }
+        ensures reach { IfOk result (λ _db. IsTrue D.tells
+            → ReachesMade (units_needed (D.files disk.old).pkg (store (D.files disk.old).pkg)) (D.files disk.old).idx
+            (D.files disk.new).idx) }
         ensures units { D.bytes_read disk.new File.Idx ≤ D.bytes_read disk.old File.Idx + 32 }
-        ensures runs { Runs D.tells D.files D.left_since D.moment D.bytes_read D.follows Remade disk.old disk.new }
-        ensures cause { HasCauseAt (result ≡ Err DbOpenFault.DiskFault) (D.faults disk.old) (D.faults disk.new) }
+        ensures runs { Runs D.Disk Remade disk.old disk.new }
+        ensures cause { DiskFault D.Disk (result ≡ Err DbOpenFault.DiskFault) disk.old disk.new }
     {
         match settle(disk) {
             Ok(()) => Db::open_settled(alloc, disk),
@@ -86,34 +76,40 @@ impl Db {
         }
     }
 
-    /// Opens the database with its index on files that are settled already, as `rpm_group::recover` leaves them: the index is made from the
-    /// packages where it isn't current. A database that is blank is opened without an index, and nothing is written.
+    /// Opens the database with its index on files that are settled already, as `rpm_group::recover` leaves them: the
+    /// index is made from the packages where it isn't current. A database that is blank is opened without an index,
+    /// and nothing is written.
     ///
-    /// No file is settled but an index that is made. Reads the slot pages of `Packages.db`, each byte once, and two units of `Hindex.db`;
-    /// and where the index must be made the blocks of each package, each once. All memory is taken before the first write. A crash at any
-    /// moment leaves the packages as they were, and an index that is as it was, void, or current with the rows of the packages.
+    /// No file is settled but an index that is made. Reads the slot pages of `Packages.db`, each byte once, and two
+    /// units of `Hindex.db`; and where the index must be made the blocks of each package, each once. All memory is
+    /// taken before the first write. A crash at any moment leaves the packages as they were, and an index that is as
+    /// it was, void, or current with the rows of the packages.
     ///
     /// # Errors
     ///
     /// - `Damaged` exactly where the file isn't a store: its first damage.
     /// - `IndexFull` exactly where the index has to be made and needs more than 268435456 units.
     /// - `DiskFault` only where the disk's count of faults rose.
-    /// - `NoMemory` where there is none for the slots, a package or the rows. After each but `DiskFault` the files are as they were.
+    /// - `NoMemory` where there is none for the slots, a package or the rows. After each but `DiskFault` the files
+    ///   are as they were.
     pub fn open_settled<D: Disk>(alloc: Global, disk: &mut D) -> Result<Db, DbOpenFault>
-        requires pkg { IsTrue D.tells → IsSettled Pkg (D.files disk.old) (D.left_since disk.old (D.moment disk.old)) }
-        requires idx { IsTrue D.tells → IsSettled Idx (D.files disk.old) (D.left_since disk.old (D.moment disk.old)) }
+        requires pkg { IsTrue D.tells → IsSettled D.Disk Pkg disk.old }
+        requires idx { IsTrue D.tells → IsSettled D.Disk Idx disk.old }
         ensures opened { IsTrue D.tells → IsOpened (D.files disk.old) (D.files disk.new) result }
         ensures fresh { IfOk result IsFresh }
-        ensures quiet { IfOk result (λ db. IsTrue D.tells → IsQuiet db.store (D.files disk.new) (D.left_since disk.new (D.moment disk.new))) }
-        ensures durable { IfOk result (λ _db. IsTrue D.tells → IsSettled Pkg (D.files disk.new) (D.left_since disk.new (D.moment disk.new))) }
-        ensures settled { IfOk result (λ _db. IsTrue D.tells → IsSettled Idx (D.files disk.new) (D.left_since disk.new (D.moment disk.new))) }
+        ensures quiet { IfOk result (λ db. IsTrue D.tells
+            → IsQuiet db.store (D.files disk.new) (images D.Disk disk.new)) }
+        ensures durable { IfOk result (λ _db. IsTrue D.tells → IsSettled D.Disk Pkg disk.new) }
+        ensures settled { IfOk result (λ _db. IsTrue D.tells → IsSettled D.Disk Idx disk.new) }
         ensures stops { IsTrue D.tells → StaysLawful D.moment D.left_since disk.old disk.new }
-        ensures reads { IsTrue D.tells → OpeningReads (D.files disk.old) (D.bytes_read disk.old File.Pkg) (D.bytes_read disk.new File.Pkg) }
-        ensures reach { IfOk result (λ _db. IsTrue D.tells → ReachesMade (units_needed (D.files disk.old).pkg (store (D.files disk.old).pkg))
-            (D.files disk.old).idx (D.files disk.new).idx) }
+        ensures reads { IsTrue D.tells → OpeningReads (D.files disk.old) (D.bytes_read disk.old File.Pkg)
+            (D.bytes_read disk.new File.Pkg) }
+        ensures reach { IfOk result (λ _db. IsTrue D.tells
+            → ReachesMade (units_needed (D.files disk.old).pkg (store (D.files disk.old).pkg)) (D.files disk.old).idx
+            (D.files disk.new).idx) }
         ensures units { D.bytes_read disk.new File.Idx ≤ D.bytes_read disk.old File.Idx + 32 }
-        ensures runs { Runs D.tells D.files D.left_since D.moment D.bytes_read D.follows Remade disk.old disk.new }
-        ensures cause { HasCauseAt (result ≡ Err DbOpenFault.DiskFault) (D.faults disk.old) (D.faults disk.new) }
+        ensures runs { Runs D.Disk Remade disk.old disk.new }
+        ensures cause { DiskFault D.Disk (result ≡ Err DbOpenFault.DiskFault) disk.old disk.new }
     {
         let store = open_store(alloc, disk)?;
         if store.is_blank() {
@@ -147,9 +143,10 @@ impl Db {
         ensures from_one { IfOk result (λ db. holds 0 db ≡ false) }
         ensures unindexed { IfOk result (λ db. is_indexed db ≡ false) }
         ensures runs { IfOk result (λ db. db.stopped ≡ false) }
-        ensures reads { IsTrue D.tells → D.bytes_read disk.new File.Pkg ≤ D.bytes_read disk.old File.Pkg + opening_cost (D.files disk.old).pkg }
-        ensures looks { Looks D.tells D.files D.left_since D.moment D.bytes_read D.follows Pkg (2 ^ 32) disk.old disk.new }
-        ensures cause { HasCauseAt (result ≡ Err DbOpenFault.DiskFault) (D.faults disk.old) (D.faults disk.new) }
+        ensures reads { IsTrue D.tells → D.bytes_read disk.new File.Pkg ≤ D.bytes_read disk.old File.Pkg + opening_cost
+            (D.files disk.old).pkg }
+        ensures looks { Looks D.Disk Pkg (2 ^ 32) disk.old disk.new }
+        ensures cause { DiskFault D.Disk (result ≡ Err DbOpenFault.DiskFault) disk.old disk.new }
     {
         let store = open_store(alloc, disk)?;
         Ok(Db {
@@ -174,7 +171,7 @@ impl Db {
         self.index.is_some()
     }
 
-    /// Whether a changing call of this value failed at the disk.
+    /// Whether a changing call of this value failed at the disk, or additions go on.
     pub fn is_stopped(&self) -> bool
         ensures { result ≡ self.now.stopped }
     {
@@ -200,7 +197,8 @@ impl Db {
     /// The least number above this one that a package has, Good or Bad; `None` where there is none. Takes log n steps.
     pub fn next_above(&self, n: u32) -> Option<u32>
         ensures next { IsNext (λ m. holds m self.now) n result }
-        ensures told { (file : Units) → IsNext (λ m. is_some (finite.get (state file self.now.store).packages m)) n result }
+        ensures told { (file : Units) → IsNext (λ m. is_some (finite.get (state file self.now.store).packages m)) n
+            result }
     {
         self.store.next_above(n)
     }

@@ -1,22 +1,7 @@
 //! Adding, putting and erasing.
 
 ghost use Rattle.std.specs.Prelude.{◌≡◌, ◌+◌, ◌≤◌, length, IsTrue, true, false, None, Some, Ok, Err, OnOk, IfOk};
-ghost use Rattle.rpm_header.specs.Header.{Header, header};
-ghost use Rattle.rpm_outside.specs.Causes.{HasCauseAt};
-ghost use Rattle.rpm_outside.specs.Crash.{LeavesOnly};
-ghost use Rattle.rpm_outside.specs.declared.disk.File.TheVariants.{Pkg};
-ghost use Rattle.rpm_pkgdb.specs.Reaches.{ReachesTo};
-ghost use Rattle.rpm_hindex.specs.Sizes.{units_for};
-ghost use Rattle.rpm_db.specs.Changed.{Changed, IsLeft};
-ghost use Rattle.rpm_db.specs.Changes.{Add, Put, Erase, apply, IsChangedStill, IsServing, ReadsAtMost, with_room};
-ghost use Rattle.rpm_db.specs.Database.{IsIndexed, holds, is_indexed, next_number, cost};
-ghost use Rattle.rpm_db.specs.Lawful.{AreLawful};
-ghost use Rattle.rpm_db.specs.Refusals.{AddIs, PutIs, EraseIs, FullIndexIs, BadIndexIs};
-ghost use Rattle.rpm_db.specs.Room.{RoomIs, next_store};
-ghost use Rattle.rpm_db.specs.Rows.{rows};
-ghost use Rattle.rpm_db.specs.Runs.{Runs};
-ghost use Rattle.rpm_db.specs.State.{state};
-ghost use Rattle.rpm_db.specs.inner.Writes.{SameLog};
+ghost use Rattle.rpm_db.specs.Prelude.{Add, AddIs, apply, AreLawful, BadIndexIs, Changed, cost, DiskFault, Erase, EraseIs, FullIndexIs, Header, header, holds, images, is_indexed, IsChangedStill, IsIndexed, IsLeft, IsServing, LeavesIn, next_number, next_store, Pkg, Put, PutIs, ReachesTo, ReadsAtMost, RoomIs, rows, Runs, SameLog, state, units_for, with_room};
 
 use crate::change_fault::ChangeFault;
 use crate::database::Db;
@@ -29,9 +14,9 @@ use std::alloc::Global;
 impl Db {
     /// Adds a header under the next number, and answers it. Bytes after the header aren't kept.
     ///
-    /// Both files are planned first, and all memory is taken. Then the generation rises; the blob, its slot and the number field are
-    /// written; then its rows; and then the seal. Where no slot is free a slot page is added before, and the blobs in its way move: each
-    /// of their blocks is read once. Nothing else of `Packages.db` is read.
+    /// Both files are planned first, and all memory is taken. Then the generation rises; the blob, its slot and the
+    /// number field are written; then its rows; and then the seal. Where no slot is free a slot page is added before,
+    /// and the blobs in its way move: each of their blocks is read once. Nothing else of `Packages.db` is read.
     ///
     /// A crash at any moment leaves a database that is lawful, with the packages from before or with this one.
     ///
@@ -39,15 +24,17 @@ impl Db {
     ///
     /// The first of these that holds:
     ///
-    /// - `Stopped` exactly where an earlier changing call failed at the disk.
+    /// - `Stopped` exactly where an earlier changing call failed at the disk, or additions go on.
     /// - `BadHeader` exactly where the bytes are no header: its first fault.
     /// - `NumbersSpent` exactly where the next number is 4294967295.
     /// - `GenerationSpent` exactly where the generation is 4294967295.
     /// - `StoreFull` exactly where the blob, or one in the way of its slot page, fits nowhere below 4 GiB.
     /// - `IndexFull` exactly where the rows after the change need more than 268435456 units.
-    /// - `BadIndex` only where a chain of the index isn't well formed, or unit 1 counts too little; never where the index holds the rows.
+    /// - `BadIndex` only where a chain of the index isn't well formed, or unit 1 counts too little; never where the
+    ///   index holds the rows.
     ///
-    /// `DiskFault` only where the disk's count of faults rose: the value is stopped then. `NoMemory` where the change finds no memory.
+    /// `DiskFault` only where the disk's count of faults rose: the value is stopped then. `NoMemory` where the change
+    /// finds no memory.
     pub fn add<D: Disk>(
         &mut self,
         alloc: Global,
@@ -55,22 +42,29 @@ impl Db {
         blob: &[u8],
     ) -> Result<u32, ChangeFault>
         requires indexed { is_indexed self.old ≡ true }
-        requires serving { self.old.stopped ≡ false → IsTrue D.tells → IsServing (D.files disk.old) (D.left_since disk.old (D.moment disk.old)) self.old }
+        requires serving { self.old.stopped ≡ false → IsTrue D.tells
+            → IsServing (D.files disk.old) (images D.Disk disk.old) self.old }
         ensures causes { AddIs self.old blob.now result }
-        ensures placed { (h : Header) → header blob.now ≡ Ok h → RoomIs (next_store (Add h.blob) self.old.store) self.old.store self.new.store result }
+        ensures placed { (h : Header) → header blob.now ≡ Ok h
+            → RoomIs (next_store (Add h.blob) self.old.store) self.old.store self.new.store result }
         ensures number { IfOk result (λ n. n ≡ next_number self.old) }
-        ensures changed { OnOk result ((h : Header) → header blob.now ≡ Ok h → Changed D.Disk disk.old disk.new (Add h.blob) self.old self.new) }
-        ensures left { IsLeft D.Disk disk.old disk.new self.old self.new (with_room self.new.store.spare self.old) result }
-        ensures end { OnOk result (IsTrue D.tells → ReachesTo self.new.store (D.files disk.old).pkg (D.files disk.new).pkg) }
-        ensures full { IsTrue D.tells → self.old.stopped ≡ false → IsIndexed (D.files disk.old).pkg (D.files disk.old).idx self.old → (h : Header)
-            → header blob.now ≡ Ok h → FullIndexIs (units_for (rows (apply (Add h.blob) (state (D.files disk.old).pkg self.old.store)).packages)) result }
+        ensures changed { OnOk result ((h : Header) → header blob.now ≡ Ok h
+            → Changed D.Disk disk.old disk.new (Add h.blob) self.old self.new) }
+        ensures left { IsLeft D.Disk disk.old disk.new self.old self.new (with_room self.new.store.spare self.old)
+            result }
+        ensures end { OnOk result (IsTrue D.tells
+            → ReachesTo self.new.store (D.files disk.old).pkg (D.files disk.new).pkg) }
+        ensures full { IsTrue D.tells → self.old.stopped ≡ false
+            → IsIndexed (D.files disk.old).pkg (D.files disk.old).idx self.old → (h : Header) → header blob.now ≡ Ok h
+            → FullIndexIs (units_for (rows (apply (Add h.blob)
+            (state (D.files disk.old).pkg self.old.store)).packages)) result }
         ensures bad { IsTrue D.tells → BadIndexIs (D.files disk.old).idx result }
-        ensures stops { IsTrue D.tells → AreLawful (D.left_since disk.old (D.moment disk.old)) → (h : Header) → header blob.now ≡ Ok h → LeavesOnly
-            D.moment D.left_since disk.old disk.new (IsChangedStill (state (D.files disk.old).pkg self.old.store)
-            (apply (Add h.blob) (state (D.files disk.old).pkg self.old.store)) (D.left_since disk.old (D.moment disk.old))) }
+        ensures stops { IsTrue D.tells → AreLawful (images D.Disk disk.old) → (h : Header) → header blob.now ≡ Ok h
+            → LeavesIn D.Disk disk.old disk.new (IsChangedStill (state (D.files disk.old).pkg self.old.store)
+            (apply (Add h.blob) (state (D.files disk.old).pkg self.old.store)) (images D.Disk disk.old)) }
         ensures reads { ReadsAtMost None self.old.store (D.bytes_read disk.old Pkg) (D.bytes_read disk.new Pkg) }
-        ensures runs { Runs D.tells D.files D.left_since D.moment D.bytes_read D.follows SameLog disk.old disk.new }
-        ensures cause { HasCauseAt (result ≡ Err ChangeFault.DiskFault) (D.faults disk.old) (D.faults disk.new) }
+        ensures runs { Runs D.Disk SameLog disk.old disk.new }
+        ensures cause { DiskFault D.Disk (result ≡ Err ChangeFault.DiskFault) disk.old disk.new }
     {
         if self.is_stopped {
             return Err(ChangeFault::Stopped);
@@ -84,8 +78,9 @@ impl Db {
 
     /// Puts a header in place of the package that a number has, Good or Bad. Bytes after the header aren't kept.
     ///
-    /// Both files are planned first, and all memory is taken; of `Packages.db` the blocks of the old package are read, each once. Then the
-    /// generation rises; the blob and its slot are written; then the rows that change; and then the seal.
+    /// Both files are planned first, and all memory is taken; of `Packages.db` the blocks of the old package are
+    /// read, each once. Then the generation rises; the blob and its slot are written; then the rows that change; and
+    /// then the seal.
     ///
     /// A crash at any moment leaves a database that is lawful, with the old package or the new one.
     ///
@@ -93,15 +88,17 @@ impl Db {
     ///
     /// The first of these that holds:
     ///
-    /// - `Stopped` exactly where an earlier changing call failed at the disk.
+    /// - `Stopped` exactly where an earlier changing call failed at the disk, or additions go on.
     /// - `BadHeader` exactly where the bytes are no header: its first fault.
     /// - `NoSuch` exactly where there is no package of this number.
     /// - `GenerationSpent` exactly where the generation is 4294967295.
     /// - `StoreFull` exactly where the blob, as it replaces the old one, fits nowhere below 4 GiB.
     /// - `IndexFull` exactly where the rows after the change need more than 268435456 units.
-    /// - `BadIndex` only where a chain of the index isn't well formed, or unit 1 counts too little; never where the index holds the rows.
+    /// - `BadIndex` only where a chain of the index isn't well formed, or unit 1 counts too little; never where the
+    ///   index holds the rows.
     ///
-    /// `DiskFault` only where the disk's count of faults rose: the value is stopped then. `NoMemory` where the change finds no memory.
+    /// `DiskFault` only where the disk's count of faults rose: the value is stopped then. `NoMemory` where the change
+    /// finds no memory.
     pub fn put<D: Disk>(
         &mut self,
         alloc: Global,
@@ -110,21 +107,28 @@ impl Db {
         blob: &[u8],
     ) -> Result<(), ChangeFault>
         requires indexed { is_indexed self.old ≡ true }
-        requires serving { self.old.stopped ≡ false → IsTrue D.tells → IsServing (D.files disk.old) (D.left_since disk.old (D.moment disk.old)) self.old }
+        requires serving { self.old.stopped ≡ false → IsTrue D.tells
+            → IsServing (D.files disk.old) (images D.Disk disk.old) self.old }
         ensures causes { PutIs self.old n blob.now result }
-        ensures placed { (h : Header) → header blob.now ≡ Ok h → RoomIs (next_store (Put n h.blob) self.old.store) self.old.store self.new.store result }
-        ensures changed { OnOk result ((h : Header) → header blob.now ≡ Ok h → Changed D.Disk disk.old disk.new (Put n h.blob) self.old self.new) }
-        ensures left { IsLeft D.Disk disk.old disk.new self.old self.new (with_room self.new.store.spare self.old) result }
-        ensures end { OnOk result (IsTrue D.tells → ReachesTo self.new.store (D.files disk.old).pkg (D.files disk.new).pkg) }
-        ensures full { IsTrue D.tells → self.old.stopped ≡ false → IsIndexed (D.files disk.old).pkg (D.files disk.old).idx self.old → (h : Header)
-            → header blob.now ≡ Ok h → FullIndexIs (units_for (rows (apply (Put n h.blob) (state (D.files disk.old).pkg self.old.store)).packages)) result }
+        ensures placed { (h : Header) → header blob.now ≡ Ok h
+            → RoomIs (next_store (Put n h.blob) self.old.store) self.old.store self.new.store result }
+        ensures changed { OnOk result ((h : Header) → header blob.now ≡ Ok h
+            → Changed D.Disk disk.old disk.new (Put n h.blob) self.old self.new) }
+        ensures left { IsLeft D.Disk disk.old disk.new self.old self.new (with_room self.new.store.spare self.old)
+            result }
+        ensures end { OnOk result (IsTrue D.tells
+            → ReachesTo self.new.store (D.files disk.old).pkg (D.files disk.new).pkg) }
+        ensures full { IsTrue D.tells → self.old.stopped ≡ false
+            → IsIndexed (D.files disk.old).pkg (D.files disk.old).idx self.old → (h : Header) → header blob.now ≡ Ok h
+            → FullIndexIs (units_for (rows (apply (Put n h.blob)
+            (state (D.files disk.old).pkg self.old.store)).packages)) result }
         ensures bad { IsTrue D.tells → BadIndexIs (D.files disk.old).idx result }
-        ensures stops { IsTrue D.tells → AreLawful (D.left_since disk.old (D.moment disk.old)) → (h : Header) → header blob.now ≡ Ok h → LeavesOnly
-            D.moment D.left_since disk.old disk.new (IsChangedStill (state (D.files disk.old).pkg self.old.store)
-            (apply (Put n h.blob) (state (D.files disk.old).pkg self.old.store)) (D.left_since disk.old (D.moment disk.old))) }
+        ensures stops { IsTrue D.tells → AreLawful (images D.Disk disk.old) → (h : Header) → header blob.now ≡ Ok h
+            → LeavesIn D.Disk disk.old disk.new (IsChangedStill (state (D.files disk.old).pkg self.old.store)
+            (apply (Put n h.blob) (state (D.files disk.old).pkg self.old.store)) (images D.Disk disk.old)) }
         ensures reads { D.bytes_read disk.new Pkg ≤ D.bytes_read disk.old Pkg + cost n self.old }
-        ensures runs { Runs D.tells D.files D.left_since D.moment D.bytes_read D.follows SameLog disk.old disk.new }
-        ensures cause { HasCauseAt (result ≡ Err ChangeFault.DiskFault) (D.faults disk.old) (D.faults disk.new) }
+        ensures runs { Runs D.Disk SameLog disk.old disk.new }
+        ensures cause { DiskFault D.Disk (result ≡ Err ChangeFault.DiskFault) disk.old disk.new }
     {
         if self.is_stopped {
             return Err(ChangeFault::Stopped);
@@ -141,8 +145,9 @@ impl Db {
 
     /// Takes the package that a number has out, Good or Bad.
     ///
-    /// The index is planned first, and all memory is taken; of `Packages.db` the blocks of the package are read, each once. Then the
-    /// generation rises; the slot is set free and the blocks become zeros; then the rows are taken out; and then the seal is written.
+    /// The index is planned first, and all memory is taken; of `Packages.db` the blocks of the package are read, each
+    /// once. Then the generation rises; the slot is set free and the blocks become zeros; then the rows are taken
+    /// out; and then the seal is written.
     ///
     /// A crash at any moment leaves a database that is lawful, with the package or without it.
     ///
@@ -150,30 +155,35 @@ impl Db {
     ///
     /// The first of these that holds:
     ///
-    /// - `Stopped` exactly where an earlier changing call failed at the disk.
+    /// - `Stopped` exactly where an earlier changing call failed at the disk, or additions go on.
     /// - `NoSuch` exactly where there is no package of this number.
     /// - `GenerationSpent` exactly where the generation is 4294967295.
     /// - `IndexFull` exactly where the rows after the change need more than 268435456 units.
-    /// - `BadIndex` only where a chain of the index isn't well formed, or unit 1 counts too little; never where the index holds the rows.
+    /// - `BadIndex` only where a chain of the index isn't well formed, or unit 1 counts too little; never where the
+    ///   index holds the rows.
     ///
-    /// `DiskFault` only where the disk's count of faults rose: the value is stopped then. `NoMemory` where the change finds no memory.
+    /// `DiskFault` only where the disk's count of faults rose: the value is stopped then. `NoMemory` where the change
+    /// finds no memory.
     pub fn erase<D: Disk>(&mut self, alloc: Global, disk: &mut D, n: u32) -> Result<(), ChangeFault>
         requires indexed { is_indexed self.old ≡ true }
-        requires serving { self.old.stopped ≡ false → IsTrue D.tells → IsServing (D.files disk.old) (D.left_since disk.old (D.moment disk.old)) self.old }
+        requires serving { self.old.stopped ≡ false → IsTrue D.tells
+            → IsServing (D.files disk.old) (images D.Disk disk.old) self.old }
         ensures causes { EraseIs self.old n result }
         ensures placed { RoomIs (next_store (Erase n) self.old.store) self.old.store self.new.store result }
         ensures changed { OnOk result (Changed D.Disk disk.old disk.new (Erase n) self.old self.new) }
         ensures left { IsLeft D.Disk disk.old disk.new self.old self.new self.old result }
         ensures end { OnOk result (IsTrue D.tells → length (D.files disk.new).pkg ≤ length (D.files disk.old).pkg) }
-        ensures full { IsTrue D.tells → self.old.stopped ≡ false → IsIndexed (D.files disk.old).pkg (D.files disk.old).idx self.old
-            → FullIndexIs (units_for (rows (apply (Erase n) (state (D.files disk.old).pkg self.old.store)).packages)) result }
+        ensures full { IsTrue D.tells → self.old.stopped ≡ false
+            → IsIndexed (D.files disk.old).pkg (D.files disk.old).idx self.old
+            → FullIndexIs (units_for (rows (apply (Erase n) (state (D.files disk.old).pkg self.old.store)).packages))
+            result }
         ensures bad { IsTrue D.tells → BadIndexIs (D.files disk.old).idx result }
-        ensures stops { IsTrue D.tells → AreLawful (D.left_since disk.old (D.moment disk.old)) → LeavesOnly
-            D.moment D.left_since disk.old disk.new (IsChangedStill (state (D.files disk.old).pkg self.old.store)
-            (apply (Erase n) (state (D.files disk.old).pkg self.old.store)) (D.left_since disk.old (D.moment disk.old))) }
+        ensures stops { IsTrue D.tells → AreLawful (images D.Disk disk.old)
+            → LeavesIn D.Disk disk.old disk.new (IsChangedStill (state (D.files disk.old).pkg self.old.store)
+            (apply (Erase n) (state (D.files disk.old).pkg self.old.store)) (images D.Disk disk.old)) }
         ensures reads { D.bytes_read disk.new Pkg ≤ D.bytes_read disk.old Pkg + cost n self.old }
-        ensures runs { Runs D.tells D.files D.left_since D.moment D.bytes_read D.follows SameLog disk.old disk.new }
-        ensures cause { HasCauseAt (result ≡ Err ChangeFault.DiskFault) (D.faults disk.old) (D.faults disk.new) }
+        ensures runs { Runs D.Disk SameLog disk.old disk.new }
+        ensures cause { DiskFault D.Disk (result ≡ Err ChangeFault.DiskFault) disk.old disk.new }
     {
         if self.is_stopped {
             return Err(ChangeFault::Stopped);

@@ -1,18 +1,8 @@
 //! The packages that have a key.
 
 ghost use Rattle.std.specs.Prelude.{◌≡◌, ℕ, ◌+◌, IsTrue, true, false, Err, IfOk, IfErr};
-ghost use Rattle.rpm_outside.specs.Causes.{HasCauseAt};
-ghost use Rattle.rpm_outside.specs.Files.{unit_at};
-ghost use Rattle.rpm_outside.specs.declared.disk.File.TheVariants.{Idx};
-ghost use Rattle.rpm_outside.specs.Looks.{LooksAt};
-ghost use Rattle.rpm_tags.specs.Kinds.{code_of};
-ghost use Rattle.rpm_hindex.specs.Answers.{AreHits, ChainCosts, IsOutside};
-ghost use Rattle.rpm_hindex.specs.Index.{units_at};
-ghost use Rattle.rpm_db.specs.Answers.{FoundIs, key_chain};
-ghost use Rattle.rpm_db.specs.Database.{KeepsIndex, is_indexed};
-ghost use Rattle.rpm_db.specs.Lawful.{HasRows};
-ghost use Rattle.rpm_db.specs.Rows.{rows};
-ghost use Rattle.rpm_db.specs.State.{packages};
+ghost use Rattle.rpm_db.specs.Prelude.{AreHits, ChainCosts, code_of, DiskFault, FoundIs, HasRows, Idx, is_indexed, KeepsIndex, key_chain, LooksAt, packages, rows, unit_at, units_at};
+ghost use Rattle.rpm_hindex.specs.Answers.{IsOutside};
 
 use crate::database::Db;
 use rpm_hindex::{FindFault, Hits};
@@ -27,8 +17,8 @@ impl Db {
     ///
     /// # Errors
     ///
-    /// - `BadIndex` exactly where the chain of the key's bucket isn't well formed: the unit of its first fault. It never comes of files
-    ///   whose index holds the rows of the packages.
+    /// - `BadIndex` exactly where the chain of the key's bucket isn't well formed: the unit of its first fault. It
+    ///   never comes of files whose index holds the rows of the packages.
     /// - `DiskFault` only where the disk's count of faults rose.
     /// - `NoMemory` where a key or the hits find no memory.
     pub fn find<D: Disk>(
@@ -42,14 +32,17 @@ impl Db {
         requires runs { self.now.stopped ≡ false }
         requires keeps { IsTrue D.tells → KeepsIndex (D.files disk.old).idx self.now }
         ensures kept { IsTrue D.tells → KeepsIndex (D.files disk.new).idx self.now }
-        ensures rows { IfOk result (λ hits. IsTrue D.tells → HasRows (packages (D.files disk.old).pkg self.now.store) (D.files disk.old).idx
+        ensures rows { IfOk result (λ hits. IsTrue D.tells
+            → HasRows (packages (D.files disk.old).pkg self.now.store) (D.files disk.old).idx
             → AreHits (code_of kind) key.now (rows (packages (D.files disk.old).pkg self.now.store)) hits) }
         ensures told { IsTrue D.tells → FoundIs (key_chain (code_of kind) key.now (D.files disk.old).idx) result }
-        ensures lawful { IsTrue D.tells → HasRows (packages (D.files disk.old).pkg self.now.store) (D.files disk.old).idx → IfErr result IsOutside }
-        ensures cost { IsTrue D.tells → ChainCosts (key_chain (code_of kind) key.now (D.files disk.old).idx) (units_at (unit_at (D.files disk.old).idx))
-            (D.bytes_read disk.old File.Idx + 16) (D.bytes_read disk.new File.Idx) }
-        ensures looks { LooksAt D.tells D.files D.left_since D.moment D.bytes_read D.follows Idx disk.old disk.new }
-        ensures cause { HasCauseAt (result ≡ Err FindFault.DiskFault) (D.faults disk.old) (D.faults disk.new) }
+        ensures lawful { IsTrue D.tells → HasRows (packages (D.files disk.old).pkg self.now.store)
+            (D.files disk.old).idx → IfErr result IsOutside }
+        ensures cost { IsTrue D.tells → ChainCosts (key_chain (code_of kind) key.now (D.files disk.old).idx)
+            (units_at (unit_at (D.files disk.old).idx)) (D.bytes_read disk.old File.Idx + 16)
+            (D.bytes_read disk.new File.Idx) }
+        ensures looks { LooksAt D.Disk Idx disk.old disk.new }
+        ensures cause { DiskFault D.Disk (result ≡ Err FindFault.DiskFault) disk.old disk.new }
     {
         match &self.index {
             Some(index) => index.find(alloc, disk, kind.code(), key),

@@ -1,26 +1,8 @@
 //! Making the index from the packages.
 
 ghost use Rattle.std.specs.Prelude.{◌≡◌, ◌≢◌, ℕ, ◌+◌, ◌≤◌, ◌<◌, max, IsTrue, true, false, not, None, Err, OnOk, IfOk, IfErr, if◌then◌else◌};
-ghost use Rattle.rpm_outside.specs.Files.{Files};
-ghost use Rattle.rpm_outside.specs.Causes.{HasCause, HasCauseAt};
-ghost use Rattle.rpm_outside.specs.Changes.{IsSettled};
-ghost use Rattle.rpm_outside.specs.Looks.{ReadAtMost};
-ghost use Rattle.rpm_outside.specs.declared.disk.File.TheVariants.{Pkg, Idx};
-ghost use Rattle.rpm_pkgdb.specs.declared.slot.Damage.{Damage};
-ghost use Rattle.rpm_pkgdb.specs.Costs.{cost_all};
-ghost use Rattle.rpm_pkgdb.specs.Slots.{slot_with};
-ghost use Rattle.rpm_pkgdb.specs.Store.{Keeps};
-ghost use Rattle.rpm_hindex.specs.Rewrites.{IsRefused};
-ghost use Rattle.rpm_hindex.specs.Rows.{Row};
-ghost use Rattle.rpm_hindex.specs.Sizes.{units_for};
+ghost use Rattle.rpm_db.specs.Prelude.{CanIndex, cost_all, Damage, DiskCause, DiskFault, Files, FullIs, FullOpenIs, HasRows, Idx, images, is_current_at, IsIndexOf, IsLawful, IsOfRows, IsRefused, IsSettled, IsUnsealed, Keeps, packages, Pkg, ReachesMade, ReadAtMost, Remade, Row, rows, Runs, slot_with, units_for, WritesNothing};
 ghost use Rattle.rpm_hindex.specs.State as hindex;
-ghost use Rattle.rpm_db.specs.Lawful.{HasRows, IsIndexOf, IsUnsealed, IsLawful, Remade, is_current_at, IsOfRows};
-ghost use Rattle.rpm_db.specs.Openings.{FullIs, FullOpenIs, WritesNothing};
-ghost use Rattle.rpm_db.specs.Reaches.{ReachesMade};
-ghost use Rattle.rpm_db.specs.Rows.{rows};
-ghost use Rattle.rpm_db.specs.Runs.{Runs};
-ghost use Rattle.rpm_db.specs.State.{packages};
-ghost use Rattle.rpm_db.specs.inner.Making.{CanIndex};
 
 use crate::open_fault::DbOpenFault;
 use crate::rows::rows_of;
@@ -32,11 +14,11 @@ use std::alloc::Global;
 /// Settles both files.
 pub fn settle<D: Disk>(disk: &mut D) -> Result<(), Failed>
     ensures same { IsTrue D.tells → D.files disk.new ≡ D.files disk.old }
-    ensures pkg { OnOk result (IsTrue D.tells → IsSettled Pkg (D.files disk.new) (D.left_since disk.new (D.moment disk.new))) }
-    ensures idx { OnOk result (IsTrue D.tells → IsSettled Idx (D.files disk.new) (D.left_since disk.new (D.moment disk.new))) }
+    ensures pkg { OnOk result (IsTrue D.tells → IsSettled D.Disk Pkg disk.new) }
+    ensures idx { OnOk result (IsTrue D.tells → IsSettled D.Disk Idx disk.new) }
     ensures unread { (f : File) → D.bytes_read disk.new f ≡ D.bytes_read disk.old f }
-    ensures runs { Runs D.tells D.files D.left_since D.moment D.bytes_read D.follows Remade disk.old disk.new }
-    ensures cause { HasCause (D.faults disk.old) (D.faults disk.new) result }
+    ensures runs { Runs D.Disk Remade disk.old disk.new }
+    ensures cause { DiskCause D.Disk result disk.old disk.new }
 {
     disk.sync(File::Pkg)?;
     disk.sync(File::Idx)
@@ -51,18 +33,19 @@ pub fn seal_index<D: Disk>(
     requires written { 0 < index.old.pending }
     requires ordered { hindex.is_ordered index.old.pending index.old.second index.old.units ≡ true }
     requires keeps { IsTrue D.tells → hindex.Keeps (D.files disk.old).idx index.old }
-    requires settled { IsTrue D.tells → IsSettled Idx (D.files disk.old) (D.left_since disk.old (D.moment disk.old)) }
-    requires here { IsTrue D.tells → IsUnsealed generation index.old.pending (D.files disk.old).pkg (D.files disk.old).idx }
-    requires each { IsTrue D.tells → (image : Files) → D.left_since disk.old (D.moment disk.old) image → IsUnsealed generation index.old.pending
-        image.pkg (D.files disk.old).idx }
+    requires settled { IsTrue D.tells → IsSettled D.Disk Idx disk.old }
+    requires here { IsTrue D.tells → IsUnsealed generation index.old.pending (D.files disk.old).pkg
+        (D.files disk.old).idx }
+    requires each { IsTrue D.tells → (image : Files) → images D.Disk disk.old image
+        → IsUnsealed generation index.old.pending image.pkg (D.files disk.old).idx }
     ensures current { OnOk result (hindex.is_current generation index.new ≡ true) }
     ensures kept { OnOk result (IsTrue D.tells → hindex.Keeps (D.files disk.new).idx index.new) }
     ensures index { OnOk result (IsTrue D.tells → IsIndexOf (D.files disk.new).pkg (D.files disk.new).idx) }
-    ensures settled { OnOk result (IsTrue D.tells → IsSettled Idx (D.files disk.new) (D.left_since disk.new (D.moment disk.new))) }
+    ensures settled { OnOk result (IsTrue D.tells → IsSettled D.Disk Idx disk.new) }
     ensures units { OnOk result (index.new.units ≡ index.old.units) }
     ensures unread { (f : File) → D.bytes_read disk.new f ≤ D.bytes_read disk.old f }
-    ensures runs { Runs D.tells D.files D.left_since D.moment D.bytes_read D.follows Remade disk.old disk.new }
-    ensures cause { HasCause (D.faults disk.old) (D.faults disk.new) result }
+    ensures runs { Runs D.Disk Remade disk.old disk.new }
+    ensures cause { DiskCause D.Disk result disk.old disk.new }
 {
     index.seal(disk, generation)
 }
@@ -76,18 +59,18 @@ fn write_index<D: Disk>(
     generation: u32,
 ) -> Result<(), RewriteFault>
     requires keeps { IsTrue D.tells → hindex.Keeps (D.files disk.old).idx index.old }
-    requires settled { IsTrue D.tells → IsSettled Pkg (D.files disk.old) (D.left_since disk.old (D.moment disk.old)) }
+    requires settled { IsTrue D.tells → IsSettled D.Disk Pkg disk.old }
     requires rows { IsTrue D.tells → IsOfRows generation rows.now (D.files disk.old).pkg }
     ensures full { FullIs (units_for rows.now) result }
     ensures current { OnOk result (hindex.is_current generation index.new ≡ true) }
     ensures kept { OnOk result (IsTrue D.tells → hindex.Keeps (D.files disk.new).idx index.new) }
     ensures index { OnOk result (IsTrue D.tells → IsIndexOf (D.files disk.new).pkg (D.files disk.new).idx) }
-    ensures settled { OnOk result (IsTrue D.tells → IsSettled Idx (D.files disk.new) (D.left_since disk.new (D.moment disk.new))) }
+    ensures settled { OnOk result (IsTrue D.tells → IsSettled D.Disk Idx disk.new) }
     ensures refused { IfErr result (λ e. IsRefused e → (index.new ≡ index.old) × (disk.new ≡ disk.old)) }
     ensures grows { OnOk result (index.new.units ≤ max index.old.units (units_for rows.now)) }
     ensures unread { (f : File) → D.bytes_read disk.new f ≤ D.bytes_read disk.old f }
-    ensures runs { Runs D.tells D.files D.left_since D.moment D.bytes_read D.follows Remade disk.old disk.new }
-    ensures cause { HasCauseAt (result ≡ Err RewriteFault.DiskFault) (D.faults disk.old) (D.faults disk.new) }
+    ensures runs { Runs D.Disk Remade disk.old disk.new }
+    ensures cause { DiskFault D.Disk (result ≡ Err RewriteFault.DiskFault) disk.old disk.new }
 {
     index.rewrite(alloc, disk, rows)?;
     match seal_index(disk, index, generation) {
@@ -108,18 +91,20 @@ pub fn make_index<D: Disk>(
     requires keeps { IsTrue D.tells → Keeps (D.files disk.old).pkg store.now }
     requires from_one { slot_with 0 store.now.slots ≡ None }
     requires index { IsTrue D.tells → hindex.Keeps (D.files disk.old).idx index.old }
-    requires settled { IsTrue D.tells → IsSettled Pkg (D.files disk.old) (D.left_since disk.old (D.moment disk.old)) }
+    requires settled { IsTrue D.tells → IsSettled D.Disk Pkg disk.old }
     ensures full { IsTrue D.tells → FullIs (units_for (rows (packages (D.files disk.old).pkg store.now))) result }
     ensures current { OnOk result (hindex.is_current store.now.generation index.new ≡ true) }
     ensures kept { OnOk result (IsTrue D.tells → hindex.Keeps (D.files disk.new).idx index.new) }
     ensures index { OnOk result (IsTrue D.tells → IsIndexOf (D.files disk.new).pkg (D.files disk.new).idx) }
-    ensures settled { OnOk result (IsTrue D.tells → IsSettled Idx (D.files disk.new) (D.left_since disk.new (D.moment disk.new))) }
-    ensures refused { IfErr result (λ e. IsRefused e → (index.new ≡ index.old) × (IsTrue D.tells → D.files disk.new ≡ D.files disk.old)) }
-    ensures reach { OnOk result (IsTrue D.tells → ReachesMade (units_for (rows (packages (D.files disk.old).pkg store.now)))
-        (D.files disk.old).idx (D.files disk.new).idx) }
+    ensures settled { OnOk result (IsTrue D.tells → IsSettled D.Disk Idx disk.new) }
+    ensures refused { IfErr result (λ e. IsRefused e → (index.new ≡ index.old)
+        × (IsTrue D.tells → D.files disk.new ≡ D.files disk.old)) }
+    ensures reach { OnOk result (IsTrue D.tells
+        → ReachesMade (units_for (rows (packages (D.files disk.old).pkg store.now))) (D.files disk.old).idx
+        (D.files disk.new).idx) }
     ensures reads { ReadAtMost Pkg (cost_all store.now) (D.bytes_read disk.old) (D.bytes_read disk.new) }
-    ensures runs { Runs D.tells D.files D.left_since D.moment D.bytes_read D.follows Remade disk.old disk.new }
-    ensures cause { HasCauseAt (result ≡ Err RewriteFault.DiskFault) (D.faults disk.old) (D.faults disk.new) }
+    ensures runs { Runs D.Disk Remade disk.old disk.new }
+    ensures cause { DiskFault D.Disk (result ≡ Err RewriteFault.DiskFault) disk.old disk.new }
 {
     let rows = rows_of(alloc, disk, store)?;
     write_index(alloc, disk, index, &rows, store.generation())
@@ -131,22 +116,24 @@ pub fn index_for<D: Disk>(alloc: Global, disk: &mut D, store: &PkgDb) -> Result<
     ensures full { IsTrue D.tells → FullOpenIs (not (is_current_at store.now.generation (D.files disk.old).idx))
         (units_for (rows (packages (D.files disk.old).pkg store.now))) result }
     ensures undamaged { (d : Damage) → result ≢ Err (DbOpenFault.Damaged d) }
-    ensures same { IsTrue D.tells → WritesNothing (not (is_current_at store.now.generation (D.files disk.old).idx)) result → D.files disk.new
-        ≡ D.files disk.old }
+    ensures same { IsTrue D.tells → WritesNothing (not (is_current_at store.now.generation (D.files disk.old).idx))
+        result → D.files disk.new ≡ D.files disk.old }
     ensures current { IfOk result (λ index. hindex.is_current store.now.generation index ≡ true) }
     ensures kept { IfOk result (λ index. IsTrue D.tells → hindex.Keeps (D.files disk.new).idx index) }
-    ensures rows { IfOk result (λ _index. IsTrue D.tells → IsLawful (D.files disk.old).pkg (D.files disk.old).idx → HasRows
-        (packages (D.files disk.new).pkg store.now) (D.files disk.new).idx) }
-    ensures made { IfOk result (λ _index. IsTrue D.tells → is_current_at store.now.generation (D.files disk.old).idx ≡ false → HasRows
-        (packages (D.files disk.new).pkg store.now) (D.files disk.new).idx) }
-    ensures idx { IfOk result (λ _index. IsTrue D.tells → IsSettled Idx (D.files disk.new) (D.left_since disk.new (D.moment disk.new))) }
-    ensures reach { IfOk result (λ _index. IsTrue D.tells → ReachesMade (units_for (rows (packages (D.files disk.old).pkg store.now)))
-        (D.files disk.old).idx (D.files disk.new).idx) }
+    ensures rows { IfOk result (λ _index. IsTrue D.tells → IsLawful (D.files disk.old).pkg (D.files disk.old).idx
+        → HasRows (packages (D.files disk.new).pkg store.now) (D.files disk.new).idx) }
+    ensures made { IfOk result (λ _index. IsTrue D.tells
+        → is_current_at store.now.generation (D.files disk.old).idx ≡ false
+        → HasRows (packages (D.files disk.new).pkg store.now) (D.files disk.new).idx) }
+    ensures idx { IfOk result (λ _index. IsTrue D.tells → IsSettled D.Disk Idx disk.new) }
+    ensures reach { IfOk result (λ _index. IsTrue D.tells
+        → ReachesMade (units_for (rows (packages (D.files disk.old).pkg store.now))) (D.files disk.old).idx
+        (D.files disk.new).idx) }
     ensures reads { IsTrue D.tells → D.bytes_read disk.new Pkg ≤ D.bytes_read disk.old Pkg
         + (if not (is_current_at store.now.generation (D.files disk.old).idx) then cost_all store.now else 0) }
     ensures units { D.bytes_read disk.new Idx ≤ D.bytes_read disk.old Idx + 32 }
-    ensures runs { Runs D.tells D.files D.left_since D.moment D.bytes_read D.follows Remade disk.old disk.new }
-    ensures cause { HasCauseAt (result ≡ Err DbOpenFault.DiskFault) (D.faults disk.old) (D.faults disk.new) }
+    ensures runs { Runs D.Disk Remade disk.old disk.new }
+    ensures cause { DiskFault D.Disk (result ≡ Err DbOpenFault.DiskFault) disk.old disk.new }
 {
     let mut index = match Hindex::open(disk) {
         Ok(index) => index,

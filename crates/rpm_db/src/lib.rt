@@ -1,15 +1,17 @@
 //! The database of packages: a map from package numbers to headers.
 //!
-//! A package is Good where its blob can be read and is a header, whose own bytes are then the package; else it is Bad. The index keeps
-//! the keys of the Good packages beside them; it is made from the packages where it isn't current. Nothing of the layout of the two
-//! files shows but how many bytes a call reads.
+//! A package is Good where its blob can be read and is a header, whose own bytes are then the package; else it is
+//! Bad. The index keeps the keys of the Good packages beside them; it is made from the packages where it isn't
+//! current. Nothing of the layout of the two files shows but how many bytes a call reads.
 #![tactic(auto)]
 
+mod additions;
 mod change_fault;
 mod changing;
 mod database;
 mod editing;
 mod finding;
+mod gathering;
 mod indexing;
 mod open_fault;
 mod preparing;
@@ -23,6 +25,7 @@ mod starting;
 mod verify;
 mod writing;
 
+pub use additions::Additions;
 pub use change_fault::ChangeFault;
 pub use database::Db;
 pub use open_fault::DbOpenFault;

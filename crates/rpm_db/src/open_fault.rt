@@ -1,8 +1,7 @@
 //! Why a database isn't opened.
 
 ghost use Rattle.std.specs.Prelude.{◌≡◌};
-ghost use Rattle.rpm_db.specs.declared.open_fault.DbOpenFault.TheVariants.{Damaged};
-ghost use Rattle.rpm_db.specs.inner.Faults.{store_fault};
+ghost use Rattle.rpm_db.specs.Prelude.{Damaged, store_fault};
 
 use rpm_pkgdb::{Damage, OpenFault};
 use thiserror::Error;

@@ -2,24 +2,10 @@
 
 ghost use Rattle.std.specs.Prelude.{◌≡◌, ℕ, ◌+◌, ◌≤◌, [], max, IsTrue, true, Option, None, Err, IfOk, IfErr};
 ghost use Rattle.std.specs.FinMap as finite;
-ghost use Rattle.std.specs.Ordering.{nat_cmp};
-ghost use Rattle.rpm_outside.specs.Causes.{HasCauseAt};
-ghost use Rattle.rpm_outside.specs.declared.disk.File.TheVariants.{Pkg, Idx};
+ghost use Rattle.rpm_db.specs.Prelude.{AreRead, AreWithout, BadIndexIs, CanApply, cost_before, DiskFault, FullIndexIs, HasChanged, HasRows, header_rows, Idx, IsOfIndex, IsOfReading, IsOutside, IsWholeIndex, Keeps, LeadsTo, nat_cmp, old_rows, Package, packages, Pkg, rows, rows_at, Runs, SameFiles, units_for, WritesWhole};
 ghost use Rattle.rpm_outside.specs.Looks.{Looks};
 ghost use Rattle.rpm_pkgdb.specs.Costs.{cost};
-ghost use Rattle.rpm_pkgdb.specs.Store.{Keeps};
-ghost use Rattle.rpm_hindex.specs.Plans.{HasChanged};
-ghost use Rattle.rpm_hindex.specs.Sizes.{units_for};
 ghost use Rattle.rpm_hindex.specs.State as hindex;
-ghost use Rattle.rpm_db.specs.Lawful.{HasRows, IsWholeIndex};
-ghost use Rattle.rpm_db.specs.Openings.{IsOutside};
-ghost use Rattle.rpm_db.specs.Refusals.{FullIndexIs, BadIndexIs, IsOfIndex, IsOfReading};
-ghost use Rattle.rpm_db.specs.Rows.{header_rows, rows_at, rows};
-ghost use Rattle.rpm_db.specs.Runs.{Runs};
-ghost use Rattle.rpm_db.specs.State.{Package, packages};
-ghost use Rattle.rpm_db.specs.inner.Both.{AreRead, CanApply, LeadsTo};
-ghost use Rattle.rpm_db.specs.inner.Places.{AreWithout};
-ghost use Rattle.rpm_db.specs.inner.Writes.{WritesWhole, SameFiles, old_rows, cost_before};
 
 use crate::change_fault::ChangeFault;
 use crate::rows::{push_header, push_package};
@@ -39,12 +25,13 @@ fn rows_before<D: Disk>(
 ) -> Result<Rows, ChangeFault>
     requires keeps { IsTrue D.tells → Keeps (D.files disk.old).pkg store.now }
     ensures kept { IsTrue D.tells → Keeps (D.files disk.new).pkg store.now }
-    ensures rows { IfOk result (λ rows. IsTrue D.tells → rows ≡ old_rows n (packages (D.files disk.old).pkg store.now)) }
+    ensures rows { IfOk result (λ rows. IsTrue D.tells
+        → rows ≡ old_rows n (packages (D.files disk.old).pkg store.now)) }
     ensures kinds { IfErr result IsOfReading }
     ensures reads { D.bytes_read disk.new Pkg ≤ D.bytes_read disk.old Pkg + cost_before n store.now }
     ensures unread { D.bytes_read disk.new Idx ≤ D.bytes_read disk.old Idx }
-    ensures runs { Runs D.tells D.files D.left_since D.moment D.bytes_read D.follows SameFiles disk.old disk.new }
-    ensures cause { HasCauseAt (result ≡ Err ChangeFault.DiskFault) (D.faults disk.old) (D.faults disk.new) }
+    ensures runs { Runs D.Disk SameFiles disk.old disk.new }
+    ensures cause { DiskFault D.Disk (result ≡ Err ChangeFault.DiskFault) disk.old disk.new }
 {
     let mut rows = Rows::new(alloc);
     match n {
@@ -86,13 +73,14 @@ fn rows_apart<D: Disk>(
     requires keeps { IsTrue D.tells → Keeps (D.files disk.old).pkg store.now }
     ensures drops { IfOk result (λ change. IsTrue D.tells → AreWithout (header_rows number view.now)
         (old_rows n (packages (D.files disk.old).pkg store.now)) change.drops) }
-    ensures adds { IfOk result (λ change. IsTrue D.tells → AreWithout (old_rows n (packages (D.files disk.old).pkg store.now))
-        (header_rows number view.now) change.adds) }
+    ensures adds { IfOk result (λ change. IsTrue D.tells
+        → AreWithout (old_rows n (packages (D.files disk.old).pkg store.now)) (header_rows number view.now)
+        change.adds) }
     ensures kinds { IfErr result IsOfReading }
     ensures reads { D.bytes_read disk.new Pkg ≤ D.bytes_read disk.old Pkg + cost_before n store.now }
     ensures unread { D.bytes_read disk.new Idx ≤ D.bytes_read disk.old Idx }
-    ensures runs { Runs D.tells D.files D.left_since D.moment D.bytes_read D.follows SameFiles disk.old disk.new }
-    ensures cause { HasCauseAt (result ≡ Err ChangeFault.DiskFault) (D.faults disk.old) (D.faults disk.new) }
+    ensures runs { Runs D.Disk SameFiles disk.old disk.new }
+    ensures cause { DiskFault D.Disk (result ≡ Err ChangeFault.DiskFault) disk.old disk.new }
 {
     let Ok(adds) = rows_behind(alloc, number, view) else {
         return Err(ChangeFault::NoMemory);
@@ -108,7 +96,7 @@ fn rows_apart<D: Disk>(
 }
 
 /// Works out the change of the index. Writes nothing, and takes all memory that the change needs.
-fn prepare_rows<D: Disk>(
+pub fn prepare_rows<D: Disk>(
     alloc: Global,
     disk: &mut D,
     index: &Hindex,
@@ -118,16 +106,19 @@ fn prepare_rows<D: Disk>(
     requires order { hindex.is_in_order index.now ≡ true }
     requires keeps { IsTrue D.tells → hindex.Keeps (D.files disk.old).idx index.now }
     ensures change { IfOk result (λ plan. CanApply index.now.units plan.work) }
-    ensures leads { IfOk result (λ plan. (before after : finite.FinMap nat_cmp Package) → HasChanged drops.now adds.now (rows before) (rows after)
+    ensures leads { IfOk result (λ plan. (before after : finite.FinMap nat_cmp Package)
+        → HasChanged drops.now adds.now (rows before) (rows after)
         → LeadsTo D.Disk disk.old index.now.units before after adds.now plan.work) }
-    ensures full { IsTrue D.tells → (before after : finite.FinMap nat_cmp Package) → HasRows before (D.files disk.old).idx
-        → HasChanged drops.now adds.now (rows before) (rows after) → FullIndexIs (units_for (rows after)) result }
-    ensures whole { IfOk result (λ plan. IsTrue D.tells → IsWholeIndex (D.files disk.old).idx → WritesWhole plan.work (D.files disk.old).idx) }
+    ensures full { IsTrue D.tells → (before after : finite.FinMap nat_cmp Package)
+        → HasRows before (D.files disk.old).idx → HasChanged drops.now adds.now (rows before) (rows after)
+        → FullIndexIs (units_for (rows after)) result }
+    ensures whole { IfOk result (λ plan. IsTrue D.tells → IsWholeIndex (D.files disk.old).idx
+        → WritesWhole plan.work (D.files disk.old).idx) }
     ensures bad { IsTrue D.tells → BadIndexIs (D.files disk.old).idx result }
     ensures kinds { IfErr result IsOfIndex }
     ensures unread { D.bytes_read disk.new Pkg ≤ D.bytes_read disk.old Pkg }
-    ensures runs { Runs D.tells D.files D.left_since D.moment D.bytes_read D.follows SameFiles disk.old disk.new }
-    ensures cause { HasCauseAt (result ≡ Err ChangeFault.DiskFault) (D.faults disk.old) (D.faults disk.new) }
+    ensures runs { Runs D.Disk SameFiles disk.old disk.new }
+    ensures cause { DiskFault D.Disk (result ≡ Err ChangeFault.DiskFault) disk.old disk.new }
 {
     match index.prepare(alloc, disk, drops, adds) {
         Ok(plan) => Ok(plan),
@@ -153,16 +144,19 @@ pub fn prepare_put<D: Disk>(
     ensures leads { IfOk result (λ plan. (after : finite.FinMap nat_cmp Package)
         → HasChanged (old_rows n (packages (D.files disk.old).pkg store.now)) (header_rows number view.now)
         (rows (packages (D.files disk.old).pkg store.now)) (rows after)
-        → LeadsTo D.Disk disk.old index.now.units (packages (D.files disk.old).pkg store.now) after (header_rows number view.now) plan.work) }
-    ensures full { IsTrue D.tells → (after : finite.FinMap nat_cmp Package) → HasRows (packages (D.files disk.old).pkg store.now) (D.files disk.old).idx
+        → LeadsTo D.Disk disk.old index.now.units (packages (D.files disk.old).pkg store.now) after
+        (header_rows number view.now) plan.work) }
+    ensures full { IsTrue D.tells → (after : finite.FinMap nat_cmp Package)
+        → HasRows (packages (D.files disk.old).pkg store.now) (D.files disk.old).idx
         → HasChanged (old_rows n (packages (D.files disk.old).pkg store.now)) (header_rows number view.now)
         (rows (packages (D.files disk.old).pkg store.now)) (rows after) → FullIndexIs (units_for (rows after)) result }
-    ensures whole { IfOk result (λ plan. IsTrue D.tells → IsWholeIndex (D.files disk.old).idx → WritesWhole plan.work (D.files disk.old).idx) }
+    ensures whole { IfOk result (λ plan. IsTrue D.tells → IsWholeIndex (D.files disk.old).idx
+        → WritesWhole plan.work (D.files disk.old).idx) }
     ensures bad { IsTrue D.tells → BadIndexIs (D.files disk.old).idx result }
     ensures kinds { IfErr result IsOfIndex }
     ensures reads { D.bytes_read disk.new Pkg ≤ D.bytes_read disk.old Pkg + cost_before n store.now }
-    ensures runs { Runs D.tells D.files D.left_since D.moment D.bytes_read D.follows SameFiles disk.old disk.new }
-    ensures cause { HasCauseAt (result ≡ Err ChangeFault.DiskFault) (D.faults disk.old) (D.faults disk.new) }
+    ensures runs { Runs D.Disk SameFiles disk.old disk.new }
+    ensures cause { DiskFault D.Disk (result ≡ Err ChangeFault.DiskFault) disk.old disk.new }
 {
     let change = match rows_apart(alloc, disk, store, n, number, view) {
         Ok(change) => change,
@@ -188,15 +182,17 @@ pub fn prepare_erase<D: Disk>(
         → HasChanged (rows_at n (finite.get (packages (D.files disk.old).pkg store.now) n)) []
         (rows (packages (D.files disk.old).pkg store.now)) (rows after)
         → LeadsTo D.Disk disk.old index.now.units (packages (D.files disk.old).pkg store.now) after [] plan.work) }
-    ensures full { IsTrue D.tells → (after : finite.FinMap nat_cmp Package) → HasRows (packages (D.files disk.old).pkg store.now) (D.files disk.old).idx
+    ensures full { IsTrue D.tells → (after : finite.FinMap nat_cmp Package)
+        → HasRows (packages (D.files disk.old).pkg store.now) (D.files disk.old).idx
         → HasChanged (rows_at n (finite.get (packages (D.files disk.old).pkg store.now) n)) []
         (rows (packages (D.files disk.old).pkg store.now)) (rows after) → FullIndexIs (units_for (rows after)) result }
-    ensures whole { IfOk result (λ plan. IsTrue D.tells → IsWholeIndex (D.files disk.old).idx → WritesWhole plan.work (D.files disk.old).idx) }
+    ensures whole { IfOk result (λ plan. IsTrue D.tells → IsWholeIndex (D.files disk.old).idx
+        → WritesWhole plan.work (D.files disk.old).idx) }
     ensures bad { IsTrue D.tells → BadIndexIs (D.files disk.old).idx result }
     ensures kinds { IfErr result IsOfIndex }
     ensures reads { D.bytes_read disk.new Pkg ≤ D.bytes_read disk.old Pkg + cost n store.now }
-    ensures runs { Runs D.tells D.files D.left_since D.moment D.bytes_read D.follows SameFiles disk.old disk.new }
-    ensures cause { HasCauseAt (result ≡ Err ChangeFault.DiskFault) (D.faults disk.old) (D.faults disk.new) }
+    ensures runs { Runs D.Disk SameFiles disk.old disk.new }
+    ensures cause { DiskFault D.Disk (result ≡ Err ChangeFault.DiskFault) disk.old disk.new }
 {
     let adds = Rows::new(alloc);
     let drops = match rows_before(alloc, disk, store, Some(n)) {

@@ -1,23 +1,7 @@
 //! Putting a header that was parsed.
 
 ghost use Rattle.std.specs.Prelude.{◌≡◌, IsTrue, length, is_none, None, Some, Ok, Err, OnOk, IfOk};
-ghost use Rattle.rpm_header.specs.Header.{header};
-ghost use Rattle.rpm_outside.specs.Causes.{HasCauseAt};
-ghost use Rattle.rpm_outside.specs.Crash.{LeavesOnly};
-ghost use Rattle.rpm_outside.specs.declared.disk.File.TheVariants.{Pkg};
-ghost use Rattle.rpm_pkgdb.specs.Planned.{IsFull};
-ghost use Rattle.rpm_pkgdb.specs.Reaches.{ReachesTo};
-ghost use Rattle.rpm_hindex.specs.Sizes.{units_for};
-ghost use Rattle.rpm_db.specs.Changed.{Changed, IsLeft, IsReady};
-ghost use Rattle.rpm_db.specs.Changes.{apply, IsChangedStill, ReadsAtMost, with_room};
-ghost use Rattle.rpm_db.specs.Lawful.{AreLawful};
-ghost use Rattle.rpm_db.specs.Refusals.{LaterIs, is_stopping};
-ghost use Rattle.rpm_db.specs.Room.{RoomIs, next_store};
-ghost use Rattle.rpm_db.specs.Rows.{rows};
-ghost use Rattle.rpm_db.specs.Runs.{Runs};
-ghost use Rattle.rpm_db.specs.State.{packages, state};
-ghost use Rattle.rpm_db.specs.inner.Both.{CanTake, IndexIs};
-ghost use Rattle.rpm_db.specs.inner.Writes.{SameLog, change_for, number_for};
+ghost use Rattle.rpm_db.specs.Prelude.{apply, AreLawful, CanTake, change_for, Changed, DiskFault, header, images, IndexIs, is_stopping, IsChangedStill, IsFull, IsLeft, IsReady, LaterIs, LeavesIn, next_store, number_for, packages, Pkg, ReachesTo, ReadsAtMost, RoomIs, rows, Runs, SameLog, state, units_for, with_room};
 
 use crate::change_fault::ChangeFault;
 use crate::database::Db;
@@ -45,20 +29,27 @@ impl Db {
         requires ready { IsReady D.Disk disk.old self.old }
         requires takes { CanTake n self.old.store }
         requires own { header view.now.blob ≡ Ok view.now }
-        ensures later { LaterIs self.old.store.generation (IsFull self.old.store (is_none n) (length view.now.blob)) result }
-        ensures placed { RoomIs (next_store (change_for n view.now.blob) self.old.store) self.old.store self.new.store result }
+        ensures later { LaterIs self.old.store.generation (IsFull self.old.store (is_none n) (length view.now.blob))
+            result }
+        ensures placed { RoomIs (next_store (change_for n view.now.blob) self.old.store) self.old.store self.new.store
+            result }
         ensures number { IfOk result (λ m. m ≡ number_for n self.old.store) }
-        ensures changed { OnOk result (Changed D.Disk disk.old disk.new (change_for n view.now.blob) self.old self.new) }
-        ensures left { IsLeft D.Disk disk.old disk.new self.old self.new (with_room self.new.store.spare self.old) result }
-        ensures end { OnOk result (IsTrue D.tells → ReachesTo self.new.store (D.files disk.old).pkg (D.files disk.new).pkg) }
+        ensures changed { OnOk result (Changed D.Disk disk.old disk.new (change_for n view.now.blob) self.old
+            self.new) }
+        ensures left { IsLeft D.Disk disk.old disk.new self.old self.new (with_room self.new.store.spare self.old)
+            result }
+        ensures end { OnOk result (IsTrue D.tells
+            → ReachesTo self.new.store (D.files disk.old).pkg (D.files disk.new).pkg) }
         ensures index { IndexIs D.Disk disk.old (packages (D.files disk.old).pkg self.old.store)
-            (units_for (rows (apply (change_for n view.now.blob) (state (D.files disk.old).pkg self.old.store)).packages)) result }
-        ensures stops { IsTrue D.tells → AreLawful (D.left_since disk.old (D.moment disk.old)) → LeavesOnly D.moment D.left_since disk.old disk.new
-            (IsChangedStill (state (D.files disk.old).pkg self.old.store) (apply (change_for n view.now.blob)
-            (state (D.files disk.old).pkg self.old.store)) (D.left_since disk.old (D.moment disk.old))) }
+            (units_for (rows (apply (change_for n view.now.blob)
+            (state (D.files disk.old).pkg self.old.store)).packages)) result }
+        ensures stops { IsTrue D.tells → AreLawful (images D.Disk disk.old)
+            → LeavesIn D.Disk disk.old disk.new (IsChangedStill (state (D.files disk.old).pkg self.old.store)
+            (apply (change_for n view.now.blob) (state (D.files disk.old).pkg self.old.store))
+            (images D.Disk disk.old)) }
         ensures reads { ReadsAtMost n self.old.store (D.bytes_read disk.old Pkg) (D.bytes_read disk.new Pkg) }
-        ensures runs { Runs D.tells D.files D.left_since D.moment D.bytes_read D.follows SameLog disk.old disk.new }
-        ensures cause { HasCauseAt (result ≡ Err ChangeFault.DiskFault) (D.faults disk.old) (D.faults disk.new) }
+        ensures runs { Runs D.Disk SameLog disk.old disk.new }
+        ensures cause { DiskFault D.Disk (result ≡ Err ChangeFault.DiskFault) disk.old disk.new }
     {
         let Some(index) = &mut self.index else {
             unreachable!()

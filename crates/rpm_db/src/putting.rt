@@ -1,34 +1,13 @@
 //! Changes of one value, in both files.
 
-ghost use Rattle.std.specs.Prelude.{◌≡◌, ◌≢◌, ℕ, ◌+◌, ◌≤◌, ◌<◌, max, IsTrue, IsSome, true, false, length, is_none, Option, Some, None, Err, OnOk, IfOk, IfErr, IfSome};
+ghost use Rattle.std.specs.Prelude.{◌≡◌, ◌≢◌, ℕ, ◌+◌, ◌≤◌, ◌<◌, max, IsTrue, IsSome, true, false, length, is_none, Option, Some, None, Ok, Err, OnOk, IfOk, IfErr, IfSome};
 ghost use Rattle.std.specs.FinMap as finite;
-ghost use Rattle.rpm_header.specs.Header.{header};
-ghost use Rattle.rpm_outside.specs.Causes.{HasCauseAt};
+ghost use Rattle.rpm_db.specs.Prelude.{AreLawful, AreRead, BadIndexIs, blobs, CanApply, CanChange, CanPut, CanTake, CanWrite, cost_before, DiskFault, erased, field_for, Files, FullIndexIs, HasRows, header, header_rows, Idx, images, IndexIs, IsChangedStill, IsDone, IsFor, IsFull, IsMade, IsOfRoom, IsPlaced, IsPlan, IsQuiet, IsRefusal, IsWholeIndex, Keeps, LaterIs, LeadsTo, LeavesIn, LeavesOrder, live_of, number_for, packages, packages_of, Pkg, placed, PlacedIs, placement_of, put_in, put_map, raised, ReachesTo, ReadsAtMost, RoomCause, RoomIs, rows, Runs, SameFiles, SameLog, slot_with, StandsFor, state, state_of, units_after, units_for, with_spare, WritesWhole};
 ghost use Rattle.rpm_outside.specs.Changes.{IsSettled};
-ghost use Rattle.rpm_outside.specs.Crash.{LeavesOnly};
-ghost use Rattle.rpm_outside.specs.Files.{Files};
-ghost use Rattle.rpm_outside.specs.declared.disk.File.TheVariants.{Pkg, Idx};
-ghost use Rattle.rpm_pkgdb.specs.Blobs.{blobs};
 ghost use Rattle.rpm_pkgdb.specs.Costs.{cost};
-ghost use Rattle.rpm_pkgdb.specs.Placing.{placed, placement_of, put_in};
-ghost use Rattle.rpm_pkgdb.specs.Planned.{IsFull, IsPlan, IsFor};
-ghost use Rattle.rpm_pkgdb.specs.Quiet.{IsQuiet, StandsFor};
-ghost use Rattle.rpm_pkgdb.specs.Reaches.{ReachesTo};
-ghost use Rattle.rpm_pkgdb.specs.Slots.{slot_with};
-ghost use Rattle.rpm_pkgdb.specs.Store.{Keeps, next_number};
-ghost use Rattle.rpm_pkgdb.specs.Written.{erased, with_spare};
-ghost use Rattle.rpm_hindex.specs.Plans.{CanWrite, LeavesOrder, units_after};
-ghost use Rattle.rpm_hindex.specs.Sizes.{units_for, live_of};
+ghost use Rattle.rpm_pkgdb.specs.Store.{next_number};
+ghost use Rattle.rpm_db.specs.inner.Both.{IsRefused};
 ghost use Rattle.rpm_hindex.specs.State as hindex;
-ghost use Rattle.rpm_db.specs.Changes.{IsChangedStill, ReadsAtMost};
-ghost use Rattle.rpm_db.specs.Lawful.{HasRows, IsWholeIndex, AreLawful};
-ghost use Rattle.rpm_db.specs.Refusals.{LaterIs, FullIndexIs, BadIndexIs, IsRefusal};
-ghost use Rattle.rpm_db.specs.Room.{RoomCause, RoomIs, raised};
-ghost use Rattle.rpm_db.specs.Rows.{rows, header_rows};
-ghost use Rattle.rpm_db.specs.Runs.{Runs};
-ghost use Rattle.rpm_db.specs.State.{packages, state};
-ghost use Rattle.rpm_db.specs.inner.Both.{AreRead, CanApply, CanChange, CanPut, CanTake, IndexIs, IsDone, IsMade, IsRefused, LeadsTo, PlacedIs};
-ghost use Rattle.rpm_db.specs.inner.Writes.{SameLog, SameFiles, WritesWhole, packages_of, state_of, number_for, field_for, cost_before, put_map};
 
 use crate::change_fault::ChangeFault;
 use crate::changing::{write_erase, write_put};
@@ -49,7 +28,35 @@ fn number_of(store: &PkgDb, n: Option<u32>) -> u32
     }
 }
 
-/// Plans a header under a number that is there, or for `None` under a new one, in both files. Writes nothing, and takes all memory.
+/// Plans a header under a number that is there, or for `None` under a new one, in the store. Takes all memory for it.
+pub fn plan_room(
+    alloc: Global,
+    store: &mut PkgDb,
+    n: Option<u32>,
+    view: &View<'_>,
+) -> Result<Plan, ChangeFault>
+    requires made { 1 ≤ store.old.pages }
+    requires takes { CanTake n store.old }
+    ensures value { store.new ≡ with_spare store.new.spare store.old }
+    ensures later { LaterIs store.old.generation (IsFull store.old (is_none n) (length view.now.blob)) result }
+    ensures placed { IsPlaced n (length view.now.blob) store.old result }
+    ensures plan { IfOk result (CanPut store.new) }
+    ensures own { OnOk result (header view.now.blob ≡ Ok view.now) }
+    ensures kinds { IfErr result IsOfRoom }
+{
+    if store.generation() == u32::MAX {
+        return Err(ChangeFault::GenerationSpent);
+    }
+    match store.plan(alloc, n, view.blob().len() as u32) {
+        Ok(plan) => Ok(plan),
+        Err(PlanFault::StoreFull) => Err(ChangeFault::StoreFull),
+        Err(PlanFault::NoMemory) => Err(ChangeFault::NoMemory),
+        Err(PlanFault::NumbersSpent) => unreachable!(),
+    }
+}
+
+/// Plans a header under a number that is there, or for `None` under a new one, in both files. Writes nothing, and
+/// takes all memory.
 fn plan_put<D: Disk>(
     alloc: Global,
     disk: &mut D,
@@ -66,23 +73,21 @@ fn plan_put<D: Disk>(
     ensures placed { PlacedIs n (length view.now.blob) store.old result }
     ensures plan { IfOk result (λ planned. CanPut store.new planned.0) }
     ensures change { IfOk result (λ planned. CanApply index.now.units planned.1.work) }
-    ensures leads { IfOk result (λ planned. LeadsTo D.Disk disk.old index.now.units (packages (D.files disk.old).pkg store.old)
-        (packages_of (put_map (D.files disk.old).pkg store.old n view.now.blob)) (header_rows (number_for n store.old) view.now) planned.1.work) }
-    ensures whole { IfOk result (λ planned. IsTrue D.tells → IsWholeIndex (D.files disk.old).idx → WritesWhole planned.1.work (D.files disk.old).idx) }
+    ensures leads { IfOk result (λ planned. LeadsTo D.Disk disk.old index.now.units
+        (packages (D.files disk.old).pkg store.old)
+        (packages_of (put_map (D.files disk.old).pkg store.old n view.now.blob))
+        (header_rows (number_for n store.old) view.now) planned.1.work) }
+    ensures whole { IfOk result (λ planned. IsTrue D.tells → IsWholeIndex (D.files disk.old).idx
+        → WritesWhole planned.1.work (D.files disk.old).idx) }
     ensures index { IndexIs D.Disk disk.old (packages (D.files disk.old).pkg store.old)
         (units_for (rows (packages_of (put_map (D.files disk.old).pkg store.old n view.now.blob)))) result }
     ensures reads { D.bytes_read disk.new Pkg ≤ D.bytes_read disk.old Pkg + cost_before n store.old }
-    ensures runs { Runs D.tells D.files D.left_since D.moment D.bytes_read D.follows SameFiles disk.old disk.new }
-    ensures cause { HasCauseAt (result ≡ Err ChangeFault.DiskFault) (D.faults disk.old) (D.faults disk.new) }
+    ensures runs { Runs D.Disk SameFiles disk.old disk.new }
+    ensures cause { DiskFault D.Disk (result ≡ Err ChangeFault.DiskFault) disk.old disk.new }
 {
-    if store.generation() == u32::MAX {
-        return Err(ChangeFault::GenerationSpent);
-    }
-    let plan = match store.plan(alloc, n, view.blob().len() as u32) {
+    let plan = match plan_room(alloc, store, n, view) {
         Ok(plan) => plan,
-        Err(PlanFault::StoreFull) => return Err(ChangeFault::StoreFull),
-        Err(PlanFault::NoMemory) => return Err(ChangeFault::NoMemory),
-        Err(PlanFault::NumbersSpent) => unreachable!(),
+        Err(fault) => return Err(fault),
     };
     let number = number_of(store, n);
     match prepare_put(alloc, disk, store, index, n, number, view) {
@@ -106,20 +111,22 @@ pub fn put_header<D: Disk>(
     ensures placed { RoomIs (put_in n (length view.now.blob) (raised store.old)) store.old store.new result }
     ensures number { IfOk result (λ m. m ≡ number_for n store.old) }
     ensures is_made { IsMade store.new }
-    ensures done { OnOk result (IsDone D.Disk disk.old disk.new store.old store.new index.new (put_map (D.files disk.old).pkg store.old n view.now.blob)
-        (field_for n store.old) (index.old.units + live_of (header_rows (number_for n store.old) view.now))) }
+    ensures done { OnOk result (IsDone D.Disk disk.old disk.new store.old store.new index.new
+        (put_map (D.files disk.old).pkg store.old n view.now.blob) (field_for n store.old)
+        (index.old.units + live_of (header_rows (number_for n store.old) view.now))) }
     ensures index { IndexIs D.Disk disk.old (packages (D.files disk.old).pkg store.old)
         (units_for (rows (packages_of (put_map (D.files disk.old).pkg store.old n view.now.blob)))) result }
     ensures end { OnOk result (IsTrue D.tells → ReachesTo store.new (D.files disk.old).pkg (D.files disk.new).pkg) }
-    ensures refused { IfErr result (λ e. IsRefusal e → IsRefused D.Disk disk.old disk.new (with_spare store.new.spare store.old) store.new
-        index.old index.new) }
-    ensures stops { IsTrue D.tells → AreLawful (D.left_since disk.old (D.moment disk.old))
-        → HasRows (packages (D.files disk.old).pkg store.old) (D.files disk.old).idx → LeavesOnly D.moment D.left_since disk.old disk.new
-        (IsChangedStill (state (D.files disk.old).pkg store.old) (state_of (put_map (D.files disk.old).pkg store.old n view.now.blob)
-        (field_for n store.old)) (D.left_since disk.old (D.moment disk.old))) }
+    ensures refused { IfErr result (λ e. IsRefusal e
+        → IsRefused D.Disk disk.old disk.new (with_spare store.new.spare store.old) store.new index.old index.new) }
+    ensures stops { IsTrue D.tells → AreLawful (images D.Disk disk.old)
+        → HasRows (packages (D.files disk.old).pkg store.old) (D.files disk.old).idx
+        → LeavesIn D.Disk disk.old disk.new (IsChangedStill (state (D.files disk.old).pkg store.old)
+        (state_of (put_map (D.files disk.old).pkg store.old n view.now.blob) (field_for n store.old))
+        (images D.Disk disk.old)) }
     ensures reads { ReadsAtMost n store.old (D.bytes_read disk.old Pkg) (D.bytes_read disk.new Pkg) }
-    ensures runs { Runs D.tells D.files D.left_since D.moment D.bytes_read D.follows SameLog disk.old disk.new }
-    ensures cause { HasCauseAt (result ≡ Err ChangeFault.DiskFault) (D.faults disk.old) (D.faults disk.new) }
+    ensures runs { Runs D.Disk SameLog disk.old disk.new }
+    ensures cause { DiskFault D.Disk (result ≡ Err ChangeFault.DiskFault) disk.old disk.new }
 {
     let (plan, change) = match plan_put(alloc, disk, store, index, n, view) {
         Ok(planned) => planned,
@@ -144,19 +151,21 @@ pub fn erase_number<D: Disk>(
     ensures later { LaterIs store.old.generation ⊥ result }
     ensures ok { OnOk result (store.new ≡ erased n (raised store.old)) }
     ensures is_made { IsMade store.new }
-    ensures done { OnOk result (IsDone D.Disk disk.old disk.new store.old store.new index.new (finite.remove (blobs (D.files disk.old).pkg store.old) n)
-        store.old.field index.old.units) }
+    ensures done { OnOk result (IsDone D.Disk disk.old disk.new store.old store.new index.new
+        (finite.remove (blobs (D.files disk.old).pkg store.old) n) store.old.field index.old.units) }
     ensures index { IndexIs D.Disk disk.old (packages (D.files disk.old).pkg store.old)
         (units_for (rows (packages_of (finite.remove (blobs (D.files disk.old).pkg store.old) n)))) result }
     ensures end { OnOk result (IsTrue D.tells → length (D.files disk.new).pkg ≤ length (D.files disk.old).pkg) }
-    ensures refused { IfErr result (λ e. IsRefusal e → IsRefused D.Disk disk.old disk.new store.old store.new index.old index.new) }
-    ensures stops { IsTrue D.tells → AreLawful (D.left_since disk.old (D.moment disk.old))
-        → HasRows (packages (D.files disk.old).pkg store.old) (D.files disk.old).idx → LeavesOnly D.moment D.left_since disk.old disk.new
-        (IsChangedStill (state (D.files disk.old).pkg store.old) (state_of (finite.remove (blobs (D.files disk.old).pkg store.old) n)
-        store.old.field) (D.left_since disk.old (D.moment disk.old))) }
+    ensures refused { IfErr result (λ e. IsRefusal e
+        → IsRefused D.Disk disk.old disk.new store.old store.new index.old index.new) }
+    ensures stops { IsTrue D.tells → AreLawful (images D.Disk disk.old)
+        → HasRows (packages (D.files disk.old).pkg store.old) (D.files disk.old).idx
+        → LeavesIn D.Disk disk.old disk.new (IsChangedStill (state (D.files disk.old).pkg store.old)
+        (state_of (finite.remove (blobs (D.files disk.old).pkg store.old) n) store.old.field)
+        (images D.Disk disk.old)) }
     ensures reads { D.bytes_read disk.new Pkg ≤ D.bytes_read disk.old Pkg + cost n store.old }
-    ensures runs { Runs D.tells D.files D.left_since D.moment D.bytes_read D.follows SameLog disk.old disk.new }
-    ensures cause { HasCauseAt (result ≡ Err ChangeFault.DiskFault) (D.faults disk.old) (D.faults disk.new) }
+    ensures runs { Runs D.Disk SameLog disk.old disk.new }
+    ensures cause { DiskFault D.Disk (result ≡ Err ChangeFault.DiskFault) disk.old disk.new }
 {
     if store.generation() == u32::MAX {
         return Err(ChangeFault::GenerationSpent);

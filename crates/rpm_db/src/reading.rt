@@ -2,12 +2,8 @@
 
 ghost use Rattle.std.specs.Prelude.{◌≡◌, ℕ, ◌+◌, ◌≤◌, ◌↔◌, IsTrue, false, Ok, Err, IfOk, MatchResult};
 ghost use Rattle.std.specs.FinMap as finite;
-ghost use Rattle.rpm_outside.specs.Causes.{HasCauseAt};
-ghost use Rattle.rpm_outside.specs.declared.disk.File.TheVariants.{Pkg};
-ghost use Rattle.rpm_outside.specs.Looks.{Looks};
-ghost use Rattle.rpm_db.specs.State.{state, package_of};
-ghost use Rattle.rpm_db.specs.Database.{Keeps, holds, cost};
-ghost use Rattle.rpm_db.specs.Answers.{GetIs, ReadIs, CutIs};
+ghost use Rattle.rpm_db.specs.Prelude.{cost, CutIs, DiskFault, GetIs, holds, Looks, package_of, Pkg, ReadIs, state};
+ghost use Rattle.rpm_db.specs.Database.{Keeps};
 
 use crate::database::Db;
 use rpm_header::View;
@@ -29,7 +25,8 @@ fn cut_header(blob: Vec<u8>) -> Result<Vec<u8>, GetFault>
 }
 
 impl Db {
-    /// The bytes that a package is read from: those of its header and what follows them. Whether they are a header isn't looked at.
+    /// The bytes that a package is read from: those of its header and what follows them. Whether they are a header
+    /// isn't looked at.
     ///
     /// Reads the number's own blocks, each once.
     ///
@@ -43,16 +40,17 @@ impl Db {
         requires keeps { IsTrue D.tells → Keeps (D.files disk.old).pkg self.now }
         requires runs { self.now.stopped ≡ false }
         ensures kept { IsTrue D.tells → Keeps (D.files disk.new).pkg self.now }
-        ensures told { IsTrue D.tells → ReadIs (finite.get (state (D.files disk.old).pkg self.now.store).packages n) result }
+        ensures told { IsTrue D.tells → ReadIs (finite.get (state (D.files disk.old).pkg self.now.store).packages n)
+            result }
         ensures absent { (result ≡ Err GetFault.NoSuch) ↔ (holds n self.now ≡ false) }
-        ensures looks { Looks D.tells D.files D.left_since D.moment D.bytes_read D.follows Pkg (cost n self.now) disk.old disk.new }
-        ensures cause { HasCauseAt (result ≡ Err GetFault.DiskFault) (D.faults disk.old) (D.faults disk.new) }
+        ensures looks { Looks D.Disk Pkg (cost n self.now) disk.old disk.new }
+        ensures cause { DiskFault D.Disk (result ≡ Err GetFault.DiskFault) disk.old disk.new }
     {
         self.read_in(disk, n, Vec::new(alloc))
     }
 
-    /// The bytes that a package is read from, as `read` gives them, in a vector of the caller's, whatever it holds: one that held a package
-    /// before has its room already.
+    /// The bytes that a package is read from, as `read` gives them, in a vector of the caller's, whatever it holds:
+    /// one that held a package before has its room already.
     ///
     /// # Errors
     ///
@@ -61,10 +59,11 @@ impl Db {
         requires keeps { IsTrue D.tells → Keeps (D.files disk.old).pkg self.now }
         requires runs { self.now.stopped ≡ false }
         ensures kept { IsTrue D.tells → Keeps (D.files disk.new).pkg self.now }
-        ensures told { IsTrue D.tells → ReadIs (finite.get (state (D.files disk.old).pkg self.now.store).packages n) result }
+        ensures told { IsTrue D.tells → ReadIs (finite.get (state (D.files disk.old).pkg self.now.store).packages n)
+            result }
         ensures absent { (result ≡ Err GetFault.NoSuch) ↔ (holds n self.now ≡ false) }
-        ensures looks { Looks D.tells D.files D.left_since D.moment D.bytes_read D.follows Pkg (cost n self.now) disk.old disk.new }
-        ensures cause { HasCauseAt (result ≡ Err GetFault.DiskFault) (D.faults disk.old) (D.faults disk.new) }
+        ensures looks { Looks D.Disk Pkg (cost n self.now) disk.old disk.new }
+        ensures cause { DiskFault D.Disk (result ≡ Err GetFault.DiskFault) disk.old disk.new }
     {
         self.store.get_in(disk, n, room)
     }
@@ -83,10 +82,11 @@ impl Db {
         requires keeps { IsTrue D.tells → Keeps (D.files disk.old).pkg self.now }
         requires runs { self.now.stopped ≡ false }
         ensures kept { IsTrue D.tells → Keeps (D.files disk.new).pkg self.now }
-        ensures told { IsTrue D.tells → GetIs (finite.get (state (D.files disk.old).pkg self.now.store).packages n) result }
+        ensures told { IsTrue D.tells → GetIs (finite.get (state (D.files disk.old).pkg self.now.store).packages n)
+            result }
         ensures absent { (result ≡ Err GetFault.NoSuch) ↔ (holds n self.now ≡ false) }
-        ensures looks { Looks D.tells D.files D.left_since D.moment D.bytes_read D.follows Pkg (cost n self.now) disk.old disk.new }
-        ensures cause { HasCauseAt (result ≡ Err GetFault.DiskFault) (D.faults disk.old) (D.faults disk.new) }
+        ensures looks { Looks D.Disk Pkg (cost n self.now) disk.old disk.new }
+        ensures cause { DiskFault D.Disk (result ≡ Err GetFault.DiskFault) disk.old disk.new }
     {
         self.get_in(disk, n, Vec::new(alloc))
     }
@@ -100,10 +100,11 @@ impl Db {
         requires keeps { IsTrue D.tells → Keeps (D.files disk.old).pkg self.now }
         requires runs { self.now.stopped ≡ false }
         ensures kept { IsTrue D.tells → Keeps (D.files disk.new).pkg self.now }
-        ensures told { IsTrue D.tells → GetIs (finite.get (state (D.files disk.old).pkg self.now.store).packages n) result }
+        ensures told { IsTrue D.tells → GetIs (finite.get (state (D.files disk.old).pkg self.now.store).packages n)
+            result }
         ensures absent { (result ≡ Err GetFault.NoSuch) ↔ (holds n self.now ≡ false) }
-        ensures looks { Looks D.tells D.files D.left_since D.moment D.bytes_read D.follows Pkg (cost n self.now) disk.old disk.new }
-        ensures cause { HasCauseAt (result ≡ Err GetFault.DiskFault) (D.faults disk.old) (D.faults disk.new) }
+        ensures looks { Looks D.Disk Pkg (cost n self.now) disk.old disk.new }
+        ensures cause { DiskFault D.Disk (result ≡ Err GetFault.DiskFault) disk.old disk.new }
     {
         let blob = self.read_in(disk, n, room)?;
         cut_header(blob)

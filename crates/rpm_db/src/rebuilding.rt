@@ -1,23 +1,10 @@
 //! Making the index anew.
 
 ghost use Rattle.std.specs.Prelude.{◌≡◌, ◌⊎◌, ℕ, ◌+◌, ◌≤◌, IsTrue, true, false, is_some, None, Err, OnOk, IfErr};
-ghost use Rattle.rpm_outside.specs.Causes.{HasCauseAt};
-ghost use Rattle.rpm_outside.specs.Looks.{ReadAtMost};
-ghost use Rattle.rpm_outside.specs.declared.disk.File.TheVariants.{Pkg};
+ghost use Rattle.rpm_db.specs.Prelude.{DiskFault, FullIs, is_indexed, IsRebuilt, IsRefused, IsRemade, IsRenewed, IsStill, KeepsIndex, KeepsUnits, packages, Pkg, ReachesMade, ReadAtMost, RebuildIs, Remade, rows, Runs, slot_with, StaysLawful, units_for};
+ghost use Rattle.rpm_db.specs.Database.{Keeps, cost_all};
 ghost use Rattle.rpm_pkgdb.specs.Costs as costs;
-ghost use Rattle.rpm_pkgdb.specs.Slots.{slot_with};
 ghost use Rattle.rpm_pkgdb.specs.Store as pkgdb;
-ghost use Rattle.rpm_hindex.specs.Rewrites.{IsRefused};
-ghost use Rattle.rpm_hindex.specs.Sizes.{units_for};
-ghost use Rattle.rpm_db.specs.Database.{Keeps, KeepsIndex, KeepsUnits, is_indexed, cost_all};
-ghost use Rattle.rpm_db.specs.Lawful.{Remade, StaysLawful};
-ghost use Rattle.rpm_db.specs.Openings.{FullIs};
-ghost use Rattle.rpm_db.specs.Rebuilds.{IsRebuilt, IsRenewed, IsStill, RebuildIs};
-ghost use Rattle.rpm_db.specs.Reaches.{ReachesMade};
-ghost use Rattle.rpm_db.specs.Rows.{rows};
-ghost use Rattle.rpm_db.specs.Runs.{Runs};
-ghost use Rattle.rpm_db.specs.State.{packages};
-ghost use Rattle.rpm_db.specs.inner.Making.{IsRemade};
 
 use crate::change_fault::ChangeFault;
 use crate::database::Db;
@@ -41,12 +28,14 @@ fn remake<D: Disk>(
     ensures full { IsTrue D.tells → FullIs (units_for (rows (packages (D.files disk.old).pkg store.now))) result }
     ensures some { is_some index.new ≡ true }
     ensures remade { OnOk result (IsRemade D.Disk disk.new store.now.generation index.new) }
-    ensures refused { IfErr result (λ e. IsRefused e → (index.new ≡ index.old) × (IsTrue D.tells → D.files disk.new ≡ D.files disk.old)) }
-    ensures reach { OnOk result (IsTrue D.tells → ReachesMade (units_for (rows (packages (D.files disk.old).pkg store.now)))
-        (D.files disk.old).idx (D.files disk.new).idx) }
+    ensures refused { IfErr result (λ e. IsRefused e → (index.new ≡ index.old)
+        × (IsTrue D.tells → D.files disk.new ≡ D.files disk.old)) }
+    ensures reach { OnOk result (IsTrue D.tells
+        → ReachesMade (units_for (rows (packages (D.files disk.old).pkg store.now))) (D.files disk.old).idx
+        (D.files disk.new).idx) }
     ensures reads { ReadAtMost Pkg (costs.cost_all store.now) (D.bytes_read disk.old) (D.bytes_read disk.new) }
-    ensures runs { Runs D.tells D.files D.left_since D.moment D.bytes_read D.follows Remade disk.old disk.new }
-    ensures cause { HasCauseAt (result ≡ Err RewriteFault.DiskFault) (D.faults disk.old) (D.faults disk.new) }
+    ensures runs { Runs D.Disk Remade disk.old disk.new }
+    ensures cause { DiskFault D.Disk (result ≡ Err RewriteFault.DiskFault) disk.old disk.new }
 {
     let Ok(()) = settle(disk) else {
         return Err(RewriteFault::DiskFault);
@@ -60,9 +49,9 @@ fn remake<D: Disk>(
 impl Db {
     /// Makes the index from the packages, whatever it was, and seals it at the present generation.
     ///
-    /// Settles both files first, and reads the blocks of each package once. All memory is taken before the first write. A crash at any moment
-    /// leaves the packages as they were, and an index that is as it was, void, or current with the rows of the packages. Then the value
-    /// serves: it can be changed.
+    /// Settles both files first, and reads the blocks of each package once. All memory is taken before the first
+    /// write. A crash at any moment leaves the packages as they were, and an index that is as it was, void, or
+    /// current with the rows of the packages. Then the value serves: it can be changed.
     ///
     /// # Errors
     ///
@@ -80,8 +69,8 @@ impl Db {
         ensures renewed { OnOk result (IsRenewed D.Disk disk.old disk.new self.old self.new) }
         ensures stops { IsTrue D.tells → StaysLawful D.moment D.left_since disk.old disk.new }
         ensures reads { ReadAtMost Pkg (cost_all self.old) (D.bytes_read disk.old) (D.bytes_read disk.new) }
-        ensures runs { Runs D.tells D.files D.left_since D.moment D.bytes_read D.follows Remade disk.old disk.new }
-        ensures cause { HasCauseAt (result ≡ Err ChangeFault.DiskFault) (D.faults disk.old) (D.faults disk.new) }
+        ensures runs { Runs D.Disk Remade disk.old disk.new }
+        ensures cause { DiskFault D.Disk (result ≡ Err ChangeFault.DiskFault) disk.old disk.new }
     {
         if self.is_stopped {
             return Err(ChangeFault::Stopped);

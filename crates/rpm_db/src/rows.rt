@@ -2,17 +2,8 @@
 
 ghost use Rattle.std.specs.Prelude.{◌≡◌, ℕ, ◌++◌, ◌∷◌, [], IsTrue, None, Err, OnOk, IfOk, IfErr};
 ghost use Rattle.std.specs.FinMap as finite;
-ghost use Rattle.rpm_header.specs.Header.{header};
-ghost use Rattle.rpm_outside.specs.Causes.{HasCauseAt};
-ghost use Rattle.rpm_outside.specs.declared.disk.File.TheVariants.{Pkg};
-ghost use Rattle.rpm_outside.specs.Looks.{Looks};
-ghost use Rattle.rpm_pkgdb.specs.Costs.{cost, cost_all};
-ghost use Rattle.rpm_pkgdb.specs.Slots.{slot_with};
-ghost use Rattle.rpm_pkgdb.specs.Store.{Keeps};
-ghost use Rattle.rpm_db.specs.State.{packages};
-ghost use Rattle.rpm_tags.specs.Kinds.{code_of};
-ghost use Rattle.rpm_db.specs.Openings.{IsOutside};
-ghost use Rattle.rpm_db.specs.Rows.{kind_rows, header_rows, rows_read, rows_at, rows};
+ghost use Rattle.rpm_db.specs.Prelude.{code_of, cost_all, DiskFault, header, header_rows, IsOutside, Keeps, kind_rows, Looks, packages, Pkg, rows, rows_at, rows_read, slot_with};
+ghost use Rattle.rpm_pkgdb.specs.Costs.{cost};
 
 use rpm_header::View;
 use rpm_hindex::{RewriteFault, Rows};
@@ -44,7 +35,8 @@ fn push_key(
     number: u32,
     place: u32,
 ) -> Result<(), AllocError>
-    ensures { OnOk result (rows.new ≡ rows.old ++ record { kind = code_of kind; key = key.now; number = number; place = place } ∷ []) }
+    ensures { OnOk result (rows.new ≡ rows.old ++ record
+        { kind = code_of kind; key = key.now; number = number; place = place } ∷ []) }
 {
     if key.len() >= 268_435_456 {
         return Err(AllocError);
@@ -82,7 +74,8 @@ fn push_blob(rows: &mut Rows, blob: &[u8], number: u32) -> Result<(), AllocError
     }
 }
 
-/// Adds the rows of a number's package. Reads its blocks, each once, into a vector of the caller's, and gives one that can be read into again.
+/// Adds the rows of a number's package. Reads its blocks, each once, into a vector of the caller's, and gives one
+/// that can be read into again.
 pub fn push_package<D: Disk>(
     alloc: Global,
     disk: &mut D,
@@ -96,8 +89,8 @@ pub fn push_package<D: Disk>(
     ensures rows { OnOk result (IsTrue D.tells → rows.new ≡ rows.old ++ rows_at number
         (finite.get (packages (D.files disk.old).pkg store.now) number)) }
     ensures room { IfErr result IsOutside }
-    ensures looks { Looks D.tells D.files D.left_since D.moment D.bytes_read D.follows Pkg (cost number store.now) disk.old disk.new }
-    ensures cause { HasCauseAt (result ≡ Err RewriteFault.DiskFault) (D.faults disk.old) (D.faults disk.new) }
+    ensures looks { Looks D.Disk Pkg (cost number store.now) disk.old disk.new }
+    ensures cause { DiskFault D.Disk (result ≡ Err RewriteFault.DiskFault) disk.old disk.new }
 {
     match store.get_in(disk, number, room) {
         Err(GetFault::NoSuch) => Ok(Vec::new(alloc)),
@@ -118,8 +111,8 @@ pub fn rows_of<D: Disk>(alloc: Global, disk: &mut D, store: &PkgDb) -> Result<Ro
     ensures kept { IsTrue D.tells → Keeps (D.files disk.new).pkg store.now }
     ensures rows { IfOk result (λ all. IsTrue D.tells → all ≡ rows (packages (D.files disk.old).pkg store.now)) }
     ensures room { IfErr result IsOutside }
-    ensures looks { Looks D.tells D.files D.left_since D.moment D.bytes_read D.follows Pkg (cost_all store.now) disk.old disk.new }
-    ensures cause { HasCauseAt (result ≡ Err RewriteFault.DiskFault) (D.faults disk.old) (D.faults disk.new) }
+    ensures looks { Looks D.Disk Pkg (cost_all store.now) disk.old disk.new }
+    ensures cause { DiskFault D.Disk (result ≡ Err RewriteFault.DiskFault) disk.old disk.new }
 {
     let mut rows = Rows::new(alloc);
     let mut room = Vec::new(alloc);

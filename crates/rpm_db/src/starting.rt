@@ -1,30 +1,10 @@
 //! Making a database.
 
 ghost use Rattle.std.specs.Prelude.{◌≡◌, ◌≢◌, ◌⊎◌, ℕ, ◌+◌, ◌<◌, ◌≤◌, [], length, max, IsTrue, true, false, None, Err, Ok, IfOk, IfErr};
-ghost use Rattle.rpm_outside.specs.Causes.{HasCauseAt};
-ghost use Rattle.rpm_outside.specs.Changes.{IsSettled};
-ghost use Rattle.rpm_outside.specs.Crash.{LeavesOnly};
-ghost use Rattle.rpm_outside.specs.Files.{blank};
-ghost use Rattle.rpm_outside.specs.Looks.{ReadAtMost};
-ghost use Rattle.rpm_outside.specs.declared.disk.File.TheVariants.{Pkg, Idx};
-ghost use Rattle.rpm_pkgdb.specs.Reaches.{ReachesTo};
-ghost use Rattle.rpm_pkgdb.specs.Slots.{slot_with};
+ghost use Rattle.rpm_db.specs.Prelude.{blank, CanMake, DiskFault, Idx, images, is_blank, IsEmptyStill, IsInit, IsInitFault, IsMadeEmpty, IsRefused, IsSettled, IsWellFormed, LeavesIn, made_new, Pkg, ReachesMade, ReachesTo, ReadAtMost, records, Remade, Runs, SameLog, SameRows, slot_with, state, StopsAs, units_for};
+ghost use Rattle.rpm_db.specs.Database.{Keeps};
 ghost use Rattle.rpm_pkgdb.specs.Store as pkgdb;
-ghost use Rattle.rpm_pkgdb.specs.Written.{made_new};
-ghost use Rattle.rpm_hindex.specs.Index.{records};
-ghost use Rattle.rpm_hindex.specs.Rewrites.{IsRefused};
-ghost use Rattle.rpm_hindex.specs.Rows.{SameRows};
-ghost use Rattle.rpm_hindex.specs.Sizes.{units_for};
 ghost use Rattle.rpm_hindex.specs.State as hindex;
-ghost use Rattle.rpm_hindex.specs.Whole.{IsWellFormed};
-ghost use Rattle.rpm_db.specs.Database.{Keeps, is_blank};
-ghost use Rattle.rpm_db.specs.Inits.{IsEmptyStill, IsInit, IsInitFault, StopsAs};
-ghost use Rattle.rpm_db.specs.Lawful.{Remade};
-ghost use Rattle.rpm_db.specs.Reaches.{ReachesMade};
-ghost use Rattle.rpm_db.specs.Runs.{Runs};
-ghost use Rattle.rpm_db.specs.State.{state};
-ghost use Rattle.rpm_db.specs.inner.Making.{CanMake, IsMadeEmpty};
-ghost use Rattle.rpm_db.specs.inner.Writes.{SameLog};
 
 use crate::change_fault::ChangeFault;
 use crate::database::Db;
@@ -42,13 +22,14 @@ fn empty_index<D: Disk>(alloc: Global, disk: &mut D) -> Result<Hindex, RewriteFa
     ensures kept { IfOk result (λ index. IsTrue D.tells → hindex.Keeps (D.files disk.new).idx index) }
     ensures whole { IfOk result (λ index. IsTrue D.tells → IsWellFormed index.pending (D.files disk.new).idx) }
     ensures rows { IfOk result (λ index. IsTrue D.tells → SameRows [] (records index.pending (D.files disk.new).idx)) }
-    ensures settled { IfOk result (λ _index. IsTrue D.tells → IsSettled Idx (D.files disk.new) (D.left_since disk.new (D.moment disk.new))) }
+    ensures settled { IfOk result (λ _index. IsTrue D.tells → IsSettled D.Disk Idx disk.new) }
     ensures refused { IfErr result (λ e. IsRefused e → IsTrue D.tells → D.files disk.new ≡ D.files disk.old) }
-    ensures reach { IfOk result (λ index. IsTrue D.tells → index.units ≤ max (length (D.files disk.old).idx) (units_for [])) }
+    ensures reach { IfOk result (λ index. IsTrue D.tells
+        → index.units ≤ max (length (D.files disk.old).idx) (units_for [])) }
     ensures units { D.bytes_read disk.new Idx ≤ D.bytes_read disk.old Idx + 32 }
     ensures unread { D.bytes_read disk.new Pkg ≤ D.bytes_read disk.old Pkg }
-    ensures runs { Runs D.tells D.files D.left_since D.moment D.bytes_read D.follows Remade disk.old disk.new }
-    ensures cause { HasCauseAt (result ≡ Err RewriteFault.DiskFault) (D.faults disk.old) (D.faults disk.new) }
+    ensures runs { Runs D.Disk Remade disk.old disk.new }
+    ensures cause { DiskFault D.Disk (result ≡ Err RewriteFault.DiskFault) disk.old disk.new }
 {
     let mut index = match Hindex::open(disk) {
         Ok(index) => index,
@@ -61,7 +42,8 @@ fn empty_index<D: Disk>(alloc: Global, disk: &mut D) -> Result<Hindex, RewriteFa
     }
 }
 
-/// Makes the files of a database without packages, and the index first, so that a made store never stands beside an older index.
+/// Makes the files of a database without packages, and the index first, so that a made store never stands beside an
+/// older index.
 pub fn make_files<D: Disk>(
     alloc: Global,
     disk: &mut D,
@@ -72,13 +54,16 @@ pub fn make_files<D: Disk>(
     ensures made { IfOk result (λ _index. store.new ≡ made_new store.old) }
     ensures from_one { slot_with 0 store.old.slots ≡ None → slot_with 0 store.new.slots ≡ None }
     ensures empty { IfOk result (λ index. IsMadeEmpty D.Disk disk.new store.new index) }
-    ensures refused { IfErr result (λ e. IsRefused e → (store.new ≡ store.old) × (IsTrue D.tells → D.files disk.new ≡ D.files disk.old)) }
-    ensures stops { IsTrue D.tells → LeavesOnly D.moment D.left_since disk.old disk.new (IsEmptyStill (D.left_since disk.old (D.moment disk.old))) }
-    ensures reach { IfOk result (λ _index. IsTrue D.tells → ReachesMade (units_for []) (D.files disk.old).idx (D.files disk.new).idx) }
-    ensures end { IfOk result (λ _index. IsTrue D.tells → ReachesTo store.new (D.files disk.old).pkg (D.files disk.new).pkg) }
+    ensures refused { IfErr result (λ e. IsRefused e → (store.new ≡ store.old)
+        × (IsTrue D.tells → D.files disk.new ≡ D.files disk.old)) }
+    ensures stops { IsTrue D.tells → LeavesIn D.Disk disk.old disk.new (IsEmptyStill (images D.Disk disk.old)) }
+    ensures reach { IfOk result (λ _index. IsTrue D.tells
+        → ReachesMade (units_for []) (D.files disk.old).idx (D.files disk.new).idx) }
+    ensures end { IfOk result (λ _index. IsTrue D.tells
+        → ReachesTo store.new (D.files disk.old).pkg (D.files disk.new).pkg) }
     ensures reads { ReadAtMost Idx 32 (D.bytes_read disk.old) (D.bytes_read disk.new) }
-    ensures runs { Runs D.tells D.files D.left_since D.moment D.bytes_read D.follows SameLog disk.old disk.new }
-    ensures cause { HasCauseAt (result ≡ Err RewriteFault.DiskFault) (D.faults disk.old) (D.faults disk.new) }
+    ensures runs { Runs D.Disk SameLog disk.old disk.new }
+    ensures cause { DiskFault D.Disk (result ≡ Err RewriteFault.DiskFault) disk.old disk.new }
 {
     let mut index = match empty_index(alloc, disk) {
         Ok(index) => index,
@@ -94,11 +79,12 @@ pub fn make_files<D: Disk>(
 }
 
 impl Db {
-    /// Makes a database where there is none yet, and its index, and answers whether it did. What it says stays: no package, and the
-    /// number field 1.
+    /// Makes a database where there is none yet, and its index, and answers whether it did. What it says stays: no
+    /// package, and the number field 1.
     ///
-    /// Writes the index without rows and settles it, then the first page, and then the seal; reads two units of `Hindex.db`, and takes all
-    /// memory before the first write. A crash at any moment leaves a blank database, or one that is made and empty.
+    /// Writes the index without rows and settles it, then the first page, and then the seal; reads two units of
+    /// `Hindex.db`, and takes all memory before the first write. A crash at any moment leaves a blank database, or
+    /// one that is made and empty.
     ///
     /// # Errors
     ///
@@ -107,21 +93,23 @@ impl Db {
     /// - `NoMemory` where the index finds no memory. It answers no other fault.
     pub fn init<D: Disk>(&mut self, alloc: Global, disk: &mut D) -> Result<bool, ChangeFault>
         requires keeps { self.old.stopped ≡ false → IsTrue D.tells → Keeps (D.files disk.old).pkg self.old }
-        requires pkg { self.old.stopped ≡ false → is_blank self.old ≡ true → IsTrue D.tells → IsSettled Pkg (D.files disk.old)
-            (D.left_since disk.old (D.moment disk.old)) }
+        requires pkg { self.old.stopped ≡ false → is_blank self.old ≡ true → IsTrue D.tells
+            → IsSettled D.Disk Pkg disk.old }
         ensures made { IfOk result (λ made. made ≡ is_blank self.old) }
         ensures done { result ≡ Ok true → IsInit D.Disk disk.old disk.new self.old self.new }
         ensures same { result ≡ Ok false → (self.new ≡ self.old) × (disk.new ≡ disk.old) }
-        ensures state { IfOk result (λ _made. IsTrue D.tells → state (D.files disk.new).pkg self.new.store ≡ state (D.files disk.old).pkg self.old.store) }
+        ensures state { IfOk result (λ _made. IsTrue D.tells
+            → state (D.files disk.new).pkg self.new.store ≡ state (D.files disk.old).pkg self.old.store) }
         ensures not_blank { IfOk result (λ _made. is_blank self.new ≡ false) }
-        ensures refused { IfErr result (λ e. e ≢ ChangeFault.DiskFault → (self.new ≡ self.old) × (IsTrue D.tells → D.files disk.new ≡ D.files disk.old)) }
+        ensures refused { IfErr result (λ e. e ≢ ChangeFault.DiskFault → (self.new ≡ self.old)
+            × (IsTrue D.tells → D.files disk.new ≡ D.files disk.old)) }
         ensures reads { ReadAtMost Idx 32 (D.bytes_read disk.old) (D.bytes_read disk.new) }
         ensures kinds { IfErr result IsInitFault }
         ensures stopped { StopsAs self.old self.new result }
-        ensures stops { IsTrue D.tells → self.old.stopped ≡ false → is_blank self.old ≡ true → LeavesOnly D.moment D.left_since disk.old disk.new
-            (IsEmptyStill (D.left_since disk.old (D.moment disk.old))) }
-        ensures runs { Runs D.tells D.files D.left_since D.moment D.bytes_read D.follows SameLog disk.old disk.new }
-        ensures cause { HasCauseAt (result ≡ Err ChangeFault.DiskFault) (D.faults disk.old) (D.faults disk.new) }
+        ensures stops { IsTrue D.tells → self.old.stopped ≡ false → is_blank self.old ≡ true
+            → LeavesIn D.Disk disk.old disk.new (IsEmptyStill (images D.Disk disk.old)) }
+        ensures runs { Runs D.Disk SameLog disk.old disk.new }
+        ensures cause { DiskFault D.Disk (result ≡ Err ChangeFault.DiskFault) disk.old disk.new }
     {
         if self.is_stopped {
             return Err(ChangeFault::Stopped);

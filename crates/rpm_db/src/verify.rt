@@ -1,16 +1,8 @@
 //! Whether a package is sound.
 
 ghost use Rattle.std.specs.Prelude.{◌≡◌, ◌≢◌, ℕ, length, ◌+◌, ◌≤◌, ◌↔◌, IsTrue, false, Some, Err};
-ghost use Rattle.std.specs.Option.{option_map, option_copied};
-ghost use Rattle.rpm_header.specs.Header.{header};
-ghost use Rattle.rpm_header.specs.Digest.{immutable_digest};
-ghost use Rattle.rpm_tags.specs.Value.{first_text};
-ghost use Rattle.rpm_outside.specs.Causes.{HasCauseAt};
-ghost use Rattle.rpm_outside.specs.declared.disk.File.TheVariants.{Pkg};
-ghost use Rattle.rpm_outside.specs.Looks.{Looks};
-ghost use Rattle.rpm_db.specs.Database.{Keeps, holds, cost};
-ghost use Rattle.rpm_db.specs.Verdicts.{verdict, header_verdict, differs, is_digest_wrong};
-ghost use Rattle.rpm_db.specs.Answers.{VerifyIs};
+ghost use Rattle.rpm_db.specs.Prelude.{cost, differs, DiskFault, first_text, header, header_verdict, holds, immutable_digest, is_digest_wrong, Looks, option_copied, option_map, Pkg, verdict, VerifyIs};
+ghost use Rattle.rpm_db.specs.Database.{Keeps};
 
 use crate::database::Db;
 use hex::encode_to_slice;
@@ -29,7 +21,8 @@ pub enum Verdict {
     BadHeader,
     /// The checksum in the store isn't that of the package's blocks.
     BadChecksum,
-    /// The header has an immutable region and a text SHA256HEADER whose first element isn't the region's SHA-256 in lower-case hex.
+    /// The header has an immutable region and a text SHA256HEADER whose first element isn't the region's SHA-256 in
+    /// lower-case hex.
     BadDigest,
 }
 
@@ -73,7 +66,8 @@ fn header_verdict(holds: bool, blob: &[u8]) -> Verdict
 impl Db {
     /// What verifying a number says.
     ///
-    /// Reads the number's own blocks, each once, and hashes the header's region where the header has a text to compare with.
+    /// Reads the number's own blocks, each once, and hashes the header's region where the header has a text to
+    /// compare with.
     ///
     /// # Errors
     ///
@@ -87,8 +81,8 @@ impl Db {
         ensures told { IsTrue D.tells → VerifyIs (verdict (D.files disk.old).pkg self.now n) result }
         ensures absent { (result ≡ Err GetFault.NoSuch) ↔ (holds n self.now ≡ false) }
         ensures never_bad { result ≢ Err GetFault.Bad }
-        ensures looks { Looks D.tells D.files D.left_since D.moment D.bytes_read D.follows Pkg (cost n self.now) disk.old disk.new }
-        ensures cause { HasCauseAt (result ≡ Err GetFault.DiskFault) (D.faults disk.old) (D.faults disk.new) }
+        ensures looks { Looks D.Disk Pkg (cost n self.now) disk.old disk.new }
+        ensures cause { DiskFault D.Disk (result ≡ Err GetFault.DiskFault) disk.old disk.new }
     {
         match self.store.read_checked(alloc, disk, n) {
             Ok(Checked { blob, holds }) => Ok(header_verdict(holds, &blob)),

@@ -50,10 +50,14 @@ pub record CanApply (units : ℕ) (work : Work) : Type 0 where
   pub ordered : LeavesOrder work
 
 -- a blob of this length is planned where it fits, or refused for its room
+abbrev pub IsPlaced : Option ℕ → ℕ → Store → Result Plan ChangeFault → Type 0
+IsPlaced n length value (Ok plan) = (placed n length value ≡ Some (placement_of plan)) × IsFor n length plan
+IsPlaced n length value (Err fault) = RoomCause (placed n length value) fault
+
+-- and so is its change of the index
 abbrev pub PlacedIs : Option ℕ → ℕ → Store → Result (Plan × IndexPlan) ChangeFault → Type 0
-PlacedIs n length value (Ok planned) =
-    (placed n length value ≡ Some (placement_of planned.0)) × IsFor n length planned.0
-PlacedIs n length value (Err fault) = RoomCause (placed n length value) fault
+PlacedIs n length value (Ok planned) = IsPlaced n length value (Ok planned.0)
+PlacedIs n length value (Err fault) = IsPlaced n length value (Err fault)
 
 -- ---- on a disk
 

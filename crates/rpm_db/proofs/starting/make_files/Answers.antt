@@ -1,6 +1,6 @@
 use Rattle.std.proofs.Common.{◌≡◌, length, sym, ap, ◌∙◌, subst, arith}
 use Rattle.rpm_outside.specs.Files.{Units, unit_at, blank}
-use Rattle.rpm_pkgdb.specs.Quiet.{Anything}
+use Rattle.rpm_pkgdb.specs.Stays.{SameOutside}
 use Rattle.rpm_pkgdb.specs.Store.{Store, store, in_file}
 use Rattle.rpm_pkgdb.specs.Store as pkgdb
 use Rattle.rpm_hindex.specs.State as hindex
@@ -32,7 +32,7 @@ seal_index-requires-clause-here g c = λ told.
     let idx = m.changes.idx told in
     subst (λ (u : Units). IsUnsealed 1 c.in-Ok.index.pending (g.D.Disk.files c.make.new.disk).pkg u) (sym idx)
     (empty_unsealed c.in-Ok.index.pending (g.D.Disk.files c.make.new.disk).pkg (g.D.Disk.files c.empty_index.new.disk).idx c.args.store.now
-    (subst (pkgdb.Keeps (g.D.Disk.files c.make.new.disk).pkg) m.ok (m.kept told)) (c.in-Ok.ensures.whole told) (c.in-Ok.ensures.rows told))
+    (subst (pkgdb.Keeps (g.D.Disk.files c.make.new.disk).pkg) m.ok (m.made told).written.kept) (c.in-Ok.ensures.whole told) (c.in-Ok.ensures.rows told))
 
 pub seal_index-requires-clause-each : goal.seal_index-requires-clause-each
 seal_index-requires-clause-each g c = λ told image here.
@@ -40,7 +40,7 @@ seal_index-requires-clause-each g c = λ told image here.
     let idx = m.changes.idx told in
     subst (λ (u : Units). IsUnsealed 1 c.in-Ok.index.pending image.pkg u) (sym idx)
     (empty_unsealed c.in-Ok.index.pending image.pkg (g.D.Disk.files c.empty_index.new.disk).idx c.args.store.now
-    (subst (pkgdb.Keeps image.pkg) m.ok (m.quiet told image here).keeps) (c.in-Ok.ensures.whole told) (c.in-Ok.ensures.rows told))
+    (subst (pkgdb.Keeps image.pkg) m.ok ((m.made told).written.quiet image here).keeps) (c.in-Ok.ensures.whole told) (c.in-Ok.ensures.rows told))
 
 pub returns-in-Err-clause-stops : goal.returns-in-Err-clause-stops
 returns-in-Err-clause-stops g c = λ told.
@@ -122,10 +122,10 @@ returns-in-Ok-seal_index-clause-empty g c =
     let m = c.in-Ok-make.ensures in
     let s = c.in-Ok-seal_index.ensures in
     record {
-      kept = λ told. ap store (s.runs.reads_as told).pkg ∙ m.kept told;
+      kept = λ told. ap store (s.runs.reads_as told).pkg ∙ (m.made told).written.kept;
       quiet = λ told.
           still_quiet g.D.Disk.tells g.D.Disk.files g.D.Disk.left_since g.D.Disk.moment g.D.Disk.bytes_read g.D.Disk.follows c.make.new.disk
-          c.seal_index.new.disk c.make.new.self told s.runs (m.quiet told);
+          c.seal_index.new.disk c.make.new.self told s.runs (m.made told).written.quiet;
       current = s.current;
       units = s.kept;
       index_of = s.index;
@@ -140,18 +140,18 @@ returns-in-Err-clause-runs g c =
 pub returns-in_default-clause-runs : goal.returns-in_default-clause-runs
 returns-in_default-clause-runs g c =
     log_made g.D.Disk.tells g.D.Disk.files g.D.Disk.left_since g.D.Disk.moment g.D.Disk.bytes_read g.D.Disk.follows g.met.D.Disk.follows_trans
-    Anything 0 c.args.disk.now c.empty_index.new.disk c.make.new.disk c.in-Ok.ensures.runs c.in_default.ensures.changes
+    (SameOutside 0 256) 0 c.args.disk.now c.empty_index.new.disk c.make.new.disk c.in-Ok.ensures.runs c.in_default.ensures.changes
 
 pub returns-in-Ok-seal_index-clause-runs : goal.returns-in-Ok-seal_index-clause-runs
 returns-in-Ok-seal_index-clause-runs g c =
     log_sealed g.D.Disk.tells g.D.Disk.files g.D.Disk.left_since g.D.Disk.moment g.D.Disk.bytes_read g.D.Disk.follows g.met.D.Disk.follows_trans
-    Anything 0 c.args.disk.now c.empty_index.new.disk c.make.new.disk c.seal_index.new.disk c.in-Ok.ensures.runs c.in-Ok-make.ensures.changes
+    (SameOutside 0 256) 0 c.args.disk.now c.empty_index.new.disk c.make.new.disk c.seal_index.new.disk c.in-Ok.ensures.runs c.in-Ok-make.ensures.changes
     c.in-Ok-seal_index.ensures.runs
 
 pub returns-in-Err-seal_index-clause-runs : goal.returns-in-Err-seal_index-clause-runs
 returns-in-Err-seal_index-clause-runs g c =
     log_sealed g.D.Disk.tells g.D.Disk.files g.D.Disk.left_since g.D.Disk.moment g.D.Disk.bytes_read g.D.Disk.follows g.met.D.Disk.follows_trans
-    Anything 0 c.args.disk.now c.empty_index.new.disk c.make.new.disk c.seal_index.new.disk c.in-Ok.ensures.runs c.in-Ok-make.ensures.changes
+    (SameOutside 0 256) 0 c.args.disk.now c.empty_index.new.disk c.make.new.disk c.seal_index.new.disk c.in-Ok.ensures.runs c.in-Ok-make.ensures.changes
     c.in-Err-seal_index.ensures.runs
 
 pub returns-in-Ok-seal_index-clause-reach : goal.returns-in-Ok-seal_index-clause-reach
@@ -161,4 +161,4 @@ returns-in-Ok-seal_index-clause-reach g c = λ told.
 pub returns-in-Ok-seal_index-clause-end : goal.returns-in-Ok-seal_index-clause-end
 returns-in-Ok-seal_index-clause-end g c = λ told.
     let first = ap length (c.in-Ok.ensures.runs.reads_as told).pkg in
-    let last = ap length (c.in-Ok-seal_index.ensures.runs.reads_as told).pkg in omega (arith, c.in-Ok-make.ensures.reach told, first, last)
+    let last = ap length (c.in-Ok-seal_index.ensures.runs.reads_as told).pkg in omega (arith, (c.in-Ok-make.ensures.made told).reach, first, last)

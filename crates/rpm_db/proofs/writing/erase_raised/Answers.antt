@@ -1,13 +1,15 @@
-use Rattle.std.proofs.Common.{◌≡◌, ◌+◌, ◌≤◌, length, IsTrue, arith, ap, ◌∙◌}
+use Rattle.std.proofs.Common.{◌≡◌, ◌+◌, IsTrue, arith, ap, ◌∙◌}
 use Rattle.std.specs.FinMap as finite
 use Rattle.rpm_outside.specs.declared.disk.File.TheVariants.{Pkg}
-use Rattle.rpm_outside.specs.inner.Changing.{changes_then, stops_then, stops_weaker}
+use Rattle.rpm_outside.specs.inner.Changing.{changes_then, changes_weaker, stops_then, stops_weaker}
 use Rattle.rpm_pkgdb.specs.Blobs.{blobs}
 use Rattle.rpm_pkgdb.specs.Quiet.{Anything, BlobMap}
+use Rattle.rpm_pkgdb.specs.Rewritten.{IsErased}
+use Rattle.rpm_pkgdb.specs.Stays.{SameOutside}
 use Rattle.rpm_pkgdb.specs.Store.{Store}
 use Rattle.rpm_pkgdb.specs.Written.{stopped, RaisesTo, ErasesTo}
 use Rattle.rpm_db.specs.inner.Writes.{BlobsTo}
-use Rattle.rpm_db.proofs.Results.{map_err, map_ok, four_ok}
+use Rattle.rpm_db.proofs.Results.{map_err, map_ok}
 use Rattle.rpm_db.proofs.Raised.{raises_to, erases_to}
 use Rattle.rpm_db.proofs.writing.erase_raised.Goals as goal
 
@@ -38,8 +40,8 @@ returns-in-Ok-clause-images g c = λ told quiet.
     let second =
     stops_weaker D.moment D.left_since Pkg (ErasesTo raised c.args.n mid) to b d
     (λ image. erases_to st.generation st.field (blobs file st) raised mid image (ap (λ (v : Store). v.generation) e.ok)
-    (ap (λ (v : Store). v.field) e.ok) (e.blobs told) c.args.n) (c.erase.ensures.images told (e.quiet told)) in
-    stops_then D.tells D.files D.left_since D.moment D.bytes_read D.follows Pkg told Anything to 0 a b d e.changes first second
+    (ap (λ (v : Store). v.field) e.ok) (e.raised told).written.blobs_are c.args.n) (c.erase.ensures.stops told (e.raised told).written.quiet).images in
+    stops_then D.tells D.files D.left_since D.moment D.bytes_read D.follows Pkg told (SameOutside 0 1) to 0 a b d e.changes first second
 
 pub returns-in-Ok-clause-err : goal.returns-in-Ok-clause-err
 returns-in-Ok-clause-err g c = map_err c.erase.result (λ (is : c.erase.new.self ≡ stopped c.raise.new.self). (
@@ -51,23 +53,35 @@ pub returns-in-Err-clause-err : goal.returns-in-Err-clause-err
 returns-in-Err-clause-err g c =
     (ap (λ (v : Store). v.slots) c.in-Err.ensures.err, ap (λ (v : Store). v.pages) c.in-Err.ensures.err)
 
+pub erase-requires-clause-keeps : goal.erase-requires-clause-keeps
+erase-requires-clause-keeps g c = λ told. (c.in-Ok.ensures.raised told).written.kept
+
+pub returns-in-Err-clause-changes : goal.returns-in-Err-clause-changes
+returns-in-Err-clause-changes g c =
+    let D = g.D.Disk in
+    changes_weaker D.tells D.files D.left_since D.moment D.bytes_read D.follows Pkg (SameOutside 0 1) Anything 0 0 c.args.disk.now c.raise.new.disk
+    (omega arith) (λ x y r. tt) c.in-Err.ensures.changes
+
 pub returns-in-Ok-clause-changes : goal.returns-in-Ok-clause-changes
 returns-in-Ok-clause-changes g c =
     let D = g.D.Disk in
-    changes_then D.tells D.files D.left_since D.moment D.bytes_read D.follows Pkg g.met.D.Disk.follows_trans Anything Anything Anything 0
+    changes_then D.tells D.files D.left_since D.moment D.bytes_read D.follows Pkg g.met.D.Disk.follows_trans (SameOutside 0 1) Anything Anything 0
     0 0 c.args.disk.now c.raise.new.disk c.erase.new.disk
-    (omega arith) (λ x y r. r) (λ x y z p q. tt) c.in-Ok.ensures.changes c.erase.ensures.changes
+    (omega arith) (λ x y r. tt) (λ x y z p q. tt) c.in-Ok.ensures.changes c.erase.ensures.changes
 
 pub returns-in-Ok-clause-end : goal.returns-in-Ok-clause-end
 returns-in-Ok-clause-end g c =
-    let f = g.D.Disk.files in
-    map_ok c.erase.result (λ (reach : IsTrue g.D.Disk.tells → length (f c.erase.new.disk).pkg ≤ length (f c.raise.new.disk).pkg) told.
-    omega (arith, reach told, c.in-Ok.ensures.reach told)) c.erase.ensures.reach
+    let D = g.D.Disk in
+    map_ok c.erase.result (λ (e : IsTrue D.tells → IsErased D c.raise.new.disk c.erase.new.disk c.raise.new.self c.erase.new.self c.args.n) told.
+    omega (arith, (e told).reach, (c.in-Ok.ensures.raised told).reach)) c.erase.ensures.erased
 
 pub returns-in-Ok-clause-stored : goal.returns-in-Ok-clause-stored
-returns-in-Ok-clause-stored g c = four_ok c.erase.result (λ kept is quiet stands. record {
-  kept = kept;
-  blobs_are = λ told. is told ∙ ap (λ (m : BlobMap). finite.remove m c.args.n) (c.in-Ok.ensures.blobs told);
-  quiet = quiet;
-  stands = stands;
-}) c.erase.ensures.kept c.erase.ensures.blobs c.erase.ensures.quiet c.erase.ensures.stands
+returns-in-Ok-clause-stored g c =
+    let D = g.D.Disk in
+    map_ok c.erase.result (λ (e : IsTrue D.tells → IsErased D c.raise.new.disk c.erase.new.disk c.raise.new.self c.erase.new.self c.args.n). record {
+      kept = λ told. (e told).written.kept;
+      blobs_are = λ told.
+          (e told).written.blobs_are ∙ ap (λ (m : BlobMap). finite.remove m c.args.n) (c.in-Ok.ensures.raised told).written.blobs_are;
+      quiet = λ told. (e told).written.quiet;
+      stands = λ told. (e told).written.stands;
+    }) c.erase.ensures.erased

@@ -1,16 +1,17 @@
-use Rattle.std.proofs.Common.{◌≡◌, ◌+◌, IsTrue, arith, Some, sym, ap, ◌∙◌, subst}
+use Rattle.std.proofs.Common.{◌≡◌, ◌+◌, ◌≤◌, length, IsTrue, arith, Some, sym, ap, ◌∙◌, subst}
 use Rattle.std.specs.FinMap as finite
 use Rattle.rpm_outside.specs.declared.disk.File.TheVariants.{Pkg}
-use Rattle.rpm_outside.specs.inner.Changing.{changes_then, stops_then, stops_weaker}
+use Rattle.rpm_outside.specs.inner.Changing.{changes_then, changes_weaker, stops_then, stops_weaker}
 use Rattle.rpm_pkgdb.specs.Blobs.{blobs}
 use Rattle.rpm_pkgdb.specs.Growing.{moving_cost}
 use Rattle.rpm_pkgdb.specs.Planned.{IsPlan, moves_of}
 use Rattle.rpm_pkgdb.specs.Quiet.{Anything, BlobMap}
-use Rattle.rpm_pkgdb.specs.Reaches.{ReachesTo}
+use Rattle.rpm_pkgdb.specs.Puts.{AfterPut, IsPut}
+use Rattle.rpm_pkgdb.specs.Stays.{SameOutside}
 use Rattle.rpm_pkgdb.specs.Store.{Store}
-use Rattle.rpm_pkgdb.specs.Written.{stopped, RaisesTo, PutsTo, next_field, field_after}
+use Rattle.rpm_pkgdb.specs.Written.{stopped, RaisesTo, PutsTo, with_plan, with_spare, next_field, field_after}
 use Rattle.rpm_db.specs.inner.Writes.{BlobsTo}
-use Rattle.rpm_db.proofs.Results.{map_err, map_ok, four_ok}
+use Rattle.rpm_db.proofs.Results.{map_err, map_ok}
 use Rattle.rpm_db.proofs.Raised.{plan_raised, raises_to, puts_to}
 use Rattle.rpm_db.proofs.writing.put_raised.Goals as goal
 
@@ -49,8 +50,8 @@ returns-clause-images g c = λ told quiet.
     let second =
     stops_weaker D.moment D.left_since Pkg (PutsTo raised target c.args.blob.now mid) to b d
     (λ image. puts_to st.generation st.field (blobs file st) raised mid image (ap (λ (v : Store). v.generation) e.ok)
-    (ap (λ (v : Store). v.field) e.ok) (e.blobs told) target c.args.blob.now) (c.put.ensures.images told (e.quiet told)) in
-    stops_then D.tells D.files D.left_since D.moment D.bytes_read D.follows Pkg told Anything to 0 a b d e.changes first second
+    (ap (λ (v : Store). v.field) e.ok) (e.raised told).written.blobs_are target c.args.blob.now) (c.put.ensures.stops told (e.raised told).written.quiet).images in
+    stops_then D.tells D.files D.left_since D.moment D.bytes_read D.follows Pkg told (SameOutside 0 1) to 0 a b d e.changes first second
 
 pub returns-clause-err : goal.returns-clause-err
 returns-clause-err g c = map_err c.put.result (λ (is : c.put.new.self ≡ stopped c.raise.new.self). (
@@ -62,26 +63,52 @@ pub returns-in_default-clause-err : goal.returns-in_default-clause-err
 returns-in_default-clause-err g c =
     (ap (λ (v : Store). v.slots) c.in_default.ensures.err, ap (λ (v : Store). v.pages) c.in_default.ensures.err)
 
+pub put-requires-clause-ready : goal.put-requires-clause-ready
+put-requires-clause-ready g c =
+    let is = c.in-Ok.ensures.ok in
+    record {
+      going = ap (λ (v : Store). v.is_stopped) is ∙ c.requires.going;
+      made = subst (λ (v : Store). 1 ≤ v.pages) (sym is) c.requires.made;
+      keeps = λ told. (c.in-Ok.ensures.raised told).written.kept;
+    }
+
+pub returns-in_default-clause-changes : goal.returns-in_default-clause-changes
+returns-in_default-clause-changes g c =
+    let D = g.D.Disk in
+    changes_weaker D.tells D.files D.left_since D.moment D.bytes_read D.follows Pkg (SameOutside 0 1) Anything 0
+    (moving_cost c.args.store.now.slots (moves_of c.args.plan.page)) c.args.disk.now c.raise.new.disk (omega arith) (λ x y r. tt)
+    c.in_default.ensures.changes
+
 pub returns-clause-changes : goal.returns-clause-changes
 returns-clause-changes g c =
     let D = g.D.Disk in
-    changes_then D.tells D.files D.left_since D.moment D.bytes_read D.follows Pkg g.met.D.Disk.follows_trans Anything Anything Anything 0
+    changes_then D.tells D.files D.left_since D.moment D.bytes_read D.follows Pkg g.met.D.Disk.follows_trans (SameOutside 0 1) Anything Anything 0
     (moving_cost c.raise.new.self.slots (moves_of c.args.plan.page)) (moving_cost c.args.store.now.slots (moves_of c.args.plan.page)) c.args.disk.now
     c.raise.new.disk c.put.new.disk
-    (omega (arith, ap (λ (v : Store). moving_cost v.slots (moves_of c.args.plan.page)) c.in-Ok.ensures.ok)) (λ x y r. r) (λ x y z p q. tt)
+    (omega (arith, ap (λ (v : Store). moving_cost v.slots (moves_of c.args.plan.page)) c.in-Ok.ensures.ok)) (λ x y r. tt) (λ x y z p q. tt)
     c.in-Ok.ensures.changes c.put.ensures.changes
+
+pub returns-clause-ok : goal.returns-clause-ok
+returns-clause-ok g c =
+    map_ok c.put.result (λ (v : AfterPut c.args.plan (length c.args.blob.now) c.raise.new.self c.put.new.self).
+    v.ok ∙ ap (λ (s : Store). with_spare c.put.new.self.spare (with_plan c.args.plan s)) c.in-Ok.ensures.ok) c.put.ensures.value
 
 pub returns-clause-end : goal.returns-clause-end
 returns-clause-end g c =
-    let f = g.D.Disk.files in
-    map_ok c.put.result (λ (reach : IsTrue g.D.Disk.tells → ReachesTo c.put.new.self (f c.raise.new.disk).pkg (f c.put.new.disk).pkg) told.
-    omega (arith, reach told, c.in-Ok.ensures.reach told)) c.put.ensures.reach
+    let D = g.D.Disk in
+    map_ok c.put.result (λ (p : IsTrue D.tells
+    → IsPut D c.raise.new.disk c.put.new.disk c.raise.new.self c.put.new.self c.args.plan.target c.args.blob.now) told.
+    omega (arith, (p told).reach, (c.in-Ok.ensures.raised told).reach)) c.put.ensures.put
 
 pub returns-clause-stored : goal.returns-clause-stored
-returns-clause-stored g c = four_ok c.put.result (λ kept is quiet stands. record {
-  kept = kept;
-  blobs_are = λ told.
-      is told ∙ ap (λ (m : BlobMap). finite.insert m c.args.plan.target.number (Some c.args.blob.now)) (c.in-Ok.ensures.blobs told);
-  quiet = quiet;
-  stands = stands;
-}) c.put.ensures.kept c.put.ensures.blobs c.put.ensures.quiet c.put.ensures.stands
+returns-clause-stored g c =
+    let D = g.D.Disk in
+    map_ok c.put.result (λ (p : IsTrue D.tells
+    → IsPut D c.raise.new.disk c.put.new.disk c.raise.new.self c.put.new.self c.args.plan.target c.args.blob.now). record {
+      kept = λ told. (p told).written.kept;
+      blobs_are = λ told.
+          (p told).written.blobs_are
+          ∙ ap (λ (m : BlobMap). finite.insert m c.args.plan.target.number (Some c.args.blob.now)) (c.in-Ok.ensures.raised told).written.blobs_are;
+      quiet = λ told. (p told).written.quiet;
+      stands = λ told. (p told).written.stands;
+    }) c.put.ensures.put

@@ -1,0 +1,87 @@
+use Rattle.std.proofs.Common.{◌≡◌, ◌≤◌, ◌+◌, ◌==◌, ℕ, if◌then◌else◌, length, max, is_some, true, false, Option, refl, sym, ap, ◌∙◌, subst}
+use Rattle.rpm_outside.specs.Files.{Units}
+use Rattle.rpm_hindex.specs.Sizes.{live_of, units_for}
+use Rattle.rpm_hindex.specs.State as hindex
+use Rattle.rpm_pkgdb.specs.Store.{store}
+use Rattle.rpm_db.specs.Database.{KeepsUnits}
+use Rattle.rpm_db.specs.Gathering.{IsOrdered, sealed_in}
+use Rattle.rpm_db.specs.Lawful.{HasRows}
+use Rattle.rpm_db.specs.Rows.{rows}
+use Rattle.rpm_db.specs.State.{packages}
+use Rattle.rpm_db.proofs.Refused.{reading_of}
+use Rattle.rpm_db.proofs.Served.{indexed_as}
+use Rattle.rpm_db.proofs.additions.Additions.finish.Goals as goal
+
+pub fill_index-requires-clause-order : goal.fill_index-requires-clause-order
+fill_index-requires-clause-order g c =
+    let was = rw (sym c.db.view_is, sym c.self.view_is) at c.requires.gathering in
+    subst IsOrdered c.in-Some.is was.ordered
+
+pub fill_index-requires-clause-clear : goal.fill_index-requires-clause-clear
+fill_index-requires-clause-clear g c = λ is.
+    let was = rw (sym c.db.view_is, sym c.self.view_is) at c.requires.gathering in
+    was.clear (ap sealed_in c.in-Some.is ∙ is ∙ c.generation-generation.ensures.value)
+
+pub fill_index-requires-clause-keeps : goal.fill_index-requires-clause-keeps
+fill_index-requires-clause-keeps g c = λ told.
+    let was = rw (sym c.db.view_is, sym c.self.view_is) at c.requires.gathering in
+    subst (KeepsUnits (g.D.Disk.files c.args.disk.now).idx) c.in-Some.is (was.serving told).index
+
+pub fill_index-requires-clause-settled : goal.fill_index-requires-clause-settled
+fill_index-requires-clause-settled g c = λ told.
+    let was = rw (sym c.db.view_is, sym c.self.view_is) at c.requires.gathering in
+    (was.serving told).settled
+
+pub returns-in-Ok-clause-settled : goal.returns-in-Ok-clause-settled
+returns-in-Ok-clause-settled g c =
+    let was = rw (sym c.db.view_is, sym c.self.view_is) at c.requires.gathering in
+    let e = c.in-Ok.ensures in
+    let st = c.db.inside.store in
+    let old = g.D.Disk.files c.args.disk.now in
+    let new = g.D.Disk.files c.fill_index.new.disk in
+    let owed = c.self.inside.rows in
+    let current = subst (λ (n : ℕ). hindex.is_current n c.fill_index.new.index ≡ true) c.generation-generation.ensures.value e.filled.current in
+    rw (sym c.db.view_is, sym c.self.view_is) (record {
+      going = refl;
+      serving = λ told. record {
+        keeps = ap store (e.store told) ∙ (was.serving told).keeps;
+        index = e.filled.kept told;
+        quiet = e.filled.quiet told st (was.serving told).quiet;
+        settled = e.filled.settled told;
+      };
+      index = λ told o.
+          indexed_as new.pkg new.idx st c.fill_index.new.index false (e.filled.kept told) current
+          (subst (λ (u : Units). HasRows (packages u st) new.idx) (sym (e.store told))
+          (e.filled.rows_are told o.from (packages old.pkg st) o.has o.changed));
+      reach = λ told o.
+          subst (λ (i : Option hindex.State). length new.idx ≤ (if sealed_in i == st.generation then length old.idx
+          else max (length old.idx + live_of owed) (units_for (rows (packages old.pkg st))))) (sym c.in-Some.is)
+          (subst (λ (n : ℕ). length new.idx ≤ (if hindex.sealed c.in-Some.index.first == n then length old.idx
+          else max (length old.idx + live_of owed) (units_for (rows (packages old.pkg st))))) c.generation-generation.ensures.value
+          (e.filled.reach told o.from (packages old.pkg st) o.has o.changed));
+    })
+
+pub returns-clause-full : goal.returns-clause-full
+returns-clause-full g c =
+    let e = c.in-Err.ensures in
+    rw (sym c.db.view_is, sym c.self.view_is) (λ told o.
+    reading_of c.in-Err.fault _ e.kinds (e.full.1 told o.from _ o.has o.changed)
+    (o.fits (λ at. e.full.0 (ap sealed_in (sym c.in-Some.is) ∙ at ∙ sym c.generation-generation.ensures.value))))
+
+pub returns-in-Ok-clause-unwritten : goal.returns-in-Ok-clause-unwritten
+returns-in-Ok-clause-unwritten g c =
+    rw (sym c.db.view_is) (λ at. c.in-Ok.ensures.unwritten (ap sealed_in (sym c.in-Some.is) ∙ at ∙ sym c.generation-generation.ensures.value))
+
+pub returns-clause-unwritten : goal.returns-clause-unwritten
+returns-clause-unwritten g c =
+    rw (sym c.db.view_is) (λ at. c.in-Err.ensures.unwritten (ap sealed_in (sym c.in-Some.is) ∙ at ∙ sym c.generation-generation.ensures.value))
+
+pub invariant_of-db-in-Err : goal.invariant_of-db-in-Err
+invariant_of-db-in-Err g c =
+    let was = rw (sym c.db.view_is) at c.requires.gathering in
+    record {
+      from_one = c.db.invariant.from_one;
+      made = λ some. c.db.invariant.made (ap is_some c.in-Some.is);
+      going = λ is. absurd (let both : true ≡ false = sym was.suspends ∙ is in cc);
+      order = λ is. absurd (let both : true ≡ false = sym was.suspends ∙ is in cc);
+    }

@@ -1,0 +1,29 @@
+use Rattle.std.proofs.Common.{ℕ, List, [], sym, subst}
+use Rattle.rpm_hindex.specs.Index.{records}
+use Rattle.rpm_hindex.specs.Plans.{HasChanged}
+use Rattle.rpm_hindex.specs.Rows.{Row}
+use Rattle.rpm_hindex.specs.State.{buckets_of}
+use Rattle.rpm_hindex.specs.Whole.{IsWellFormed}
+use Rattle.rpm_db.specs.Rows.{rows}
+use Rattle.rpm_db.proofs.Prepared.{of_records}
+use Rattle.rpm_db.proofs.gathering.expect_room.Goals as goal
+
+pub returns-then-has_room_for-clause-full : goal.returns-then-has_room_for-clause-full
+returns-then-has_room_for-clause-full g c = λ told before after has changed.
+    let idx = (g.D.Disk.files c.args.disk.now).idx in
+    let keeps = c.requires.keeps told in
+    let owed = c.args.owed.now in
+    let whole = subst (λ (u : List ℕ). IsWellFormed (buckets_of u) idx) (sym keeps.first) has.whole in
+    c.has_room_for.ensures c.if-has_room_for.true idx keeps whole (rows after)
+    (subst (λ (u : List ℕ). HasChanged [] owed (records (buckets_of u) idx) (rows after)) (sym keeps.first)
+    (of_records [] owed before after idx has changed))
+
+pub returns-in-Ok-clause-full : goal.returns-in-Ok-clause-full
+returns-in-Ok-clause-full g c = λ told before after has changed.
+    c.in-Ok.ensures.full told before after has
+    (subst (λ (rs : List Row). HasChanged rs c.args.owed.now (rows before) (rows after)) (sym c.new.ensures) changed)
+
+pub returns-clause-full : goal.returns-clause-full
+returns-clause-full g c = λ told before after has changed.
+    c.in-Err.ensures.full told before after has
+    (subst (λ (rs : List Row). HasChanged rs c.args.owed.now (rows before) (rows after)) (sym c.new.ensures) changed)

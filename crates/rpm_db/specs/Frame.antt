@@ -1,0 +1,40 @@
+-- What stands around a call on a database: the disk, by the ghost members of its kind, which a clause names `D.Disk`. Short words for all clauses.
+use Rattle.std.specs.Prelude.{IsTrue}
+use Rattle.std.specs.Ordering.{nat_cmp}
+use Rattle.std.specs.FinMap.{FinMap}
+use Rattle.rpm_outside.specs.declared.disk.Disk as disk
+use Rattle.rpm_outside.specs.Files.{Files}
+use Rattle.rpm_db.specs.Changes as changes
+use Rattle.rpm_db.specs.Database.{Database, Keeps, KeepsIndex}
+use Rattle.rpm_db.specs.Database as database
+use Rattle.rpm_db.specs.Runs as runs
+use Rattle.rpm_db.specs.State.{Package, State, packages, state}
+
+module _ {D : Type 0} (d : disk.Ghosts D) where
+  -- the files, and what a crash leaves, came of those before as a relation says
+  abbrev pub Runs : (Files → Files → Type 0) → D → D → Type 0
+  Runs = runs.Runs d.tells d.files d.left_since d.moment d.bytes_read d.follows
+
+  -- the value of a database is that of Packages.db as it reads
+  abbrev pub Kept : D → Database → Type 0
+  Kept it db = IsTrue d.tells → Keeps (d.files it).pkg db
+
+  -- and that of Hindex.db
+  abbrev pub KeptIndex : D → Database → Type 0
+  KeptIndex it db = IsTrue d.tells → KeepsIndex (d.files it).idx db
+
+  -- and each crash leaves the same packages, and the index is settled
+  abbrev pub Serving : D → Database → Type 0
+  Serving it db = IsTrue d.tells → changes.IsServing (d.files it) (d.left_since it (d.moment it)) db
+
+  -- its index is current, and holds the rows of its packages
+  abbrev pub IsIndexed : D → Database → Type 0
+  IsIndexed it db = database.IsIndexed (d.files it).pkg (d.files it).idx db
+
+  -- the state that a database stands for on this disk
+  abbrev pub state_in : D → Database → State
+  state_in it db = state (d.files it).pkg db.store
+
+  -- its packages
+  abbrev pub packages_in : D → Database → FinMap nat_cmp Package
+  packages_in it db = packages (d.files it).pkg db.store

@@ -1,0 +1,84 @@
+-- Additions to a database whose rows are gathered, and go into the index all at once.
+use Rattle.std.specs.Prelude.{◌≡◌, ◌≢◌, ℕ, ◌+◌, ◌^◌, ◌≤◌, max, List, [], length, replicate, true, false, ◌==◌, if◌then◌else◌, IsTrue, Option, Some, None}
+use Rattle.std.specs.Ordering.{nat_cmp}
+use Rattle.std.specs.FinMap.{FinMap}
+use Rattle.rpm_outside.specs.declared.disk.Disk as disk
+use Rattle.rpm_outside.specs.Files.{Units, Files, blank}
+use Rattle.rpm_hindex.specs.Plans.{HasChanged}
+use Rattle.rpm_hindex.specs.Rows.{Row}
+use Rattle.rpm_hindex.specs.Sizes.{live_of, units_for}
+use Rattle.rpm_hindex.specs.State as hindex
+use Rattle.rpm_db.specs.Changes.{Change, IsServing, apply}
+use Rattle.rpm_db.specs.Database.{Database, IsIndexed, is_indexed}
+use Rattle.rpm_db.specs.Lawful.{HasRows}
+use Rattle.rpm_db.specs.Reaches.{Reaches}
+use Rattle.rpm_db.specs.Rows.{rows}
+use Rattle.rpm_db.specs.State.{Package, packages, state}
+
+-- the generation at which an index is sealed
+abbrev pub sealed_in : Option hindex.State → ℕ
+sealed_in None = 0
+sealed_in (Some index) = hindex.sealed index.first
+
+-- its first two units are in order
+abbrev pub IsOrdered : Option hindex.State → Type 0
+IsOrdered None = Unit {0}
+IsOrdered (Some index) = hindex.is_in_order index ≡ true
+
+-- a value as it answers once the additions are over
+abbrev pub resumed : Database → Database
+resumed db = record { store = db.store; index = db.index; stopped = false }
+
+-- while they go on
+abbrev pub suspended : Database → Database
+suspended db = record { store = db.store; index = db.index; stopped = true }
+
+-- the index holds the rows of some packages, and with those that it is owed it holds the rows of the packages of now; there is room for these
+pub record Owes (pkg idx : Units) (db : Database) (owed : List Row) : Type 0 where
+  pub from : FinMap nat_cmp Package
+  pub has : HasRows from idx
+  pub changed : HasChanged [] owed (rows from) (rows (packages pkg db.store))
+  pub fits : sealed_in db.index ≢ db.store.generation → units_for (rows (packages pkg db.store)) ≤ 2 ^ 28
+
+-- the units of Hindex.db once it has them
+abbrev pub due_units : Units → Units → Database → List Row → ℕ
+due_units pkg idx db owed =
+    if sealed_in db.index == db.store.generation then length idx
+    else max (length idx + live_of owed) (units_for (rows (packages pkg db.store)))
+
+-- files as long as these are then
+abbrev pub due : Files → Database → List Row → Files
+due files db owed = record { pkg = files.pkg; idx = replicate (due_units files.pkg files.idx db owed) blank; log = files.log }
+
+module _ {D : Type 0} (d : disk.Ghosts D) where
+  -- additions go on: the store and the index are what the files say, and the index is sealed at the store's generation only where it is owed nothing
+  pub record IsGathering (at : D) (db : Database) (owed : List Row) : Type 0 where
+    pub indexed : is_indexed db ≡ true
+    pub suspends : db.stopped ≡ true
+    pub going : db.store.is_stopped ≡ false
+    pub ordered : IsOrdered db.index
+    pub behind : sealed_in db.index ≤ db.store.generation
+    pub clear : sealed_in db.index ≡ db.store.generation → owed ≡ []
+    pub serving : IsTrue d.tells → IsServing (d.files at) (d.left_since at (d.moment at)) db
+
+  -- the rows of these files and packages are owed
+  abbrev pub OwesOn : D → Database → List Row → Type 0
+  OwesOn at db owed = Owes (d.files at).pkg (d.files at).idx db owed
+
+  -- a change was made in the store, and its rows were gathered
+  pub record Gathered (old new : D) (change : Change) (before after : Database) (owed more : List Row) : Type 0 where
+    pub gathering : IsGathering new after more
+    pub generation : after.store.generation ≡ before.store.generation + 1
+    pub state_is : IsTrue d.tells
+        → state (d.files new).pkg after.store ≡ apply change (state (d.files old).pkg before.store)
+    pub owes : IsTrue d.tells → OwesOn old before owed → OwesOn new after more
+    pub reach : IsTrue d.tells → OwesOn old before owed → Reaches (state (d.files old).pkg before.store) change
+        (due (d.files old) before owed).idx (due (d.files new) after more).idx
+
+  -- the additions are over: the index has what it was owed
+  pub record IsSettledUp (old new : D) (before after : Database) (owed : List Row) : Type 0 where
+    pub going : after.stopped ≡ false
+    pub serving : IsTrue d.tells → IsServing (d.files new) (d.left_since new (d.moment new)) after
+    pub index : IsTrue d.tells → OwesOn old before owed → IsIndexed (d.files new).pkg (d.files new).idx after
+    pub reach : IsTrue d.tells → OwesOn old before owed
+        → length (d.files new).idx ≤ due_units (d.files old).pkg (d.files old).idx before owed
