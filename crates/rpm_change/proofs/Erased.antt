@@ -45,17 +45,21 @@ indexed_same f g a b files same i =
 none_done : (course : Course) (old new : Outputs) → Through [] old new → ThroughSome course.steps old new
 none_done course old new none = record { done = []; rest = course.steps; all_is = refl; through = none }
 
+-- a fault of a change leaves some of the steps done
+pub stopped_ended : (course : Course) (s t : State) (f : ChangeFault) (old new : Outputs) → ThroughSome course.steps old new → Ended course s t (Err (halt_of f)) old new
+stopped_ended course s t fault.NumbersSpent old new some = some
+stopped_ended course s t fault.GenerationSpent old new some = some
+stopped_ended course s t fault.StoreFull old new some = some
+stopped_ended course s t (fault.IndexFull needed) old new some = some
+stopped_ended course s t (fault.BadIndex unit) old new some = some
+stopped_ended course s t fault.DiskFault old new some = some
+stopped_ended course s t fault.NoMemory old new some = some
+stopped_ended course s t (fault.BadHeader why) old new some = some
+stopped_ended course s t fault.NoSuch old new some = some
+stopped_ended course s t fault.Stopped old new some = some
+
 pub refused_ended : (course : Course) (s t : State) (f : ChangeFault) (old new : Outputs) → Through [] old new → Ended course s t (Err (halt_of f)) old new
-refused_ended course s t fault.NumbersSpent old new none = none_done course old new none
-refused_ended course s t fault.GenerationSpent old new none = none_done course old new none
-refused_ended course s t fault.StoreFull old new none = none_done course old new none
-refused_ended course s t (fault.IndexFull needed) old new none = none_done course old new none
-refused_ended course s t (fault.BadIndex unit) old new none = none_done course old new none
-refused_ended course s t fault.DiskFault old new none = none_done course old new none
-refused_ended course s t fault.NoMemory old new none = none_done course old new none
-refused_ended course s t (fault.BadHeader why) old new none = none_done course old new none
-refused_ended course s t fault.NoSuch old new none = none_done course old new none
-refused_ended course s t fault.Stopped old new none = none_done course old new none
+refused_ended course s t f old new none = stopped_ended course s t f old new (none_done course old new none)
 
 pub erase_kinds : (db : Database) (n : ℕ) (f : ChangeFault) → EraseCause db n f → IsOfErasing (halt_of f)
 erase_kinds db n fault.NumbersSpent cause = absurd cause.2

@@ -1,19 +1,17 @@
 -- What adding one header of a list is.
-use Rattle.std.proofs.Common.{◌≡◌, ℕ, Bool, true, List, Option, Some, None, Result, Ok, Err, refl, sym, ap, ◌∙◌, subst, min, codes}
+use Rattle.std.proofs.Common.{◌≡◌, ℕ, Bool, true, List, Option, Some, None, Result, Ok, Err, refl, sym, ap, subst, min, codes}
 use Rattle.std.specs.Prelude.{IfOk}
 use Rattle.rpm_header.specs.Header.{Header, header}
 use Rattle.rpm_outside.specs.declared.disk.Disk as disk
-use Rattle.rpm_outside.specs.Files.{Units, Files}
+use Rattle.rpm_outside.specs.Files.{Files}
 use Rattle.rpm_outside.specs.Browses.{left}
-use Rattle.rpm_pkgdb.specs.Blobs.{blobs}
 use Rattle.rpm_db.specs.declared.change_fault.ChangeFault.{ChangeFault}
 use Rattle.rpm_db.specs.declared.change_fault.ChangeFault.TheVariants as fault
-use Rattle.rpm_db.specs.Changes.{Change, Add, next, with_room}
-use Rattle.rpm_db.specs.Database.{Database, IsIndexed, next_number}
-use Rattle.rpm_db.specs.Lawful.{HasRows}
+use Rattle.rpm_db.specs.Changes.{Change, Add, next}
+use Rattle.rpm_db.specs.Database.{Database, next_number}
 use Rattle.rpm_db.specs.Refusals.{AddIs, FullCause}
 use Rattle.rpm_db.specs.Room.{RoomCause, next_store}
-use Rattle.rpm_db.specs.State.{State, state, packages}
+use Rattle.rpm_db.specs.State.{State}
 use Rattle.rpm_pkgdb.specs.Store.{Store}
 use Rattle.rpm_change.specs.declared.tally.Tally.{Tally}
 use Rattle.rpm_change.specs.declared.tally.Halt.{Halt}
@@ -27,25 +25,6 @@ use Rattle.rpm_change.specs.Turns.{counted_once, IsOfHeaders}
 use Rattle.rpm_change.specs.Went.{LeftOn}
 use Rattle.rpm_change.specs.inner.Leaving.{left_counted}
 use Rattle.rpm_change.specs.inner.Single.{one_refused, other_stop, add_fault}
-
--- ---- room in memory is nothing that a file says
-
-packages_room : (file : Units) (spare : ℕ) (db : Database) → packages file (with_room spare db).store ≡ packages file db.store
-unfolding packages blobs
-packages_room file spare db = refl
-
-state_of_room : (file : Units) (spare : ℕ) (db : Database) → state file (with_room spare db).store ≡ state file db.store
-state_of_room file spare db = rw (packages_room file spare db) refl
-
-pub state_room : (f g : Files) (a b : Database) → g ≡ f → b ≡ with_room b.store.spare a → state g.pkg b.store ≡ state f.pkg a.store
-state_room f g a b files same =
-    ap (λ (x : Files). state x.pkg b.store) files ∙ ap (λ (d : Database). state f.pkg d.store) same ∙ state_of_room f.pkg b.store.spare a
-
-pub indexed_room : (f g : Files) (a b : Database) → g ≡ f → b ≡ with_room b.store.spare a → IsIndexed f.pkg f.idx a → IsIndexed g.pkg g.idx b
-indexed_room f g a b files same i =
-    let here : IsIndexed f.pkg f.idx (with_room b.store.spare a) =
-    record { current = i.current; rows_are = subst (λ ps. HasRows ps f.idx) (sym (packages_room f.pkg b.store.spare a)) i.rows_are } in
-    subst (λ (x : Files). IsIndexed x.pkg x.idx b) (sym files) (subst (λ (d : Database). IsIndexed f.pkg f.idx d) (sym same) here)
 
 -- ---- a header that is added, or refused
 

@@ -8,6 +8,7 @@ pub mod Erased
 pub mod Filed
 pub mod Imported
 pub mod Limits
+pub mod Owing
 pub mod Listed
 pub mod Placed
 pub mod Rebuilt

@@ -26,7 +26,7 @@ ok_of : (r : Result Turn Halt) (P : Tally → Type 0) → IfOk (tally_of r) P �
 ok_of (Ok t) P p = p
 ok_of (Err h) P p = tt
 
-headers_of : (r : Result Turn Halt) → IfErr (tally_of r) IsOfHeaders → IfErr r IsOfImporting
+pub headers_of : (r : Result Turn Halt) → IfErr (tally_of r) IsOfHeaders → IfErr r IsOfImporting
 headers_of (Ok t) k = tt
 headers_of (Err halt.OutFault) k = k
 headers_of (Err halt.NumbersSpent) k = tt

@@ -13,3 +13,4 @@ pub mod Texts
 pub mod Turns
 pub mod Went
 pub mod inner
+pub mod Prelude

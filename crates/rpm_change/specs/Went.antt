@@ -5,9 +5,12 @@ use Rattle.rpm_outside.specs.declared.sink.Sink as sink
 use Rattle.rpm_outside.specs.declared.buffered.Buffered.{Buffered}
 use Rattle.rpm_outside.specs.Buffered.{inner}
 use Rattle.rpm_outside.specs.Causes.{HasCauseAt}
+use Rattle.rpm_outside.specs.Files.{Files}
+use Rattle.rpm_hindex.specs.Rows.{Row}
 use Rattle.rpm_db.specs.Changed.{IsReady}
 use Rattle.rpm_db.specs.Changes.{Change}
 use Rattle.rpm_db.specs.Database.{Database, IsIndexed, is_indexed}
+use Rattle.rpm_db.specs.Gathering.{IsGathering, OwesOn, due}
 use Rattle.rpm_db.specs.Lawful.{IsWholeIndex}
 use Rattle.rpm_db.specs.Runs.{Runs}
 use Rattle.rpm_db.specs.State.{State, state}
@@ -77,17 +80,44 @@ module _ {D : Type 0} (d : disk.Ghosts D) where
 
   -- ---- the course
 
-  -- what is left, however it went
-  pub record LeftOn (old new : D) (before after : Database) (r : Result Tally Halt) : Type 0 where
-    pub carried : IfOk r (λ tally. CarriedOn old new before after)
+  -- what is left, however it went; this too where it was done
+  pub record LeftBy (Carried : Type 0) (old new : D) (after : Database) (r : Result Tally Halt) : Type 0 where
+    pub carried : IfOk r (λ tally. Carried)
     pub indexed : is_indexed after ≡ true
     pub runs : Runs d.tells d.files d.left_since d.moment d.bytes_read d.follows SameLog old new
     pub disk : HasCauseAt (r ≡ Err halt.DiskFault) (d.faults old) (d.faults new)
 
-  -- how far it went and which limit stopped it, once the contents are told; and what is left
-  pub record Went (Told : Type 0) (old new : D) (before after : Database) (r : Result Tally Halt)
-      (Ends : Course → State → State → Result Tally Halt → Type 0) (course : Course) : Type 0 where
+  -- of a database that can be changed further
+  abbrev pub LeftOn : D → D → Database → Database → Result Tally Halt → Type 0
+  LeftOn old new before after r = LeftBy (CarriedOn old new before after) old new after r
+
+  -- how far it went and which limit stopped it, once the contents are told; and what is left. The index is asked
+  -- where this holds, and the files reach as far as these
+  pub record WentBy (Carried Asked Told : Type 0) (from to : Files) (old new : D) (before after : Database)
+      (r : Result Tally Halt) (Ends : Course → State → State → Result Tally Halt → Type 0) (course : Course) : Type 0 where
     pub ended : Told → Ends course (state_on old before) (state_on new after) r
-    pub limits : Told → LimitsOn old new before after course.changes r
+    pub limits : Told → (indexed : Bool) → (indexed ≡ true → Asked)
+        → LimitsTurn indexed (state_on old before) before.store after.store from to course.changes r
     pub whole : IsTrue d.tells → IsWholeIndex (d.files old).idx → WholeTurn (d.files new).idx r
-    pub left : LeftOn old new before after r
+    pub left : LeftBy Carried old new after r
+
+  -- where each change is written to both files
+  abbrev pub Went : Type 0 → D → D → Database → Database → Result Tally Halt
+      → (Course → State → State → Result Tally Halt → Type 0) → Course → Type 0
+  Went Told old new before after r Ends course =
+      WentBy (CarriedOn old new before after) (IndexedOn old before) Told (d.files old) (d.files new) old new
+      before after r Ends course
+
+  -- ---- additions whose rows are gathered
+
+  -- they go on, and the index is owed these rows
+  pub record IsOwing (Asked : Type 0) (at : D) (db : Database) (owed : List Row) : Type 0 where
+    pub gathering : IsGathering d at db owed
+    pub owes : IsTrue d.tells → Asked → OwesOn d at db owed
+
+  -- the changes are written to the store alone; the files reach as far as once the index has their rows
+  abbrev pub WentOwing : Type 0 → D → D → Database → Database → List Row → List Row → Result Tally Halt
+      → (Course → State → State → Result Tally Halt → Type 0) → Course → Type 0
+  WentOwing Told old new before after owed more r Ends course =
+      WentBy (IsOwing (OwesOn d old before owed) new after more) (OwesOn d old before owed) Told (due (d.files old) before owed)
+      (due (d.files new) after more) old new before after r Ends course

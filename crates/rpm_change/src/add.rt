@@ -1,17 +1,7 @@
 //! Adding package files.
 
 ghost use Rattle.std.specs.Prelude.{◌≡◌, ℕ, ◌+◌, ◌^◌, ◌<◌, Some, None, length, map, true, IsTrue, Ok, Err, IfOk, IfErr, IfSome};
-ghost use Rattle.rpm_header.specs.Header.{header};
-ghost use Rattle.rpm_outside.specs.Browses.{left};
-ghost use Rattle.rpm_outside.specs.Causes.{HasCauseAt};
-ghost use Rattle.rpm_file.specs.Package.{read_again};
-ghost use Rattle.rpm_db.specs.Changed.{IsReady};
-ghost use Rattle.rpm_db.specs.Changes.{Add, Put};
-ghost use Rattle.rpm_db.specs.Database.{holds};
-ghost use Rattle.rpm_change.specs.Adding.{change_at, put_read, put_file, add_files, stop_in, IsOfPlacing, IsOfPutting};
-ghost use Rattle.rpm_change.specs.Steps.{changing};
-ghost use Rattle.rpm_change.specs.Hands.{Hand};
-ghost use Rattle.rpm_change.specs.Went.{EndedQuietly, EndedOnErr, state_on, Went};
+ghost use Rattle.rpm_change.specs.Prelude.{Add, add_files, change_at, changing, EndedOnErr, EndedQuietly, Hand, HasCauseAt, header, holds, IsOfPlacing, IsOfPutting, IsReady, left, Put, put_file, put_read, read_again, state_on, stop_in, Went};
 
 use crate::faults::{put_absent, put_refused};
 use crate::install::read_installed;

@@ -1,11 +1,7 @@
 //! Erasing packages.
 
 ghost use Rattle.std.specs.Prelude.{◌≡◌, ℕ, ◌+◌, ◌^◌, ◌<◌, length, IsTrue, Err, IfOk, IfErr};
-ghost use Rattle.rpm_db.specs.Changed.{IsReady};
-ghost use Rattle.rpm_change.specs.Endings.{IsOfErasing};
-ghost use Rattle.rpm_change.specs.Erasing.{erase_one, erase};
-ghost use Rattle.rpm_change.specs.Hands.{Hand};
-ghost use Rattle.rpm_change.specs.Went.{EndedOnErr, state_on, Went};
+ghost use Rattle.rpm_change.specs.Prelude.{EndedOnErr, erase, erase_one, Hand, IsOfErasing, IsReady, state_on, Went};
 
 use crate::lines::put_missing;
 use crate::tally::{Halt, Tally, halt_of};

@@ -1,10 +1,7 @@
 //! The headers that the exercise makes.
 
 ghost use Rattle.std.specs.Prelude.{◌≡◌, ◌++◌, ◌∷◌, [], ◌<◌, ◌≤◌, ◌%◌, ◌+◌, ◌-◌, ◌^◌, ℕ, List, length, codes, false, IfOk, OnOk, Ok};
-ghost use Rattle.rpm_header.specs.Header.{max_data, max_entries, header};
-ghost use Rattle.rpm_header.specs.Build.{IsText};
-ghost use Rattle.rpm_header.specs.Laid.{laid, data_of};
-ghost use Rattle.rpm_change.specs.Exercise.{numbered, version, identity_items, provided_items, required_items, file_items, generated};
+ghost use Rattle.rpm_change.specs.Prelude.{data_of, file_items, generated, header, identity_items, IsText, laid, max_data, max_entries, numbered, provided_items, required_items, version};
 
 use itoa::Buffer;
 use rpm_header::{BuildFault, Builder, Form, TextList};

@@ -1,12 +1,7 @@
 //! What is told of package files that aren't read.
 
 ghost use Rattle.std.specs.Prelude.{◌≡◌, ◌++◌, ℕ, Err, IfOk, IfErr};
-ghost use Rattle.rpm_db.specs.State.{State};
-ghost use Rattle.rpm_change.specs.Steps.{ToErr, whole, failing};
-ghost use Rattle.rpm_change.specs.Endings.{IsOfLines};
-ghost use Rattle.rpm_change.specs.Texts.{at_entry, header_text, file_text, refused_line, absent_line};
-ghost use Rattle.rpm_change.specs.Hands.{Hand};
-ghost use Rattle.rpm_change.specs.Went.{EndedOnErr};
+ghost use Rattle.rpm_change.specs.Prelude.{absent_line, at_entry, EndedOnErr, failing, file_text, Hand, header_text, IsOfLines, refused_line, State, ToErr, whole};
 
 use crate::lines::put_failing;
 use crate::tally::{Halt, Tally};

@@ -1,26 +1,56 @@
 //! Importing a list of headers.
 
 ghost use Rattle.std.specs.Prelude.{◌≡◌, ◌^◌, ◌<◌, codes, IsTrue, Err, IfErr};
-ghost use Rattle.rpm_outside.specs.Browses.{left, Browses};
-ghost use Rattle.rpm_outside.specs.Causes.{HasCauseAt};
-ghost use Rattle.rpm_outside.specs.Shelves.{bytes_at};
-ghost use Rattle.rpm_change.specs.Importing.{import_listed, import_list, listed, max_headers};
-ghost use Rattle.rpm_change.specs.Turns.{counted_once, IsOfImporting};
-ghost use Rattle.rpm_change.specs.Hands.{Hand};
-ghost use Rattle.rpm_db.specs.Changed.{IsReady};
-ghost use Rattle.rpm_change.specs.Went.{EndedOnErr, Went};
+ghost use Rattle.rpm_change.specs.Prelude.{Browses, bytes_at, counted_once, EndedOnErr, Hand, HasCauseAt, import_list, import_listed, IsGathering, IsOfImporting, IsReady, left, listed, max_headers, Went, WentOwing};
 
 use crate::lines::put_failing;
-use crate::tally::{Halt, Tally};
+use crate::tally::{Halt, Tally, halt_of};
 use crate::turn::import_next;
-use rpm_db::Db;
+use rpm_db::{Additions, Db};
 use rpm_outside::{Absent, Buffered, Disk, Shelf, Sink};
 use std::alloc::Global;
 
 /// The most headers that one list may have.
 const MAX_HEADERS: u32 = 16_777_215;
 
-/// Imports the list that is open, of at most so many headers. Counts each line that it writes.
+/// Imports the list that is open, of at most so many headers, while additions go on. Counts each line that it writes.
+fn import_all<D: Disk, S: Shelf, E: Sink + Drop>(
+    alloc: Global,
+    db: &mut Db,
+    disk: &mut D,
+    shelf: &mut S,
+    additions: &mut Additions,
+    most: u32,
+    err: &mut Buffered<E>,
+) -> Result<Tally, Halt>
+    requires few { most < 2 ^ 31 }
+    requires gathering { IsGathering D.Disk disk.old db.old additions.old }
+    ensures went { WentOwing D.Disk (IsTrue D.tells × IsTrue S.tells) disk.old disk.new db.old db.new additions.old
+        additions.new result (EndedOnErr E.Sink err.old err.new)
+        (import_listed most (listed (left (S.rest shelf.old)))) }
+    ensures kinds { IfErr result IsOfImporting }
+    ensures browses { Browses S.tells S.paths S.rest S.absences S.faults shelf.old shelf.new }
+    ensures shelf { HasCauseAt (result ≡ Err Halt.ShelfFault) (S.faults shelf.old) (S.faults shelf.new) }
+    ensures err { Hand E.Sink (result ≡ Err Halt.ErrFault) err.old err.new }
+{
+    let mut failed = 0u32;
+    let mut changes = 0u32;
+    let mut place = 1u32;
+    let mut is_last = false;
+    let mut room = Vec::new(alloc);
+    while !is_last {
+        let turn = import_next(
+            alloc, db, disk, shelf, additions, &mut room, most, place, err,
+        )?;
+        failed += turn.tally.failed;
+        changes += turn.tally.changes;
+        place += 1;
+        is_last = turn.is_last;
+    }
+    Ok(Tally { failed, changes })
+}
+
+/// Imports the list that is open, of at most so many headers, with one change of the index.
 fn import_open<D: Disk, S: Shelf, E: Sink + Drop>(
     alloc: Global,
     db: &mut Db,
@@ -38,19 +68,15 @@ fn import_open<D: Disk, S: Shelf, E: Sink + Drop>(
     ensures shelf { HasCauseAt (result ≡ Err Halt.ShelfFault) (S.faults shelf.old) (S.faults shelf.new) }
     ensures err { Hand E.Sink (result ≡ Err Halt.ErrFault) err.old err.new }
 {
-    let mut failed = 0u32;
-    let mut changes = 0u32;
-    let mut place = 1u32;
-    let mut is_last = false;
-    let mut room = Vec::new(alloc);
-    while !is_last {
-        let turn = import_next(alloc, db, disk, shelf, &mut room, most, place, err)?;
-        failed += turn.tally.failed;
-        changes += turn.tally.changes;
-        place += 1;
-        is_last = turn.is_last;
+    let mut additions = Additions::begin(alloc, db);
+    let tally = match import_all(alloc, db, disk, shelf, &mut additions, most, err) {
+        Ok(tally) => tally,
+        Err(halt) => return Err(halt),
+    };
+    match additions.finish(alloc, db, disk) {
+        Ok(()) => Ok(tally),
+        Err(fault) => Err(halt_of(fault)),
     }
-    Ok(Tally { failed, changes })
 }
 
 /// One argument fails, however many lines there were.
@@ -90,10 +116,11 @@ pub fn import_most<D: Disk, S: Shelf, E: Sink + Drop>(
 }
 
 /// Imports the header list under the path `-`, the standard input: each of its headers is added as it is, one at a
-/// time, with nothing but the present one in memory, in a vector that is kept from one to the next and is as long as
-/// the longest so far. A header that is none has a line on `err` and is passed over. A fault of the list has a line and
-/// ends it, and so has one header too many: at most 16777215 are taken. An absent `-` has a line too. The command
-/// counts as one argument, which fails once, however many lines there are.
+/// time. Nothing but the present one is in memory, in a vector that is kept from one to the next and is as long as
+/// the longest so far, and the rows of all: the index is changed and sealed once, after the last. A header that is
+/// none has a line on `err` and is passed over. A fault of the list has a line and ends it, and so has one header too
+/// many: at most 16777215 are taken. An absent `-` has a line too. The command counts as one argument, which fails
+/// once, however many lines there are.
 ///
 /// The disk may be an overlay: then all changes can be committed as one. After an `Err` the database isn't to be used
 /// further.

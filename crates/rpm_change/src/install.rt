@@ -1,12 +1,7 @@
 //! What a package's header gains where it is installed.
 
 ghost use Rattle.std.specs.Prelude.{◌≡◌, IsTrue, Ok, Err, IfOk};
-ghost use Rattle.rpm_header.specs.Header.{header};
-ghost use Rattle.rpm_outside.specs.Browses.{left};
-ghost use Rattle.rpm_outside.specs.Causes.{HasCauseAt};
-ghost use Rattle.rpm_file.specs.Package.{package_header, read_again};
-ghost use Rattle.rpm_change.specs.Adding.{as_installed, GivesInstalled};
-ghost use Rattle.rpm_change.specs.Installs.{install_items, installed, Installs};
+ghost use Rattle.rpm_change.specs.Prelude.{as_installed, GivesInstalled, HasCauseAt, header, install_items, installed, Installs, left, package_header, read_again};
 
 use rpm_file::{FileFault, read_package};
 use rpm_header::{BuildFault, Builder, Form, View, with_dribbles};

@@ -1,12 +1,7 @@
 //! Lines for which an argument fails.
 
 ghost use Rattle.std.specs.Prelude.{◌≡◌, ℕ, Err, IfOk, IfErr};
-ghost use Rattle.rpm_db.specs.State.{State};
-ghost use Rattle.rpm_change.specs.Steps.{Bearer, ToErr, failing};
-ghost use Rattle.rpm_change.specs.Endings.{IsOfLines};
-ghost use Rattle.rpm_change.specs.Erasing.{missing_line, missing};
-ghost use Rattle.rpm_change.specs.Hands.{Hand};
-ghost use Rattle.rpm_change.specs.Went.{EndedOnErr};
+ghost use Rattle.rpm_change.specs.Prelude.{Bearer, EndedOnErr, failing, Hand, IsOfLines, missing, missing_line, State, ToErr};
 
 use crate::tally::{Halt, Tally};
 use itoa::Buffer;

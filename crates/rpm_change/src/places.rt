@@ -1,12 +1,7 @@
 //! Lines of the headers of a list.
 
 ghost use Rattle.std.specs.Prelude.{◌≡◌, Err, IfOk, IfErr};
-ghost use Rattle.rpm_db.specs.State.{State};
-ghost use Rattle.rpm_change.specs.Endings.{IsOfLines};
-ghost use Rattle.rpm_change.specs.Importing.{place_fails};
-ghost use Rattle.rpm_change.specs.Texts.{header_text, list_text, place_line};
-ghost use Rattle.rpm_change.specs.Hands.{Hand};
-ghost use Rattle.rpm_change.specs.Went.{EndedOnErr};
+ghost use Rattle.rpm_change.specs.Prelude.{EndedOnErr, Hand, header_text, IsOfLines, list_text, place_fails, place_line, State};
 
 use crate::faults::push_header_text;
 use crate::lines::put_failing;

@@ -2,20 +2,8 @@
 
 ghost use Rattle.std.specs.Prelude.{◌≡◌, ◌+◌, ◌≤◌, true, IsTrue, Some, Err, IfOk, IfErr, OnOk};
 ghost use Rattle.std.specs.FinMap as finite;
-ghost use Rattle.rpm_outside.specs.Causes.{HasCauseAt};
-ghost use Rattle.rpm_pkgdb.specs.Written.{with_spare};
-ghost use Rattle.rpm_db.specs.Changed.{IsReady};
-ghost use Rattle.rpm_db.specs.Changes.{Erase, apply};
+ghost use Rattle.rpm_change.specs.Prelude.{apply, Bad, DiskFault, dropped, dropped_line, EndedOnOut, Erase, first_limit, Hand, is_indexed, IsCurrent, IsOfRebuilding, IsReady, next_stores, Package, ReachedAnew, rebuild, Runs, SameLog, State, state_on, StopsAt, Went, with_spare};
 ghost use Rattle.rpm_db.specs.Database as database;
-ghost use Rattle.rpm_db.specs.Database.{is_indexed};
-ghost use Rattle.rpm_db.specs.Runs.{Runs};
-ghost use Rattle.rpm_db.specs.State.{State, Package, Bad};
-ghost use Rattle.rpm_db.specs.inner.Writes.{SameLog};
-ghost use Rattle.rpm_change.specs.Limits.{first_limit, next_stores, StopsAt};
-ghost use Rattle.rpm_change.specs.Reaches.{ReachedAnew};
-ghost use Rattle.rpm_change.specs.Rebuilding.{dropped_line, dropped, rebuild, IsOfRebuilding};
-ghost use Rattle.rpm_change.specs.Hands.{Hand};
-ghost use Rattle.rpm_change.specs.Went.{EndedOnOut, state_on, IsCurrent, Went};
 
 use crate::tally::{Halt, Tally, halt_of};
 use itoa::Buffer;
@@ -184,8 +172,8 @@ pub fn rebuild<D: Disk, O: Sink + Drop>(
     ensures reach { OnOk result (IsTrue D.tells → ReachedAnew (state_on D.Disk disk.old db.old) db.old.store
         (rebuild (state_on D.Disk disk.old db.old)).changes (D.files disk.old) (D.files disk.new)) }
     ensures kinds { IfErr result IsOfRebuilding }
-    ensures runs { Runs D.tells D.files D.left_since D.moment D.bytes_read D.follows SameLog disk.old disk.new }
-    ensures disk { HasCauseAt (result ≡ Err Halt.DiskFault) (D.faults disk.old) (D.faults disk.new) }
+    ensures runs { Runs D.Disk SameLog disk.old disk.new }
+    ensures disk { DiskFault D.Disk (result ≡ Err Halt.DiskFault) disk.old disk.new }
     ensures out { Hand O.Sink (result ≡ Err Halt.OutFault) out.old out.new }
 {
     match db.rebuild(alloc, disk) {

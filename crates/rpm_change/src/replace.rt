@@ -1,12 +1,7 @@
 //! A package file in place of a package.
 
 ghost use Rattle.std.specs.Prelude.{◌≡◌, ◌+◌, Some, false, IsTrue, Err, IfOk, IfErr};
-ghost use Rattle.rpm_outside.specs.Causes.{HasCauseAt};
-ghost use Rattle.rpm_db.specs.Changed.{IsReady};
-ghost use Rattle.rpm_db.specs.Database.{holds};
-ghost use Rattle.rpm_change.specs.Adding.{replace, IsOfPutting};
-ghost use Rattle.rpm_change.specs.Hands.{Hand};
-ghost use Rattle.rpm_change.specs.Went.{EndedOnErr, state_on, Went};
+ghost use Rattle.rpm_change.specs.Prelude.{EndedOnErr, Hand, HasCauseAt, holds, IsOfPutting, IsReady, replace, state_on, Went};
 
 use crate::add::{Placing, put_file};
 use crate::lines::put_missing;

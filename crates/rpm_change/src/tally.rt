@@ -1,7 +1,7 @@
 //! How a command that changes ends.
 
 ghost use Rattle.std.specs.Prelude.{◌≡◌};
-ghost use Rattle.rpm_change.specs.Endings.{halt_of};
+ghost use Rattle.rpm_change.specs.Prelude.{halt_of};
 
 use rpm_db::ChangeFault;
 

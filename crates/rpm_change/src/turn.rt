@@ -1,25 +1,11 @@
 //! One step through a list of headers.
 
 ghost use Rattle.std.specs.Prelude.{◌≡◌, ℕ, ◌+◌, ◌<◌, ◌≤◌, Bool, List, true, IsTrue, Option, Result, Err, IfOk, IfErr, OnOk};
-ghost use Rattle.rpm_header.specs.Header.{header};
-ghost use Rattle.rpm_outside.specs.Files.{Files};
-ghost use Rattle.rpm_outside.specs.Browses.{left, Browses};
-ghost use Rattle.rpm_outside.specs.Causes.{HasCauseAt};
-ghost use Rattle.rpm_file.specs.declared.fault.ListFault.{ListFault};
-ghost use Rattle.rpm_file.specs.Answers.{IsListFault};
-ghost use Rattle.rpm_file.specs.List.{Found, list_head};
-ghost use Rattle.rpm_db.specs.State.{State};
-ghost use Rattle.rpm_pkgdb.specs.Store.{Store};
-ghost use Rattle.rpm_change.specs.Importing.{imported};
-ghost use Rattle.rpm_change.specs.Limits.{LimitsTurn};
-ghost use Rattle.rpm_change.specs.Turns.{turn, turn_found, Leaves, StopIs, tally_of, IsOfHeaders, IsOfEnding, IsOfImporting};
-ghost use Rattle.rpm_change.specs.Hands.{Hand};
-ghost use Rattle.rpm_db.specs.Changed.{IsReady};
-ghost use Rattle.rpm_change.specs.Went.{EndedOnErr, Went};
+ghost use Rattle.rpm_change.specs.Prelude.{Browses, EndedOnErr, Files, Found, Hand, HasCauseAt, header, imported, IsGathering, IsListFault, IsOfEnding, IsOfHeaders, IsOfImporting, Leaves, left, LimitsTurn, list_head, ListFault, State, StopIs, Store, tally_of, turn, turn_found, WentOwing};
 
 use crate::places::{list_text, put_bad_header, put_place};
 use crate::tally::{Halt, Tally, halt_of};
-use rpm_db::{ChangeFault, Db};
+use rpm_db::{Additions, ChangeFault, Db};
 use rpm_file::{ListFault, read_header};
 use rpm_outside::{Buffered, Disk, Shelf, Sink};
 use std::alloc::Global;
@@ -59,18 +45,19 @@ fn import_header<D: Disk, E: Sink + Drop>(
     alloc: Global,
     db: &mut Db,
     disk: &mut D,
+    additions: &mut Additions,
     place: u32,
     blob: &[u8],
     err: &mut Buffered<E>,
 ) -> Result<Tally, Halt>
-    requires ready { IsReady D.Disk disk.old db.old }
-    ensures went { Went D.Disk (IsTrue D.tells) disk.old disk.new db.old db.new result
+    requires gathering { IsGathering D.Disk disk.old db.old additions.old }
+    ensures went { WentOwing D.Disk (IsTrue D.tells) disk.old disk.new db.old db.new additions.old additions.new result
         (EndedOnErr E.Sink err.old err.new) (imported place (header blob.now)) }
     ensures one { IfOk result (λ tally. tally.failed + tally.changes ≡ 1) }
     ensures kinds { IfErr result IsOfHeaders }
     ensures err { Hand E.Sink (result ≡ Err Halt.ErrFault) err.old err.new }
 {
-    match db.add(alloc, disk, blob) {
+    match additions.add(alloc, db, disk, blob) {
         Ok(_) => Ok(Tally {
             failed: 0,
             changes: 1,
@@ -85,13 +72,14 @@ fn import_within<D: Disk, E: Sink + Drop>(
     alloc: Global,
     db: &mut Db,
     disk: &mut D,
+    additions: &mut Additions,
     most: u32,
     place: u32,
     blob: &[u8],
     err: &mut Buffered<E>,
 ) -> Result<Tally, Halt>
-    requires ready { IsReady D.Disk disk.old db.old }
-    ensures went { Went D.Disk (IsTrue D.tells) disk.old disk.new db.old db.new result
+    requires gathering { IsGathering D.Disk disk.old db.old additions.old }
+    ensures went { WentOwing D.Disk (IsTrue D.tells) disk.old disk.new db.old db.new additions.old additions.new result
         (EndedOnErr E.Sink err.old err.new) (turn_found most place blob.now) }
     ensures one { IfOk result (λ tally. tally.failed + tally.changes ≡ 1) }
     ensures kinds { IfErr result IsOfHeaders }
@@ -100,7 +88,7 @@ fn import_within<D: Disk, E: Sink + Drop>(
     if most < place {
         put_place(alloc, err, place, b"too many headers")
     } else {
-        import_header(alloc, db, disk, place, blob, err)
+        import_header(alloc, db, disk, additions, place, blob, err)
     }
 }
 
@@ -136,14 +124,16 @@ pub fn import_next<D: Disk, S: Shelf, E: Sink + Drop>(
     db: &mut Db,
     disk: &mut D,
     shelf: &mut S,
+    additions: &mut Additions,
     room: &mut Vec<u8>,
     most: u32,
     place: u32,
     err: &mut Buffered<E>,
 ) -> Result<Turn, Halt>
-    requires ready { IsReady D.Disk disk.old db.old }
-    ensures went { Went D.Disk (IsTrue D.tells × IsTrue S.tells) disk.old disk.new db.old db.new (tally_of result)
-        (EndedOnErr E.Sink err.old err.new) (turn most place (list_head (left (S.rest shelf.old)))) }
+    requires gathering { IsGathering D.Disk disk.old db.old additions.old }
+    ensures went { WentOwing D.Disk (IsTrue D.tells × IsTrue S.tells) disk.old disk.new db.old db.new additions.old
+        additions.new (tally_of result) (EndedOnErr E.Sink err.old err.new)
+        (turn most place (list_head (left (S.rest shelf.old)))) }
     ensures leaves { IfOk result (λ done. IsTrue S.tells
         → Leaves most place (list_head (left (S.rest shelf.old))) done.is_last (left (S.rest shelf.new))) }
     ensures last { IfOk result (λ done. most < place → done.is_last ≡ true) }
@@ -155,7 +145,7 @@ pub fn import_next<D: Disk, S: Shelf, E: Sink + Drop>(
 {
     match read_header(shelf, room) {
         Ok(Some(size)) => {
-            let done = import_within(alloc, db, disk, most, place, &room[..size], err);
+            let done = import_within(alloc, db, disk, additions, most, place, &room[..size], err);
             as_turn(done, most < place)
         }
         Ok(None) => Ok(Turn {

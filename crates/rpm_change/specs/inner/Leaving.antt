@@ -15,7 +15,7 @@ use Rattle.rpm_change.specs.declared.tally.Tally.{Tally}
 use Rattle.rpm_change.specs.declared.tally.Halt.{Halt}
 use Rattle.rpm_change.specs.declared.tally.Halt.TheVariants as halt
 use Rattle.rpm_change.specs.Endings.{halt_of}
-use Rattle.rpm_change.specs.Went.{IndexedOn, CarriedOn, IsCurrent, LeftOn}
+use Rattle.rpm_change.specs.Went.{IndexedOn, CarriedOn, IsCurrent, LeftBy, LeftOn}
 
 of_disk : (f : ChangeFault) → halt_of f ≡ halt.DiskFault → f ≡ fault.DiskFault
 of_disk fault.NumbersSpent is = absurd cc
@@ -33,6 +33,61 @@ module _ {D : Type 0} (d : disk.Ghosts D) where
   abbrev Ran : D → D → Type 0
   Ran = Runs d.tells d.files d.left_since d.moment d.bytes_read d.follows SameLog
 
+  -- ---- whatever is left where it was done
+
+  done_any : (C : Type 0) → C → (r : Result Tally Halt) → IfOk r (λ tally. C)
+  done_any C carried (Ok tally) = carried
+  done_any C carried (Err h) = tt
+
+  -- nothing was done
+  pub none_by : ((x : D) → d.follows x x) → (C : Type 0) → C → (at : D) (db : Database) → is_indexed db ≡ true → (r : Result Tally Halt)
+      → (r ≡ Err halt.DiskFault → ⊥) → LeftBy d C at at db r
+  none_by stays C carried at db indexed r other = record {
+    carried = done_any C carried r;
+    indexed = indexed;
+    runs = runs_none d.tells d.files d.left_since d.moment d.bytes_read d.follows stays SameLog (λ f. refl) at;
+    disk = record { later = omega arith; rose = λ is. absurd (other is) };
+  }
+
+  -- nothing was changed after it
+  pub after_by : (C : Type 0) (old new : D) (after : Database) (tally : Tally) → LeftBy d C old new after (Ok tally)
+      → (r : Result Tally Halt) → (r ≡ Err halt.DiskFault → ⊥) → LeftBy d C old new after r
+  after_by C old new after tally left r other = record {
+    carried = done_any C left.carried r;
+    indexed = left.indexed;
+    runs = left.runs;
+    disk = record { later = left.disk.later; rose = λ is. absurd (other is) };
+  }
+
+  both_by : (A B C : Type 0) → (A → B → C) → A → (r : Result Tally Halt) → IfOk r (λ tally. B) → IfOk r (λ tally. C)
+  both_by A B C join first (Ok tally) second = join first second
+  both_by A B C join first (Err h) second = tt
+
+  -- one call and then another
+  pub then_by : ((x y z : D) → d.follows x y → d.follows y z → d.follows x z) → (A B C : Type 0) → (A → B → C) → (old mid new : D)
+      (before after : Database) (tally : Tally) (r : Result Tally Halt) → LeftBy d A old mid before (Ok tally) → LeftBy d B mid new after r
+      → LeftBy d C old new after r
+  then_by joins A B C join old mid new before after tally r first second = record {
+    carried = both_by A B C join first.carried r second.carried;
+    indexed = second.indexed;
+    runs = runs_then d.tells d.files d.left_since d.moment d.bytes_read d.follows joins SameLog SameLog SameLog old mid new (λ x y log. log)
+        (λ x y z one two. two ∙ one) first.runs second.runs;
+    disk = record {
+      later = omega (arith, first.disk.later, second.disk.later);
+      rose = λ is. (let rose : Rose (d.faults mid) (d.faults new) = second.disk.rose is in omega (arith, first.disk.later, rose));
+    };
+  }
+
+  -- stopped by a fault of a change
+  pub halted_by : (C : Type 0) (old new : D) (after : Database) → Ran old new → d.faults old ≤ d.faults new → is_indexed after ≡ true
+      → (f : ChangeFault) → (f ≡ fault.DiskFault → Rose (d.faults old) (d.faults new)) → LeftBy d C old new after (Err (halt_of f))
+  halted_by C old new after runs later indexed f rose = record {
+    carried = tt;
+    indexed = indexed;
+    runs = runs;
+    disk = record { later = later; rose = λ is. rose (of_disk f (cc)) };
+  }
+
   -- ---- nothing was done
 
   pub unchanged : (at : D) (db : Database) → IsReady d at db → CarriedOn d at at db db
@@ -40,17 +95,11 @@ module _ {D : Type 0} (d : disk.Ghosts D) where
 
   pub carried_any : (old new : D) (before after : Database) → CarriedOn d old new before after → (r : Result Tally Halt)
       → IfOk r (λ tally. CarriedOn d old new before after)
-  carried_any old new before after carried (Ok tally) = carried
-  carried_any old new before after carried (Err h) = tt
+  carried_any old new before after = done_any (CarriedOn d old new before after)
 
   pub left_none : ((x : D) → d.follows x x) → (at : D) (db : Database) → IsReady d at db → (r : Result Tally Halt)
       → (r ≡ Err halt.DiskFault → ⊥) → LeftOn d at at db db r
-  left_none stays at db ready r other = record {
-    carried = carried_any at at db db (unchanged at db ready) r;
-    indexed = ready.indexed;
-    runs = runs_none d.tells d.files d.left_since d.moment d.bytes_read d.follows stays SameLog (λ f. refl) at;
-    disk = record { later = omega arith; rose = λ is. absurd (other is) };
-  }
+  left_none stays at db ready r other = none_by stays (CarriedOn d at at db db) (unchanged at db ready) at db ready.indexed r other
 
   -- ---- a change
 
@@ -88,47 +137,22 @@ module _ {D : Type 0} (d : disk.Ghosts D) where
 
   pub left_halted : (old new : D) (before after : Database) → Ran old new → d.faults old ≤ d.faults new → is_indexed after ≡ true
       → (f : ChangeFault) → (f ≡ fault.DiskFault → Rose (d.faults old) (d.faults new)) → LeftOn d old new before after (Err (halt_of f))
-  left_halted old new before after runs later indexed f rose = record {
-    carried = tt;
-    indexed = indexed;
-    runs = runs;
-    disk = record { later = later; rose = λ is. rose (of_disk f (cc)) };
-  }
+  left_halted old new before after = halted_by (CarriedOn d old new before after) old new after
 
   -- ---- one call and then another
-
-  carried_then : (old mid new : D) (start before after : Database) → CarriedOn d old mid start before → (r : Result Tally Halt)
-      → IfOk r (λ tally. CarriedOn d mid new before after) → IfOk r (λ tally. CarriedOn d old new start after)
-  carried_then old mid new start before after first (Ok tally) second = record {
-    going = second.going;
-    serving = second.serving;
-    index = λ told rows. second.index told (first.index told rows);
-  }
-  carried_then old mid new start before after first (Err h) second = tt
 
   pub left_then : ((x y z : D) → d.follows x y → d.follows y z → d.follows x z) → (old mid new : D) (start before after : Database)
       (tally : Tally) (r : Result Tally Halt) → LeftOn d old mid start before (Ok tally) → LeftOn d mid new before after r
       → LeftOn d old new start after r
-  left_then joins old mid new start before after tally r first second = record {
-    carried = carried_then old mid new start before after first.carried r second.carried;
-    indexed = second.indexed;
-    runs = runs_then d.tells d.files d.left_since d.moment d.bytes_read d.follows joins SameLog SameLog SameLog old mid new (λ x y log. log)
-        (λ x y z one two. two ∙ one) first.runs second.runs;
-    disk = record {
-      later = omega (arith, first.disk.later, second.disk.later);
-      rose = λ is. (let rose : Rose (d.faults mid) (d.faults new) = second.disk.rose is in omega (arith, first.disk.later, rose));
-    };
-  }
+  left_then joins old mid new start before after =
+      then_by joins (CarriedOn d old mid start before) (CarriedOn d mid new before after) (CarriedOn d old new start after)
+      (λ first second. record { going = second.going; serving = second.serving; index = λ told rows. second.index told (first.index told rows) })
+      old mid new before after
 
   -- nothing was changed after it
   pub left_after : (old new : D) (before after : Database) (tally : Tally) → LeftOn d old new before after (Ok tally)
       → (r : Result Tally Halt) → (r ≡ Err halt.DiskFault → ⊥) → LeftOn d old new before after r
-  left_after old new before after tally left r other = record {
-    carried = carried_any old new before after left.carried r;
-    indexed = left.indexed;
-    runs = left.runs;
-    disk = record { later = left.disk.later; rose = λ is. absurd (other is) };
-  }
+  left_after old new before after = after_by (CarriedOn d old new before after) old new after
 
   -- however many arguments failed, and changes were made
   pub left_counted : (old new : D) (before after : Database) (one other : Tally) → LeftOn d old new before after (Ok one)

@@ -1,108 +1,146 @@
-mod Stopped
-use Rattle.std.proofs.Common.{◌≡◌, ◌+◌, true, false, [], refl, arith, Ok}
+use Rattle.std.proofs.Common.{◌≡◌, [], Ok, Err, sym, ap, ◌∙◌, subst}
+use Rattle.std.proofs.lemmas.List.{append-nil}
+use Rattle.std.specs.Prelude.{IsTrue}
 use Rattle.rpm_outside.specs.Browses.{left}
 use Rattle.rpm_outside.specs.Buffered.{inner}
-use Rattle.rpm_outside.specs.inner.Browsing.{browses_none, browses_then}
-use Rattle.rpm_file.specs.List.{list_head}
-use Rattle.rpm_db.specs.State.{state}
+use Rattle.rpm_outside.specs.Files.{Units}
+use Rattle.rpm_db.specs.Database.{Database}
+use Rattle.rpm_db.specs.Gathering.{IsGathering}
+use Rattle.rpm_db.specs.State.{State, state}
+use Rattle.rpm_change.specs.Endings.{outputs, Ended, halt_of}
 use Rattle.rpm_change.specs.Importing.{import_listed, listed}
-use Rattle.rpm_change.specs.Turns.{turn, from_place}
-use Rattle.rpm_change.proofs.Courses.{halfway_start, halfway_more, halfway_end}
-use Rattle.rpm_change.proofs.Limits.{limited_start, limited_more, limited_end}
-use Rattle.rpm_change.proofs.Listed.{turn_splits, within_next}
-use Rattle.rpm_change.proofs.import.import_open.Answers.Stopped as stopped
-use Rattle.rpm_change.specs.inner.Leaving.{left_none, left_more, ready_left}
+use Rattle.rpm_change.specs.Went.{CarriedOn, EndedOnErr, IndexedOn, IsOwing, WentOwing}
+use Rattle.rpm_change.specs.inner.Leaving.{halted_by, then_by}
+use Rattle.rpm_change.specs.inner.Single.{other_stop}
+use Rattle.rpm_change.proofs.Erased.{stopped_ended}
+use Rattle.rpm_change.proofs.Imported.{add_kinds}
+use Rattle.rpm_change.proofs.Owing.{end_halts, end_limit, limits_over, owing_begun, left_asked, left_over}
+use Rattle.rpm_change.proofs.Turned.{headers_of}
+use Rattle.rpm_change.proofs.Wholes.{whole_halt}
 use Rattle.rpm_change.proofs.import.import_open.Goals as goal
 
-pub loop-is_last-init : goal.loop-is_last-init
-loop-is_last-init g c = record {
-  goes = λ both out_tells out.
-      let s = state (g.D.Disk.files c.args.disk.now).pkg c.args.db.now.store in
-      halfway_start out_tells g.E.Sink.tells (import_listed c.args.most (listed (left (g.S.Shelf.rest c.args.shelf.now)))) s out (g.E.Sink.taken
-      (inner c.args.err.now));
-  limited = λ both i rows.
-      limited_start i (import_listed c.args.most (listed (left (g.S.Shelf.rest c.args.shelf.now))))
-      (state (g.D.Disk.files c.args.disk.now).pkg c.args.db.now.store) c.args.db.now.store;
-  few = omega arith;
-  within = λ going. omega arith;
-  below = omega arith;
-  whole = λ told whole. whole;
-  left = left_none g.D.Disk g.met.D.Disk.follows_refl c.args.disk.now c.args.db.now c.requires.ready (Ok (record { failed = 0; changes = 0 })) (λ is. cc);
-  browses = browses_none g.S.Shelf.tells g.S.Shelf.paths g.S.Shelf.rest g.S.Shelf.absences g.S.Shelf.faults c.args.shelf.now;
-  err = omega arith;
-  err_rest = g.met.E.Sink.follows_refl (inner c.args.err.now);
-}
+pub import_all-requires-clause-gathering : goal.import_all-requires-clause-gathering
+import_all-requires-clause-gathering g c =
+    let b = c.begin-additions.ensures in
+    let owing = owing_begun g.D.Disk c.args.disk.now c.args.db.now c.begin-additions.result c.requires.ready b.goes b.order b.sealed b.none in
+    subst (λ (x : Database). IsGathering g.D.Disk c.args.disk.now x c.begin-additions.result) (sym b.same) owing.gathering
 
-pub loop-is_last-preserved : goal.loop-is_last-preserved
-loop-is_last-preserved g c =
-    let most = c.args.most in
-    let k = c.loop-is_last.place in
-    let inv = c.loop-is_last.invariant in
-    let done = c.in_ok-turn.ensures in
-    let going : c.loop-is_last.is_last ≡ false = cc in
-    let s = state (g.D.Disk.files c.args.disk.now).pkg c.args.db.now.store in
-    let t = state (g.D.Disk.files c.loop-is_last.disk).pkg c.loop-is_last.db.store in
-    let u = state (g.D.Disk.files c.import_next.new.disk).pkg c.import_next.new.db.store in
-    let bytes = left (g.S.Shelf.rest c.loop-is_last.shelf) in
-    let behind = left (g.S.Shelf.rest c.import_next.new.shelf) in
-    let all = import_listed most (listed (left (g.S.Shelf.rest c.args.shelf.now))) in
-    let said = c.in_ok-turn.turn in
+pub finish-requires : goal.finish-requires
+finish-requires g c = record { gathering = c.in-Ok.ensures.went.left.carried.gathering }
+
+-- ---- the list was stopped
+
+pub returns-in-Err-clause-went : goal.returns-in-Err-clause-went
+returns-in-Err-clause-went g c =
+    let D = g.D.Disk in
+    let a = c.args.disk.now in
+    let db = c.args.db.now in
+    let b = c.begin-additions.ensures in
+    let owed = c.begin-additions.result in
+    let course = import_listed c.args.most (listed (left (g.S.Shelf.rest c.args.shelf.now))) in
+    let owing = owing_begun D a db owed c.requires.ready b.goes b.order b.sealed b.none in
+    let w = subst (λ (x : Database). WentOwing D (IsTrue D.tells × IsTrue g.S.Shelf.tells) a c.import_all.new.disk x c.import_all.new.db owed
+    c.import_all.new.additions (Err c.in-Err.halt) (EndedOnErr g.E.Sink c.args.err.now c.import_all.new.err) course) b.same c.in-Err.ensures.went in
     record {
-      goes = λ both out_tells out.
-          let ended = done.went.ended both out_tells out in
-          halfway_more out_tells g.E.Sink.tells all (from_place false most k (listed bytes)) (turn most k (list_head bytes))
-          (from_place said.is_last most (k + 1) (listed behind)) s t u c.loop-is_last.failed c.loop-is_last.changes out out out
-          (g.E.Sink.taken (inner c.args.err.now)) (g.E.Sink.taken (inner c.loop-is_last.err)) (g.E.Sink.taken (inner c.import_next.new.err))
-          (turn_splits most k bytes said.is_last behind (done.leaves both.1)) (rw going at (inv.goes both out_tells out))
-          said.tally ended;
-      limited = λ both i rows.
-          limited_more i all (from_place false most k (listed bytes)) (turn most k (list_head bytes)) (from_place said.is_last most (k + 1) (listed behind)) s t
-          c.args.db.now.store c.loop-is_last.db.store c.import_next.new.db.store (turn_splits most k bytes said.is_last behind (done.leaves both.1))
-          (rw going at (inv.limited both i rows)) u said.tally (done.went.ended both true []).state_is
-          (done.went.limits both i (λ is. inv.left.carried.index both.0 (rows is)));
-      few = omega (arith, inv.few, done.one);
-      within = λ more. within_next most k said.is_last more done.last;
-      below = omega (arith, inv.within going);
-      whole = λ told whole. done.went.whole told (inv.whole told whole);
-      left = left_more g.D.Disk g.met.D.Disk.follows_trans c.args.disk.now c.loop-is_last.disk c.import_next.new.disk c.args.db.now c.loop-is_last.db
-          c.import_next.new.db
-          _ _ _ inv.left done.went.left;
-      browses = browses_then g.S.Shelf.tells g.S.Shelf.paths g.S.Shelf.rest g.S.Shelf.absences g.S.Shelf.faults c.args.shelf.now c.loop-is_last.shelf
-          c.import_next.new.shelf inv.browses done.browses;
-      err = omega (arith, inv.err, done.err.cause.later);
-      err_rest = g.met.E.Sink.follows_trans (inner c.args.err.now) (inner c.loop-is_last.err) (inner c.import_next.new.err) inv.err_rest done.err.goes_on;
+      ended = λ both ot o. w.ended both ot o;
+      limits = λ both i rows.
+          (let l = w.limits both i (λ is. owing.owes both.0 (rows is)) in
+          record { first = l.first; stores = tt; raised = tt; reached = tt });
+      whole = λ told whole. w.whole told whole;
+      left = record { carried = tt; indexed = w.left.indexed; runs = w.left.runs; disk = w.left.disk };
     }
 
-pub import_next-requires : goal.import_next-requires
-import_next-requires g c = record
-    { ready = ready_left g.D.Disk c.args.disk.now c.loop-is_last.disk c.args.db.now c.loop-is_last.db _ c.loop-is_last.invariant.left }
+-- ---- the index has all rows
 
-pub returns-in_err-turn-clause-browses : goal.returns-in_err-turn-clause-browses
-returns-in_err-turn-clause-browses = stopped.returns-in_err-turn-clause-browses
+pub returns-in-Ok-finish-clause-went : goal.returns-in-Ok-finish-clause-went
+returns-in-Ok-finish-clause-went g c =
+    let D = g.D.Disk in
+    let a = c.args.disk.now in
+    let m = c.import_all.new.disk in
+    let db = c.args.db.now in
+    let mid = c.import_all.new.db in
+    let b = c.begin-additions.ensures in
+    let owed = c.begin-additions.result in
+    let more = c.import_all.new.additions in
+    let tally = c.in-Ok.tally in
+    let f = c.in-Ok-finish.ensures in
+    let course = import_listed c.args.most (listed (left (g.S.Shelf.rest c.args.shelf.now))) in
+    let owing = owing_begun D a db owed c.requires.ready b.goes b.order b.sealed b.none in
+    let w = subst (λ (x : Database). WentOwing D (IsTrue D.tells × IsTrue g.S.Shelf.tells) a m x mid owed more (Ok tally)
+    (EndedOnErr g.E.Sink c.args.err.now c.import_all.new.err) course) b.same c.in-Ok.ensures.went in
+    let first = left_asked D a m mid more (Ok tally) owing.owes w.left in
+    let s = state (D.files a).pkg db.store in
+    record {
+      ended = λ both ot o.
+          (let old = outputs ot o g.E.Sink.tells (g.E.Sink.taken (inner c.args.err.now)) in
+          let new = outputs ot o g.E.Sink.tells (g.E.Sink.taken (inner c.import_all.new.err)) in
+          let same : state (D.files c.finish.new.disk).pkg c.finish.new.db.store ≡ state (D.files m).pkg mid.store =
+          ap (λ (u : Units). state u c.finish.new.db.store) (f.packages both.0) ∙ ap (state (D.files m).pkg) f.store in
+          subst (λ (t : State). Ended course s t (Ok tally) old new) (sym same) (w.ended both ot o));
+      limits = λ both i rows.
+          limits_over D a m c.finish.new.disk db mid c.finish.new.db more owed b.sealed i s course.changes tally f.store (f.packages both.0)
+          (λ is. f.settled.reach both.0 (first.carried.owes both.0 (rows is))) (w.limits both i (λ is. owing.owes both.0 (rows is)));
+      whole = λ told whole. f.whole told (w.whole told whole);
+      left = left_over D g.met.D.Disk.follows_trans a m c.finish.new.disk db mid c.finish.new.db more tally first (record {
+        carried = f.settled;
+        indexed = f.indexed;
+        runs = f.runs;
+        disk = record { later = f.cause.later; rose = λ is. absurd cc };
+      });
+    }
 
-pub returns-in_err-turn-clause-went : goal.returns-in_err-turn-clause-went
-returns-in_err-turn-clause-went = stopped.returns-in_err-turn-clause-went
+-- ---- or it hasn't
 
-pub returns-clause-went : goal.returns-clause-went
-returns-clause-went g c = record {
-  ended = λ both out_tells out.
-      let most = c.args.most in
-      let k = c.loop-is_last.place in
-      let past : c.loop-is_last.is_last ≡ true = cc in
-      let s = state (g.D.Disk.files c.args.disk.now).pkg c.args.db.now.store in
-      let t = state (g.D.Disk.files c.loop-is_last.disk).pkg c.loop-is_last.db.store in
-      let bytes = left (g.S.Shelf.rest c.loop-is_last.shelf) in
-      halfway_end out_tells g.E.Sink.tells (import_listed most (listed (left (g.S.Shelf.rest c.args.shelf.now)))) (from_place true most k (listed bytes)) s t
-      c.loop-is_last.failed c.loop-is_last.changes out out (g.E.Sink.taken (inner c.args.err.now)) (g.E.Sink.taken (inner c.loop-is_last.err)) refl
-      (rw past at (c.loop-is_last.invariant.goes both out_tells out));
-  limits = λ both i rows.
-      let past : c.loop-is_last.is_last ≡ true = cc in
-      let s = state (g.D.Disk.files c.args.disk.now).pkg c.args.db.now.store in
-      let t = state (g.D.Disk.files c.loop-is_last.disk).pkg c.loop-is_last.db.store in
-      let bytes = left (g.S.Shelf.rest c.loop-is_last.shelf) in
-      limited_end i (import_listed c.args.most (listed (left (g.S.Shelf.rest c.args.shelf.now))))
-      (from_place true c.args.most c.loop-is_last.place (listed bytes)) s t c.args.db.now.store c.loop-is_last.db.store
-      (record { failed = c.loop-is_last.failed; changes = c.loop-is_last.changes }) refl (rw past at (c.loop-is_last.invariant.limited both i rows));
-  whole = λ told whole. c.loop-is_last.invariant.whole told whole;
-  left = c.loop-is_last.invariant.left;
+pub returns-in-Err-finish-clause-went : goal.returns-in-Err-finish-clause-went
+returns-in-Err-finish-clause-went g c =
+    let D = g.D.Disk in
+    let a = c.args.disk.now in
+    let m = c.import_all.new.disk in
+    let e = c.finish.new.disk in
+    let db = c.args.db.now in
+    let mid = c.import_all.new.db in
+    let b = c.begin-additions.ensures in
+    let owed = c.begin-additions.result in
+    let more = c.import_all.new.additions in
+    let tally = c.in-Ok.tally in
+    let fault = c.in-Err-finish.fault in
+    let f = c.in-Err-finish.ensures in
+    let course = import_listed c.args.most (listed (left (g.S.Shelf.rest c.args.shelf.now))) in
+    let owing = owing_begun D a db owed c.requires.ready b.goes b.order b.sealed b.none in
+    let w = subst (λ (x : Database). WentOwing D (IsTrue D.tells × IsTrue g.S.Shelf.tells) a m x mid owed more (Ok tally)
+    (EndedOnErr g.E.Sink c.args.err.now c.import_all.new.err) course) b.same c.in-Ok.ensures.went in
+    let first = left_asked D a m mid more (Ok tally) owing.owes w.left in
+    let s = state (D.files a).pkg db.store in
+    let C = CarriedOn D a e db c.finish.new.db in
+    record {
+      ended = λ both ot o.
+          rw c.halt_of.ensures (stopped_ended course s (state (D.files e).pkg c.finish.new.db.store) fault
+          (outputs ot o g.E.Sink.tells (g.E.Sink.taken (inner c.args.err.now)))
+          (outputs ot o g.E.Sink.tells (g.E.Sink.taken (inner c.import_all.new.err)))
+          (record { done = course.steps; rest = []; all_is = sym (append-nil course.steps); through = (w.ended both ot o).steps }));
+      limits = λ both i rows.
+          rw c.halt_of.ensures (other_stop i s db.store c.finish.new.db.store course.changes (halt_of fault)
+          (end_limit i fault f.kinds (λ is. f.full both.0 (first.carried.owes both.0 (rows is)))));
+      whole = λ told whole. rw c.halt_of.ensures (whole_halt (D.files e).idx fault (f.whole told (w.whole told whole)));
+      left =
+          rw c.halt_of.ensures (then_by D g.met.D.Disk.follows_trans (IsOwing D (IndexedOn D a db) m mid more) C C (λ x y. y) a m e mid c.finish.new.db
+          tally (Err (halt_of fault)) first (halted_by D C m e c.finish.new.db f.runs f.cause.later f.indexed fault (λ is. f.cause.rose (cc))));
+    }
+
+pub returns-in-Err-finish-clause-kinds : goal.returns-in-Err-finish-clause-kinds
+returns-in-Err-finish-clause-kinds g c = rw c.halt_of.ensures (headers_of (Err (halt_of c.in-Err-finish.fault)) (add_kinds c.in-Err-finish.fault))
+
+pub returns-in-Err-finish-clause-shelf : goal.returns-in-Err-finish-clause-shelf
+returns-in-Err-finish-clause-shelf g c = record {
+  later = c.import_all.ensures.shelf.later;
+  rose = λ is. absurd ((end_halts c.in-Err-finish.fault).0 (sym c.halt_of.ensures ∙ (cc)));
+}
+
+pub returns-in-Err-finish-clause-err : goal.returns-in-Err-finish-clause-err
+returns-in-Err-finish-clause-err g c = record {
+  cause = record {
+    later = c.import_all.ensures.err.cause.later;
+    rose = λ is. absurd ((end_halts c.in-Err-finish.fault).1 (sym c.halt_of.ensures ∙ (cc)));
+  };
+  goes_on = c.import_all.ensures.err.goes_on;
 }

@@ -6,6 +6,7 @@ use Rattle.rpm_outside.specs.Browses.{left}
 use Rattle.rpm_outside.specs.Buffered.{inner}
 use Rattle.rpm_file.specs.declared.fault.ListFault.{ListFault}
 use Rattle.rpm_file.specs.List.{Found}
+use Rattle.rpm_db.specs.Gathering.{due}
 use Rattle.rpm_db.specs.State.{state}
 use Rattle.rpm_change.specs.declared.tally.Halt.TheVariants as halt
 use Rattle.rpm_change.specs.Limits.{LimitsTurn}
@@ -16,7 +17,7 @@ use Rattle.rpm_change.proofs.Taken.{at_end, nothing_done, ending_kinds}
 use Rattle.rpm_change.proofs.Turned.{turn_kinds, turn_cause, no_shelf, turn_last}
 use Rattle.rpm_change.proofs.turn.import_next.Answers.Front as front
 use Rattle.rpm_change.proofs.turn.import_next.Answers.Fault as fault
-use Rattle.rpm_change.specs.inner.Leaving.{left_none}
+use Rattle.rpm_change.proofs.Owing.{owing_none}
 use Rattle.rpm_change.proofs.turn.import_next.Goals as goal
 
 -- a header stands in front
@@ -59,12 +60,12 @@ returns-in-Ok-None-clause-went g c = record {
       let s = state (g.D.Disk.files c.args.disk.now).pkg c.args.db.now.store in
       let v = c.args.db.now.store in
       let said = rw c.in-Ok-None.field-0-is at c.in-Ok-None.ensures in
-      let f = g.D.Disk.files c.args.disk.now in
+      let f = due (g.D.Disk.files c.args.disk.now) c.args.db.now c.args.additions.now in
       at_end (λ (course : Course). LimitsTurn i s v v f f course.changes (Ok (record { failed = 0; changes = 0 }))) c.args.most c.args.place _
       (said.answers both.1).0
       (none_made i s v v v.spare (record { failed = 0; changes = 0 }) refl);
   whole = λ told whole. whole;
-  left = left_none g.D.Disk g.met.D.Disk.follows_refl c.args.disk.now c.args.db.now c.requires.ready (Ok (record { failed = 0; changes = 0 })) (λ is. cc);
+  left = owing_none g.D.Disk g.met.D.Disk.follows_refl c.args.disk.now c.args.db.now c.args.additions.now c.requires.gathering (Ok (record { failed = 0; changes = 0 })) (λ is. cc);
 }
 
 pub returns-in-Ok-None-clause-leaves : goal.returns-in-Ok-None-clause-leaves

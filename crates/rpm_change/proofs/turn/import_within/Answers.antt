@@ -3,7 +3,7 @@ use Rattle.std.proofs.lemmas.Bool.Decides.{nat_tests}
 use Rattle.rpm_db.specs.State.{state}
 use Rattle.rpm_change.proofs.Unchanged.{line_limits}
 use Rattle.rpm_change.proofs.Wholes.{whole_turn, line_unbroken}
-use Rattle.rpm_change.specs.inner.Leaving.{left_none}
+use Rattle.rpm_change.proofs.Owing.{owing_none}
 use Rattle.rpm_change.proofs.Turned.{lines_only}
 use Rattle.rpm_change.specs.declared.tally.Halt.TheVariants as halt
 use Rattle.rpm_change.proofs.turn.import_within.Goals as goal
@@ -21,7 +21,7 @@ returns-then-most-place-clause-went g c = record {
   whole = λ told whole.
       let f = g.D.Disk.files c.args.disk.now in
       whole_turn f f c.put_place.result refl whole (line_unbroken c.put_place.result c.put_place.ensures.kinds);
-  left = left_none g.D.Disk g.met.D.Disk.follows_refl c.args.disk.now c.args.db.now c.requires.ready c.put_place.result
+  left = owing_none g.D.Disk g.met.D.Disk.follows_refl c.args.disk.now c.args.db.now c.args.additions.now c.requires.gathering c.put_place.result
       (lines_only c.put_place.result halt.DiskFault c.put_place.ensures.kinds);
 }
 

@@ -2,11 +2,12 @@
 use Rattle.std.proofs.Common.{◌+◌, ◌≤◌}
 use Rattle.rpm_outside.specs.Browses.{left}
 use Rattle.rpm_file.specs.List.{list_head}
+use Rattle.rpm_db.specs.Gathering.{due}
 use Rattle.rpm_db.specs.State.{state}
 use Rattle.rpm_change.specs.declared.tally.Tally.{Tally}
 use Rattle.rpm_change.proofs.Taken.{ending_shelf, ending_leaves, ending_whole, kind_at}
 use Rattle.rpm_change.proofs.Turned.{turn_ok}
-use Rattle.rpm_change.specs.inner.Leaving.{left_none}
+use Rattle.rpm_change.proofs.Owing.{owing_none}
 use Rattle.rpm_change.specs.declared.tally.Halt.TheVariants as halt
 use Rattle.rpm_change.proofs.turn.import_next.Goals as goal
 
@@ -19,13 +20,14 @@ returns-in-Err-clause-went g c = record {
   limits = λ both i rows.
       rw c.as_turn-in-Err.ensures.value
       (c.end_list.ensures.limits c.args.most (list_head (left (g.S.Shelf.rest c.args.shelf.now))) (c.in-Err.ensures.answers both.1)
-      (state (g.D.Disk.files c.args.disk.now).pkg c.args.db.now.store) c.args.db.now.store (g.D.Disk.files c.args.disk.now) i);
+      (state (g.D.Disk.files c.args.disk.now).pkg c.args.db.now.store) c.args.db.now.store
+      (due (g.D.Disk.files c.args.disk.now) c.args.db.now c.args.additions.now) i);
   whole = λ told whole.
       rw c.as_turn-in-Err.ensures.value
       (ending_whole (g.D.Disk.files c.args.disk.now).idx c.end_list.result c.end_list.ensures.kinds whole);
   left =
       rw c.as_turn-in-Err.ensures.value
-      (left_none g.D.Disk g.met.D.Disk.follows_refl c.args.disk.now c.args.db.now c.requires.ready c.end_list.result
+      (owing_none g.D.Disk g.met.D.Disk.follows_refl c.args.disk.now c.args.db.now c.args.additions.now c.requires.gathering c.end_list.result
       (kind_at c.end_list.result halt.DiskFault c.end_list.ensures.kinds));
 }
 

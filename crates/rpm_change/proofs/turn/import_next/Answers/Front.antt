@@ -4,6 +4,7 @@ use Rattle.rpm_outside.specs.Browses.{left}
 use Rattle.rpm_outside.specs.Buffered.{inner}
 use Rattle.rpm_file.specs.declared.fault.ListFault.{ListFault}
 use Rattle.rpm_file.specs.List.{Found, list_head}
+use Rattle.rpm_db.specs.Gathering.{due}
 use Rattle.rpm_db.specs.State.{state}
 use Rattle.rpm_change.specs.declared.tally.Tally.{Tally}
 use Rattle.rpm_change.specs.Endings.{outputs, Ended}
@@ -29,7 +30,8 @@ returns-in-Ok-Some-clause-went g c = record {
       let said = rw c.in-Ok-Some.field-0-is at c.in-Ok-Some.ensures in
       rw c.as_turn.ensures.value
       (at_header (λ (course : Course). LimitsTurn i (state (g.D.Disk.files c.args.disk.now).pkg c.args.db.now.store) c.args.db.now.store
-      c.import_within-done.new.db.store (g.D.Disk.files c.args.disk.now) (g.D.Disk.files c.import_within-done.new.disk)
+      c.import_within-done.new.db.store (due (g.D.Disk.files c.args.disk.now) c.args.db.now c.args.additions.now)
+      (due (g.D.Disk.files c.import_within-done.new.disk) c.import_within-done.new.db c.import_within-done.new.additions)
       course.changes c.import_within-done.result) c.args.most c.args.place _ _ _ _ (said.answers both.1)
       (ap (take c.in-Ok-Some.size) c.deref.ensures.value) (c.import_within-done.ensures.went.limits both.0 i rows));
   whole = λ told whole. rw c.as_turn.ensures.value (c.import_within-done.ensures.went.whole told whole);

@@ -5,14 +5,15 @@ use Rattle.rpm_outside.specs.Browses.{left}
 use Rattle.rpm_outside.specs.Buffered.{inner}
 use Rattle.rpm_outside.specs.inner.Browsing.{browses_then}
 use Rattle.rpm_file.specs.List.{list_head}
+use Rattle.rpm_db.specs.Gathering.{OwesOn}
 use Rattle.rpm_db.specs.State.{state}
 use Rattle.rpm_change.specs.Importing.{import_listed, listed}
 use Rattle.rpm_change.specs.Turns.{turn, from_place}
 use Rattle.rpm_change.proofs.Courses.{halfway_stop}
 use Rattle.rpm_change.proofs.Limits.{limited_stop}
 use Rattle.rpm_change.proofs.Listed.{turn_splits, turn_ahead}
-use Rattle.rpm_change.specs.inner.Leaving.{left_then}
-use Rattle.rpm_change.proofs.import.import_open.Goals as goal
+use Rattle.rpm_change.proofs.Owing.{owing_then}
+use Rattle.rpm_change.proofs.import.import_all.Goals as goal
 
 pub returns-in_err-turn-clause-went : goal.returns-in_err-turn-clause-went
 returns-in_err-turn-clause-went g c = record {
@@ -48,14 +49,15 @@ returns-in_err-turn-clause-went g c = record {
       (listed split.1.0)) s t
       c.args.db.now.store c.loop-is_last.db.store c.import_next.new.db.store (turn_splits most k bytes split.0 split.1.0 split.1.1)
       (rw going at (inv.limited both i rows)) c.in_err-turn.field-0.0
-      (c.in_err-turn.ensures.went.limits both i (λ is. inv.left.carried.index both.0 (rows is))));
+      (c.in_err-turn.ensures.went.limits both i (λ is. inv.left.carried.owes both.0 (rows is))));
   whole = λ told whole.
       let p = err_from_is_err_and c.from_residual.result c.from_residual.ensures.1 in
       rw (p.1, p.2) (c.in_err-turn.ensures.went.whole told (c.loop-is_last.invariant.whole told whole));
   left =
       let p = err_from_is_err_and c.from_residual.result c.from_residual.ensures.1 in
-      rw (p.1, p.2) (left_then g.D.Disk g.met.D.Disk.follows_trans c.args.disk.now c.loop-is_last.disk c.import_next.new.disk c.args.db.now c.loop-is_last.db
-      c.import_next.new.db _ _ c.loop-is_last.invariant.left c.in_err-turn.ensures.went.left);
+      rw (p.1, p.2) (owing_then g.D.Disk g.met.D.Disk.follows_trans (OwesOn g.D.Disk c.args.disk.now c.args.db.now c.args.additions.now) c.args.disk.now
+      c.loop-is_last.disk c.import_next.new.disk c.loop-is_last.db c.import_next.new.db c.loop-is_last.additions c.import_next.new.additions _ _
+      c.loop-is_last.invariant.left c.in_err-turn.ensures.went.left);
 }
 
 pub returns-in_err-turn-clause-browses : goal.returns-in_err-turn-clause-browses
