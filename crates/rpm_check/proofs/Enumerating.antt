@@ -19,7 +19,7 @@ use Rattle.rpm_db.specs.inner.Laws.{is_there}
 use Rattle.rpm_check.specs.declared.list.Unmet.{Unmet}
 use Rattle.rpm_check.specs.Unmet.{required, lacks, unmet_in, unmet_read, unmet_of, unmet, is_above, unmet_after, IsNextUnmet}
 use Rattle.rpm_check.specs.inner.Rounds.{unmet_at, IsFirst}
-use Rattle.rpm_check.proofs.FromOne.{from_one}
+use Rattle.rpm_db.specs.inner.FromOne.{from_one}
 use Rattle.rpm_check.proofs.Turning.{turns_above, one_turn, no_turn}
 
 -- ---- rising lists

@@ -9,7 +9,7 @@ use Rattle.rpm_select.specs.declared.selection.Selection.{Selection}
 use Rattle.rpm_select.specs.Picks.{NextNumberIs}
 use Rattle.rpm_select.specs.Selections.{picks}
 use Rattle.rpm_check.proofs.Above.{numbers_above}
-use Rattle.rpm_check.proofs.FromOne.{from_one}
+use Rattle.rpm_db.specs.inner.FromOne.{from_one}
 use Rattle.rpm_select.specs.inner.Rising.{next_picked, picks_from_one}
 
 -- one more is pushed

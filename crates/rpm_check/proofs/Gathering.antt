@@ -17,7 +17,7 @@ use Rattle.rpm_check.specs.Edges.{good_numbers, edges_from}
 use Rattle.rpm_check.specs.inner.Ends.{BeginsBelow, BeginsUpTo, is_good_at}
 use Rattle.rpm_check.specs.inner.Nodes.{AreRising, numbers_of, edges_of}
 use Rattle.rpm_check.proofs.Ending.{good_in, no_edges}
-use Rattle.rpm_check.proofs.Members.{among}
+use Rattle.rpm_select.specs.inner.Among.{among}
 
 -- ---- one more after them
 

@@ -13,7 +13,8 @@ use Rattle.rpm_select.specs.Reach.{is_in}
 use Rattle.rpm_select.specs.inner.Keyed.{or_left, or_right}
 use Rattle.rpm_check.specs.inner.Ends.{BeginsBelow, BeginsUpTo, is_end}
 use Rattle.rpm_select.specs.inner.Rising.{AreAbove}
-use Rattle.rpm_check.proofs.Members.{among, contained, not_among}
+use Rattle.rpm_select.specs.inner.Among.{among, not_among}
+use Rattle.rpm_check.proofs.Members.{contained}
 
 -- ---- what is searched
 

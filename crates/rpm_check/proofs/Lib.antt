@@ -1,9 +1,9 @@
 pub mod Above
+pub mod Asking
 pub mod Between
 pub mod Ending
 pub mod Enumerating
 pub mod Faulting
-pub mod FromOne
 pub mod Gaining
 pub mod Gathering
 pub mod Glancing

@@ -1,41 +1,26 @@
--- What stands around a call: a disk, by the ghost members of its kind, which a clause names `D.Disk`, and a database on it.
-use Rattle.std.specs.Prelude.{◌≡◌, false, IsTrue}
-use Rattle.std.specs.Ordering.{nat_cmp}
-use Rattle.std.specs.FinMap.{FinMap}
+-- What stands around a call: a database on a disk, by the ghost members of its kind, which a clause names `D.Disk`.
+pub use Rattle.rpm_outside.specs.Frame.{DiskFault}
+pub use Rattle.rpm_db.specs.Asked.{IsAskable}
+pub use Rattle.rpm_db.specs.Frame.{Kept, KeptIndex, packages_in}
+pub use Rattle.rpm_select.specs.Frame.{HasRows}
+use Rattle.std.specs.Prelude.{◌≡◌, false, IsTrue, IfErr, Result, Err}
 use Rattle.rpm_outside.specs.declared.disk.Disk as disk
-use Rattle.rpm_outside.specs.Causes.{HasCauseAt}
-use Rattle.rpm_db.specs.Database.{Database, Keeps, KeepsIndex}
-use Rattle.rpm_db.specs.State.{Package, packages}
-use Rattle.rpm_select.specs.Reach.{HasIndexRows}
+use Rattle.rpm_db.specs.Database.{Database}
+use Rattle.rpm_check.specs.declared.faults.CheckFault.{CheckFault}
+use Rattle.rpm_check.specs.declared.faults.CheckFault.TheVariants as fault
 use Rattle.rpm_check.specs.Answers as answers
+use Rattle.rpm_check.specs.Answers.{IsBroken, is_broken}
 
 module _ {D : Type 0} (d : disk.Ghosts D) where
-  -- the value of a database is that of Packages.db as it reads
-  abbrev pub Kept : D → Database → Type 0
-  Kept it db = IsTrue d.tells → Keeps (d.files it).pkg db
-
-  -- the value of a database is that of Hindex.db as it reads
-  abbrev pub KeptIndex : D → Database → Type 0
-  KeptIndex it db = IsTrue d.tells → KeepsIndex (d.files it).idx db
-
-  -- a database can be asked: its value is that of both files, and none of its changes failed
-  pub record IsReady (it : D) (db : Database) : Type 0 where
-    pub keeps : Kept it db
-    pub keeps_index : KeptIndex it db
-    pub runs : db.stopped ≡ false
-
-  -- the index of a database is current and has the rows of its packages
-  abbrev pub HasRows : D → Database → Type 0
-  HasRows it db = HasIndexRows db (d.files it).pkg (d.files it).idx
-
-  -- the packages that a database stands for on this disk
-  abbrev pub packages_in : D → Database → FinMap nat_cmp Package
-  packages_in it db = packages (d.files it).pkg db.store
-
   -- files, images and moment stay, and the log isn't read
   abbrev pub Glances : D → D → Type 0
   Glances = answers.Glances d.tells d.files d.left_since d.moment d.bytes_read d.follows
 
-  -- an answer that comes only where the disk counted a fault
-  abbrev pub DiskFault : Type 0 → D → D → Type 0
-  DiskFault what old new = HasCauseAt what (d.faults old) (d.faults new)
+  -- a database was asked: it can be asked further, nothing but reading happened, and a fault has its cause
+  pub record Asks {X : Type 0} (old new : D) (db : Database) (result : Result X CheckFault) : Type 0 where
+    pub kept : Kept d new db
+    pub kept_index : KeptIndex d new db
+    pub broken : IsTrue d.tells → IfErr result (IsBroken (d.files old).idx)
+    pub lawful : IsTrue d.tells → HasRows d old db → is_broken result ≡ false
+    pub looks : Glances old new
+    pub cause : DiskFault d (result ≡ Err fault.DiskFault) old new

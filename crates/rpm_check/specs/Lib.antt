@@ -3,3 +3,4 @@ pub mod Edges
 pub mod Frame
 pub mod Unmet
 pub mod inner
+pub mod Prelude

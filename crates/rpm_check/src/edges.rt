@@ -1,12 +1,7 @@
 //! The graph of nodes.
 
-ghost use Rattle.std.specs.Prelude.{◌≡◌, ◌++◌, ◌&&◌, ◌==◌, [], ◌∷◌, map, filter, not, All, true, IfOk, OnOk, OnErr};
-ghost use Rattle.std.specs.List.{flat_map};
-ghost use Rattle.std.specs.List.Sorted.{IsStrictlyIncreasing};
-ghost use Rattle.rpm_graph.specs.Networks.{IsBefore, edge};
-ghost use Rattle.rpm_select.specs.Reach.{is_in};
-ghost use Rattle.rpm_check.specs.inner.Ends.{BeginsBelow, BeginsUpTo, is_end};
-ghost use Rattle.rpm_check.specs.inner.Nodes.{AreRising, numbers_of, edges_of};
+ghost use Rattle.std.specs.Prelude.{◌≡◌, ◌++◌, [], ◌∷◌, map, filter, All, true, IfOk, OnOk, OnErr};
+ghost use Rattle.rpm_check.specs.Prelude.{AreRising, BeginsBelow, BeginsUpTo, edge, edges_of, flat_map, is_end, is_in, IsBefore, IsStrictlyIncreasing, numbers_of};
 
 use crate::nodes::Node;
 use rpm_graph::Graph;

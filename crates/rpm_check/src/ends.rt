@@ -1,17 +1,8 @@
 //! Where the edges from one package end.
 
-ghost use Rattle.std.specs.Prelude.{◌≡◌, ◌++◌, ℕ, IsTrue, is_some, false, Err, IfOk, IfErr, IfSome, OnOk, OnErr};
-ghost use Rattle.std.specs.List.{flat_map};
-ghost use Rattle.std.specs.List.Sorted.{IsStrictlyIncreasing};
+ghost use Rattle.std.specs.Prelude.{◌≡◌, ◌++◌, ℕ, IsTrue, is_some, Err, IfOk, IfSome, OnOk, OnErr};
+ghost use Rattle.rpm_check.specs.Prelude.{Asks, flat_map, givers, HasRows, is_good_at, is_in, IsAskable, IsStrictlyIncreasing, KnowsGiversOn, needed_in, needs_at, packages_in, required};
 ghost use Rattle.std.specs.FinMap as finite;
-ghost use Rattle.rpm_select.specs.Reach.{is_in};
-ghost use Rattle.rpm_check.specs.Frame.{IsReady, Kept, KeptIndex, HasRows, packages_in, Glances, DiskFault};
-ghost use Rattle.rpm_check.specs.Answers.{IsBroken, is_broken};
-ghost use Rattle.rpm_check.specs.Edges.{givers};
-ghost use Rattle.rpm_check.specs.Unmet.{required};
-ghost use Rattle.rpm_check.specs.inner.Ends.{needs_at, is_good_at};
-ghost use Rattle.rpm_check.specs.inner.GiverMemos.{KnowsGivers};
-ghost use Rattle.rpm_check.specs.inner.Needs.{needed_in};
 
 use crate::faults::CheckFault;
 use crate::giver_memo::GiverMemo;
@@ -21,6 +12,7 @@ use crate::memo::Requirement;
 use rpm_db::{Db, GetFault};
 use rpm_header::View;
 use rpm_outside::Disk;
+use rpm_select::each_once;
 use rpm_tags::{Dependency, dependencies};
 use std::alloc::Global;
 
@@ -42,19 +34,12 @@ fn push_givers<D: Disk>(
     needed: &Dependency<'_>,
     ends: &mut Vec<u32>,
 ) -> Result<(), CheckFault>
-    requires ready { IsReady D.Disk disk.old db.now }
-    requires remembers { IsTrue D.tells → HasRows D.Disk disk.old db.now
-        → KnowsGivers (packages_in D.Disk disk.old db.now) memo.old }
-    ensures kept { Kept D.Disk disk.new db.now }
-    ensures kept_index { KeptIndex D.Disk disk.new db.now }
+    requires asked { IsAskable D.Disk disk.old db.now }
+    requires remembers { KnowsGiversOn D.Disk disk.old db.now memo.old }
     ensures told { OnOk result (IsTrue D.tells → HasRows D.Disk disk.old db.now
         → ends.new.items ≡ ends.old.items ++ givers (packages_in D.Disk disk.old db.now) (needed_in needed.now)) }
-    ensures remembered { IsTrue D.tells → HasRows D.Disk disk.old db.now
-        → KnowsGivers (packages_in D.Disk disk.old db.now) memo.new }
-    ensures broken { IsTrue D.tells → IfErr result (IsBroken (D.files disk.old).idx) }
-    ensures lawful { IsTrue D.tells → HasRows D.Disk disk.old db.now → is_broken result ≡ false }
-    ensures looks { Glances D.Disk disk.old disk.new }
-    ensures cause { DiskFault D.Disk (result ≡ Err CheckFault.DiskFault) disk.old disk.new }
+    ensures remembered { KnowsGiversOn D.Disk disk.old db.now memo.new }
+    ensures asks { Asks D.Disk disk.old disk.new db.now result }
 {
     let key = Requirement::of(alloc, needed)?;
     if let Some(known) = memo.get(&key) {
@@ -75,20 +60,13 @@ fn push_ends<D: Disk>(
     view: &View<'_>,
     ends: &mut Vec<u32>,
 ) -> Result<(), CheckFault>
-    requires ready { IsReady D.Disk disk.old db.now }
-    requires remembers { IsTrue D.tells → HasRows D.Disk disk.old db.now
-        → KnowsGivers (packages_in D.Disk disk.old db.now) memo.old }
-    ensures kept { Kept D.Disk disk.new db.now }
-    ensures kept_index { KeptIndex D.Disk disk.new db.now }
+    requires asked { IsAskable D.Disk disk.old db.now }
+    requires remembers { KnowsGiversOn D.Disk disk.old db.now memo.old }
     ensures told { OnOk result (IsTrue D.tells → HasRows D.Disk disk.old db.now
         → ends.new.items
         ≡ ends.old.items ++ flat_map (givers (packages_in D.Disk disk.old db.now)) (required view.now)) }
-    ensures remembered { IsTrue D.tells → HasRows D.Disk disk.old db.now
-        → KnowsGivers (packages_in D.Disk disk.old db.now) memo.new }
-    ensures broken { IsTrue D.tells → IfErr result (IsBroken (D.files disk.old).idx) }
-    ensures lawful { IsTrue D.tells → HasRows D.Disk disk.old db.now → is_broken result ≡ false }
-    ensures looks { Glances D.Disk disk.old disk.new }
-    ensures cause { DiskFault D.Disk (result ≡ Err CheckFault.DiskFault) disk.old disk.new }
+    ensures remembered { KnowsGiversOn D.Disk disk.old db.now memo.new }
+    ensures asks { Asks D.Disk disk.old disk.new db.now result }
 {
     let mut left = dependencies(view, REQUIRES);
     while let Some(needed) = left.next() {
@@ -107,22 +85,15 @@ fn push_ends_of<D: Disk>(
     number: u32,
     ends: &mut Vec<u32>,
 ) -> Result<bool, CheckFault>
-    requires ready { IsReady D.Disk disk.old db.now }
-    requires remembers { IsTrue D.tells → HasRows D.Disk disk.old db.now
-        → KnowsGivers (packages_in D.Disk disk.old db.now) memo.old }
-    ensures kept { Kept D.Disk disk.new db.now }
-    ensures kept_index { KeptIndex D.Disk disk.new db.now }
+    requires asked { IsAskable D.Disk disk.old db.now }
+    requires remembers { KnowsGiversOn D.Disk disk.old db.now memo.old }
     ensures good { IfOk result (λ good. IsTrue D.tells
         → good ≡ is_good_at (finite.get (packages_in D.Disk disk.old db.now) number)) }
     ensures told { OnOk result (IsTrue D.tells → HasRows D.Disk disk.old db.now
         → ends.new.items ≡ ends.old.items ++ flat_map (givers (packages_in D.Disk disk.old db.now))
         (needs_at (finite.get (packages_in D.Disk disk.old db.now) number))) }
-    ensures remembered { IsTrue D.tells → HasRows D.Disk disk.old db.now
-        → KnowsGivers (packages_in D.Disk disk.old db.now) memo.new }
-    ensures broken { IsTrue D.tells → IfErr result (IsBroken (D.files disk.old).idx) }
-    ensures lawful { IsTrue D.tells → HasRows D.Disk disk.old db.now → is_broken result ≡ false }
-    ensures looks { Glances D.Disk disk.old disk.new }
-    ensures cause { DiskFault D.Disk (result ≡ Err CheckFault.DiskFault) disk.old disk.new }
+    ensures remembered { KnowsGiversOn D.Disk disk.old db.now memo.new }
+    ensures asks { Asks D.Disk disk.old disk.new db.now result }
 {
     match db.read(alloc, disk, number) {
         Ok(blob) => match View::parse(&blob) {
@@ -138,17 +109,6 @@ fn push_ends_of<D: Disk>(
     }
 }
 
-/// Puts numbers in order, each once.
-fn each_once(numbers: Vec<u32>) -> Vec<u32>
-    ensures rising { IsStrictlyIncreasing result.items }
-    ensures same { (n : ℕ) → is_in n result.items ≡ is_in n numbers.items }
-{
-    let mut numbers = numbers;
-    numbers.sort_unstable();
-    numbers.dedup();
-    numbers
-}
-
 /// The numbers of the packages that meet a requirement of a number's package, rising, each once; nothing where that
 /// package can't be read.
 pub fn ends_of<D: Disk>(
@@ -158,23 +118,16 @@ pub fn ends_of<D: Disk>(
     memo: &mut GiverMemo,
     number: u32,
 ) -> Result<Option<Vec<u32>>, CheckFault>
-    requires ready { IsReady D.Disk disk.old db.now }
-    requires remembers { IsTrue D.tells → HasRows D.Disk disk.old db.now
-        → KnowsGivers (packages_in D.Disk disk.old db.now) memo.old }
-    ensures kept { Kept D.Disk disk.new db.now }
-    ensures kept_index { KeptIndex D.Disk disk.new db.now }
+    requires asked { IsAskable D.Disk disk.old db.now }
+    requires remembers { KnowsGiversOn D.Disk disk.old db.now memo.old }
     ensures good { IfOk result (λ found. IsTrue D.tells
         → is_some found ≡ is_good_at (finite.get (packages_in D.Disk disk.old db.now) number)) }
     ensures rising { IfOk result (λ found. IfSome found (λ ends. IsStrictlyIncreasing ends.items)) }
-    ensures told { IfOk result (λ found. IfSome found (λ ends. IsTrue D.tells → HasRows D.Disk disk.old db.now → (m : ℕ)
-        → is_in m ends.items ≡ is_in m (flat_map (givers (packages_in D.Disk disk.old db.now))
+    ensures told { IfOk result (λ found. IfSome found (λ ends. IsTrue D.tells → HasRows D.Disk disk.old db.now
+        → (m : ℕ) → is_in m ends.items ≡ is_in m (flat_map (givers (packages_in D.Disk disk.old db.now))
         (needs_at (finite.get (packages_in D.Disk disk.old db.now) number))))) }
-    ensures remembered { IsTrue D.tells → HasRows D.Disk disk.old db.now
-        → KnowsGivers (packages_in D.Disk disk.old db.now) memo.new }
-    ensures broken { IsTrue D.tells → IfErr result (IsBroken (D.files disk.old).idx) }
-    ensures lawful { IsTrue D.tells → HasRows D.Disk disk.old db.now → is_broken result ≡ false }
-    ensures looks { Glances D.Disk disk.old disk.new }
-    ensures cause { DiskFault D.Disk (result ≡ Err CheckFault.DiskFault) disk.old disk.new }
+    ensures remembered { KnowsGiversOn D.Disk disk.old db.now memo.new }
+    ensures asks { Asks D.Disk disk.old disk.new db.now result }
 {
     let mut ends = Vec::new(alloc);
     let good = push_ends_of(alloc, db, disk, memo, number, &mut ends)?;

@@ -1,11 +1,8 @@
 //! What stops a report.
 
-ghost use Rattle.std.specs.Prelude.{◌≡◌, ◌↔◌};
-ghost use Rattle.rpm_outside.specs.Files.{Units};
+ghost use Rattle.std.specs.Prelude.{◌≡◌};
 ghost use Rattle.rpm_select.specs.Picks as picks;
-ghost use Rattle.rpm_check.specs.Answers.{is_of_index};
-ghost use Rattle.rpm_check.specs.declared.faults.CheckFault.TheVariants.{NoMemory};
-ghost use Rattle.rpm_check.specs.inner.Faults.{fault_in};
+ghost use Rattle.rpm_check.specs.Prelude.{fault_in, NoMemory};
 
 use rpm_select::PickFault;
 use std::alloc::{AllocError, AllocFailed};

@@ -1,12 +1,7 @@
 //! Requirements whose packages were looked up before.
 
 ghost use Rattle.std.specs.Prelude.{◌≡◌, IfSome};
-ghost use Rattle.std.specs.FinMap.{FinMap};
-ghost use Rattle.std.specs.Ordering.{nat_cmp};
-ghost use Rattle.rpm_db.specs.State.{Package};
-ghost use Rattle.rpm_check.specs.Edges.{givers};
-ghost use Rattle.rpm_check.specs.inner.GiverMemos.{KnowsGivers};
-ghost use Rattle.rpm_check.specs.inner.Memos.{need_of};
+ghost use Rattle.rpm_check.specs.Prelude.{FinMap, givers, KnowsGivers, nat_cmp, need_of, Package};
 
 use crate::memo::Requirement;
 use rpm_select::Recent;

@@ -1,12 +1,7 @@
 //! Which packages meet a requirement.
 
-ghost use Rattle.std.specs.Prelude.{◌≡◌, map, IsTrue, false, Err, IfOk, IfErr};
-ghost use Rattle.rpm_select.specs.Recents.{Recalls};
-ghost use Rattle.rpm_select.specs.Selections.{picks};
-ghost use Rattle.rpm_check.specs.Frame.{IsReady, Kept, KeptIndex, HasRows, packages_in, Glances, DiskFault};
-ghost use Rattle.rpm_check.specs.Answers.{IsBroken, is_broken};
-ghost use Rattle.rpm_check.specs.Edges.{givers};
-ghost use Rattle.rpm_check.specs.inner.Needs.{needed_in};
+ghost use Rattle.std.specs.Prelude.{◌≡◌, map, IsTrue, IfOk};
+ghost use Rattle.rpm_check.specs.Prelude.{Asks, givers, HasRows, IsAskable, needed_in, packages_in, picks, Recalls};
 
 use crate::faults::CheckFault;
 use rpm_db::Db;
@@ -23,18 +18,13 @@ fn numbers_picked<D: Disk>(
     recent: &mut Recent,
     selection: &Selection<'_>,
 ) -> Result<Vec<u32>, CheckFault>
-    requires ready { IsReady D.Disk disk.old db.now }
-    ensures kept { Kept D.Disk disk.new db.now }
-    ensures kept_index { KeptIndex D.Disk disk.new db.now }
+    requires asked { IsAskable D.Disk disk.old db.now }
     ensures told { IfOk result (λ numbers. IsTrue D.tells → HasRows D.Disk disk.old db.now
         → Recalls (packages_in D.Disk disk.old db.now) recent.old
         → numbers.items ≡ map (λ e. e.0) (picks (packages_in D.Disk disk.old db.now) selection.now)) }
     ensures recalls { IsTrue D.tells → Recalls (packages_in D.Disk disk.old db.now) recent.old
         → Recalls (packages_in D.Disk disk.old db.now) recent.new }
-    ensures broken { IsTrue D.tells → IfErr result (IsBroken (D.files disk.old).idx) }
-    ensures lawful { IsTrue D.tells → HasRows D.Disk disk.old db.now → is_broken result ≡ false }
-    ensures looks { Glances D.Disk disk.old disk.new }
-    ensures cause { DiskFault D.Disk (result ≡ Err CheckFault.DiskFault) disk.old disk.new }
+    ensures asks { Asks D.Disk disk.old disk.new db.now result }
 {
     let picker = Picker::new(alloc, db, disk, selection)?;
     let mut numbers = Vec::new(alloc);
@@ -59,18 +49,13 @@ pub fn givers<D: Disk>(
     recent: &mut Recent,
     needed: &Dependency<'_>,
 ) -> Result<Vec<u32>, CheckFault>
-    requires ready { IsReady D.Disk disk.old db.now }
-    ensures kept { Kept D.Disk disk.new db.now }
-    ensures kept_index { KeptIndex D.Disk disk.new db.now }
+    requires asked { IsAskable D.Disk disk.old db.now }
     ensures told { IfOk result (λ numbers. IsTrue D.tells → HasRows D.Disk disk.old db.now
         → Recalls (packages_in D.Disk disk.old db.now) recent.old
         → numbers.items ≡ givers (packages_in D.Disk disk.old db.now) (needed_in needed.now)) }
     ensures recalls { IsTrue D.tells → Recalls (packages_in D.Disk disk.old db.now) recent.old
         → Recalls (packages_in D.Disk disk.old db.now) recent.new }
-    ensures broken { IsTrue D.tells → IfErr result (IsBroken (D.files disk.old).idx) }
-    ensures lawful { IsTrue D.tells → HasRows D.Disk disk.old db.now → is_broken result ≡ false }
-    ensures looks { Glances D.Disk disk.old disk.new }
-    ensures cause { DiskFault D.Disk (result ≡ Err CheckFault.DiskFault) disk.old disk.new }
+    ensures asks { Asks D.Disk disk.old disk.new db.now result }
 {
     let wanted = Capability::of_range(needed.name, needed.flags, needed.version);
     numbers_picked(alloc, db, disk, recent, &Selection::Provides(wanted))

@@ -1,11 +1,7 @@
 //! The requirements of one package that are lacking.
 
-ghost use Rattle.std.specs.Prelude.{◌≡◌, ◌++◌, not, length, IsTrue, false, Err, IfOk, IfErr, OnOk};
-ghost use Rattle.rpm_check.specs.Frame.{IsReady, Kept, KeptIndex, HasRows, packages_in, Glances, DiskFault};
-ghost use Rattle.rpm_check.specs.Answers.{IsBroken, is_broken};
-ghost use Rattle.rpm_check.specs.Unmet.{required, is_met, is_passed_over, lacks, unmet_in};
-ghost use Rattle.rpm_check.specs.inner.Memos.{Knows};
-ghost use Rattle.rpm_check.specs.inner.Needs.{needed_in};
+ghost use Rattle.std.specs.Prelude.{◌≡◌, ◌++◌, length, IsTrue, IfOk, OnOk};
+ghost use Rattle.rpm_check.specs.Prelude.{Asks, HasRows, is_met, is_passed_over, IsAskable, KnowsOn, lacks, needed_in, packages_in, required, unmet_in};
 
 use crate::faults::CheckFault;
 use crate::list::Unmet;
@@ -38,19 +34,12 @@ fn is_met_once<D: Disk>(
     memo: &mut Memo,
     needed: &Dependency<'_>,
 ) -> Result<bool, CheckFault>
-    requires ready { IsReady D.Disk disk.old db.now }
-    requires remembers { IsTrue D.tells → HasRows D.Disk disk.old db.now
-        → Knows (packages_in D.Disk disk.old db.now) memo.old }
-    ensures kept { Kept D.Disk disk.new db.now }
-    ensures kept_index { KeptIndex D.Disk disk.new db.now }
+    requires asked { IsAskable D.Disk disk.old db.now }
+    requires remembers { KnowsOn D.Disk disk.old db.now memo.old }
     ensures told { IfOk result (λ met. IsTrue D.tells → HasRows D.Disk disk.old db.now
         → met ≡ is_met (packages_in D.Disk disk.old db.now) (needed_in needed.now)) }
-    ensures remembered { IsTrue D.tells → HasRows D.Disk disk.old db.now
-        → Knows (packages_in D.Disk disk.old db.now) memo.new }
-    ensures broken { IsTrue D.tells → IfErr result (IsBroken (D.files disk.old).idx) }
-    ensures lawful { IsTrue D.tells → HasRows D.Disk disk.old db.now → is_broken result ≡ false }
-    ensures looks { Glances D.Disk disk.old disk.new }
-    ensures cause { DiskFault D.Disk (result ≡ Err CheckFault.DiskFault) disk.old disk.new }
+    ensures remembered { KnowsOn D.Disk disk.old db.now memo.new }
+    ensures asks { Asks D.Disk disk.old disk.new db.now result }
 {
     let key = Requirement::of(alloc, needed)?;
     if let Some(known) = memo.get(&key) {
@@ -69,19 +58,12 @@ pub fn lacks<D: Disk>(
     memo: &mut Memo,
     needed: &Dependency<'_>,
 ) -> Result<bool, CheckFault>
-    requires ready { IsReady D.Disk disk.old db.now }
-    requires remembers { IsTrue D.tells → HasRows D.Disk disk.old db.now
-        → Knows (packages_in D.Disk disk.old db.now) memo.old }
-    ensures kept { Kept D.Disk disk.new db.now }
-    ensures kept_index { KeptIndex D.Disk disk.new db.now }
+    requires asked { IsAskable D.Disk disk.old db.now }
+    requires remembers { KnowsOn D.Disk disk.old db.now memo.old }
     ensures told { IfOk result (λ b. IsTrue D.tells → HasRows D.Disk disk.old db.now
         → b ≡ lacks (packages_in D.Disk disk.old db.now) (needed_in needed.now)) }
-    ensures remembered { IsTrue D.tells → HasRows D.Disk disk.old db.now
-        → Knows (packages_in D.Disk disk.old db.now) memo.new }
-    ensures broken { IsTrue D.tells → IfErr result (IsBroken (D.files disk.old).idx) }
-    ensures lawful { IsTrue D.tells → HasRows D.Disk disk.old db.now → is_broken result ≡ false }
-    ensures looks { Glances D.Disk disk.old disk.new }
-    ensures cause { DiskFault D.Disk (result ≡ Err CheckFault.DiskFault) disk.old disk.new }
+    ensures remembered { KnowsOn D.Disk disk.old db.now memo.new }
+    ensures asks { Asks D.Disk disk.old disk.new db.now result }
 {
     if is_passed_over(needed.name) {
         return Ok(false);
@@ -110,20 +92,13 @@ pub fn push_lacking<D: Disk>(
     view: &View<'_>,
     found: &mut Vec<Unmet>,
 ) -> Result<(), CheckFault>
-    requires ready { IsReady D.Disk disk.old db.now }
-    requires remembers { IsTrue D.tells → HasRows D.Disk disk.old db.now
-        → Knows (packages_in D.Disk disk.old db.now) memo.old }
-    ensures kept { Kept D.Disk disk.new db.now }
-    ensures kept_index { KeptIndex D.Disk disk.new db.now }
+    requires asked { IsAskable D.Disk disk.old db.now }
+    requires remembers { KnowsOn D.Disk disk.old db.now memo.old }
     ensures told { OnOk result (IsTrue D.tells → HasRows D.Disk disk.old db.now
         → found.new.items ≡ found.old.items ++ unmet_in (lacks (packages_in D.Disk disk.old db.now)) number
         (required view.now) 0) }
-    ensures remembered { IsTrue D.tells → HasRows D.Disk disk.old db.now
-        → Knows (packages_in D.Disk disk.old db.now) memo.new }
-    ensures broken { IsTrue D.tells → IfErr result (IsBroken (D.files disk.old).idx) }
-    ensures lawful { IsTrue D.tells → HasRows D.Disk disk.old db.now → is_broken result ≡ false }
-    ensures looks { Glances D.Disk disk.old disk.new }
-    ensures cause { DiskFault D.Disk (result ≡ Err CheckFault.DiskFault) disk.old disk.new }
+    ensures remembered { KnowsOn D.Disk disk.old db.now memo.new }
+    ensures asks { Asks D.Disk disk.old disk.new db.now result }
 {
     let mut left = dependencies(view, REQUIRES);
     for place in 0..required_count(view) {

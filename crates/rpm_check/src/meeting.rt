@@ -1,13 +1,7 @@
 //! Whether one requirement is met.
 
-ghost use Rattle.std.specs.Prelude.{◌≡◌, IsTrue, false, Err, IfOk, IfErr};
-ghost use Rattle.rpm_select.specs.Recents.{Recalls};
-ghost use Rattle.rpm_select.specs.Selections.{picks};
-ghost use Rattle.rpm_check.specs.Frame.{IsReady, Kept, KeptIndex, HasRows, packages_in, Glances, DiskFault};
-ghost use Rattle.rpm_check.specs.Answers.{IsBroken, is_broken};
-ghost use Rattle.rpm_check.specs.Unmet.{is_met};
-ghost use Rattle.rpm_check.specs.inner.Needs.{needed_in};
-ghost use Rattle.rpm_check.specs.inner.Picking.{is_some_of};
+ghost use Rattle.std.specs.Prelude.{◌≡◌, IsTrue, IfOk};
+ghost use Rattle.rpm_check.specs.Prelude.{Asks, HasRows, is_met, is_some_of, IsAskable, needed_in, packages_in, picks, Recalls};
 
 use crate::faults::CheckFault;
 use rpm_db::Db;
@@ -24,18 +18,13 @@ fn picks_any<D: Disk>(
     recent: &mut Recent,
     selection: &Selection<'_>,
 ) -> Result<bool, CheckFault>
-    requires ready { IsReady D.Disk disk.old db.now }
-    ensures kept { Kept D.Disk disk.new db.now }
-    ensures kept_index { KeptIndex D.Disk disk.new db.now }
+    requires asked { IsAskable D.Disk disk.old db.now }
     ensures told { IfOk result (λ any. IsTrue D.tells → HasRows D.Disk disk.old db.now
         → Recalls (packages_in D.Disk disk.old db.now) recent.old
         → any ≡ is_some_of (picks (packages_in D.Disk disk.old db.now) selection.now)) }
     ensures recalls { IsTrue D.tells → Recalls (packages_in D.Disk disk.old db.now) recent.old
         → Recalls (packages_in D.Disk disk.old db.now) recent.new }
-    ensures broken { IsTrue D.tells → IfErr result (IsBroken (D.files disk.old).idx) }
-    ensures lawful { IsTrue D.tells → HasRows D.Disk disk.old db.now → is_broken result ≡ false }
-    ensures looks { Glances D.Disk disk.old disk.new }
-    ensures cause { DiskFault D.Disk (result ≡ Err CheckFault.DiskFault) disk.old disk.new }
+    ensures asks { Asks D.Disk disk.old disk.new db.now result }
 {
     let picker = Picker::new(alloc, db, disk, selection)?;
     let picked = picker.next_number_after(alloc, db, disk, selection, recent, 0)?;
@@ -62,18 +51,13 @@ pub fn is_met<D: Disk>(
     recent: &mut Recent,
     needed: &Dependency<'_>,
 ) -> Result<bool, CheckFault>
-    requires ready { IsReady D.Disk disk.old db.now }
-    ensures kept { Kept D.Disk disk.new db.now }
-    ensures kept_index { KeptIndex D.Disk disk.new db.now }
+    requires asked { IsAskable D.Disk disk.old db.now }
     ensures told { IfOk result (λ met. IsTrue D.tells → HasRows D.Disk disk.old db.now
         → Recalls (packages_in D.Disk disk.old db.now) recent.old
         → met ≡ is_met (packages_in D.Disk disk.old db.now) (needed_in needed.now)) }
     ensures recalls { IsTrue D.tells → Recalls (packages_in D.Disk disk.old db.now) recent.old
         → Recalls (packages_in D.Disk disk.old db.now) recent.new }
-    ensures broken { IsTrue D.tells → IfErr result (IsBroken (D.files disk.old).idx) }
-    ensures lawful { IsTrue D.tells → HasRows D.Disk disk.old db.now → is_broken result ≡ false }
-    ensures looks { Glances D.Disk disk.old disk.new }
-    ensures cause { DiskFault D.Disk (result ≡ Err CheckFault.DiskFault) disk.old disk.new }
+    ensures asks { Asks D.Disk disk.old disk.new db.now result }
 {
     let wanted = Capability::of_range(needed.name, needed.flags, needed.version);
     picks_any(alloc, db, disk, recent, &Selection::Provides(wanted))

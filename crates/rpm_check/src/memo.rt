@@ -1,12 +1,7 @@
 //! Requirements that were looked up before.
 
 ghost use Rattle.std.specs.Prelude.{◌≡◌, IfOk, IfSome};
-ghost use Rattle.std.specs.FinMap.{FinMap};
-ghost use Rattle.std.specs.Ordering.{nat_cmp};
-ghost use Rattle.rpm_db.specs.State.{Package};
-ghost use Rattle.rpm_check.specs.Unmet.{is_met};
-ghost use Rattle.rpm_check.specs.inner.Memos.{need_of, Knows};
-ghost use Rattle.rpm_check.specs.inner.Needs.{needed_in};
+ghost use Rattle.rpm_check.specs.Prelude.{FinMap, is_met, Knows, nat_cmp, need_of, needed_in, Package};
 
 use rpm_select::Recent;
 use rpm_tags::Dependency;

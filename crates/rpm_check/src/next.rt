@@ -1,12 +1,8 @@
 //! The next requirement that no package meets.
 
-ghost use Rattle.std.specs.Prelude.{◌≡◌, IsTrue, filter, false, Err, IfOk, IfErr};
+ghost use Rattle.std.specs.Prelude.{◌≡◌, IsTrue, filter, IfOk};
 ghost use Rattle.std.specs.FinMap as finite;
-ghost use Rattle.rpm_check.specs.Frame.{IsReady, Kept, KeptIndex, HasRows, packages_in, Glances, DiskFault};
-ghost use Rattle.rpm_check.specs.Answers.{IsBroken, is_broken};
-ghost use Rattle.rpm_check.specs.Unmet.{required, lacks, unmet, unmet_in, is_above, unmet_after, IsNextUnmet};
-ghost use Rattle.rpm_check.specs.inner.Memos.{Knows};
-ghost use Rattle.rpm_check.specs.inner.Rounds.{unmet_at, IsFirst};
+ghost use Rattle.rpm_check.specs.Prelude.{Asks, HasRows, is_above, IsAskable, IsFirst, IsNextUnmet, KnowsOn, lacks, packages_in, required, unmet, unmet_after, unmet_at, unmet_in};
 
 use crate::faults::CheckFault;
 use crate::lacking::{REQUIRES, lacks, required_count};
@@ -36,20 +32,13 @@ fn next_lacking<D: Disk>(
     n: u32,
     i: u32,
 ) -> Result<Option<Unmet>, CheckFault>
-    requires ready { IsReady D.Disk disk.old db.now }
-    requires remembers { IsTrue D.tells → HasRows D.Disk disk.old db.now
-        → Knows (packages_in D.Disk disk.old db.now) memo.old }
-    ensures kept { Kept D.Disk disk.new db.now }
-    ensures kept_index { KeptIndex D.Disk disk.new db.now }
+    requires asked { IsAskable D.Disk disk.old db.now }
+    requires remembers { KnowsOn D.Disk disk.old db.now memo.old }
     ensures told { IfOk result (λ next. IsTrue D.tells → HasRows D.Disk disk.old db.now
         → IsFirst (filter (is_above n i) (unmet_in (lacks (packages_in D.Disk disk.old db.now)) number
         (required view.now) 0)) next) }
-    ensures remembered { IsTrue D.tells → HasRows D.Disk disk.old db.now
-        → Knows (packages_in D.Disk disk.old db.now) memo.new }
-    ensures broken { IsTrue D.tells → IfErr result (IsBroken (D.files disk.old).idx) }
-    ensures lawful { IsTrue D.tells → HasRows D.Disk disk.old db.now → is_broken result ≡ false }
-    ensures looks { Glances D.Disk disk.old disk.new }
-    ensures cause { DiskFault D.Disk (result ≡ Err CheckFault.DiskFault) disk.old disk.new }
+    ensures remembered { KnowsOn D.Disk disk.old db.now memo.new }
+    ensures asks { Asks D.Disk disk.old disk.new db.now result }
 {
     let mut left = dependencies(view, REQUIRES);
     for place in 0..required_count(view) {
@@ -77,20 +66,13 @@ fn next_in<D: Disk>(
     n: u32,
     i: u32,
 ) -> Result<Option<Unmet>, CheckFault>
-    requires ready { IsReady D.Disk disk.old db.now }
-    requires remembers { IsTrue D.tells → HasRows D.Disk disk.old db.now
-        → Knows (packages_in D.Disk disk.old db.now) memo.old }
-    ensures kept { Kept D.Disk disk.new db.now }
-    ensures kept_index { KeptIndex D.Disk disk.new db.now }
+    requires asked { IsAskable D.Disk disk.old db.now }
+    requires remembers { KnowsOn D.Disk disk.old db.now memo.old }
     ensures told { IfOk result (λ next. IsTrue D.tells → HasRows D.Disk disk.old db.now
         → IsFirst (filter (is_above n i) (unmet_at (lacks (packages_in D.Disk disk.old db.now)) number
         (finite.get (packages_in D.Disk disk.old db.now) number))) next) }
-    ensures remembered { IsTrue D.tells → HasRows D.Disk disk.old db.now
-        → Knows (packages_in D.Disk disk.old db.now) memo.new }
-    ensures broken { IsTrue D.tells → IfErr result (IsBroken (D.files disk.old).idx) }
-    ensures lawful { IsTrue D.tells → HasRows D.Disk disk.old db.now → is_broken result ≡ false }
-    ensures looks { Glances D.Disk disk.old disk.new }
-    ensures cause { DiskFault D.Disk (result ≡ Err CheckFault.DiskFault) disk.old disk.new }
+    ensures remembered { KnowsOn D.Disk disk.old db.now memo.new }
+    ensures asks { Asks D.Disk disk.old disk.new db.now result }
 {
     match db.read(alloc, disk, number) {
         Ok(blob) => match View::parse(&blob) {
@@ -121,19 +103,12 @@ pub fn next_unmet<D: Disk>(
     n: u32,
     i: u32,
 ) -> Result<Option<Unmet>, CheckFault>
-    requires keeps { Kept D.Disk disk.old db.now }
-    requires keeps_index { KeptIndex D.Disk disk.old db.now }
-    requires runs { db.now.stopped ≡ false }
-    ensures kept { Kept D.Disk disk.new db.now }
-    ensures kept_index { KeptIndex D.Disk disk.new db.now }
+    requires asked { IsAskable D.Disk disk.old db.now }
     ensures told { IfOk result (λ next. IsTrue D.tells → HasRows D.Disk disk.old db.now
         → IsNextUnmet (packages_in D.Disk disk.old db.now) n i next) }
     ensures begins { IsTrue D.tells → unmet_after (packages_in D.Disk disk.old db.now) 0 0 ≡ unmet
         (packages_in D.Disk disk.old db.now) }
-    ensures broken { IsTrue D.tells → IfErr result (IsBroken (D.files disk.old).idx) }
-    ensures lawful { IsTrue D.tells → HasRows D.Disk disk.old db.now → is_broken result ≡ false }
-    ensures looks { Glances D.Disk disk.old disk.new }
-    ensures cause { DiskFault D.Disk (result ≡ Err CheckFault.DiskFault) disk.old disk.new }
+    ensures asks { Asks D.Disk disk.old disk.new db.now result }
 {
     let mut memo = Memo::new(alloc);
     let mut passed = n.saturating_sub(1);

@@ -1,14 +1,8 @@
 //! The packages that can be read, and which packages each of them requires.
 
-ghost use Rattle.std.specs.Prelude.{◌≡◌, ◌++◌, ◌<◌, ◌≤◌, All, IsTrue, false, Err, IfOk, IfErr, OnOk};
+ghost use Rattle.std.specs.Prelude.{◌≡◌, ◌++◌, ◌<◌, ◌≤◌, All, IsTrue, IfOk, OnOk};
 ghost use Rattle.std.specs.FinMap as finite;
-ghost use Rattle.std.specs.List.{flat_map};
-ghost use Rattle.rpm_check.specs.Frame.{IsReady, Kept, KeptIndex, HasRows, packages_in, Glances, DiskFault};
-ghost use Rattle.rpm_check.specs.Answers.{IsBroken, is_broken};
-ghost use Rattle.rpm_check.specs.Edges.{good_numbers, edges_from, all_edges};
-ghost use Rattle.rpm_check.specs.inner.Ends.{good_if, is_good_at};
-ghost use Rattle.rpm_check.specs.inner.GiverMemos.{KnowsGivers};
-ghost use Rattle.rpm_check.specs.inner.Nodes.{AreRising, numbers_of, edges_of};
+ghost use Rattle.rpm_check.specs.Prelude.{all_edges, AreRising, Asks, edges_from, edges_of, flat_map, good_if, good_numbers, HasRows, is_good_at, IsAskable, KnowsGiversOn, numbers_of, packages_in};
 
 use crate::ends::ends_of;
 use crate::faults::CheckFault;
@@ -34,13 +28,10 @@ fn push_node<D: Disk>(
     number: u32,
     nodes: &mut Vec<Node>,
 ) -> Result<(), CheckFault>
-    requires ready { IsReady D.Disk disk.old db.now }
-    requires remembers { IsTrue D.tells → HasRows D.Disk disk.old db.now
-        → KnowsGivers (packages_in D.Disk disk.old db.now) memo.old }
+    requires asked { IsAskable D.Disk disk.old db.now }
+    requires remembers { KnowsGiversOn D.Disk disk.old db.now memo.old }
     requires rising { AreRising nodes.old.items }
     requires below { All (λ n. n < number) (numbers_of nodes.old.items) }
-    ensures kept { Kept D.Disk disk.new db.now }
-    ensures kept_index { KeptIndex D.Disk disk.new db.now }
     ensures rising { OnOk result (AreRising nodes.new.items) }
     ensures reached { OnOk result (All (λ n. n ≤ number) (numbers_of nodes.new.items)) }
     ensures numbers { OnOk result (IsTrue D.tells
@@ -50,12 +41,8 @@ fn push_node<D: Disk>(
         → flat_map (edges_of (good_numbers (packages_in D.Disk disk.old db.now))) nodes.new.items ≡ flat_map
         (edges_of (good_numbers (packages_in D.Disk disk.old db.now))) nodes.old.items ++ edges_from
         (packages_in D.Disk disk.old db.now) number) }
-    ensures remembered { IsTrue D.tells → HasRows D.Disk disk.old db.now
-        → KnowsGivers (packages_in D.Disk disk.old db.now) memo.new }
-    ensures broken { IsTrue D.tells → IfErr result (IsBroken (D.files disk.old).idx) }
-    ensures lawful { IsTrue D.tells → HasRows D.Disk disk.old db.now → is_broken result ≡ false }
-    ensures looks { Glances D.Disk disk.old disk.new }
-    ensures cause { DiskFault D.Disk (result ≡ Err CheckFault.DiskFault) disk.old disk.new }
+    ensures remembered { KnowsGiversOn D.Disk disk.old db.now memo.new }
+    ensures asks { Asks D.Disk disk.old disk.new db.now result }
 {
     let ends = match ends_of(alloc, db, disk, memo, number) {
         Ok(None) => return Ok(()),
@@ -70,19 +57,14 @@ fn push_node<D: Disk>(
 
 /// The packages that can be read, by rising number. Reads the blocks of each package once.
 pub fn read_nodes<D: Disk>(alloc: Global, db: &Db, disk: &mut D) -> Result<Vec<Node>, CheckFault>
-    requires ready { IsReady D.Disk disk.old db.now }
-    ensures kept { Kept D.Disk disk.new db.now }
-    ensures kept_index { KeptIndex D.Disk disk.new db.now }
+    requires asked { IsAskable D.Disk disk.old db.now }
     ensures rising { IfOk result (λ nodes. AreRising nodes.items) }
     ensures numbers { IfOk result (λ nodes. IsTrue D.tells
         → numbers_of nodes.items ≡ good_numbers (packages_in D.Disk disk.old db.now)) }
     ensures told { IfOk result (λ nodes. IsTrue D.tells → HasRows D.Disk disk.old db.now
         → flat_map (edges_of (good_numbers (packages_in D.Disk disk.old db.now))) nodes.items ≡ all_edges
         (packages_in D.Disk disk.old db.now)) }
-    ensures broken { IsTrue D.tells → IfErr result (IsBroken (D.files disk.old).idx) }
-    ensures lawful { IsTrue D.tells → HasRows D.Disk disk.old db.now → is_broken result ≡ false }
-    ensures looks { Glances D.Disk disk.old disk.new }
-    ensures cause { DiskFault D.Disk (result ≡ Err CheckFault.DiskFault) disk.old disk.new }
+    ensures asks { Asks D.Disk disk.old disk.new db.now result }
 {
     let mut memo = GiverMemo::new(alloc);
     let mut nodes = Vec::new(alloc);

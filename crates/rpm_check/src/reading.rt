@@ -1,9 +1,7 @@
 //! The graph of the packages.
 
-ghost use Rattle.std.specs.Prelude.{◌≡◌, IsTrue, false, Err, IfOk, IfErr};
-ghost use Rattle.rpm_check.specs.Frame.{Kept, KeptIndex, HasRows, packages_in, Glances, DiskFault};
-ghost use Rattle.rpm_check.specs.Answers.{IsBroken, is_broken};
-ghost use Rattle.rpm_check.specs.Edges.{HasEdgesOf, graph_of};
+ghost use Rattle.std.specs.Prelude.{◌≡◌, IsTrue, IfOk};
+ghost use Rattle.rpm_check.specs.Prelude.{Asks, graph_of, HasEdgesOf, HasRows, IsAskable, packages_in};
 
 use crate::edges::graph_of;
 use crate::faults::CheckFault;
@@ -32,19 +30,12 @@ use std::alloc::Global;
 /// - `DiskFault` only where the disk's count of faults rose.
 /// - `NoMemory` where a package, a requirement, what is found of it or the graph finds no memory.
 pub fn read_graph<D: Disk>(alloc: Global, db: &Db, disk: &mut D) -> Result<Graph, CheckFault>
-    requires keeps { Kept D.Disk disk.old db.now }
-    requires keeps_index { KeptIndex D.Disk disk.old db.now }
-    requires runs { db.now.stopped ≡ false }
-    ensures kept { Kept D.Disk disk.new db.now }
-    ensures kept_index { KeptIndex D.Disk disk.new db.now }
+    requires asked { IsAskable D.Disk disk.old db.now }
     ensures told { IfOk result (λ g. IsTrue D.tells → HasRows D.Disk disk.old db.now
         → g ≡ graph_of (packages_in D.Disk disk.old db.now)) }
     ensures edges { IfOk result (λ g. IsTrue D.tells → HasRows D.Disk disk.old db.now
         → HasEdgesOf (packages_in D.Disk disk.old db.now) g) }
-    ensures broken { IsTrue D.tells → IfErr result (IsBroken (D.files disk.old).idx) }
-    ensures lawful { IsTrue D.tells → HasRows D.Disk disk.old db.now → is_broken result ≡ false }
-    ensures looks { Glances D.Disk disk.old disk.new }
-    ensures cause { DiskFault D.Disk (result ≡ Err CheckFault.DiskFault) disk.old disk.new }
+    ensures asks { Asks D.Disk disk.old disk.new db.now result }
 {
     let nodes = read_nodes(alloc, db, disk)?;
     let graph = graph_of(alloc, &nodes)?;
@@ -55,19 +46,12 @@ pub fn read_graph<D: Disk>(alloc: Global, db: &Db, disk: &mut D) -> Result<Graph
 pub trait ReadGraph {
     /// The graph that `read_graph` gives, with the same faults.
     fn read<D: Disk>(alloc: Global, db: &Db, disk: &mut D) -> Result<Graph, CheckFault>
-        requires keeps { Kept D.Disk disk.old db.now }
-        requires keeps_index { KeptIndex D.Disk disk.old db.now }
-        requires runs { db.now.stopped ≡ false }
-        ensures kept { Kept D.Disk disk.new db.now }
-        ensures kept_index { KeptIndex D.Disk disk.new db.now }
+        requires asked { IsAskable D.Disk disk.old db.now }
         ensures told { IfOk result (λ g. IsTrue D.tells → HasRows D.Disk disk.old db.now
             → g ≡ graph_of (packages_in D.Disk disk.old db.now)) }
         ensures edges { IfOk result (λ g. IsTrue D.tells → HasRows D.Disk disk.old db.now
             → HasEdgesOf (packages_in D.Disk disk.old db.now) g) }
-        ensures broken { IsTrue D.tells → IfErr result (IsBroken (D.files disk.old).idx) }
-        ensures lawful { IsTrue D.tells → HasRows D.Disk disk.old db.now → is_broken result ≡ false }
-        ensures looks { Glances D.Disk disk.old disk.new }
-        ensures cause { DiskFault D.Disk (result ≡ Err CheckFault.DiskFault) disk.old disk.new };
+        ensures asks { Asks D.Disk disk.old disk.new db.now result };
 }
 
 impl ReadGraph for Graph {

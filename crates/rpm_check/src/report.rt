@@ -1,12 +1,8 @@
 //! All requirements that no package meets.
 
-ghost use Rattle.std.specs.Prelude.{◌≡◌, ◌++◌, IsTrue, false, Err, IfOk, IfErr, OnOk};
+ghost use Rattle.std.specs.Prelude.{◌≡◌, ◌++◌, IsTrue, IfOk, OnOk};
 ghost use Rattle.std.specs.FinMap as finite;
-ghost use Rattle.rpm_check.specs.Frame.{IsReady, Kept, KeptIndex, HasRows, packages_in, Glances, DiskFault};
-ghost use Rattle.rpm_check.specs.Answers.{IsBroken, is_broken};
-ghost use Rattle.rpm_check.specs.Unmet.{lacks, unmet};
-ghost use Rattle.rpm_check.specs.inner.Memos.{Knows};
-ghost use Rattle.rpm_check.specs.inner.Rounds.{unmet_at};
+ghost use Rattle.rpm_check.specs.Prelude.{Asks, HasRows, IsAskable, KnowsOn, lacks, packages_in, unmet, unmet_at};
 
 use crate::faults::CheckFault;
 use crate::lacking::push_lacking;
@@ -26,20 +22,13 @@ fn push_unmet<D: Disk>(
     number: u32,
     found: &mut Vec<Unmet>,
 ) -> Result<(), CheckFault>
-    requires ready { IsReady D.Disk disk.old db.now }
-    requires remembers { IsTrue D.tells → HasRows D.Disk disk.old db.now
-        → Knows (packages_in D.Disk disk.old db.now) memo.old }
-    ensures kept { Kept D.Disk disk.new db.now }
-    ensures kept_index { KeptIndex D.Disk disk.new db.now }
+    requires asked { IsAskable D.Disk disk.old db.now }
+    requires remembers { KnowsOn D.Disk disk.old db.now memo.old }
     ensures told { OnOk result (IsTrue D.tells → HasRows D.Disk disk.old db.now
         → found.new.items ≡ found.old.items ++ unmet_at (lacks (packages_in D.Disk disk.old db.now)) number
         (finite.get (packages_in D.Disk disk.old db.now) number)) }
-    ensures remembered { IsTrue D.tells → HasRows D.Disk disk.old db.now
-        → Knows (packages_in D.Disk disk.old db.now) memo.new }
-    ensures broken { IsTrue D.tells → IfErr result (IsBroken (D.files disk.old).idx) }
-    ensures lawful { IsTrue D.tells → HasRows D.Disk disk.old db.now → is_broken result ≡ false }
-    ensures looks { Glances D.Disk disk.old disk.new }
-    ensures cause { DiskFault D.Disk (result ≡ Err CheckFault.DiskFault) disk.old disk.new }
+    ensures remembered { KnowsOn D.Disk disk.old db.now memo.new }
+    ensures asks { Asks D.Disk disk.old disk.new db.now result }
 {
     match db.read(alloc, disk, number) {
         Ok(blob) => match View::parse(&blob) {
@@ -70,17 +59,10 @@ fn push_unmet<D: Disk>(
 /// - `DiskFault` only where the disk's count of faults rose.
 /// - `NoMemory` where a package, a requirement, what is found of it or the list finds no memory.
 pub fn unmet<D: Disk>(alloc: Global, db: &Db, disk: &mut D) -> Result<UnmetList, CheckFault>
-    requires keeps { Kept D.Disk disk.old db.now }
-    requires keeps_index { KeptIndex D.Disk disk.old db.now }
-    requires runs { db.now.stopped ≡ false }
-    ensures kept { Kept D.Disk disk.new db.now }
-    ensures kept_index { KeptIndex D.Disk disk.new db.now }
+    requires asked { IsAskable D.Disk disk.old db.now }
     ensures told { IfOk result (λ list. IsTrue D.tells → HasRows D.Disk disk.old db.now
         → list ≡ unmet (packages_in D.Disk disk.old db.now)) }
-    ensures broken { IsTrue D.tells → IfErr result (IsBroken (D.files disk.old).idx) }
-    ensures lawful { IsTrue D.tells → HasRows D.Disk disk.old db.now → is_broken result ≡ false }
-    ensures looks { Glances D.Disk disk.old disk.new }
-    ensures cause { DiskFault D.Disk (result ≡ Err CheckFault.DiskFault) disk.old disk.new }
+    ensures asks { Asks D.Disk disk.old disk.new db.now result }
 {
     let mut memo = Memo::new(alloc);
     let mut found = Vec::new(alloc);

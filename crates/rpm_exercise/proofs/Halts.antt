@@ -1,12 +1,15 @@
 -- What stops the exercise, by cases.
-use Rattle.std.proofs.Common.{◌≡◌, ℕ, false, Result, Ok, Err}
+use Rattle.std.proofs.Common.{◌≡◌, ℕ, true, false, Result, Ok, Err}
 use Rattle.std.specs.Prelude.{IfErr}
+use Rattle.rpm_db.specs.Database.{Database, is_indexed}
 use Rattle.rpm_select.specs.declared.picked.PickFault.{PickFault}
 use Rattle.rpm_select.specs.declared.picked.PickFault.TheVariants as pick
 use Rattle.rpm_select.specs.Picks.{is_of_index}
 use Rattle.rpm_change.specs.declared.tally.Halt.{Halt}
 use Rattle.rpm_change.specs.declared.tally.Halt.TheVariants as halt
-use Rattle.rpm_exercise.specs.Endings.{IsOfReading, IsOfAsking, IsOfTelling, pick_halt}
+use Rattle.rpm_exercise.specs.Endings.{IsOfReading, IsOfAsking, IsOfTelling, IsOfExercise, pick_halt}
+use Rattle.rpm_exercise.specs.Ready.{IsStop}
+use Rattle.rpm_exercise.specs.Rounds.{IsOfChanges}
 
 pub reading_cases : (P : Halt → Type 0) → P halt.DiskFault → P halt.NoMemory → (h : Halt) → IsOfReading h → P h
 reading_cases P disk memory (halt.BadIndex unit) kind = absurd kind
@@ -48,3 +51,19 @@ asking_kind pick.NoMemory = tt
 pub all_asking : {X : Type 0} (r : Result X Halt) → IfErr r IsOfReading → IfErr r IsOfAsking
 all_asking (Ok x) kinds = tt
 all_asking (Err h) kinds = reading_cases IsOfAsking tt tt h kinds
+
+-- ---- what stops the exercise
+
+pub changes_kind : (h : Halt) → IsOfChanges h → IsOfExercise h
+changes_kind halt.ShelfFault kind = absurd kind
+changes_kind halt.ErrFault kind = absurd kind
+changes_kind others kind = tt
+
+pub reading_stop : (db : Database) (h : Halt) → is_indexed db ≡ true → IsOfReading h → IsStop db h
+reading_stop db h indexed kind =
+    reading_cases (IsStop db) (record { kind = tt; spent = tt; indexed = indexed }) (record { kind = tt; spent = tt; indexed = indexed }) h kind
+
+pub telling_stop : (db : Database) (h : Halt) → is_indexed db ≡ true → IsOfTelling h → IsStop db h
+telling_stop db h indexed kind =
+    telling_cases (IsStop db) (λ unit. record { kind = tt; spent = tt; indexed = indexed }) (record { kind = tt; spent = tt; indexed = indexed })
+    (record { kind = tt; spent = tt; indexed = indexed }) (record { kind = tt; spent = tt; indexed = indexed }) h kind

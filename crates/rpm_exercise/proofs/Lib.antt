@@ -1,3 +1,4 @@
+pub mod Asking
 pub mod Halts
 pub mod Limited
 pub mod Made

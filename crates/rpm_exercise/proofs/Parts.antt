@@ -20,7 +20,7 @@ pub record Partly (all left : List Change) (s t : State) (count : ℕ) : Type 0 
   pub made : Made done s t (record { failed = 0; changes = count })
 
 pub made_none : (s : State) → Made [] s s (record { failed = 0; changes = 0 })
-made_none s = record { failed = refl; count = refl; state_is = refl; from_one = λ none. none }
+made_none s = record { failed = refl; count = refl; state_is = refl }
 
 pub partly_start : (all left : List Change) (s : State) → all ≡ left → Partly all left s s 0
 partly_start all left s is = record { done = []; all_is = is; made = made_none s }
@@ -34,7 +34,6 @@ module _ (all left turn rest : List Change) (s t : State) (count : ℕ) (is : le
       failed = refl;
       count = length-append g.done turn ∙ omega (arith, g.made.count, m.count);
       state_is = m.state_is ∙ ap (apply_all turn) g.made.state_is ∙ sym (apply_all-append g.done turn s);
-      from_one = λ none. m.from_one (g.made.from_one none);
     };
   }
 

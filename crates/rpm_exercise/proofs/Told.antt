@@ -1,42 +1,27 @@
 -- What the exercise leaves once its changes are made.
-use Rattle.std.proofs.Common.{◌≡◌, ℕ, Bool, false, List, [], ◌++◌, None, is_some, Err, take, refl, sym, ap, ◌∙◌, subst}
+use Rattle.std.proofs.Common.{◌≡◌, ℕ, Bool, List, [], ◌++◌, Err, take, refl, sym, ap, ◌∙◌, subst}
 use Rattle.rpm_outside.specs.declared.disk.Disk as disk
 use Rattle.std.proofs.lemmas.List.{append-nil}
 use Rattle.std.specs.FinMap as finite
 use Rattle.rpm_outside.specs.Files.{Units, Files}
 use Rattle.rpm_outside.specs.Sinks.{Gained, GainedPart}
 use Rattle.rpm_outside.specs.inner.Taken.{gained_none}
-use Rattle.rpm_db.specs.inner.Above.{none_is}
-use Rattle.rpm_db.specs.Database.{Database, holds}
+use Rattle.rpm_db.specs.Database.{Database}
 use Rattle.rpm_db.specs.Lawful.{Remade}
 use Rattle.rpm_pkgdb.specs.Store.{Store}
 use Rattle.rpm_db.specs.State.{State, state, packages}
-use Rattle.rpm_db.specs.inner.Laws.{is_there}
 use Rattle.rpm_select.specs.Reach.{HasIndexRows}
 use Rattle.rpm_change.specs.declared.tally.Tally.{Tally}
 use Rattle.rpm_change.specs.declared.tally.Halt.{Halt}
 use Rattle.rpm_change.specs.declared.tally.Halt.TheVariants as halt
 use Rattle.rpm_change.specs.Steps.{Course, ToOut, whole, apply_all}
 use Rattle.rpm_change.specs.Endings.{outputs, ThroughSome, Done, Ended}
-use Rattle.rpm_exercise.specs.Endings.{IsReadable, IsCutOff, IsOfTelling}
+use Rattle.rpm_exercise.specs.Endings.{IsCutOff, IsOfTelling}
 use Rattle.rpm_exercise.specs.Exercised.{summary, exercise}
 use Rattle.rpm_exercise.specs.Rounds.{changes, Made}
 use Rattle.rpm_exercise.proofs.Halts.{telling_cases}
-use Rattle.rpm_exercise.specs.Ready.{IsAskable}
-use Rattle.std.specs.Prelude.{IsTrue}
 
 -- ---- files that stay
-
-pub readable_same : (f g : Files) (db : Database) → g ≡ f → IsReadable f db → IsReadable g db
-readable_same f g db same r = subst (λ (h : Files). IsReadable h db) (sym same) r
-
-pub askable_same : {D : Type 0} (d : disk.Ghosts D) (old new : D) (db : Database) → (IsTrue d.tells → d.files new ≡ d.files old)
-    → IsAskable d old db → IsAskable d new db
-askable_same d old new db same asked = record {
-  readable = λ told. readable_same (d.files old) (d.files new) db (same told) (asked.readable told);
-  going = asked.going;
-  from_one = asked.from_one;
-}
 
 pub rows_same : (f g : Files) (db : Database) → g ≡ f → HasIndexRows db f.pkg f.idx → HasIndexRows db g.pkg g.idx
 rows_same f g db same r = subst (λ (h : Files). HasIndexRows db h.pkg h.idx) (sym same) r
@@ -49,13 +34,6 @@ pub state_remade : (old new : Files) (before after : Database) → Remade old ne
     → state new.pkg after.store ≡ state old.pkg before.store
 state_remade old new before after made store =
     ap (λ (u : Units). state u after.store) made.pkg ∙ ap (λ (v : Store). state old.pkg v) store
-
--- ---- no package has the number 0
-
-pub from_one_after : (f g : Units) (a b : Database) → (finite.get (packages f a.store) 0 ≡ None → finite.get (packages g b.store) 0 ≡ None)
-    → holds 0 a ≡ false → holds 0 b ≡ false
-from_one_after f g a b stays none =
-    sym (is_there g b 0) ∙ ap is_some (stays (none_is (finite.get (packages f a.store) 0) (is_there f a 0 ∙ none)))
 
 -- ---- how it ends
 

@@ -2,7 +2,6 @@
 use Rattle.std.specs.Prelude.{◌≡◌, ℕ, Bool, List, [], Option, Some, None, Result, Ok, Err}
 use Rattle.rpm_outside.specs.Files.{Files}
 use Rattle.rpm_outside.specs.Sinks.{Gained, GainedPart}
-use Rattle.rpm_db.specs.Database.{Database, Keeps, KeepsIndex}
 use Rattle.rpm_db.specs.Reaches.{ReachesMade}
 use Rattle.rpm_select.specs.declared.picked.PickFault.{PickFault}
 use Rattle.rpm_select.specs.declared.picked.PickFault.TheVariants as pick
@@ -11,11 +10,6 @@ use Rattle.rpm_change.specs.declared.tally.Halt.{Halt}
 use Rattle.rpm_change.specs.declared.tally.Halt.TheVariants as halt
 use Rattle.rpm_exercise.specs.declared.running.ExerciseFault.{ExerciseFault}
 use Rattle.rpm_exercise.specs.declared.running.ExerciseFault.TheVariants.{NotEmpty, Halted}
-
--- what a value keeps is what these files say
-pub record IsReadable (files : Files) (db : Database) : Type 0 where
-  pub keeps : Keeps files.pkg db
-  pub index : KeepsIndex files.idx db
 
 -- what a fault of a question makes of the exercise
 abbrev pub pick_halt : PickFault → Halt

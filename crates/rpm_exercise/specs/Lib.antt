@@ -2,3 +2,4 @@ pub mod Endings
 pub mod Exercised
 pub mod Ready
 pub mod Rounds
+pub mod Prelude

@@ -1,5 +1,5 @@
 -- The changes that the exercise makes, round by round.
-use Rattle.std.specs.Prelude.{◌≡◌, ℕ, ◌+◌, ◌-◌, ◌%◌, ◌==◌, List, [], ◌∷◌, ◌++◌, length, false, if◌then◌else◌, None}
+use Rattle.std.specs.Prelude.{◌≡◌, ℕ, ◌+◌, ◌-◌, ◌%◌, ◌==◌, List, [], ◌∷◌, ◌++◌, length, false, if◌then◌else◌}
 use Rattle.std.specs.List.{flat_map, range_with_len}
 use Rattle.std.specs.FinMap as finite
 use Rattle.rpm_header.specs.Laid.{laid}
@@ -43,8 +43,6 @@ pub record Made (changes : List Change) (s t : State) (tally : Tally) : Type 0 w
   pub failed : tally.failed ≡ 0
   pub count : length changes ≡ tally.changes
   pub state_is : t ≡ apply_all changes s
-  -- no package gets the number 0
-  pub from_one : finite.get s.packages 0 ≡ None → finite.get t.packages 0 ≡ None
 
 -- a change reads no shelf and writes no line
 abbrev pub IsOfChanges : Halt → Type 0

@@ -1,18 +1,8 @@
 //! How many packages a question picks.
 
-ghost use Rattle.std.specs.Prelude.{◌≡◌, false, length, IsTrue, Ok, Err, IfOk, IfErr};
-ghost use Rattle.rpm_outside.specs.Causes.{HasCauseAt};
-ghost use Rattle.rpm_version.specs.Capability.{capability};
-ghost use Rattle.rpm_db.specs.State.{above};
-ghost use Rattle.rpm_db.specs.Database.{Keeps};
-ghost use Rattle.rpm_db.specs.Runs.{Runs};
-ghost use Rattle.rpm_db.specs.inner.Writes.{SameFiles};
+ghost use Rattle.std.specs.Prelude.{◌≡◌, false, length, IsTrue, Ok, IfOk};
+ghost use Rattle.rpm_exercise.specs.Prelude.{above, Asks, capability, capability_named, HasRows, IsAskable, Kept, packages_in, pick_halt, picked, picks, Reads, Serves};
 ghost use Rattle.rpm_select.specs.declared.selection.Selection.TheVariants as question;
-ghost use Rattle.rpm_select.specs.Reach.{Serves};
-ghost use Rattle.rpm_select.specs.Selections.{picks};
-ghost use Rattle.rpm_exercise.specs.Endings.{IsOfAsking, IsOfReading, pick_halt};
-ghost use Rattle.rpm_exercise.specs.Exercised.{picked, capability_named};
-ghost use Rattle.rpm_exercise.specs.Ready.{IsAskable, packages_on, RowsOn};
 
 use rpm_change::Halt;
 use rpm_db::Db;
@@ -39,14 +29,11 @@ fn count_served<D: Disk>(
     disk: &mut D,
     selection: &Selection<'_>,
 ) -> Result<u32, Halt>
-    requires keeps { IsTrue D.tells → Keeps (D.files disk.old).pkg db.now }
+    requires keeps { Kept D.Disk disk.old db.now }
     requires going { db.now.stopped ≡ false }
-    ensures told { IsTrue D.tells → Serves picker.old (packages_on D.Disk disk.old db.now) selection.now
-        → IfOk result (λ count.
-        count ≡ length (above 0 (picks (packages_on D.Disk disk.old db.now) selection.now))) }
-    ensures kinds { IfErr result IsOfReading }
-    ensures runs { Runs D.tells D.files D.left_since D.moment D.bytes_read D.follows SameFiles disk.old disk.new }
-    ensures disk { HasCauseAt (result ≡ Err Halt.DiskFault) (D.faults disk.old) (D.faults disk.new) }
+    ensures told { IsTrue D.tells → Serves picker.old (packages_in D.Disk disk.old db.now) selection.now
+        → IfOk result (λ count. count ≡ length (above 0 (picks (packages_in D.Disk disk.old db.now) selection.now))) }
+    ensures reads { Reads D.Disk disk.old disk.new result }
 {
     let mut number = 0;
     let mut count = 0u32;
@@ -70,12 +57,9 @@ pub fn count_picked<D: Disk>(
     selection: &Selection<'_>,
 ) -> Result<u32, Halt>
     requires asked { IsAskable D.Disk disk.old db.now }
-    ensures told { IsTrue D.tells → RowsOn D.Disk disk.old db.now → IfOk result (λ count.
-        count ≡ picked (packages_on D.Disk disk.old db.now) selection.now) }
-    ensures lawful { IsTrue D.tells → RowsOn D.Disk disk.old db.now → IfErr result IsOfReading }
-    ensures kinds { IfErr result IsOfAsking }
-    ensures runs { Runs D.tells D.files D.left_since D.moment D.bytes_read D.follows SameFiles disk.old disk.new }
-    ensures disk { HasCauseAt (result ≡ Err Halt.DiskFault) (D.faults disk.old) (D.faults disk.new) }
+    ensures told { IsTrue D.tells → HasRows D.Disk disk.old db.now
+        → IfOk result (λ count. count ≡ picked (packages_in D.Disk disk.old db.now) selection.now) }
+    ensures asks { Asks D.Disk disk.old disk.new db.now result }
 {
     match Picker::new(alloc, db, disk, selection) {
         Ok(picker) => {
@@ -95,12 +79,10 @@ pub fn count_provided<D: Disk>(
 ) -> Result<u32, Halt>
     requires named { capability name.now ≡ Ok (capability_named name.now) }
     requires asked { IsAskable D.Disk disk.old db.now }
-    ensures told { IsTrue D.tells → RowsOn D.Disk disk.old db.now → IfOk result (λ count.
-        count ≡ picked (packages_on D.Disk disk.old db.now) (question.Provides (capability_named name.now))) }
-    ensures lawful { IsTrue D.tells → RowsOn D.Disk disk.old db.now → IfErr result IsOfReading }
-    ensures kinds { IfErr result IsOfAsking }
-    ensures runs { Runs D.tells D.files D.left_since D.moment D.bytes_read D.follows SameFiles disk.old disk.new }
-    ensures disk { HasCauseAt (result ≡ Err Halt.DiskFault) (D.faults disk.old) (D.faults disk.new) }
+    ensures told { IsTrue D.tells → HasRows D.Disk disk.old db.now
+        → IfOk result (λ count. count ≡ picked (packages_in D.Disk disk.old db.now)
+        (question.Provides (capability_named name.now))) }
+    ensures asks { Asks D.Disk disk.old disk.new db.now result }
 {
     match Capability::read(name) {
         Ok(capability) => count_picked(alloc, db, disk, &Selection::Provides(capability)),

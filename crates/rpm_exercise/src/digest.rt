@@ -1,21 +1,8 @@
 //! The digest of what an export writes.
 
-ghost use Rattle.std.specs.Prelude.{◌≡◌, ◌++◌, ℕ, List, false, IsTrue, Err, IfOk, IfErr};
-ghost use Rattle.std.specs.List.{flat_map};
-ghost use Rattle.sha2.specs.Hashers.{Holds256};
-ghost use Rattle.sha2.specs.Sha256.{sha256};
-ghost use Rattle.rpm_outside.specs.Causes.{HasCauseAt};
-ghost use Rattle.rpm_db.specs.State.{above};
-ghost use Rattle.rpm_db.specs.Database.{Keeps};
-ghost use Rattle.rpm_db.specs.Runs.{Runs};
-ghost use Rattle.rpm_db.specs.inner.Writes.{SameFiles};
+ghost use Rattle.std.specs.Prelude.{◌≡◌, ◌++◌, ℕ, List, false, IsTrue, IfOk};
+ghost use Rattle.rpm_exercise.specs.Prelude.{above, Asks, entry_in, export_bytes, exported, flat_map, HasRows, Holds256, IsAskable, Kept, packages_in, picks, Reads, Serves, sha256};
 ghost use Rattle.rpm_select.specs.declared.selection.Selection.TheVariants as question;
-ghost use Rattle.rpm_select.specs.Picks.{entry_in};
-ghost use Rattle.rpm_select.specs.Reach.{Serves};
-ghost use Rattle.rpm_select.specs.Selections.{picks};
-ghost use Rattle.rpm_exercise.specs.Endings.{IsOfAsking, IsOfReading};
-ghost use Rattle.rpm_exercise.specs.Exercised.{exported, export_bytes};
-ghost use Rattle.rpm_exercise.specs.Ready.{IsAskable, packages_on, RowsOn};
 
 use crate::counts::halt_of;
 use rpm_change::Halt;
@@ -46,14 +33,12 @@ fn digest_served<D: Disk>(
     db: &Db,
     disk: &mut D,
 ) -> Result<[u8; 32], Halt>
-    requires keeps { IsTrue D.tells → Keeps (D.files disk.old).pkg db.now }
+    requires keeps { Kept D.Disk disk.old db.now }
     requires going { db.now.stopped ≡ false }
-    ensures told { IsTrue D.tells → Serves picker.old (packages_on D.Disk disk.old db.now) question.All
-        → IfOk result (λ digest. digest
-        ≡ sha256 (flat_map exported (above 0 (picks (packages_on D.Disk disk.old db.now) question.All)))) }
-    ensures kinds { IfErr result IsOfReading }
-    ensures runs { Runs D.tells D.files D.left_since D.moment D.bytes_read D.follows SameFiles disk.old disk.new }
-    ensures disk { HasCauseAt (result ≡ Err Halt.DiskFault) (D.faults disk.old) (D.faults disk.new) }
+    ensures told { IsTrue D.tells → Serves picker.old (packages_in D.Disk disk.old db.now) question.All
+        → IfOk result (λ digest. digest ≡ sha256
+        (flat_map exported (above 0 (picks (packages_in D.Disk disk.old db.now) question.All)))) }
+    ensures reads { Reads D.Disk disk.old disk.new result }
 {
     let mut hasher = Sha256::new();
     let mut number = 0;
@@ -72,12 +57,9 @@ fn digest_served<D: Disk>(
 /// The digest of what an export writes.
 pub fn digest<D: Disk>(alloc: Global, db: &Db, disk: &mut D) -> Result<[u8; 32], Halt>
     requires asked { IsAskable D.Disk disk.old db.now }
-    ensures told { IsTrue D.tells → RowsOn D.Disk disk.old db.now → IfOk result (λ digest.
-        digest ≡ sha256 (export_bytes (packages_on D.Disk disk.old db.now))) }
-    ensures lawful { IsTrue D.tells → RowsOn D.Disk disk.old db.now → IfErr result IsOfReading }
-    ensures kinds { IfErr result IsOfAsking }
-    ensures runs { Runs D.tells D.files D.left_since D.moment D.bytes_read D.follows SameFiles disk.old disk.new }
-    ensures disk { HasCauseAt (result ≡ Err Halt.DiskFault) (D.faults disk.old) (D.faults disk.new) }
+    ensures told { IsTrue D.tells → HasRows D.Disk disk.old db.now
+        → IfOk result (λ digest. digest ≡ sha256 (export_bytes (packages_in D.Disk disk.old db.now))) }
+    ensures asks { Asks D.Disk disk.old disk.new db.now result }
 {
     match Picker::new(alloc, db, disk, &Selection::All) {
         Ok(picker) => {

@@ -1,10 +1,7 @@
 //! The lines that the exercise tells.
 
 ghost use Rattle.std.specs.Prelude.{◌≡◌, ◌++◌, ◌<◌, codes, Ok, OnOk, IfOk};
-ghost use Rattle.std.specs.String.{string_bytes};
-ghost use Rattle.rpm_version.specs.Capability.{capability};
-ghost use Rattle.rpm_change.specs.Exercise.{numbered};
-ghost use Rattle.rpm_exercise.specs.Exercised.{count_line, digest_text, capability_named};
+ghost use Rattle.rpm_exercise.specs.Prelude.{capability, capability_named, count_line, digest_text, numbered, string_bytes};
 
 use hex::encode;
 use itoa::Buffer;

@@ -1,11 +1,7 @@
 //! The changes of the exercise, round by round.
 
 ghost use Rattle.std.specs.Prelude.{◌≡◌, ◌+◌, ◌<◌, ◌≤◌, [], ◌∷◌, IfOk, IfErr};
-ghost use Rattle.rpm_db.specs.Changes.{Add, Put, Erase};
-ghost use Rattle.rpm_db.specs.Changed.{IsReady};
-ghost use Rattle.rpm_exercise.specs.Rounds.{made, turn, round_changes, changes, IsOfChanges, IsSpent};
-ghost use Rattle.rpm_exercise.specs.Ready.{WentThrough};
-ghost use Rattle.rpm_change.specs.Went.{state_on};
+ghost use Rattle.rpm_exercise.specs.Prelude.{Add, changes, Erase, IsReady, made, Put, round_changes, state_in, turn, WentThrough};
 
 use rpm_change::{Halt, Tally, generated, halt_of};
 use rpm_db::Db;
@@ -40,8 +36,6 @@ fn add_one<D: Disk>(alloc: Global, db: &mut Db, disk: &mut D, i: u32) -> Result<
     requires ready { IsReady D.Disk disk.old db.old }
     ensures went { WentThrough D.Disk (Add (made i 1) ∷ []) disk.old disk.new db.old db.new result }
     ensures few { IfOk result (λ tally. tally.changes ≤ 1) }
-    ensures spent { IfErr result (IsSpent db.new) }
-    ensures kinds { IfErr result IsOfChanges }
 {
     let Ok(blob) = generated(alloc, i, 1) else {
         return Err(Halt::NoMemory);
@@ -72,12 +66,9 @@ fn replace_one<D: Disk>(
     i: u32,
 ) -> Result<Tally, Halt>
     requires small { i < 4294967295 }
-    requires some { 1 ≤ i }
     requires ready { IsReady D.Disk disk.old db.old }
     ensures went { WentThrough D.Disk (Put (b + i) (made i 2) ∷ []) disk.old disk.new db.old db.new result }
     ensures few { IfOk result (λ tally. tally.changes ≤ 1) }
-    ensures spent { IfErr result (IsSpent db.new) }
-    ensures kinds { IfErr result IsOfChanges }
 {
     let number = match number_of(b, i) {
         Ok(number) => number,
@@ -100,12 +91,9 @@ fn erase_one<D: Disk>(
     b: u32,
     i: u32,
 ) -> Result<Tally, Halt>
-    requires some { 1 ≤ i }
     requires ready { IsReady D.Disk disk.old db.old }
     ensures went { WentThrough D.Disk (Erase (b + i) ∷ []) disk.old disk.new db.old db.new result }
     ensures few { IfOk result (λ tally. tally.changes ≤ 1) }
-    ensures spent { IfErr result (IsSpent db.new) }
-    ensures kinds { IfErr result IsOfChanges }
 {
     let number = match number_of(b, i) {
         Ok(number) => number,
@@ -127,12 +115,9 @@ fn take_turn<D: Disk>(
     i: u32,
 ) -> Result<Tally, Halt>
     requires small { i < 4294967295 }
-    requires some { 1 ≤ i }
     requires ready { IsReady D.Disk disk.old db.old }
     ensures went { WentThrough D.Disk (turn round b i) disk.old disk.new db.old db.new result }
     ensures few { IfOk result (λ tally. tally.changes ≤ 1) }
-    ensures spent { IfErr result (IsSpent db.new) }
-    ensures kinds { IfErr result IsOfChanges }
 {
     match round {
         Round::Adding => add_one(alloc, db, disk, i),
@@ -166,8 +151,6 @@ fn go_round<D: Disk>(
     requires ready { IsReady D.Disk disk.old db.old }
     ensures went { WentThrough D.Disk (round_changes round b n) disk.old disk.new db.old db.new result }
     ensures few { IfOk result (λ tally. tally.changes ≤ n) }
-    ensures spent { IfErr result (IsSpent db.new) }
-    ensures kinds { IfErr result IsOfChanges }
 {
     let mut changes = 0u32;
     for done in 0..n {
@@ -207,10 +190,8 @@ fn go_round<D: Disk>(
 pub fn change_all<D: Disk>(alloc: Global, db: &mut Db, disk: &mut D, n: u32) -> Result<Tally, Halt>
     requires few { n ≤ 100000 }
     requires ready { IsReady D.Disk disk.old db.old }
-    ensures went { WentThrough D.Disk (changes n (state_on D.Disk disk.old db.old)) disk.old disk.new
-        db.old db.new result }
-    ensures spent { IfErr result (IsSpent db.new) }
-    ensures kinds { IfErr result IsOfChanges }
+    ensures went { WentThrough D.Disk (changes n (state_in D.Disk disk.old db.old)) disk.old disk.new db.old db.new
+        result }
 {
     let b = db.next_number().saturating_sub(1);
     let added = match go_round(alloc, db, disk, Round::Adding, b, n) {

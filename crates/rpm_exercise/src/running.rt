@@ -1,24 +1,8 @@
 //! The exercise as a whole.
 
-ghost use Rattle.std.specs.Prelude.{◌≡◌, ℕ, ◌≤◌, Bool, List, false, true, IsTrue, Ok, Err, OnOk, IfOk, IfErr};
-ghost use Rattle.rpm_outside.specs.Buffered.{inner};
-ghost use Rattle.rpm_outside.specs.Causes.{HasCauseAt};
+ghost use Rattle.std.specs.Prelude.{◌≡◌, ℕ, ◌≤◌, Bool, List, true, IsTrue, Ok, Err, OnOk, IfOk, IfErr};
+ghost use Rattle.rpm_exercise.specs.Prelude.{changes, DiskFault, Ended, EndedOnOut, exercise, Hand, HasRows, inner, is_indexed, IsAskable, IsCurrent, IsIndexed, IsNext, IsOfReading, IsOfTelling, IsReady, IsRefused, IsStop, IsTold, IsUnbroken, LeftOn, LimitsOn, LimitsTurn, OnceBegun, packages_in, ReachesMade, Remade, Renewed, Runs, SameFiles, SameLog, state_in, summary, units_needed, with_out};
 ghost use Rattle.rpm_db.specs.Database as database;
-ghost use Rattle.rpm_db.specs.Database.{IsNext, is_indexed};
-ghost use Rattle.rpm_db.specs.Lawful.{Remade};
-ghost use Rattle.rpm_db.specs.Openings.{units_needed};
-ghost use Rattle.rpm_db.specs.Reaches.{ReachesMade};
-ghost use Rattle.rpm_db.specs.Runs.{Runs};
-ghost use Rattle.rpm_db.specs.inner.Writes.{SameFiles, SameLog};
-ghost use Rattle.rpm_change.specs.Endings.{Ended};
-ghost use Rattle.rpm_change.specs.Limits.{LimitsTurn};
-ghost use Rattle.rpm_exercise.specs.Endings.{IsTold, IsUnbroken, IsOfReading, IsOfTelling, IsOfExercise, OnceBegun, IsRefused, Renewed};
-ghost use Rattle.rpm_exercise.specs.Exercised.{summary, exercise};
-ghost use Rattle.rpm_db.specs.Changed.{IsReady};
-ghost use Rattle.rpm_exercise.specs.Ready.{IsAskable, packages_on, RowsOn, IsStop};
-ghost use Rattle.rpm_exercise.specs.Rounds.{changes, IsSpent};
-ghost use Rattle.rpm_change.specs.Hands.{Hand};
-ghost use Rattle.rpm_change.specs.Went.{EndedOnOut, state_on, IndexedOn, LimitsOn, IsCurrent, LeftOn, with_out};
 
 use crate::rounds::change_all;
 use crate::summary::summary;
@@ -44,12 +28,13 @@ fn tell<D: Disk, O: Sink + Drop>(
     out: &mut Buffered<O>,
 ) -> Result<(), Halt>
     requires asked { IsAskable D.Disk disk.old db.now }
-    ensures told { IsTrue D.tells → RowsOn D.Disk disk.old db.now → IsTold O.tells (O.taken (inner out.old))
-        (O.taken (inner out.new)) (summary (packages_on D.Disk disk.old db.now)) result }
-    ensures lawful { IsTrue D.tells → RowsOn D.Disk disk.old db.now → IfErr result IsUnbroken }
+    ensures told { IsTrue D.tells → HasRows D.Disk disk.old db.now
+        → IsTold O.tells (O.taken (inner out.old)) (O.taken (inner out.new))
+        (summary (packages_in D.Disk disk.old db.now)) result }
+    ensures lawful { IsTrue D.tells → HasRows D.Disk disk.old db.now → IfErr result IsUnbroken }
     ensures kinds { IfErr result IsOfTelling }
-    ensures runs { Runs D.tells D.files D.left_since D.moment D.bytes_read D.follows SameFiles disk.old disk.new }
-    ensures disk { HasCauseAt (result ≡ Err Halt.DiskFault) (D.faults disk.old) (D.faults disk.new) }
+    ensures runs { Runs D.Disk SameFiles disk.old disk.new }
+    ensures disk { DiskFault D.Disk (result ≡ Err Halt.DiskFault) disk.old disk.new }
     ensures out { Hand O.Sink (result ≡ Err Halt.OutFault) out.old out.new }
 {
     let text = match summary(alloc, db, disk) {
@@ -73,15 +58,13 @@ fn change_and_tell<D: Disk, O: Sink + Drop>(
 ) -> Result<Tally, Halt>
     requires few { n ≤ 100000 }
     requires ready { IsReady D.Disk disk.old db.old }
-    requires from_one { IsTrue D.tells → database.holds 0 db.old ≡ false }
-    ensures ended { IsTrue D.tells → IndexedOn D.Disk disk.old db.old → EndedOnOut O.Sink out.old out.new
-        (exercise n (state_on D.Disk disk.old db.old)) (state_on D.Disk disk.old db.old)
-        (state_on D.Disk disk.new db.new) result }
+    ensures ended { IsTrue D.tells → IsIndexed D.Disk disk.old db.old
+        → EndedOnOut O.Sink out.old out.new (exercise n (state_in D.Disk disk.old db.old))
+        (state_in D.Disk disk.old db.old) (state_in D.Disk disk.new db.new) result }
     ensures limits { IsTrue D.tells → LimitsOn D.Disk disk.old disk.new db.old db.new
-        (changes n (state_on D.Disk disk.old db.old)) result }
+        (changes n (state_in D.Disk disk.old db.old)) result }
     ensures left { LeftOn D.Disk disk.old disk.new db.old db.new result }
-    ensures spent { IfErr result (IsSpent db.new) }
-    ensures kinds { IfErr result IsOfExercise }
+    ensures stop { IfErr result (IsStop db.new) }
     ensures out { Hand O.Sink (result ≡ Err Halt.OutFault) out.old out.new }
 {
     let tally = match change_all(alloc, db, disk, n) {
@@ -103,8 +86,8 @@ fn renew<D: Disk>(alloc: Global, db: &mut Db, disk: &mut D) -> Result<(), Halt>
     ensures reach { OnOk result (IsTrue D.tells → ReachesMade (units_needed (D.files disk.old).pkg (Ok db.old.store))
         (D.files disk.old).idx (D.files disk.new).idx) }
     ensures kinds { IfErr result IsOfReading }
-    ensures runs { Runs D.tells D.files D.left_since D.moment D.bytes_read D.follows Remade disk.old disk.new }
-    ensures disk { HasCauseAt (result ≡ Err Halt.DiskFault) (D.faults disk.old) (D.faults disk.new) }
+    ensures runs { Runs D.Disk Remade disk.old disk.new }
+    ensures disk { DiskFault D.Disk (result ≡ Err Halt.DiskFault) disk.old disk.new }
 {
     match db.rebuild(alloc, disk) {
         Ok(()) => Ok(()),
@@ -123,18 +106,15 @@ fn exercise_all<D: Disk, O: Sink + Drop>(
 ) -> Result<Tally, Halt>
     requires few { n ≤ 100000 }
     requires ready { IsReady D.Disk disk.old db.old }
-    requires from_one { IsTrue D.tells → database.holds 0 db.old ≡ false }
-    ensures ended { IsTrue D.tells → EndedOnOut O.Sink out.old out.new (exercise n (state_on D.Disk disk.old db.old))
-        (state_on D.Disk disk.old db.old) (state_on D.Disk disk.new db.new) result }
+    ensures ended { IsTrue D.tells → EndedOnOut O.Sink out.old out.new (exercise n (state_in D.Disk disk.old db.old))
+        (state_in D.Disk disk.old db.old) (state_in D.Disk disk.new db.new) result }
     ensures limits { IsTrue D.tells → Renewed (units_needed (D.files disk.old).pkg (Ok db.old.store))
-        (λ mid. LimitsTurn true (state_on D.Disk disk.old db.old) db.old.store db.new.store mid (D.files disk.new)
-        (changes n (state_on D.Disk disk.old db.old)) result) (D.files disk.old) }
+        (λ mid. LimitsTurn true (state_in D.Disk disk.old db.old) db.old.store db.new.store mid (D.files disk.new)
+        (changes n (state_in D.Disk disk.old db.old)) result) (D.files disk.old) }
     ensures current { IfOk result (λ _tally. IsCurrent D.Disk disk.new db.new) }
-    ensures indexed { is_indexed db.new ≡ true }
-    ensures spent { IfErr result (IsSpent db.new) }
-    ensures kinds { IfErr result IsOfExercise }
-    ensures runs { Runs D.tells D.files D.left_since D.moment D.bytes_read D.follows SameLog disk.old disk.new }
-    ensures disk { HasCauseAt (result ≡ Err Halt.DiskFault) (D.faults disk.old) (D.faults disk.new) }
+    ensures stop { IfErr result (IsStop db.new) }
+    ensures runs { Runs D.Disk SameLog disk.old disk.new }
+    ensures disk { DiskFault D.Disk (result ≡ Err Halt.DiskFault) disk.old disk.new }
     ensures out { Hand O.Sink (result ≡ Err Halt.OutFault) out.old out.new }
 {
     match renew(alloc, db, disk) {
@@ -183,22 +163,21 @@ pub fn exercise<D: Disk, O: Sink + Drop>(
 ) -> Result<Tally, ExerciseFault>
     requires few { n ≤ 100000 }
     requires ready { IsReady D.Disk disk.old db.old }
-    requires from_one { IsTrue D.tells → database.holds 0 db.old ≡ false }
     ensures empty { IsRefused (IsNext (λ m. database.holds m db.old) 0) result }
     ensures refused { (number : ℕ) → result ≡ Err (ExerciseFault.NotEmpty number)
         → (db.new ≡ db.old) × (disk.new ≡ disk.old) × (out.new ≡ out.old) }
-    ensures ended { IsTrue D.tells → (err_tells : Bool) (err : List ℕ) → OnceBegun (λ r. Ended
-        (exercise n (state_on D.Disk disk.old db.old)) (state_on D.Disk disk.old db.old)
-        (state_on D.Disk disk.new db.new) r
-        (with_out O.Sink err_tells err out.old) (with_out O.Sink err_tells err out.new)) result }
-    ensures limits { IsTrue D.tells → OnceBegun (λ r. Renewed (units_needed (D.files disk.old).pkg (Ok db.old.store))
-        (λ mid. LimitsTurn true (state_on D.Disk disk.old db.old) db.old.store db.new.store mid (D.files disk.new)
-        (changes n (state_on D.Disk disk.old db.old)) r) (D.files disk.old)) result }
+    ensures ended { IsTrue D.tells → (err_tells : Bool) (err : List ℕ)
+        → OnceBegun (λ r. Ended (exercise n (state_in D.Disk disk.old db.old)) (state_in D.Disk disk.old db.old)
+        (state_in D.Disk disk.new db.new) r (with_out O.Sink err_tells err out.old)
+        (with_out O.Sink err_tells err out.new)) result }
+    ensures limits { IsTrue D.tells → OnceBegun
+        (λ r. Renewed (units_needed (D.files disk.old).pkg (Ok db.old.store))
+        (λ mid. LimitsTurn true (state_in D.Disk disk.old db.old) db.old.store db.new.store mid (D.files disk.new)
+        (changes n (state_in D.Disk disk.old db.old)) r) (D.files disk.old)) result }
     ensures current { IfOk result (λ _tally. IsCurrent D.Disk disk.new db.new) }
     ensures stop { OnceBegun (λ r. IfErr r (IsStop db.new)) result }
-    ensures runs { Runs D.tells D.files D.left_since D.moment D.bytes_read D.follows SameLog disk.old disk.new }
-    ensures disk { HasCauseAt (result ≡ Err (ExerciseFault.Halted Halt.DiskFault)) (D.faults disk.old)
-        (D.faults disk.new) }
+    ensures runs { Runs D.Disk SameLog disk.old disk.new }
+    ensures disk { DiskFault D.Disk (result ≡ Err (ExerciseFault.Halted Halt.DiskFault)) disk.old disk.new }
     ensures out { Hand O.Sink (result ≡ Err (ExerciseFault.Halted Halt.OutFault)) out.old out.new }
 {
     if let Some(number) = db.next_above(0) {

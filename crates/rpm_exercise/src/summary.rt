@@ -1,14 +1,8 @@
 //! What is told of the packages that are left.
 
-ghost use Rattle.std.specs.Prelude.{◌≡◌, ◌++◌, ◌<◌, codes, IsTrue, Err, OnOk, IfOk, IfErr};
-ghost use Rattle.rpm_outside.specs.Causes.{HasCauseAt};
-ghost use Rattle.rpm_db.specs.State.{packages};
-ghost use Rattle.rpm_db.specs.Runs.{Runs};
-ghost use Rattle.rpm_db.specs.inner.Writes.{SameFiles};
+ghost use Rattle.std.specs.Prelude.{◌≡◌, ◌++◌, ◌<◌, codes, IsTrue, OnOk, IfOk};
+ghost use Rattle.rpm_exercise.specs.Prelude.{Asks, capability_line, capability_lines, count_line, HasRows, IsAskable, packages_in, picked, summary};
 ghost use Rattle.rpm_select.specs.declared.selection.Selection.TheVariants as question;
-ghost use Rattle.rpm_exercise.specs.Endings.{IsOfAsking, IsOfReading};
-ghost use Rattle.rpm_exercise.specs.Exercised.{picked, count_line, capability_line, capability_lines, summary};
-ghost use Rattle.rpm_exercise.specs.Ready.{IsAskable, packages_on, RowsOn};
 
 use crate::counts::{count_picked, count_provided};
 use crate::digest::digest;
@@ -29,12 +23,9 @@ fn push_capability<D: Disk>(
 ) -> Result<(), Halt>
     requires few { c < 7 }
     requires asked { IsAskable D.Disk disk.old db.now }
-    ensures told { IsTrue D.tells → RowsOn D.Disk disk.old db.now → OnOk result
-        (text.new.items ≡ text.old.items ++ capability_line (packages_on D.Disk disk.old db.now) c) }
-    ensures lawful { IsTrue D.tells → RowsOn D.Disk disk.old db.now → IfErr result IsOfReading }
-    ensures kinds { IfErr result IsOfAsking }
-    ensures runs { Runs D.tells D.files D.left_since D.moment D.bytes_read D.follows SameFiles disk.old disk.new }
-    ensures disk { HasCauseAt (result ≡ Err Halt.DiskFault) (D.faults disk.old) (D.faults disk.new) }
+    ensures told { IsTrue D.tells → HasRows D.Disk disk.old db.now
+        → OnOk result (text.new.items ≡ text.old.items ++ capability_line (packages_in D.Disk disk.old db.now) c) }
+    ensures asks { Asks D.Disk disk.old disk.new db.now result }
 {
     let Ok(name) = capability_name(alloc, c) else {
         return Err(Halt::NoMemory);
@@ -57,12 +48,9 @@ fn push_capabilities<D: Disk>(
     text: &mut Vec<u8>,
 ) -> Result<(), Halt>
     requires asked { IsAskable D.Disk disk.old db.now }
-    ensures told { IsTrue D.tells → RowsOn D.Disk disk.old db.now → OnOk result
-        (text.new.items ≡ text.old.items ++ capability_lines (packages_on D.Disk disk.old db.now)) }
-    ensures lawful { IsTrue D.tells → RowsOn D.Disk disk.old db.now → IfErr result IsOfReading }
-    ensures kinds { IfErr result IsOfAsking }
-    ensures runs { Runs D.tells D.files D.left_since D.moment D.bytes_read D.follows SameFiles disk.old disk.new }
-    ensures disk { HasCauseAt (result ≡ Err Halt.DiskFault) (D.faults disk.old) (D.faults disk.new) }
+    ensures told { IsTrue D.tells → HasRows D.Disk disk.old db.now
+        → OnOk result (text.new.items ≡ text.old.items ++ capability_lines (packages_in D.Disk disk.old db.now)) }
+    ensures asks { Asks D.Disk disk.old disk.new db.now result }
 {
     for c in 0..7u32 {
         match push_capability(alloc, db, disk, text, c) {
@@ -81,13 +69,10 @@ fn push_packages<D: Disk>(
     text: &mut Vec<u8>,
 ) -> Result<(), Halt>
     requires asked { IsAskable D.Disk disk.old db.now }
-    ensures told { IsTrue D.tells → RowsOn D.Disk disk.old db.now → OnOk result
-        (text.new.items ≡ text.old.items
-        ++ count_line (codes "packages") (picked (packages_on D.Disk disk.old db.now) question.All)) }
-    ensures lawful { IsTrue D.tells → RowsOn D.Disk disk.old db.now → IfErr result IsOfReading }
-    ensures kinds { IfErr result IsOfAsking }
-    ensures runs { Runs D.tells D.files D.left_since D.moment D.bytes_read D.follows SameFiles disk.old disk.new }
-    ensures disk { HasCauseAt (result ≡ Err Halt.DiskFault) (D.faults disk.old) (D.faults disk.new) }
+    ensures told { IsTrue D.tells → HasRows D.Disk disk.old db.now
+        → OnOk result (text.new.items ≡ text.old.items ++ count_line (codes "packages")
+        (picked (packages_in D.Disk disk.old db.now) question.All)) }
+    ensures asks { Asks D.Disk disk.old disk.new db.now result }
 {
     let count = match count_picked(alloc, db, disk, &Selection::All) {
         Ok(count) => count,
@@ -102,12 +87,9 @@ fn push_packages<D: Disk>(
 /// How many packages are left, how many provide each capability, and the digest of what an export would write.
 pub fn summary<D: Disk>(alloc: Global, db: &Db, disk: &mut D) -> Result<Vec<u8>, Halt>
     requires asked { IsAskable D.Disk disk.old db.now }
-    ensures told { IsTrue D.tells → RowsOn D.Disk disk.old db.now → IfOk result (λ text.
-        text.items ≡ summary (packages_on D.Disk disk.old db.now)) }
-    ensures lawful { IsTrue D.tells → RowsOn D.Disk disk.old db.now → IfErr result IsOfReading }
-    ensures kinds { IfErr result IsOfAsking }
-    ensures runs { Runs D.tells D.files D.left_since D.moment D.bytes_read D.follows SameFiles disk.old disk.new }
-    ensures disk { HasCauseAt (result ≡ Err Halt.DiskFault) (D.faults disk.old) (D.faults disk.new) }
+    ensures told { IsTrue D.tells → HasRows D.Disk disk.old db.now
+        → IfOk result (λ text. text.items ≡ summary (packages_in D.Disk disk.old db.now)) }
+    ensures asks { Asks D.Disk disk.old disk.new db.now result }
 {
     let mut text = Vec::new(alloc);
     push_packages(alloc, db, disk, &mut text)?;

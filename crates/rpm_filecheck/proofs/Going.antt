@@ -6,7 +6,7 @@ use Rattle.rpm_outside.specs.Files.{Units}
 use Rattle.rpm_db.specs.State.{Package, packages, above}
 use Rattle.rpm_db.specs.Database.{Database, IsNext, Keeps}
 use Rattle.rpm_db.specs.inner.Above.{none_is, next_above, nothing_above, all_above_zero}
-use Rattle.rpm_filecheck.proofs.FromOne.{from_one as none_zero}
+use Rattle.rpm_db.specs.inner.FromOne.{from_one as none_zero}
 use Rattle.rpm_db.specs.inner.Laws.{is_there}
 use Rattle.rpm_filecheck.specs.inner.Gathered.{Found, with_some, with_packages}
 

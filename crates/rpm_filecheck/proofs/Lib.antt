@@ -2,7 +2,6 @@ pub mod Alike
 pub mod AllOwned
 pub mod AllTold
 pub mod Folding
-pub mod FromOne
 pub mod Going
 pub mod Joining
 pub mod Labelled

@@ -140,8 +140,9 @@ fn agrees_with_all(first: &Owner, others: &[Owner]) -> bool
     others.iter().all(|b| agrees(first, b))
 }
 
-/// Adds the conflicts of each owner with those after it. Where all say the same or all are directories, as of a path that many packages
-/// own, each is compared with the first alone; otherwise each with all after it, since each two may be one of the list.
+/// Adds the conflicts of each owner with those after it. Where all say the same or all are directories, as of a path
+/// that many packages own, each is compared with the first alone; otherwise each with all after it, since each two
+/// may be one of the list.
 fn push_all(
     alloc: Global,
     conflicts: &mut Vec<Conflict>,
@@ -149,7 +150,8 @@ fn push_all(
     first: &Owner,
     others: &[Owner],
 ) -> Result<(), AllocError>
-    ensures { OnOk result (conflicts.new.items ≡ conflicts.old.items ++ conflicts_on path.now (first.now ∷ others.now)) }
+    ensures { OnOk result (conflicts.new.items ≡ conflicts.old.items ++ conflicts_on path.now
+        (first.now ∷ others.now)) }
 {
     if agrees_with_all(first, others) {
         return Ok(());

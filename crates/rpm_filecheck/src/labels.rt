@@ -63,7 +63,8 @@ impl Labels {
     }
 }
 
-/// The label of a header: its name, version and release with its architecture, or `(none)` where one of the first three is missing.
+/// The label of a header: its name, version and release with its architecture, or `(none)` where one of the first
+/// three is missing.
 pub fn label_of(alloc: Global, view: &View<'_>, number: u32) -> Result<Vec<u8>, AllocError>
     ensures { IfOk result (λ text. text.items ≡ label view.now) }
 {

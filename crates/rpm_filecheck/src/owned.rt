@@ -13,7 +13,8 @@ use std::collections::BTreeMap;
 use std::collections::btree_map::Entry;
 use std::marker::Model;
 
-/// The owners of each path. Contracts see the list of the paths, by their bytes, each with its owners. Of each path one copy is kept.
+/// The owners of each path. Contracts see the list of the paths, by their bytes, each with its owners. Of each path
+/// one copy is kept.
 #[derive(Drop)]
 pub struct Owned {
     pub paths: BTreeMap<Vec<u8>, Owners>,
@@ -35,7 +36,8 @@ fn join_in(
     path: Vec<u8>,
     owner: Owner,
 ) -> Result<(), AllocError>
-    ensures { OnOk result (paths.new.entries ≡ insert_entry key_order paths.old.entries path (joined_to (get key_order paths.old path) owner)) }
+    ensures { OnOk result (paths.new.entries ≡ insert_entry key_order paths.old.entries path
+        (joined_to (get key_order paths.old path) owner)) }
 {
     match paths.entry(path) {
         Ok(Entry::Occupied(entry)) => return entry.into_mut().join(owner),

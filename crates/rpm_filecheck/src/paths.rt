@@ -61,7 +61,8 @@ fn add_far(
     add_paths(alloc, owned, number, paths.texts(Some(&mut room)), columns)
 }
 
-/// Puts the package of a header after the owners of its paths: of a path that it has twice, with what it says at the first place.
+/// Puts the package of a header after the owners of its paths: of a path that it has twice, with what it says at the
+/// first place.
 #[tactic(auto, unfolding(crate::specs::Files::files))]
 pub fn add_files(
     alloc: Global,

@@ -1,11 +1,10 @@
 //! The report of all conflicts.
 
 ghost use Rattle.std.specs.Prelude.{◌≡◌, ◌<◌, [], IsTrue, false, Some, Err, IfOk, length, slice_get, unwrap_or};
-ghost use Rattle.rpm_outside.specs.Causes.{HasCauseAt};
+ghost use Rattle.rpm_outside.specs.Frame.{Looks, DiskFault};
 ghost use Rattle.rpm_outside.specs.declared.disk.File.TheVariants.{Pkg};
-ghost use Rattle.rpm_outside.specs.Looks.{Looks};
-ghost use Rattle.rpm_db.specs.State.{packages};
-ghost use Rattle.rpm_db.specs.Database.{Keeps, cost_all};
+ghost use Rattle.rpm_db.specs.Database.{cost_all};
+ghost use Rattle.rpm_db.specs.Frame.{Kept, packages_in};
 ghost use Rattle.rpm_filecheck.specs.Conflicts.{IsReport, told_label};
 
 use crate::conflict::Conflict;
@@ -18,8 +17,8 @@ use rpm_outside::Disk;
 use std::alloc::Global;
 use std::marker::Model;
 
-/// The conflicts of all packages, by path, then by the lesser number, then by the greater one; the numbers of the packages that can't be
-/// read; and the labels of the others.
+/// The conflicts of all packages, by path, then by the lesser number, then by the greater one; the numbers of the
+/// packages that can't be read; and the labels of the others.
 #[derive(Drop)]
 pub struct ConflictList {
     conflicts: Vec<Conflict>,
@@ -58,8 +57,8 @@ impl ConflictList {
         &self.bad
     }
 
-    /// The label of a number, as the format `%{NVRA}` prints it. Of a number whose package can't be read or isn't there, which stands in
-    /// no conflict, it is empty.
+    /// The label of a number, as the format `%{NVRA}` prints it. Of a number whose package can't be read or isn't
+    /// there, which stands in no conflict, it is empty.
     pub fn label(&self, number: u32) -> &[u8]
         ensures { result.now ≡ unwrap_or (told_label self.now number) [] }
     {
@@ -67,12 +66,13 @@ impl ConflictList {
     }
 }
 
-/// The paths that several packages own and that differ: in the mode, in the digest or in what they link to. Two directories may share a
-/// path, and so may a ghost with any other. Of a path that a package has twice its first place counts.
+/// The paths that several packages own and that differ: in the mode, in the digest or in what they link to. Two
+/// directories may share a path, and so may a ghost with any other. Of a path that a package has twice its first
+/// place counts.
 ///
-/// Reads the blocks of each package, once. Takes memory for each path once and for what each package says of it, and n log n steps in the
-/// files, besides one for every two owners of a path of which they neither all say the same nor all are directories: each two may be one
-/// of the list. Paths with many owners are mostly directories.
+/// Reads the blocks of each package, once. Takes memory for each path once and for what each package says of it, and
+/// n log n steps in the files, besides one for every two owners of a path of which they neither all say the same nor
+/// all are directories: each two may be one of the list. Paths with many owners are mostly directories.
 ///
 /// # Errors
 ///
@@ -83,12 +83,12 @@ pub fn conflicts<D: Disk>(
     db: &Db,
     disk: &mut D,
 ) -> Result<ConflictList, FileCheckFault>
-    requires keeps { IsTrue D.tells → Keeps (D.files disk.old).pkg db.now }
+    requires keeps { Kept D.Disk disk.old db.now }
     requires runs { db.now.stopped ≡ false }
-    ensures kept { IsTrue D.tells → Keeps (D.files disk.new).pkg db.now }
-    ensures told { IfOk result (λ report. IsTrue D.tells → IsReport (packages (D.files disk.old).pkg db.now.store) report) }
-    ensures looks { Looks D.tells D.files D.left_since D.moment D.bytes_read D.follows Pkg (cost_all db.now) disk.old disk.new }
-    ensures cause { HasCauseAt (result ≡ Err FileCheckFault.DiskFault) (D.faults disk.old) (D.faults disk.new) }
+    ensures kept { Kept D.Disk disk.new db.now }
+    ensures told { IfOk result (λ report. IsTrue D.tells → IsReport (packages_in D.Disk disk.old db.now) report) }
+    ensures looks { Looks D.Disk Pkg (cost_all db.now) disk.old disk.new }
+    ensures cause { DiskFault D.Disk (result ≡ Err FileCheckFault.DiskFault) disk.old disk.new }
 {
     let found = gather(alloc, db, disk)?;
     let Found { owned, labels, bad } = found;

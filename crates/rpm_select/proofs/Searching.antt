@@ -1,12 +1,11 @@
 -- The next of rising numbers, and numbers that are put in order.
-use Rattle.std.proofs.Common.{◌≡◌, ◌≢◌, ℕ, zero, suc, ◌+◌, ◌<◌, ◌≤◌, ◌||◌, ◌==◌, List, [], ◌∷◌, length, get_or, Bool, true, false, Some, None, refl, sym, ap, ◌∙◌, inl, inr, arith, eqb}
+use Rattle.std.proofs.Common.{◌≡◌, ℕ, zero, suc, ◌+◌, ◌<◌, ◌≤◌, ◌||◌, ◌==◌, List, [], ◌∷◌, length, get_or, Bool, true, false, Some, None, refl, sym, ap, ◌∙◌, inl, inr, arith, eqb}
 use Rattle.std.specs.List.{dedup, dedup_from}
 use Rattle.std.specs.List.Sorted.{IsStrictlyIncreasing}
-use Rattle.std.proofs.lemmas.Bool.{cases_Bool, cases_lt, eqb-true, eq-eqb}
-use Rattle.std.proofs.lemmas.Bool.Decides.{nat_tests}
+use Rattle.std.proofs.lemmas.Bool.{cases_Bool, cases_lt, eqb-true}
 use Rattle.rpm_db.specs.Database.{IsNext}
 use Rattle.rpm_select.specs.Reach.{is_in}
-use Rattle.rpm_select.specs.inner.Keyed.{or_left, or_right}
+use Rattle.rpm_select.specs.inner.Among.{among, not_among}
 
 -- numbers that rise don't fall further on
 pub no_fall : (xs : List ℕ) → IsStrictlyIncreasing xs → (i j : ℕ) → i ≤ j → j < length xs → get_or xs i 0 ≤ get_or xs j 0
@@ -19,18 +18,6 @@ no_fall xs rising i (suc j) le within = elim (cases_lt i (suc j)) [
       rw next (omega (arith, rest, step)))
   | inr not ↦ (let is : i ≡ suc j = omega (arith, le, not) in rw is (omega arith))
 ]
-
-pub among : (xs : List ℕ) (i : ℕ) → i < length xs → is_in (get_or xs i 0) xs ≡ true
-among [] i within = absurd (omega (arith, within))
-among (x ∷ xs) zero within = or_left (x == x) (is_in x xs) (eq-eqb x x refl)
-among (x ∷ xs) (suc i) within = or_right (x == get_or xs i 0) (is_in (get_or xs i 0) xs) (among xs i (omega (arith, within)))
-
-pub not_among : (q : ℕ) (xs : List ℕ) → ((k : ℕ) → k < length xs → get_or xs k 0 ≢ q) → is_in q xs ≡ false
-not_among q [] other = refl
-not_among q (x ∷ xs) other =
-    let first = other 0 (omega arith) in
-    let test : (x == q) ≡ false = grind (arith, nat_tests) in
-    rw test (not_among q xs (λ k within. other (suc k) (omega (arith, within))))
 
 -- a place up to which the numbers are at most n, and from which on they are above it
 module _ (xs : List ℕ) (rising : IsStrictlyIncreasing xs) (n i : ℕ) (below : (k : ℕ) → k < i → k < length xs → get_or xs k 0 ≤ n)

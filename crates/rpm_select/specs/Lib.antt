@@ -1,4 +1,5 @@
 pub mod Candidates
+pub mod Frame
 pub mod Glob
 pub mod Labels
 pub mod Picks
@@ -6,3 +7,4 @@ pub mod Reach
 pub mod Recents
 pub mod Selections
 pub mod inner
+pub mod Prelude

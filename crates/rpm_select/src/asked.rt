@@ -1,14 +1,7 @@
 //! The keys that a selection asks an index for.
 
 ghost use Rattle.std.specs.Prelude.{◌≡◌, ◌≤◌, ◌++◌, ◌∷◌, [], not, length, IfOk, OnOk};
-ghost use Rattle.std.specs.List.{suffix_len};
-ghost use Rattle.std.specs.Option.{option_copied, option_and_then};
-ghost use Rattle.rpm_tags.specs.declared.kind.Kind.TheVariants.{Providename, Installtid};
-ghost use Rattle.rpm_tags.specs.Keys.{number_key};
-ghost use Rattle.rpm_tags.specs.Wanted.{base_name};
-ghost use Rattle.rpm_select.specs.Candidates.{keys_asked, path_keys, names_in, cut, one};
-ghost use Rattle.rpm_select.specs.inner.Asking.{is_byte, name_keys};
-ghost use Rattle.rpm_select.specs.Labels.{is_dash};
+ghost use Rattle.rpm_select.specs.Prelude.{base_name, cut, Installtid, is_byte, is_dash, keys_asked, name_keys, names_in, number_key, one, option_and_then, option_copied, path_keys, Providename, suffix_len};
 
 use crate::rows::is_slash_first;
 use crate::selection::Selection;

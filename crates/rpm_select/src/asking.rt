@@ -1,18 +1,7 @@
 //! The packages that an index has under the keys of a selection.
 
-ghost use Rattle.std.specs.Prelude.{◌≡◌, ◌≢◌, ℕ, ◌++◌, ◌∷◌, [], IsTrue, true, false, map, Err, IfOk, IfErr, OnOk};
-ghost use Rattle.std.specs.List.Sorted.{IsStrictlyIncreasing};
-ghost use Rattle.rpm_outside.specs.Causes.{HasCauseAt};
-ghost use Rattle.rpm_outside.specs.declared.disk.File.TheVariants.{Idx};
-ghost use Rattle.rpm_outside.specs.Looks.{LooksAt};
-ghost use Rattle.rpm_db.specs.Database.{KeepsIndex, is_indexed};
-ghost use Rattle.rpm_db.specs.Lawful.{HasRows};
-ghost use Rattle.rpm_db.specs.Rows.{rows};
-ghost use Rattle.rpm_db.specs.State.{packages};
-ghost use Rattle.rpm_select.specs.Candidates.{keys_asked};
-ghost use Rattle.rpm_select.specs.Reach.{is_in, IsBroken, KeysCost};
-ghost use Rattle.rpm_select.specs.Picks.{is_of_index};
-ghost use Rattle.rpm_select.specs.inner.Asking.{AreWith, Adds};
+ghost use Rattle.std.specs.Prelude.{◌≡◌, ◌≢◌, ℕ, ◌++◌, ◌∷◌, [], IsTrue, false, map, Err, IfOk, IfErr, OnOk};
+ghost use Rattle.rpm_select.specs.Prelude.{Adds, AreWith, DiskFault, HasIndex, HasRows, Idx, is_in, is_of_index, IsBroken, IsStrictlyIncreasing, KeptIndex, keys_asked, KeysCost, LooksAt, packages_in, rows};
 
 use crate::asked::{Asked, keys_asked};
 use crate::picked::PickFault;
@@ -52,18 +41,17 @@ fn push_found<D: Disk>(
     key: &Asked<'_>,
     numbers: &mut Vec<u32>,
 ) -> Result<(), PickFault>
-    requires indexed { is_indexed db.now ≡ true }
-    requires runs { db.now.stopped ≡ false }
-    requires keeps { IsTrue D.tells → KeepsIndex (D.files disk.old).idx db.now }
-    ensures kept { IsTrue D.tells → KeepsIndex (D.files disk.new).idx db.now }
-    ensures adds { OnOk result (IsTrue D.tells → HasRows (packages (D.files disk.old).pkg db.now.store) (D.files disk.old).idx
-        → Adds (rows (packages (D.files disk.old).pkg db.now.store)) key.now numbers.old.items numbers.new.items) }
+    requires index { HasIndex D.Disk disk.old db.now }
+    ensures adds { OnOk result (IsTrue D.tells → HasRows (packages_in D.Disk disk.old db.now) (D.files disk.old).idx
+        → Adds (rows (packages_in D.Disk disk.old db.now)) key.now numbers.old.items numbers.new.items) }
+    ensures kept { KeptIndex D.Disk disk.new db.now }
     ensures broken { IsTrue D.tells → IfErr result (IsBroken (key.now ∷ []) (D.files disk.old).idx) }
-    ensures lawful { IsTrue D.tells → HasRows (packages (D.files disk.old).pkg db.now.store) (D.files disk.old).idx
+    ensures lawful { IsTrue D.tells → HasRows (packages_in D.Disk disk.old db.now) (D.files disk.old).idx
         → IfErr result (λ fault. is_of_index fault ≡ false) }
-    ensures cost { IsTrue D.tells → KeysCost (D.files disk.old).idx (key.now ∷ []) (D.bytes_read disk.old File.Idx) (D.bytes_read disk.new File.Idx) }
-    ensures looks { LooksAt D.tells D.files D.left_since D.moment D.bytes_read D.follows Idx disk.old disk.new }
-    ensures cause { HasCauseAt (result ≡ Err PickFault.DiskFault) (D.faults disk.old) (D.faults disk.new) }
+    ensures cost { IsTrue D.tells → KeysCost (D.files disk.old).idx (key.now ∷ []) (D.bytes_read disk.old File.Idx)
+        (D.bytes_read disk.new File.Idx) }
+    ensures looks { LooksAt D.Disk Idx disk.old disk.new }
+    ensures cause { DiskFault D.Disk (result ≡ Err PickFault.DiskFault) disk.old disk.new }
 {
     match db.find(alloc, disk, key.kind(), key.bytes()) {
         Ok(hits) => push_hits(numbers, &hits),
@@ -80,18 +68,18 @@ fn found<D: Disk>(
     disk: &mut D,
     keys: &[Asked<'_>],
 ) -> Result<Vec<u32>, PickFault>
-    requires indexed { is_indexed db.now ≡ true }
-    requires runs { db.now.stopped ≡ false }
-    requires keeps { IsTrue D.tells → KeepsIndex (D.files disk.old).idx db.now }
-    ensures kept { IsTrue D.tells → KeepsIndex (D.files disk.new).idx db.now }
-    ensures with { IfOk result (λ numbers. IsTrue D.tells → HasRows (packages (D.files disk.old).pkg db.now.store) (D.files disk.old).idx
-        → AreWith (rows (packages (D.files disk.old).pkg db.now.store)) keys.now numbers.items) }
+    requires index { HasIndex D.Disk disk.old db.now }
+    ensures with { IfOk result (λ numbers. IsTrue D.tells
+        → HasRows (packages_in D.Disk disk.old db.now) (D.files disk.old).idx
+        → AreWith (rows (packages_in D.Disk disk.old db.now)) keys.now numbers.items) }
+    ensures kept { KeptIndex D.Disk disk.new db.now }
     ensures broken { IsTrue D.tells → IfErr result (IsBroken keys.now (D.files disk.old).idx) }
-    ensures lawful { IsTrue D.tells → HasRows (packages (D.files disk.old).pkg db.now.store) (D.files disk.old).idx
+    ensures lawful { IsTrue D.tells → HasRows (packages_in D.Disk disk.old db.now) (D.files disk.old).idx
         → IfErr result (λ fault. is_of_index fault ≡ false) }
-    ensures cost { IsTrue D.tells → KeysCost (D.files disk.old).idx keys.now (D.bytes_read disk.old File.Idx) (D.bytes_read disk.new File.Idx) }
-    ensures looks { LooksAt D.tells D.files D.left_since D.moment D.bytes_read D.follows Idx disk.old disk.new }
-    ensures cause { HasCauseAt (result ≡ Err PickFault.DiskFault) (D.faults disk.old) (D.faults disk.new) }
+    ensures cost { IsTrue D.tells → KeysCost (D.files disk.old).idx keys.now (D.bytes_read disk.old File.Idx)
+        (D.bytes_read disk.new File.Idx) }
+    ensures looks { LooksAt D.Disk Idx disk.old disk.new }
+    ensures cause { DiskFault D.Disk (result ≡ Err PickFault.DiskFault) disk.old disk.new }
 {
     let mut numbers = Vec::new(alloc);
     let mut left = keys;
@@ -103,7 +91,7 @@ fn found<D: Disk>(
 }
 
 /// Puts numbers in order, each once.
-fn each_once(numbers: Vec<u32>) -> Vec<u32>
+pub fn each_once(numbers: Vec<u32>) -> Vec<u32>
     ensures rising { IsStrictlyIncreasing result.items }
     ensures same { (n : ℕ) → is_in n result.items ≡ is_in n numbers.items }
 {
@@ -122,20 +110,19 @@ pub fn numbers_asked<D: Disk>(
     disk: &mut D,
     selection: &Selection<'_>,
 ) -> Result<Vec<u32>, PickFault>
-    requires indexed { is_indexed db.now ≡ true }
-    requires runs { db.now.stopped ≡ false }
-    requires keeps { IsTrue D.tells → KeepsIndex (D.files disk.old).idx db.now }
-    ensures kept { IsTrue D.tells → KeepsIndex (D.files disk.new).idx db.now }
+    requires index { HasIndex D.Disk disk.old db.now }
     ensures rising { IfOk result (λ numbers. IsStrictlyIncreasing numbers.items) }
-    ensures with { IfOk result (λ numbers. IsTrue D.tells → HasRows (packages (D.files disk.old).pkg db.now.store) (D.files disk.old).idx
-        → AreWith (rows (packages (D.files disk.old).pkg db.now.store)) (keys_asked selection.now) numbers.items) }
+    ensures with { IfOk result (λ numbers. IsTrue D.tells
+        → HasRows (packages_in D.Disk disk.old db.now) (D.files disk.old).idx
+        → AreWith (rows (packages_in D.Disk disk.old db.now)) (keys_asked selection.now) numbers.items) }
+    ensures kept { KeptIndex D.Disk disk.new db.now }
     ensures broken { IsTrue D.tells → IfErr result (IsBroken (keys_asked selection.now) (D.files disk.old).idx) }
-    ensures lawful { IsTrue D.tells → HasRows (packages (D.files disk.old).pkg db.now.store) (D.files disk.old).idx
+    ensures lawful { IsTrue D.tells → HasRows (packages_in D.Disk disk.old db.now) (D.files disk.old).idx
         → IfErr result (λ fault. is_of_index fault ≡ false) }
-    ensures cost { IsTrue D.tells → KeysCost (D.files disk.old).idx (keys_asked selection.now) (D.bytes_read disk.old File.Idx)
-        (D.bytes_read disk.new File.Idx) }
-    ensures looks { LooksAt D.tells D.files D.left_since D.moment D.bytes_read D.follows Idx disk.old disk.new }
-    ensures cause { HasCauseAt (result ≡ Err PickFault.DiskFault) (D.faults disk.old) (D.faults disk.new) }
+    ensures cost { IsTrue D.tells → KeysCost (D.files disk.old).idx (keys_asked selection.now)
+        (D.bytes_read disk.old File.Idx) (D.bytes_read disk.new File.Idx) }
+    ensures looks { LooksAt D.Disk Idx disk.old disk.new }
+    ensures cause { DiskFault D.Disk (result ≡ Err PickFault.DiskFault) disk.old disk.new }
 {
     let keys = match keys_asked(alloc, selection) {
         Ok(keys) => keys,

@@ -1,9 +1,7 @@
 //! The labels of a package.
 
 ghost use Rattle.std.specs.Prelude.{◌≡◌, ◌++◌, ◌∷◌, true, false, IfOk, OnOk};
-ghost use Rattle.std.specs.List.{list_any};
-ghost use Rattle.std.specs.Option.{option_copied};
-ghost use Rattle.rpm_select.specs.Labels.{is_dash, is_dash_or_dot, without, with_arch, with_release, with_version, with_name, labels, matches};
+ghost use Rattle.rpm_select.specs.Prelude.{is_dash, is_dash_or_dot, labels, list_any, matches, option_copied, with_arch, with_name, with_release, with_version, without};
 
 use crate::matching::glob;
 use rpm_header::View;
@@ -136,7 +134,8 @@ fn any_version(
     wanted: Wanted<'_>,
 ) -> Result<bool, AllocError>
     ensures { IfOk result (λ b. b ≡ list_any (matches wanted.entry.is_glob wanted.entry.text.now)
-        (with_version (option_copied arch.entry) (option_copied version.entry) (option_copied release.entry) label.old.items)) }
+        (with_version (option_copied arch.entry) (option_copied version.entry) (option_copied release.entry)
+        label.old.items)) }
 {
     let Some(version) = version else {
         return Ok(false);
@@ -157,7 +156,8 @@ fn any_name(
     wanted: Wanted<'_>,
 ) -> Result<bool, AllocError>
     ensures { IfOk result (λ b. b ≡ list_any (matches wanted.entry.is_glob wanted.entry.text.now)
-        (with_name (option_copied arch.entry) (option_copied name.entry) (option_copied version.entry) (option_copied release.entry))) }
+        (with_name (option_copied arch.entry) (option_copied name.entry) (option_copied version.entry)
+        (option_copied release.entry))) }
 {
     let Some(name) = name else {
         return Ok(false);

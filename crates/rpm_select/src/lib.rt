@@ -13,6 +13,7 @@ mod recent;
 mod rows;
 mod selection;
 
+pub use asking::each_once;
 pub use matching::glob;
 pub use picked::{Blob, PickFault, Picked};
 pub use picker::Picker;

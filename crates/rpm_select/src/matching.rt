@@ -1,9 +1,7 @@
 //! Globs.
 
 ghost use Rattle.std.specs.Prelude.{◌≡◌};
-ghost use Rattle.rpm_select.specs.Glob.{glob};
-ghost use Rattle.rpm_select.specs.inner.Unclosed.{IsUnclosed};
-ghost use Rattle.rpm_select.specs.inner.Steps.{StepIs, LeavesUnclosed};
+ghost use Rattle.rpm_select.specs.Prelude.{glob, IsUnclosed, LeavesUnclosed, StepIs};
 
 use crate::piece::{Piece, next_piece, takes, unclosed_len};
 
@@ -41,11 +39,11 @@ fn step<'a>(glob: &'a [u8], unclosed: usize, text: &'a [u8]) -> Move<'a>
     }
 }
 
-/// Whether a glob matches the whole of a text: `*` stands for any bytes, `?` for one byte, `[set]` for one byte of the set, and `\`
-/// takes the next byte for itself.
+/// Whether a glob matches the whole of a text: `*` stands for any bytes, `?` for one byte, `[set]` for one byte of
+/// the set, and `\` takes the next byte for itself.
 ///
-/// Takes no memory. From the last star on the text is tried at one place after the other, and earlier stars are never tried again.
-/// So it takes at most as many steps as the pattern has bytes for each byte of the text and once more.
+/// Takes no memory. From the last star on the text is tried at one place after the other, and earlier stars are never
+/// tried again. So it takes at most as many steps as the pattern has bytes for each byte of the text and once more.
 #[tactic(auto, unfolding(crate::specs::Glob::glob))]
 pub fn glob(pattern: &[u8], text: &[u8]) -> bool
     ensures { result ≡ glob pattern.now text.now }

@@ -1,16 +1,8 @@
 //! A package that a question picks.
 
-ghost use Rattle.std.specs.Prelude.{◌≡◌, ◌≢◌, ℕ, ◌<◌, IsTrue, IfOk, false, true, Ok, Err, Some};
+ghost use Rattle.std.specs.Prelude.{◌≡◌, ◌≢◌, ℕ, IsTrue, IfOk, false, true, Ok, Err, Some};
 ghost use Rattle.std.specs.FinMap as finite;
-ghost use Rattle.rpm_header.specs.Header.{header};
-ghost use Rattle.rpm_outside.specs.Causes.{HasCauseAt};
-ghost use Rattle.rpm_outside.specs.declared.disk.File.TheVariants.{Pkg};
-ghost use Rattle.rpm_outside.specs.Looks.{Looks};
-ghost use Rattle.rpm_db.specs.State.{Bad, packages, package_of};
-ghost use Rattle.rpm_db.specs.Database.{Keeps, cost};
-ghost use Rattle.rpm_select.specs.Selections.{takes_bad, is_elsewhere};
-ghost use Rattle.rpm_select.specs.Picks.{number_in, is_broken};
-ghost use Rattle.rpm_select.specs.inner.Single.{OneIs, OneOf, TakenIs, IsNumbered};
+ghost use Rattle.rpm_select.specs.Prelude.{Bad, cost, DiskFault, header, is_broken, is_elsewhere, IsNumbered, Kept, Looks, number_in, OneIs, OneOf, package_of, packages_in, Pkg, TakenIs, takes_bad};
 
 use crate::rows::takes_header;
 use crate::selection::Selection;
@@ -164,7 +156,8 @@ fn taken_length(
     }
 }
 
-/// A package by the bytes that it is read from, where the selection takes it; where it doesn't, they become the room of the next one.
+/// A package by the bytes that it is read from, where the selection takes it; where it doesn't, they become the room
+/// of the next one.
 fn pick_blob(
     alloc: Global,
     selection: &Selection<'_>,
@@ -205,8 +198,8 @@ fn is_elsewhere(selection: &Selection<'_>, number: u32) -> bool
     }
 }
 
-/// A number's package, where it is there and the selection takes it, in this room. Reads its blocks once, and nothing where the selection
-/// is another number.
+/// A number's package, where it is there and the selection takes it, in this room. Reads its blocks once, and nothing
+/// where the selection is another number.
 pub fn pick<D: Disk>(
     alloc: Global,
     db: &Db,
@@ -215,15 +208,17 @@ pub fn pick<D: Disk>(
     number: u32,
     room: &mut Vec<u8>,
 ) -> Result<Option<Picked>, PickFault>
-    requires keeps { IsTrue D.tells → Keeps (D.files disk.old).pkg db.now }
+    requires keeps { Kept D.Disk disk.old db.now }
     requires runs { db.now.stopped ≡ false }
-    ensures kept { IsTrue D.tells → Keeps (D.files disk.new).pkg db.now }
-    ensures told { IsTrue D.tells → OneOf selection.now number (finite.get (packages (D.files disk.old).pkg db.now.store) number) result }
+    ensures kept { Kept D.Disk disk.new db.now }
+    ensures told { IsTrue D.tells → OneOf selection.now number (finite.get (packages_in D.Disk disk.old db.now) number)
+        result }
     ensures numbered { IsNumbered number result }
-    ensures looks { Looks D.tells D.files D.left_since D.moment D.bytes_read D.follows Pkg (cost number db.now) disk.old disk.new }
-    ensures cause { HasCauseAt (result ≡ Err PickFault.DiskFault) (D.faults disk.old) (D.faults disk.new) }
+    ensures looks { Looks D.Disk Pkg (cost number db.now) disk.old disk.new }
+    ensures cause { DiskFault D.Disk (result ≡ Err PickFault.DiskFault) disk.old disk.new }
     ensures unbroken { is_broken result ≡ false }
-    ensures unread { is_elsewhere selection.now number ≡ true → D.bytes_read disk.new File.Pkg ≡ D.bytes_read disk.old File.Pkg }
+    ensures unread { is_elsewhere selection.now number ≡ true
+        → D.bytes_read disk.new File.Pkg ≡ D.bytes_read disk.old File.Pkg }
 {
     if is_elsewhere(selection, number) {
         return Ok(None);

@@ -1,16 +1,8 @@
 //! The packages that a question picks, one at a time.
 
-ghost use Rattle.std.specs.Prelude.{◌≡◌, ◌<◌, IsTrue, IsOk, IfOk, IfErr, IfSome, ◌+◌, ◌≤◌, false, true, Ok, Err, Some};
-ghost use Rattle.std.specs.List.Sorted.{IsStrictlyIncreasing};
-ghost use Rattle.rpm_outside.specs.Causes.{HasCauseAt};
-ghost use Rattle.rpm_outside.specs.declared.disk.File.TheVariants.{Pkg, Idx};
-ghost use Rattle.rpm_outside.specs.Looks.{Looks, LooksAt};
-ghost use Rattle.rpm_db.specs.State.{packages, above};
-ghost use Rattle.rpm_db.specs.Database.{Keeps, KeepsIndex, IsNext, cost_to};
-ghost use Rattle.rpm_select.specs.Selections.{picks};
-ghost use Rattle.rpm_select.specs.Candidates.{keys_asked};
-ghost use Rattle.rpm_select.specs.Reach.{These, asks, unasked, reach, reaches, reach_to, reach_after, Serves, HasIndexRows, IsBroken, KeysCost};
-ghost use Rattle.rpm_select.specs.Picks.{NextIs, AnyIs, number_in, cost_after, ReadsOwn, is_broken};
+ghost use Rattle.std.specs.Prelude.{◌≡◌, ◌<◌, IsTrue, IsOk, IfOk, IfErr, IfSome, ◌+◌, ◌≤◌, false, Err};
+ghost use Rattle.rpm_select.specs.Prelude.{above, AnyIs, asks, cost_after, cost_to, DiskFault, Idx, is_broken, IsBroken, IsNext, IsStrictlyIncreasing, Kept, KeptIndex, keys_asked, KeysCost, Looks, LooksAt, NextIs, number_in, packages_in, picks, Pkg, reach, reach_after, reach_to, reaches, ReadsOwn, Serves, These, unasked};
+ghost use Rattle.rpm_select.specs.Frame.{HasRows};
 
 use crate::asking::numbers_asked;
 use crate::picked::{PickFault, Picked, pick};
@@ -22,8 +14,9 @@ use std::alloc::Global;
 use std::marker::Model;
 use std::mem::replace;
 
-/// The way through the packages that a selection picks: the numbers that it goes over. Contracts see these. It holds four bytes for each
-/// number that an index gave, and nothing where no index is asked; and the room of a package that was read, for the next one.
+/// The way through the packages that a selection picks: the numbers that it goes over. Contracts see these. It holds
+/// four bytes for each number that an index gave, and nothing where no index is asked; and the room of a package that
+/// was read, for the next one.
 #[derive(Drop)]
 pub struct Picker {
     reach: Reach,
@@ -84,16 +77,18 @@ impl Picker {
         self.reach.next_above(db, n)
     }
 
-    /// Begins to go through the packages that a selection picks. The other calls are for the same selection, and the database in the
-    /// same state.
+    /// Begins to go through the packages that a selection picks. The other calls are for the same selection, and the
+    /// database in the same state.
     ///
-    /// Where an index is kept and the selection has keys, the candidates are looked up: it reads of `Hindex.db` 16 bytes and the records
-    /// of its bucket for each key, of which there are at most four. Otherwise nothing is read, and it answers Ok. No package is read.
+    /// Where an index is kept and the selection has keys, the candidates are looked up: it reads of `Hindex.db` 16
+    /// bytes and the records of its bucket for each key, of which there are at most four. Otherwise nothing is read,
+    /// and it answers Ok. No package is read.
     ///
     /// # Errors
     ///
-    /// - `BadIndex` only where an index is kept, the selection has keys, and the chain of the bucket of one of them isn't well formed:
-    ///   the unit of its first fault. It never comes where the index holds the rows of the packages.
+    /// - `BadIndex` only where an index is kept, the selection has keys, and the chain of the bucket of one of them
+    ///   isn't well formed: the unit of its first fault. It never comes where the index holds the rows of the
+    ///   packages.
     /// - `DiskFault` only where the disk's count of faults rose.
     /// - `NoMemory` where the keys, what is found of them or the numbers find no memory.
     pub fn new<D: Disk>(
@@ -102,22 +97,21 @@ impl Picker {
         disk: &mut D,
         selection: &Selection<'_>,
     ) -> Result<Picker, PickFault>
-        requires keeps_index { IsTrue D.tells → KeepsIndex (D.files disk.old).idx db.now }
+        requires keeps_index { KeptIndex D.Disk disk.old db.now }
         requires runs { db.now.stopped ≡ false }
-        ensures kept_index { IsTrue D.tells → KeepsIndex (D.files disk.new).idx db.now }
+        ensures kept_index { KeptIndex D.Disk disk.new db.now }
         ensures begins { asks db.now selection.now ≡ false → IsOk result }
-        ensures unread { asks db.now selection.now ≡ false
-            → Looks D.tells D.files D.left_since D.moment D.bytes_read D.follows Pkg 0 disk.old disk.new }
-        ensures looks { LooksAt D.tells D.files D.left_since D.moment D.bytes_read D.follows Idx disk.old disk.new }
-        ensures cost { IsTrue D.tells → KeysCost (D.files disk.old).idx (keys_asked selection.now) (D.bytes_read disk.old File.Idx)
-            (D.bytes_read disk.new File.Idx) }
-        ensures reach { IfOk result (λ picker. IsTrue D.tells → HasIndexRows db.now (D.files disk.old).pkg (D.files disk.old).idx
-            → picker ≡ reach (asks db.now selection.now) selection.now (packages (D.files disk.old).pkg db.now.store)) }
-        ensures serves { IfOk result (λ picker. IsTrue D.tells → HasIndexRows db.now (D.files disk.old).pkg (D.files disk.old).idx
-            → Serves picker (packages (D.files disk.old).pkg db.now.store) selection.now) }
+        ensures unread { asks db.now selection.now ≡ false → Looks D.Disk Pkg 0 disk.old disk.new }
+        ensures looks { LooksAt D.Disk Idx disk.old disk.new }
+        ensures cost { IsTrue D.tells → KeysCost (D.files disk.old).idx (keys_asked selection.now)
+            (D.bytes_read disk.old File.Idx) (D.bytes_read disk.new File.Idx) }
+        ensures reach { IfOk result (λ picker. IsTrue D.tells → HasRows D.Disk disk.old db.now
+            → picker ≡ reach (asks db.now selection.now) selection.now (packages_in D.Disk disk.old db.now)) }
+        ensures serves { IfOk result (λ picker. IsTrue D.tells → HasRows D.Disk disk.old db.now
+            → Serves picker (packages_in D.Disk disk.old db.now) selection.now) }
         ensures broken { IsTrue D.tells → IfErr result (IsBroken (keys_asked selection.now) (D.files disk.old).idx) }
-        ensures lawful { IsTrue D.tells → HasIndexRows db.now (D.files disk.old).pkg (D.files disk.old).idx → is_broken result ≡ false }
-        ensures cause { HasCauseAt (result ≡ Err PickFault.DiskFault) (D.faults disk.old) (D.faults disk.new) }
+        ensures lawful { IsTrue D.tells → HasRows D.Disk disk.old db.now → is_broken result ≡ false }
+        ensures cause { DiskFault D.Disk (result ≡ Err PickFault.DiskFault) disk.old disk.new }
     {
         if !asks(db, selection) {
             return Ok(unasked(alloc, selection));
@@ -139,9 +133,10 @@ impl Picker {
 
     /// The package that is picked with the least number above n; None exactly where there is none.
     ///
-    /// Reads the blocks of the numbers that it goes over above n, up to the one that is given or all of them, each once: those of the
-    /// candidates where an index was asked, and where the selection is a number those of that number alone. Each header is looked at,
-    /// whatever the index says. Holds one package at a time, and parses its header once: the blob that it gives needs no other.
+    /// Reads the blocks of the numbers that it goes over above n, up to the one that is given or all of them, each
+    /// once: those of the candidates where an index was asked, and where the selection is a number those of that
+    /// number alone. Each header is looked at, whatever the index says. Holds one package at a time, and parses its
+    /// header once: the blob that it gives needs no other.
     ///
     /// # Errors
     ///
@@ -156,18 +151,19 @@ impl Picker {
         selection: &Selection<'_>,
         n: u32,
     ) -> Result<Option<Picked>, PickFault>
-        requires keeps { IsTrue D.tells → Keeps (D.files disk.old).pkg db.now }
+        requires keeps { Kept D.Disk disk.old db.now }
         requires runs { db.now.stopped ≡ false }
-        ensures kept { IsTrue D.tells → Keeps (D.files disk.new).pkg db.now }
-        ensures told { IsTrue D.tells → Serves self.old (packages (D.files disk.old).pkg db.now.store) selection.now
-            → NextIs (above n (picks (packages (D.files disk.old).pkg db.now.store) selection.now)) result }
+        ensures kept { Kept D.Disk disk.new db.now }
+        ensures told { IsTrue D.tells → Serves self.old (packages_in D.Disk disk.old db.now) selection.now
+            → NextIs (above n (picks (packages_in D.Disk disk.old db.now) selection.now)) result }
         ensures same { self.new ≡ self.old }
-        ensures reads { D.bytes_read disk.new File.Pkg ≤ D.bytes_read disk.old File.Pkg + reach_after n self.old db.now result }
+        ensures reads { D.bytes_read disk.new File.Pkg ≤ D.bytes_read disk.old File.Pkg + reach_after n self.old db.now
+            result }
         ensures rises { IfOk result (λ o. IfSome o (λ picked. n < number_in picked)) }
-        ensures looks { Looks D.tells D.files D.left_since D.moment D.bytes_read D.follows Pkg (cost_after n db.now result) disk.old disk.new }
+        ensures looks { Looks D.Disk Pkg (cost_after n db.now result) disk.old disk.new }
         ensures own { ReadsOwn selection.now db.now (D.bytes_read disk.old File.Pkg) (D.bytes_read disk.new File.Pkg) }
         ensures unbroken { is_broken result ≡ false }
-        ensures cause { HasCauseAt (result ≡ Err PickFault.DiskFault) (D.faults disk.old) (D.faults disk.new) }
+        ensures cause { DiskFault D.Disk (result ≡ Err PickFault.DiskFault) disk.old disk.new }
     {
         let mut room = replace(&mut self.room, Vec::new(alloc));
         let mut passed = n;
@@ -183,7 +179,8 @@ impl Picker {
 
     /// Whether some number from 1 to n is picked.
     ///
-    /// Reads the blocks of the numbers that it goes over from 1 to n, up to the first that is picked, each once, as `next_after` does.
+    /// Reads the blocks of the numbers that it goes over from 1 to n, up to the first that is picked, each once, as
+    /// `next_after` does.
     ///
     /// # Errors
     ///
@@ -196,17 +193,17 @@ impl Picker {
         selection: &Selection<'_>,
         n: u32,
     ) -> Result<bool, PickFault>
-        requires keeps { IsTrue D.tells → Keeps (D.files disk.old).pkg db.now }
+        requires keeps { Kept D.Disk disk.old db.now }
         requires runs { db.now.stopped ≡ false }
-        ensures kept { IsTrue D.tells → Keeps (D.files disk.new).pkg db.now }
-        ensures told { IsTrue D.tells → Serves self.old (packages (D.files disk.old).pkg db.now.store) selection.now
-            → AnyIs (above 0 (picks (packages (D.files disk.old).pkg db.now.store) selection.now)) n result }
+        ensures kept { Kept D.Disk disk.new db.now }
+        ensures told { IsTrue D.tells → Serves self.old (packages_in D.Disk disk.old db.now) selection.now
+            → AnyIs (above 0 (picks (packages_in D.Disk disk.old db.now) selection.now)) n result }
         ensures same { self.new ≡ self.old }
         ensures reads { D.bytes_read disk.new File.Pkg ≤ D.bytes_read disk.old File.Pkg + reach_to n self.old db.now }
-        ensures looks { Looks D.tells D.files D.left_since D.moment D.bytes_read D.follows Pkg (cost_to n db.now) disk.old disk.new }
+        ensures looks { Looks D.Disk Pkg (cost_to n db.now) disk.old disk.new }
         ensures own { ReadsOwn selection.now db.now (D.bytes_read disk.old File.Pkg) (D.bytes_read disk.new File.Pkg) }
         ensures unbroken { is_broken result ≡ false }
-        ensures cause { HasCauseAt (result ≡ Err PickFault.DiskFault) (D.faults disk.old) (D.faults disk.new) }
+        ensures cause { DiskFault D.Disk (result ≡ Err PickFault.DiskFault) disk.old disk.new }
     {
         let mut room = replace(&mut self.room, Vec::new(alloc));
         let mut passed = 0;

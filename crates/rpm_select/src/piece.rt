@@ -1,11 +1,7 @@
 //! The pieces of a glob.
 
 ghost use Rattle.std.specs.Prelude.{◌≡◌, ◌+◌, ◌≤◌, ◌<◌, ◌∷◌, [], MatchOption, IfSome, length};
-ghost use Rattle.std.specs.List.{position_or_len};
-ghost use Rattle.rpm_select.specs.Glob.{is_close, is_turned, member_count, is_member, takes, bracketed, piece_at, pieces};
-ghost use Rattle.rpm_select.specs.inner.Members.{is_range, first_has, first_len};
-ghost use Rattle.rpm_select.specs.inner.Unclosed.{IsUnclosed};
-ghost use Rattle.rpm_select.specs.inner.Pieces.{piece_in, written_in};
+ghost use Rattle.rpm_select.specs.Prelude.{bracketed, first_has, first_len, is_close, is_member, is_range, is_turned, IsUnclosed, member_count, piece_at, piece_in, pieces, position_or_len, takes, written_in};
 
 /// What a part of a glob stands for.
 #[derive(Clone, Copy)]
@@ -199,7 +195,8 @@ fn piece_at(byte: u8, rest: &[u8], unclosed: usize) -> Written<'_>
 #[tactic(auto, using(crate::proofs::Unclosed::unclosed_behind))]
 pub fn next_piece(glob: &[u8], unclosed: usize) -> Option<(Piece<'_>, &[u8])>
     requires { IsUnclosed unclosed glob.now }
-    ensures value { MatchOption result (pieces glob.now ≡ []) (λ cut. pieces glob.now ≡ piece_in cut.0 ∷ pieces cut.1.now) }
+    ensures value { MatchOption result (pieces glob.now ≡ [])
+        (λ cut. pieces glob.now ≡ piece_in cut.0 ∷ pieces cut.1.now) }
     ensures less { MatchOption result (glob.now ≡ []) (λ cut. length cut.1.now < length glob.now) }
     ensures unclosed { IfSome result (λ cut. IsUnclosed unclosed cut.1.now) }
 {

@@ -1,10 +1,7 @@
 //! The numbers that a picker goes over.
 
 ghost use Rattle.std.specs.Prelude.{◌<◌, ◌≤◌, ℕ, length, slice_index};
-ghost use Rattle.std.specs.List.Sorted.{IsStrictlyIncreasing};
-ghost use Rattle.rpm_db.specs.Database.{IsNext};
-ghost use Rattle.rpm_select.specs.Reach.{is_in, reaches};
-ghost use Rattle.rpm_select.specs.inner.Reaching.{reach_of, IsRising};
+ghost use Rattle.rpm_select.specs.Prelude.{is_in, IsNext, IsRising, IsStrictlyIncreasing, reach_of, reaches};
 
 use rpm_db::Db;
 

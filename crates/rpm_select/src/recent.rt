@@ -1,17 +1,8 @@
 //! The package that was read last.
 
 ghost use Rattle.std.specs.Prelude.{◌≡◌, ◌≢◌, ◌<◌, ℕ, IsTrue, is_some, true, false, Ok, Err, Some, IfOk, IfSome};
-ghost use Rattle.std.specs.Ordering.{nat_cmp};
+ghost use Rattle.rpm_select.specs.Prelude.{above, cost, DiskFault, is_broken, is_picked, IsHeld, IsNext, IsOf, Kept, Looks, nat_cmp, NextNumberIs, number_in, Package, package_in, packages_in, picks, picks_at, Pkg, reach_next, reaches, Recalls, Serves};
 ghost use Rattle.std.specs.FinMap as finite;
-ghost use Rattle.rpm_outside.specs.Causes.{HasCauseAt};
-ghost use Rattle.rpm_outside.specs.declared.disk.File.TheVariants.{Pkg};
-ghost use Rattle.rpm_outside.specs.Looks.{Looks};
-ghost use Rattle.rpm_db.specs.State.{Package, packages, above};
-ghost use Rattle.rpm_db.specs.Database.{Keeps, IsNext, cost};
-ghost use Rattle.rpm_select.specs.Selections.{picks, is_picked};
-ghost use Rattle.rpm_select.specs.Reach.{Serves, reaches, reach_next};
-ghost use Rattle.rpm_select.specs.Picks.{NextNumberIs, number_in, package_in, is_broken};
-ghost use Rattle.rpm_select.specs.Recents.{IsHeld, IsOf, Recalls, picks_at};
 
 use crate::picked::{PickFault, Picked, pick, takes_bad};
 use crate::picker::Picker;
@@ -57,7 +48,8 @@ impl Recent {
         ensures given { IsHeld number self.now → is_some result ≡ true }
         ensures number { IfSome result (λ held. number_in held.now ≡ number) }
         ensures held { IfSome result (λ held. IsHeld number self.now) }
-        ensures same { IfSome result (λ held. (packages : finite.FinMap nat_cmp Package) → Recalls packages self.now → IsOf packages held.now) }
+        ensures same { IfSome result (λ held. (packages : finite.FinMap nat_cmp Package) → Recalls packages self.now
+            → IsOf packages held.now) }
     {
         match &self.last {
             Some(held) => {
@@ -90,18 +82,18 @@ impl Recent {
         selection: &Selection<'_>,
         number: u32,
     ) -> Result<bool, PickFault>
-        requires keeps { IsTrue D.tells → Keeps (D.files disk.old).pkg db.now }
+        requires keeps { Kept D.Disk disk.old db.now }
         requires runs { db.now.stopped ≡ false }
-        ensures kept { IsTrue D.tells → Keeps (D.files disk.new).pkg db.now }
-        ensures told { IfOk result (λ b. IsTrue D.tells → Recalls (packages (D.files disk.old).pkg db.now.store) self.old
-            → b ≡ picks_at selection.now number (finite.get (packages (D.files disk.old).pkg db.now.store) number)) }
-        ensures recalls { IsTrue D.tells → Recalls (packages (D.files disk.old).pkg db.now.store) self.old
-            → Recalls (packages (D.files disk.old).pkg db.now.store) self.new }
+        ensures kept { Kept D.Disk disk.new db.now }
+        ensures told { IfOk result (λ b. IsTrue D.tells → Recalls (packages_in D.Disk disk.old db.now) self.old
+            → b ≡ picks_at selection.now number (finite.get (packages_in D.Disk disk.old db.now) number)) }
+        ensures recalls { IsTrue D.tells → Recalls (packages_in D.Disk disk.old db.now) self.old
+            → Recalls (packages_in D.Disk disk.old db.now) self.new }
         ensures held { result ≡ Ok true → IsHeld number self.new }
-        ensures looks { Looks D.tells D.files D.left_since D.moment D.bytes_read D.follows Pkg (cost number db.now) disk.old disk.new }
+        ensures looks { Looks D.Disk Pkg (cost number db.now) disk.old disk.new }
         ensures unread { IsHeld number self.old → D.bytes_read disk.new File.Pkg ≡ D.bytes_read disk.old File.Pkg }
         ensures unbroken { is_broken result ≡ false }
-        ensures cause { HasCauseAt (result ≡ Err PickFault.DiskFault) (D.faults disk.old) (D.faults disk.new) }
+        ensures cause { DiskFault D.Disk (result ≡ Err PickFault.DiskFault) disk.old disk.new }
     {
         if let Some(held) = self.recall(number) {
             return takes(alloc, selection, held);
@@ -120,8 +112,8 @@ impl Recent {
 }
 
 impl Picker {
-    /// The number of the package that `next_after` gives, with the same faults. Of the numbers that it goes over, a package that is held
-    /// isn't read again; the one that was read last is held.
+    /// The number of the package that `next_after` gives, with the same faults. Of the numbers that it goes over, a
+    /// package that is held isn't read again; the one that was read last is held.
     pub fn next_number_after<D: Disk>(
         &self,
         alloc: Global,
@@ -131,21 +123,21 @@ impl Picker {
         recent: &mut Recent,
         n: u32,
     ) -> Result<Option<u32>, PickFault>
-        requires keeps { IsTrue D.tells → Keeps (D.files disk.old).pkg db.now }
+        requires keeps { Kept D.Disk disk.old db.now }
         requires runs { db.now.stopped ≡ false }
-        ensures kept { IsTrue D.tells → Keeps (D.files disk.new).pkg db.now }
-        ensures told { IsTrue D.tells → Serves self.now (packages (D.files disk.old).pkg db.now.store) selection.now
-            → Recalls (packages (D.files disk.old).pkg db.now.store) recent.old
-            → NextNumberIs (above n (picks (packages (D.files disk.old).pkg db.now.store) selection.now)) result }
-        ensures recalls { IsTrue D.tells → Recalls (packages (D.files disk.old).pkg db.now.store) recent.old
-            → Recalls (packages (D.files disk.old).pkg db.now.store) recent.new }
+        ensures kept { Kept D.Disk disk.new db.now }
+        ensures told { IsTrue D.tells → Serves self.now (packages_in D.Disk disk.old db.now) selection.now
+            → Recalls (packages_in D.Disk disk.old db.now) recent.old
+            → NextNumberIs (above n (picks (packages_in D.Disk disk.old db.now) selection.now)) result }
+        ensures recalls { IsTrue D.tells → Recalls (packages_in D.Disk disk.old db.now) recent.old
+            → Recalls (packages_in D.Disk disk.old db.now) recent.new }
         ensures held { IfOk result (λ o. IfSome o (λ next. IsHeld next recent.new)) }
-        ensures unread { (m : ℕ) → IsHeld m recent.old → IsNext (reaches self.now db.now) n (Some m) → result ≡ Ok (Some m)
-            → D.bytes_read disk.new File.Pkg ≡ D.bytes_read disk.old File.Pkg }
+        ensures unread { (m : ℕ) → IsHeld m recent.old → IsNext (reaches self.now db.now) n (Some m)
+            → result ≡ Ok (Some m) → D.bytes_read disk.new File.Pkg ≡ D.bytes_read disk.old File.Pkg }
         ensures rises { IfOk result (λ o. IfSome o (λ next. n < next)) }
-        ensures looks { Looks D.tells D.files D.left_since D.moment D.bytes_read D.follows Pkg (reach_next n self.now db.now result) disk.old disk.new }
+        ensures looks { Looks D.Disk Pkg (reach_next n self.now db.now result) disk.old disk.new }
         ensures unbroken { is_broken result ≡ false }
-        ensures cause { HasCauseAt (result ≡ Err PickFault.DiskFault) (D.faults disk.old) (D.faults disk.new) }
+        ensures cause { DiskFault D.Disk (result ≡ Err PickFault.DiskFault) disk.old disk.new }
     {
         let mut passed = n;
         while let Some(next) = self.next_number(db, passed) {

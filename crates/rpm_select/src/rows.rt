@@ -1,12 +1,7 @@
 //! Whether a header is picked.
 
 ghost use Rattle.std.specs.Prelude.{◌≡◌, ◌==◌, slice_index, IfOk};
-ghost use Rattle.std.specs.List.{list_any};
-ghost use Rattle.rpm_tags.specs.Numbers.{GROUP, INSTALLTID};
-ghost use Rattle.rpm_tags.specs.Value.{first_text, texts_in, numbers_in};
-ghost use Rattle.rpm_tags.specs.Wanted.{listed};
-ghost use Rattle.rpm_select.specs.Selections.{meets, has_any, is_file_of, is_among, is_first, takes_header};
-ghost use Rattle.rpm_select.specs.inner.Needs.{needed_in};
+ghost use Rattle.rpm_select.specs.Prelude.{first_text, GROUP, has_any, INSTALLTID, is_among, is_file_of, is_first, list_any, listed, meets, needed_in, numbers_in, takes_header, texts_in};
 
 use crate::labels::{any_label, glob_of, text_of};
 use crate::selection::Selection;
@@ -145,8 +140,8 @@ fn is_group(view: &View<'_>, wanted: &[u8]) -> bool
 
 /// Whether a selection picks a header with this number.
 ///
-/// Goes over the tag that the selection asks for, and over the header's index for each tag. Takes memory for a label alone, where
-/// the selection is a label or a pattern.
+/// Goes over the tag that the selection asks for, and over the header's index for each tag. Takes memory for a label
+/// alone, where the selection is a label or a pattern.
 ///
 /// # Errors
 ///

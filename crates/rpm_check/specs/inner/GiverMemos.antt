@@ -1,14 +1,17 @@
 -- What a memo of packages remembers.
-use Rattle.std.specs.Prelude.{◌≡◌, ℕ, List, IfSome}
+use Rattle.std.specs.Prelude.{◌≡◌, ℕ, List, IsTrue, IfSome}
 use Rattle.std.specs.BTreeMap.{get}
 use Rattle.std.specs.FinMap.{FinMap}
 use Rattle.std.specs.Ordering.{nat_cmp}
+use Rattle.rpm_outside.specs.declared.disk.Disk as disk
 use Rattle.rpm_tags.specs.Wanted.{Needed}
+use Rattle.rpm_db.specs.Database.{Database}
 use Rattle.rpm_db.specs.State.{Package}
 use Rattle.rpm_select.specs.Recents.{Recalls}
 use Rattle.rpm_check.specs.declared.memo.Requirement.{Requirement}
 use Rattle.rpm_check.specs.declared.giver_memo.GiverMemo.{GiverMemo}
 use Rattle.rpm_check.specs.Edges.{givers}
+use Rattle.rpm_check.specs.Frame.{HasRows, packages_in}
 use Rattle.rpm_check.specs.inner.Memos.{need_of, key_order}
 
 -- the numbers that are known of a requirement are its own
@@ -19,3 +22,7 @@ RemembersGivers of memo = (key : Requirement) → IfSome (get key_order memo.num
 pub record KnowsGivers (packages : FinMap nat_cmp Package) (memo : GiverMemo) : Type 0 where
   pub numbers : RemembersGivers (givers packages) memo
   pub recent : Recalls packages memo.recent
+
+-- the same of the packages of a database whose index has their rows
+abbrev pub KnowsGiversOn : {D : Type 0} → disk.Ghosts D → D → Database → GiverMemo → Type 0
+KnowsGiversOn d at db memo = IsTrue d.tells → HasRows d at db → KnowsGivers (packages_in d at db) memo

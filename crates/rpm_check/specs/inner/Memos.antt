@@ -1,15 +1,18 @@
 -- What a memo remembers.
-use Rattle.std.specs.Prelude.{◌≡◌, Bool, IfSome}
+use Rattle.std.specs.Prelude.{◌≡◌, Bool, IsTrue, IfSome}
 use Rattle.std.specs.declared.cmp.Ordering.{Ordering}
 use Rattle.std.specs.BTreeMap.{get}
 use Rattle.std.specs.Cmp.Lexicographic.{slice_cmp}
 use Rattle.std.specs.FinMap.{FinMap}
 use Rattle.std.specs.Ordering.{nat_cmp, ordering_then}
+use Rattle.rpm_outside.specs.declared.disk.Disk as disk
 use Rattle.rpm_tags.specs.Wanted.{Needed}
+use Rattle.rpm_db.specs.Database.{Database}
 use Rattle.rpm_db.specs.State.{Package}
 use Rattle.rpm_select.specs.Recents.{Recalls}
 use Rattle.rpm_check.specs.declared.memo.Requirement.{Requirement}
 use Rattle.rpm_check.specs.declared.memo.Memo.{Memo}
+use Rattle.rpm_check.specs.Frame.{HasRows, packages_in}
 use Rattle.rpm_check.specs.Unmet.{is_met}
 
 -- the requirement that a key stands for
@@ -30,3 +33,7 @@ Remembers is_so memo = (key : Requirement) → IfSome (get key_order memo.answer
 pub record Knows (packages : FinMap nat_cmp Package) (memo : Memo) : Type 0 where
   pub answers : Remembers (is_met packages) memo
   pub recent : Recalls packages memo.recent
+
+-- the same of the packages of a database whose index has their rows
+abbrev pub KnowsOn : {D : Type 0} → disk.Ghosts D → D → Database → Memo → Type 0
+KnowsOn d at db memo = IsTrue d.tells → HasRows d at db → Knows (packages_in d at db) memo

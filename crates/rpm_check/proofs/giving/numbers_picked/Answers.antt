@@ -1,4 +1,4 @@
-use Rattle.std.proofs.Common.{◌≡◌, ℕ, List, ◌++◌, Option, Some, None, Ok, arith, sym, ap, subst}
+use Rattle.std.proofs.Common.{◌≡◌, ℕ, List, ◌++◌, Option, Some, None, Ok, arith, sym, ap, subst, Err}
 use Rattle.std.proofs.lemmas.Result.{err_from_is_err_and}
 use Rattle.rpm_outside.specs.Files.{Files}
 use Rattle.rpm_db.specs.Database.{Keeps, KeepsIndex}
@@ -9,28 +9,31 @@ use Rattle.rpm_select.specs.Reach.{Serves}
 use Rattle.rpm_select.specs.Recents.{Recalls}
 use Rattle.rpm_select.specs.Selections.{picks}
 use Rattle.rpm_check.proofs.Above.{numbers_above}
-use Rattle.rpm_check.proofs.Faulting.{broken_from}
 use Rattle.rpm_check.proofs.Gaining.{gained, all_picked}
 use Rattle.rpm_check.proofs.Glancing.{glances_then, glances_index, glances_packages}
 use Rattle.rpm_check.proofs.giving.numbers_picked.Goals as goal
+use Rattle.rpm_check.proofs.Asking.{asks_picker}
 
-pub returns-in_err-picker-clause-broken : goal.returns-in_err-picker-clause-broken
-returns-in_err-picker-clause-broken g c = λ told.
-    let idx = (g.D.Disk.files c.args.disk.now).idx in
+pub returns-in_err-picker-clause-asks : goal.returns-in_err-picker-clause-asks
+returns-in_err-picker-clause-asks g c =
     let p = err_from_is_err_and c.from_residual.result c.from_residual.ensures.1 in
-    rw (p.1, p.2) (broken_from (keys_asked c.args.selection.now) idx c.in_err-picker.field-0.0 (c.in_err-picker.ensures.broken told))
+    let made = c.in_err-picker.ensures in
+    rw (p.1, p.2) (asks_picker g.D.Disk _ (keys_asked c.args.selection.now) c.in_err-picker.field-0.0 c.args.disk.now c.new.new.disk c.args.db.now
+    c.requires.asked made.kept_index made.looks made.broken made.lawful (record { later = made.cause.later; rose = λ is. made.cause.rose (ap Err is) }))
 
 pub loop-numbers-init : goal.loop-numbers-init
 loop-numbers-init g c =
     let db = c.args.db.now in
     let begun = c.in_ok-picker.ensures in
     record {
-      keeps = λ told. subst (λ (f : Files). Keeps f.pkg db) (sym (begun.looks.untouched told).same) (c.requires.ready.keeps told);
-      keeps_index = begun.kept_index;
-      looks =
-          glances_index g.D.Disk.tells g.D.Disk.files g.D.Disk.left_since g.D.Disk.moment g.D.Disk.bytes_read g.D.Disk.follows c.args.disk.now
-          c.new.new.disk begun.looks;
-      faults = omega (arith, begun.cause.later);
+      asking = record {
+        keeps = λ told. subst (λ (f : Files). Keeps f.pkg db) (sym (begun.looks.untouched told).same) (c.requires.asked.keeps told);
+        keeps_index = begun.kept_index;
+        looks =
+            glances_index g.D.Disk.tells g.D.Disk.files g.D.Disk.left_since g.D.Disk.moment g.D.Disk.bytes_read g.D.Disk.follows c.args.disk.now
+            c.new.new.disk begun.looks;
+        faults = omega (arith, begun.cause.later);
+      };
       recalls = λ told holds. holds;
       told = λ told has holds.
           ap (λ (ns : List ℕ). ns ++ numbers_above (packages (g.D.Disk.files c.args.disk.now).pkg db.store) c.args.selection.now 0)
@@ -47,21 +50,23 @@ loop-numbers-preserved g c =
     let picker = c.in_ok-picker.picker in
     let is : c.in_ok-next.field-0 ≡ Some c.in-Some.next = cc in
     record {
-      keeps = done.kept;
-      keeps_index = λ told. subst (λ (f : Files). KeepsIndex f.idx db) (sym (done.looks.untouched told).same) (inv.keeps_index told);
-      looks =
-          glances_then g.D.Disk.tells g.D.Disk.files g.D.Disk.left_since g.D.Disk.moment g.D.Disk.bytes_read g.D.Disk.follows g.met.D.Disk.follows_trans
-          c.args.disk.now c.loop-numbers.disk c.next_number_after.new.disk inv.looks
-          (glances_packages g.D.Disk.tells g.D.Disk.files g.D.Disk.left_since g.D.Disk.moment g.D.Disk.bytes_read g.D.Disk.follows _
-          c.loop-numbers.disk c.next_number_after.new.disk done.looks);
-      faults = omega (arith, inv.faults, done.cause.later);
+      asking = record {
+        keeps = done.kept;
+        keeps_index = λ told. subst (λ (f : Files). KeepsIndex f.idx db) (sym (done.looks.untouched told).same) (inv.asking.keeps_index told);
+        looks =
+            glances_then g.D.Disk.tells g.D.Disk.files g.D.Disk.left_since g.D.Disk.moment g.D.Disk.bytes_read g.D.Disk.follows g.met.D.Disk.follows_trans
+            c.args.disk.now c.loop-numbers.disk c.next_number_after.new.disk inv.asking.looks
+            (glances_packages g.D.Disk.tells g.D.Disk.files g.D.Disk.left_since g.D.Disk.moment g.D.Disk.bytes_read g.D.Disk.follows _
+            c.loop-numbers.disk c.next_number_after.new.disk done.looks);
+        faults = omega (arith, inv.asking.faults, done.cause.later);
+      };
       recalls = λ told holds.
           subst (λ (f : Files). Recalls (packages f.pkg db.store) c.loop-numbers.recent → Recalls (packages f.pkg db.store) c.next_number_after.new.recent)
-          (inv.looks.untouched told).same (done.recalls told) (inv.recalls told holds);
+          (inv.asking.looks.untouched told).same (done.recalls told) (inv.recalls told holds);
       told = λ told has holds.
           let all = packages (g.D.Disk.files c.args.disk.now).pkg db.store in
           let next = subst (λ (f : Files). Serves picker (packages f.pkg db.store) sel → Recalls (packages f.pkg db.store) c.loop-numbers.recent
-          → NextNumberIs (above n (picks (packages f.pkg db.store) sel)) (Ok c.in_ok-next.field-0)) (inv.looks.untouched told).same (done.told told)
+          → NextNumberIs (above n (picks (packages f.pkg db.store) sel)) (Ok c.in_ok-next.field-0)) (inv.asking.looks.untouched told).same (done.told told)
           (c.in_ok-picker.ensures.serves told has) (inv.recalls told holds) in
           gained all sel n c.in-Some.next c.loop-numbers.numbers.items c.push.new.self.items (numbers_above all sel 0)
           (subst (λ (o : Option ℕ). NextNumberIs (above n (picks all sel)) (Ok o)) is next) c.in_ok-push.ensures.items (inv.told told has holds);
@@ -77,9 +82,9 @@ returns-clause-told g c = λ told has holds.
     let pkg = (g.D.Disk.files c.args.disk.now).pkg in
     let is : c.in_ok-next.field-0 ≡ None = cc in
     let none = subst (λ (f : Files). Serves picker (packages f.pkg db.store) sel → Recalls (packages f.pkg db.store) c.loop-numbers.recent
-    → NextNumberIs (above n (picks (packages f.pkg db.store) sel)) (Ok c.in_ok-next.field-0)) (inv.looks.untouched told).same
+    → NextNumberIs (above n (picks (packages f.pkg db.store) sel)) (Ok c.in_ok-next.field-0)) (inv.asking.looks.untouched told).same
     (c.in_ok-next.ensures.told told) (c.in_ok-picker.ensures.serves told has) (inv.recalls told holds) in
-    all_picked pkg db sel n c.loop-numbers.numbers.items (c.requires.ready.keeps told)
+    all_picked pkg db sel n c.loop-numbers.numbers.items (c.requires.asked.keeps told)
     (subst (λ (o : Option ℕ). NextNumberIs (above n (picks (packages pkg db.store) sel)) (Ok o)) is none) (inv.told told has holds)
 
 pub returns-clause-recalls : goal.returns-clause-recalls
@@ -87,18 +92,18 @@ returns-clause-recalls g c = λ told holds.
     let db = c.args.db.now in
     let inv = c.loop-numbers.invariant in
     subst (λ (f : Files). Recalls (packages f.pkg db.store) c.loop-numbers.recent → Recalls (packages f.pkg db.store) c.next_number_after.new.recent)
-    (inv.looks.untouched told).same (c.in_ok-next.ensures.recalls told) (inv.recalls told holds)
+    (inv.asking.looks.untouched told).same (c.in_ok-next.ensures.recalls told) (inv.recalls told holds)
 
 pub returns-in_err-next-clause-recalls : goal.returns-in_err-next-clause-recalls
 returns-in_err-next-clause-recalls g c = λ told holds.
     let db = c.args.db.now in
     let inv = c.loop-numbers.invariant in
     subst (λ (f : Files). Recalls (packages f.pkg db.store) c.loop-numbers.recent → Recalls (packages f.pkg db.store) c.next_number_after.new.recent)
-    (inv.looks.untouched told).same (c.in_err-next.ensures.recalls told) (inv.recalls told holds)
+    (inv.asking.looks.untouched told).same (c.in_err-next.ensures.recalls told) (inv.recalls told holds)
 
 pub returns-in_err-push-clause-recalls : goal.returns-in_err-push-clause-recalls
 returns-in_err-push-clause-recalls g c = λ told holds.
     let db = c.args.db.now in
     let inv = c.loop-numbers.invariant in
     subst (λ (f : Files). Recalls (packages f.pkg db.store) c.loop-numbers.recent → Recalls (packages f.pkg db.store) c.next_number_after.new.recent)
-    (inv.looks.untouched told).same (c.in_ok-next.ensures.recalls told) (inv.recalls told holds)
+    (inv.asking.looks.untouched told).same (c.in_ok-next.ensures.recalls told) (inv.recalls told holds)

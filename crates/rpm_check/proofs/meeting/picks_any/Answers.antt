@@ -1,4 +1,4 @@
-use Rattle.std.proofs.Common.{Ok, ap, ◌∙◌, subst}
+use Rattle.std.proofs.Common.{Ok, ap, ◌∙◌, subst, Err}
 use Rattle.std.proofs.lemmas.Result.{err_from_is_err_and}
 use Rattle.rpm_outside.specs.Files.{Files}
 use Rattle.rpm_db.specs.State.{packages, above}
@@ -8,17 +8,18 @@ use Rattle.rpm_select.specs.Reach.{Serves}
 use Rattle.rpm_select.specs.Recents.{Recalls}
 use Rattle.rpm_select.specs.Selections.{picks}
 use Rattle.rpm_check.specs.inner.Picking.{is_some_of}
-use Rattle.rpm_check.proofs.Faulting.{broken_from}
-use Rattle.rpm_check.proofs.FromOne.{from_one}
+use Rattle.rpm_db.specs.inner.FromOne.{from_one}
 use Rattle.rpm_select.specs.inner.Rising.{picks_from_one}
 use Rattle.rpm_check.proofs.Picking.{is_some_next}
 use Rattle.rpm_check.proofs.meeting.picks_any.Goals as goal
+use Rattle.rpm_check.proofs.Asking.{asks_picker}
 
-pub returns-in_err-picker-clause-broken : goal.returns-in_err-picker-clause-broken
-returns-in_err-picker-clause-broken g c = λ told.
-    let idx = (g.D.Disk.files c.args.disk.now).idx in
+pub returns-in_err-picker-clause-asks : goal.returns-in_err-picker-clause-asks
+returns-in_err-picker-clause-asks g c =
     let p = err_from_is_err_and c.from_residual.result c.from_residual.ensures.1 in
-    rw (p.1, p.2) (broken_from (keys_asked c.args.selection.now) idx c.in_err-picker.field-0.0 (c.in_err-picker.ensures.broken told))
+    let made = c.in_err-picker.ensures in
+    rw (p.1, p.2) (asks_picker g.D.Disk _ (keys_asked c.args.selection.now) c.in_err-picker.field-0.0 c.args.disk.now c.new.new.disk c.args.db.now
+    c.requires.asked made.kept_index made.looks made.broken made.lawful (record { later = made.cause.later; rose = λ is. made.cause.rose (ap Err is) }))
 
 pub returns-clause-told : goal.returns-clause-told
 returns-clause-told g c = λ told has holds.
@@ -32,7 +33,7 @@ returns-clause-told g c = λ told has holds.
     (c.in_ok-picker.ensures.looks.untouched told).same
     (c.in_ok-picked.ensures.told told) in
     c.is_some.ensures ∙ is_some_next (above 0 (picks (packages pkg db.store) sel)) picked (next (c.in_ok-picker.ensures.serves told has) holds)
-    ∙ ap is_some_of (picks_from_one pkg db sel (from_one pkg db (c.requires.ready.keeps told)))
+    ∙ ap is_some_of (picks_from_one pkg db sel (from_one pkg db (c.requires.asked.keeps told)))
 
 pub returns-clause-recalls : goal.returns-clause-recalls
 returns-clause-recalls g c = λ told holds.

@@ -9,8 +9,8 @@ use Rattle.rpm_check.specs.Unmet.{lacks, unmet_in, is_above}
 use Rattle.rpm_check.specs.inner.Memos.{Knows}
 use Rattle.rpm_check.specs.inner.Rounds.{IsFirst}
 use Rattle.rpm_check.proofs.Enumerating.{not_lacking, first_lacking}
-use Rattle.rpm_check.proofs.Glancing.{glances_then}
 use Rattle.rpm_check.proofs.next.next_lacking.Goals as goal
+use Rattle.rpm_check.proofs.Asking.{asking_then}
 
 pub returns-then-branch-clause-told : goal.returns-then-branch-clause-told
 returns-then-branch-clause-told g c = λ told has.
@@ -21,7 +21,7 @@ returns-then-branch-clause-told g c = λ told has.
     let is_lacking = lacks (packages (g.D.Disk.files c.args.disk.now).pkg db.store) in
     let lacking : is_lacking need ≡ true =
     sym (subst (λ (f : Files). HasIndexRows db f.pkg f.idx → c.in_ok-lacks.field-0 ≡ lacks (packages f.pkg db.store) need)
-    (inv.looks.untouched told).same (c.in_ok-lacks.ensures.told told) has) ∙ c.if-branch.true in
+    (inv.asking.looks.untouched told).same (c.in_ok-lacks.ensures.told told) has) ∙ c.if-branch.true in
     let pair : Unmet = record { number = c.args.number; place = c.loop-place.place } in
     let over : is_above c.args.n c.args.i pair ≡ true = search rules in
     subst (λ (us : List Unmet). IsFirst us (Some pair)) (sym (inv.told told has))
@@ -37,21 +37,16 @@ loop-place-preserved g c =
     let need : Needed = record { name = c.in-Some.needed.name.now; flags = c.in-Some.needed.flags; version = c.in-Some.needed.version.now } in
     let cons : c.loop-place.left ≡ need ∷ c.next.new.self = search rules in
     record {
-      keeps = done.kept;
-      keeps_index = done.kept_index;
-      looks =
-          glances_then g.D.Disk.tells g.D.Disk.files g.D.Disk.left_since g.D.Disk.moment g.D.Disk.bytes_read g.D.Disk.follows g.met.D.Disk.follows_trans
-          c.args.disk.now c.loop-place.disk c.lacks.new.disk inv.looks done.looks;
-      faults = omega (arith, inv.faults, done.cause.later);
+      asking = asking_then g.D.Disk g.met.D.Disk.follows_trans c.args.disk.now c.loop-place.disk c.lacks.new.disk db inv.asking done.asks;
       places = omega (arith, inv.places, ap length cons);
       remembers = λ told has.
           subst (λ (f : Files). HasIndexRows db f.pkg f.idx → Knows (packages f.pkg db.store) c.lacks.new.memo)
-          (inv.looks.untouched told).same (done.remembered told) has;
+          (inv.asking.looks.untouched told).same (done.remembered told) has;
       told = λ told has.
           let is_lacking = lacks (packages (g.D.Disk.files c.args.disk.now).pkg db.store) in
           let met : is_lacking need ≡ false =
           sym (subst (λ (f : Files). HasIndexRows db f.pkg f.idx → c.in_ok-lacks.field-0 ≡ lacks (packages f.pkg db.store) need)
-          (inv.looks.untouched told).same (done.told told) has) ∙ c.if-branch.false in
+          (inv.asking.looks.untouched told).same (done.told told) has) ∙ c.if-branch.false in
           inv.told told has
           ∙ ap (λ (needs : List Needed). filter (is_above c.args.n c.args.i) (unmet_in is_lacking c.args.number needs c.loop-place.place)) cons
           ∙ not_lacking is_lacking c.args.n c.args.i c.args.number c.loop-place.place need c.next.new.self met;

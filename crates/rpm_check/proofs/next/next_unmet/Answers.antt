@@ -1,4 +1,4 @@
-use Rattle.std.proofs.Common.{sym, ap, ◌∙◌, subst, arith}
+use Rattle.std.proofs.Common.{sym, ap, ◌∙◌, subst}
 use Rattle.std.specs.Prelude.{filter}
 use Rattle.std.specs.FinMap as finite
 use Rattle.rpm_outside.specs.Files.{Files}
@@ -8,22 +8,17 @@ use Rattle.rpm_check.specs.Unmet.{lacks, is_above}
 use Rattle.rpm_check.specs.inner.Memos.{Knows}
 use Rattle.rpm_check.specs.inner.Rounds.{unmet_at, IsFirst}
 use Rattle.rpm_check.proofs.Enumerating.{after_in, after_from, found_here, none_here, none_later}
-use Rattle.rpm_check.proofs.Glancing.{glances_none, glances_then}
 use Rattle.rpm_check.proofs.Turning.{turns_above}
 use Rattle.rpm_check.proofs.next.next_unmet.Goals as goal
+use Rattle.rpm_check.proofs.Asking.{asking_none, asking_then}
 
 pub loop-number-init : goal.loop-number-init
 loop-number-init g c =
     let pkg = (g.D.Disk.files c.args.disk.now).pkg in
     record {
-      keeps = c.requires.keeps;
-      keeps_index = c.requires.keeps_index;
-      looks =
-          glances_none g.D.Disk.tells g.D.Disk.files g.D.Disk.left_since g.D.Disk.moment g.D.Disk.bytes_read g.D.Disk.follows g.met.D.Disk.follows_refl
-          c.args.disk.now;
-      faults = omega arith;
+      asking = asking_none g.D.Disk g.met.D.Disk.follows_refl c.args.disk.now c.args.db.now c.requires.asked;
       remembers = λ told has. c.new-memo.ensures (packages pkg c.args.db.now.store);
-      told = λ told has. after_from pkg c.args.db.now c.args.n c.args.i (c.requires.keeps told)
+      told = λ told has. after_from pkg c.args.db.now c.args.n c.args.i (c.requires.asked.keeps told)
           ∙ ap (turns_above (packages pkg c.args.db.now.store) (after_in (packages pkg c.args.db.now.store) c.args.n c.args.i))
           (sym c.saturating_sub-passed.ensures);
     }
@@ -37,20 +32,15 @@ loop-number-preserved g c =
     let n = c.args.n in
     let i = c.args.i in
     record {
-      keeps = done.kept;
-      keeps_index = done.kept_index;
-      looks =
-          glances_then g.D.Disk.tells g.D.Disk.files g.D.Disk.left_since g.D.Disk.moment g.D.Disk.bytes_read g.D.Disk.follows g.met.D.Disk.follows_trans
-          c.args.disk.now c.loop-number.disk c.next_in.new.disk inv.looks done.looks;
-      faults = omega (arith, inv.faults, done.cause.later);
+      asking = asking_then g.D.Disk g.met.D.Disk.follows_trans c.args.disk.now c.loop-number.disk c.next_in.new.disk db inv.asking done.asks;
       remembers = λ told has.
           subst (λ (f : Files). HasIndexRows db f.pkg f.idx → Knows (packages f.pkg db.store) c.next_in.new.memo)
-          (inv.looks.untouched told).same (done.remembered told) has;
+          (inv.asking.looks.untouched told).same (done.remembered told) has;
       told = λ told has.
           let pkg = (g.D.Disk.files c.args.disk.now).pkg in
           let all = packages pkg db.store in
           let here = subst (λ (f : Files). HasIndexRows db f.pkg f.idx → IsFirst (filter (is_above n i) (unmet_at (lacks (packages f.pkg db.store)) number
-          (finite.get (packages f.pkg db.store) number))) c.in_ok-found.found) (inv.looks.untouched told).same (done.told told) has in
+          (finite.get (packages f.pkg db.store) number))) c.in_ok-found.found) (inv.asking.looks.untouched told).same (done.told told) has in
           none_here all n i c.loop-number.passed number c.in_ok-found.found (c.in-Some.ensures.told pkg) (inv.told told has) here
           (sym c.is_some.ensures ∙ c.if-is_some.false);
     }
@@ -65,7 +55,7 @@ returns-then-is_some-clause-told g c = λ told has.
     let pkg = (g.D.Disk.files c.args.disk.now).pkg in
     let all = packages pkg db.store in
     let here = subst (λ (f : Files). HasIndexRows db f.pkg f.idx → IsFirst (filter (is_above n i) (unmet_at (lacks (packages f.pkg db.store)) number
-    (finite.get (packages f.pkg db.store) number))) c.in_ok-found.found) (inv.looks.untouched told).same (c.in_ok-found.ensures.told told) has in
+    (finite.get (packages f.pkg db.store) number))) c.in_ok-found.found) (inv.asking.looks.untouched told).same (c.in_ok-found.ensures.told told) has in
     found_here all n i c.loop-number.passed number c.in_ok-found.found (c.in-Some.ensures.told pkg) (inv.told told has) here
     (sym c.is_some.ensures ∙ c.if-is_some.true)
 

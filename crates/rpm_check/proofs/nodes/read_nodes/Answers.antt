@@ -11,11 +11,11 @@ use Rattle.rpm_check.specs.Edges.{good_numbers, edges_from}
 use Rattle.rpm_check.specs.inner.Ends.{good_if, good_of, is_good_at}
 use Rattle.rpm_check.specs.inner.GiverMemos.{KnowsGivers}
 use Rattle.rpm_check.specs.inner.Nodes.{AreRising, numbers_of, edges_of}
-use Rattle.rpm_check.proofs.FromOne.{from_one}
+use Rattle.rpm_db.specs.inner.FromOne.{from_one}
 use Rattle.rpm_check.proofs.Gathering.{none_rise}
-use Rattle.rpm_check.proofs.Glancing.{glances_none, glances_then}
 use Rattle.rpm_check.proofs.Turning.{turns_above, one_turn, no_turn, all_turns, goods_are, edges_are_all}
 use Rattle.rpm_check.proofs.nodes.read_nodes.Goals as goal
+use Rattle.rpm_check.proofs.Asking.{asking_none, asking_then}
 
 pub loop-next-init : goal.loop-next-init
 loop-next-init g c =
@@ -25,21 +25,16 @@ loop-next-init g c =
     let f = λ (e : ℕ × Package). edges_from all e.0 in
     let none = c.new-nodes.ensures.items in
     record {
-      keeps = c.requires.ready.keeps;
-      keeps_index = c.requires.ready.keeps_index;
-      looks =
-          glances_none g.D.Disk.tells g.D.Disk.files g.D.Disk.left_since g.D.Disk.moment g.D.Disk.bytes_read g.D.Disk.follows g.met.D.Disk.follows_refl
-          c.args.disk.now;
-      faults = omega arith;
+      asking = asking_none g.D.Disk g.met.D.Disk.follows_refl c.args.disk.now c.args.db.now c.requires.asked;
       remembers = λ told has. c.new-memo.ensures all;
       rising = subst AreRising (sym none) none_rise;
       reached = All-same (λ (n : ℕ). n ≤ 0) (numbers_of c.new-nodes.result.items) [] (ap numbers_of none) (All-nil (λ (n : ℕ). n ≤ 0));
       numbers = λ told.
           ap (λ (vs : List Node). numbers_of vs ++ turns_above all good_of 0) none ∙ all_turns pkg db good_of
-          (from_one pkg db (c.requires.ready.keeps told)) ∙ goods_are all;
+          (from_one pkg db (c.requires.asked.keeps told)) ∙ goods_are all;
       told = λ told has.
           ap (λ (vs : List Node). flat_map (edges_of (good_numbers all)) vs ++ turns_above all f 0) none
-          ∙ all_turns pkg db f (from_one pkg db (c.requires.ready.keeps told)) ∙ edges_are_all all;
+          ∙ all_turns pkg db f (from_one pkg db (c.requires.asked.keeps told)) ∙ edges_are_all all;
     }
 
 pub push_node-requires-clause-below : goal.push_node-requires-clause-below
@@ -61,21 +56,16 @@ loop-next-preserved g c =
     let nodes = c.loop-next.nodes.items in
     let more = c.push_node.new.nodes.items in
     record {
-      keeps = done.kept;
-      keeps_index = done.kept_index;
-      looks =
-          glances_then g.D.Disk.tells g.D.Disk.files g.D.Disk.left_since g.D.Disk.moment g.D.Disk.bytes_read g.D.Disk.follows g.met.D.Disk.follows_trans
-          c.args.disk.now c.loop-next.disk c.push_node.new.disk inv.looks done.looks;
-      faults = omega (arith, inv.faults, done.cause.later);
+      asking = asking_then g.D.Disk g.met.D.Disk.follows_trans c.args.disk.now c.loop-next.disk c.push_node.new.disk db inv.asking done.asks;
       remembers = λ told has.
           subst (λ (f : Files). HasIndexRows db f.pkg f.idx → KnowsGivers (packages f.pkg db.store) c.push_node.new.memo)
-          (inv.looks.untouched told).same (done.remembered told) has;
+          (inv.asking.looks.untouched told).same (done.remembered told) has;
       rising = done.rising;
       reached = done.reached;
       numbers = λ told.
           let old = numbers_of nodes in
           let added = subst (λ (f : Files). numbers_of more ≡ old ++ good_if (is_good_at (finite.get (packages f.pkg db.store) next)) next)
-          (inv.looks.untouched told).same (done.numbers told) in
+          (inv.asking.looks.untouched told).same (done.numbers told) in
           let turn = one_turn all good_of c.loop-next.passed next (c.in-Some.ensures.told pkg) in
           ap (λ (ns : List ℕ). ns ++ turns_above all good_of next) (added ∙ ap (λ (o : Option Package). old ++ good_if (is_good_at o) next) turn.1)
           ∙ append_assoc old (good_if (is_good_at (Some turn.0)) next) (turns_above all good_of next)
@@ -84,7 +74,7 @@ loop-next-preserved g c =
           let old = flat_map (edges_of (good_numbers all)) nodes in
           let added = subst (λ (f : Files). HasIndexRows db f.pkg f.idx → flat_map (edges_of (good_numbers (packages f.pkg db.store))) more
           ≡ flat_map (edges_of (good_numbers (packages f.pkg db.store))) nodes ++ edges_from (packages f.pkg db.store) next)
-          (inv.looks.untouched told).same (done.told told) has in
+          (inv.asking.looks.untouched told).same (done.told told) has in
           let turn = one_turn all f c.loop-next.passed next (c.in-Some.ensures.told pkg) in
           ap (λ (es : List Edge). es ++ turns_above all f next) added ∙ append_assoc old (edges_from all next) (turns_above all f next)
           ∙ ap (λ (es : List Edge). old ++ es) (sym turn.2) ∙ inv.told told has;

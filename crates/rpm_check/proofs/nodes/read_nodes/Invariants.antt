@@ -1,25 +1,20 @@
 use Rattle.std.proofs.Common.{◌≡◌, ◌-◌, ◌^◌, ◌≤◌, ◌++◌}
 use Rattle.std.specs.Prelude.{All, IsTrue}
 use Rattle.std.specs.List.{flat_map}
-use Rattle.rpm_db.specs.Database.{Keeps, KeepsIndex}
 use Rattle.rpm_db.specs.State.{packages}
 use Rattle.rpm_select.specs.Reach.{HasIndexRows}
-use Rattle.rpm_check.specs.Answers.{Glances}
 use Rattle.rpm_check.specs.Edges.{good_numbers, edges_from, all_edges}
 use Rattle.rpm_check.specs.inner.Ends.{good_of}
-use Rattle.rpm_check.specs.inner.GiverMemos.{KnowsGivers}
+use Rattle.rpm_check.specs.inner.GiverMemos.{KnowsGiversOn}
 use Rattle.rpm_check.specs.inner.Nodes.{AreRising, numbers_of, edges_of}
 use Rattle.rpm_check.proofs.Turning.{turns_above}
 use Rattle.rpm_check.proofs.nodes.read_nodes.Given as goal
+use Rattle.rpm_check.proofs.Asking.{Asking}
 
 abbrev pub invariant-loop-next : goal.invariant-loop-next
 invariant-loop-next g l = record {
-  keeps : IsTrue g.D.Disk.tells → Keeps (g.D.Disk.files l.disk).pkg l.db;
-  keeps_index : IsTrue g.D.Disk.tells → KeepsIndex (g.D.Disk.files l.disk).idx l.db;
-  looks : Glances g.D.Disk.tells g.D.Disk.files g.D.Disk.left_since g.D.Disk.moment g.D.Disk.bytes_read g.D.Disk.follows l.initial.disk l.disk;
-  faults : g.D.Disk.faults l.initial.disk ≤ g.D.Disk.faults l.disk;
-  remembers : IsTrue g.D.Disk.tells → HasIndexRows l.db (g.D.Disk.files l.initial.disk).pkg (g.D.Disk.files l.initial.disk).idx
-      → KnowsGivers (packages (g.D.Disk.files l.initial.disk).pkg l.db.store) l.memo;
+  asking : Asking g.D.Disk l.initial.disk l.disk l.db;
+  remembers : KnowsGiversOn g.D.Disk l.initial.disk l.db l.memo;
   rising : AreRising l.nodes.items;
   reached : All (λ n. n ≤ l.passed) (numbers_of l.nodes.items);
   numbers : IsTrue g.D.Disk.tells

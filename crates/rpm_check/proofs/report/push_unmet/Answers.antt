@@ -1,19 +1,15 @@
-use Rattle.std.proofs.Common.{◌≡◌, ◌++◌, Ok, Err, sym, ap, ◌∙◌, subst}
-use Rattle.std.specs.Prelude.{Result, OnOk, List}
+use Rattle.std.proofs.Common.{◌≡◌, ◌++◌, Ok, sym, ap, ◌∙◌, subst}
+use Rattle.std.specs.Prelude.{List}
 use Rattle.rpm_outside.specs.Files.{Files}
 use Rattle.rpm_header.specs.Header.{header}
 use Rattle.rpm_db.specs.State.{packages}
 use Rattle.rpm_select.specs.Reach.{HasIndexRows}
-use Rattle.rpm_check.specs.declared.faults.CheckFault.{CheckFault}
 use Rattle.rpm_check.specs.declared.list.Unmet.{Unmet}
 use Rattle.rpm_check.specs.Unmet.{required, lacks, unmet_in}
 use Rattle.rpm_check.specs.inner.Rounds.{unmet_at}
 use Rattle.rpm_check.proofs.Rounding.{unmet_good}
 use Rattle.rpm_check.proofs.report.push_unmet.Goals as goal
-
-under : (r : Result (Unit {0}) CheckFault) (A B : Type 0) → (A → B) → OnOk r A → OnOk r B
-under (Ok done) A B more is = more is
-under (Err fault) A B more is = tt
+use Rattle.rpm_check.proofs.Asking.{done_more}
 
 pub returns-in-Ok-parse-clause-told : goal.returns-in-Ok-parse-clause-told
 returns-in-Ok-parse-clause-told g c =
@@ -23,7 +19,7 @@ returns-in-Ok-parse-clause-told g c =
     let blob = c.in-Ok.blob.items in
     let pkg = (g.D.Disk.files c.args.disk.now).pkg in
     let is_lacking = lacks (packages pkg store) in
-    under c.push_lacking.result _ _ (λ said told has.
+    done_more c.push_lacking.result _ _ (λ said told has.
     let added = subst (λ (f : Files). HasIndexRows c.args.db.now f.pkg f.idx → c.push_lacking.new.found.items
     ≡ c.args.found.now.items ++ unmet_in (lacks (packages f.pkg store)) number (required view) 0) (c.in-Ok.ensures.looks.untouched told).same
     (said told) has in

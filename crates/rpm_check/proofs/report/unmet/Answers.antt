@@ -1,4 +1,4 @@
-use Rattle.std.proofs.Common.{◌≡◌, ◌++◌, sym, ap, ◌∙◌, subst, arith, append_assoc, append-nil}
+use Rattle.std.proofs.Common.{◌≡◌, ◌++◌, sym, ap, ◌∙◌, subst, append_assoc, append-nil}
 use Rattle.std.specs.Prelude.{List}
 use Rattle.std.specs.FinMap as finite
 use Rattle.rpm_outside.specs.Files.{Files}
@@ -8,25 +8,20 @@ use Rattle.rpm_check.specs.declared.list.Unmet.{Unmet}
 use Rattle.rpm_check.specs.Unmet.{lacks}
 use Rattle.rpm_check.specs.inner.Memos.{Knows}
 use Rattle.rpm_check.specs.inner.Rounds.{unmet_at}
-use Rattle.rpm_check.proofs.FromOne.{from_one}
-use Rattle.rpm_check.proofs.Glancing.{glances_none, glances_then}
+use Rattle.rpm_db.specs.inner.FromOne.{from_one}
 use Rattle.rpm_check.proofs.Rounding.{unmet_above, one_round, no_round, all_rounds}
 use Rattle.rpm_check.proofs.report.unmet.Goals as goal
+use Rattle.rpm_check.proofs.Asking.{asking_none, asking_then}
 
 pub loop-next-init : goal.loop-next-init
 loop-next-init g c = record {
-  keeps = c.requires.keeps;
-  keeps_index = c.requires.keeps_index;
-  looks =
-      glances_none g.D.Disk.tells g.D.Disk.files g.D.Disk.left_since g.D.Disk.moment g.D.Disk.bytes_read g.D.Disk.follows g.met.D.Disk.follows_refl
-      c.args.disk.now;
-  faults = omega arith;
+  asking = asking_none g.D.Disk g.met.D.Disk.follows_refl c.args.disk.now c.args.db.now c.requires.asked;
   remembers = λ told has. c.new-memo.ensures (packages (g.D.Disk.files c.args.disk.now).pkg c.args.db.now.store);
   told = λ told has.
       let pkg = (g.D.Disk.files c.args.disk.now).pkg in
       let all = packages pkg c.args.db.now.store in
       ap (λ (us : List Unmet). us ++ unmet_above all (lacks all) 0) c.new-found.ensures.items
-      ∙ all_rounds pkg c.args.db.now (from_one pkg c.args.db.now (c.requires.keeps told));
+      ∙ all_rounds pkg c.args.db.now (from_one pkg c.args.db.now (c.requires.asked.keeps told));
 }
 
 pub loop-next-preserved : goal.loop-next-preserved
@@ -36,21 +31,16 @@ loop-next-preserved g c =
     let done = c.in_ok-push_unmet.ensures in
     let next = c.in-Some.next in
     record {
-      keeps = done.kept;
-      keeps_index = done.kept_index;
-      looks =
-          glances_then g.D.Disk.tells g.D.Disk.files g.D.Disk.left_since g.D.Disk.moment g.D.Disk.bytes_read g.D.Disk.follows g.met.D.Disk.follows_trans
-          c.args.disk.now c.loop-next.disk c.push_unmet.new.disk inv.looks done.looks;
-      faults = omega (arith, inv.faults, done.cause.later);
+      asking = asking_then g.D.Disk g.met.D.Disk.follows_trans c.args.disk.now c.loop-next.disk c.push_unmet.new.disk db inv.asking done.asks;
       remembers = λ told has.
           subst (λ (f : Files). HasIndexRows db f.pkg f.idx → Knows (packages f.pkg db.store) c.push_unmet.new.memo)
-          (inv.looks.untouched told).same (done.remembered told) has;
+          (inv.asking.looks.untouched told).same (done.remembered told) has;
       told = λ told has.
           let pkg = (g.D.Disk.files c.args.disk.now).pkg in
           let all = packages pkg db.store in
           let old = c.loop-next.found.items in
           let added = subst (λ (f : Files). HasIndexRows db f.pkg f.idx → c.push_unmet.new.found.items
-          ≡ old ++ unmet_at (lacks (packages f.pkg db.store)) next (finite.get (packages f.pkg db.store) next)) (inv.looks.untouched told).same
+          ≡ old ++ unmet_at (lacks (packages f.pkg db.store)) next (finite.get (packages f.pkg db.store) next)) (inv.asking.looks.untouched told).same
           (done.told told) has in
           ap (λ (us : List Unmet). us ++ unmet_above all (lacks all) next) added
           ∙ append_assoc old (unmet_at (lacks all) next (finite.get all next)) (unmet_above all (lacks all) next)

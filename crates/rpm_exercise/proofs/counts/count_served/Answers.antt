@@ -1,11 +1,11 @@
-use Rattle.std.proofs.Common.{◌≡◌, ℕ, ◌∷◌, [], List, length, refl, ap, ◌∙◌, subst, arith}
+use Rattle.std.proofs.Common.{◌≡◌, ℕ, ◌∷◌, [], List, length, refl, ap, ◌∙◌, subst, arith, Err}
 use Rattle.rpm_outside.specs.Files.{Files}
-use Rattle.rpm_outside.specs.declared.disk.File.TheVariants.{Pkg}
 use Rattle.rpm_db.specs.State.{Package, packages, above}
-use Rattle.rpm_db.specs.inner.Running.{runs_none, runs_looks, runs_then}
+use Rattle.rpm_db.specs.inner.Running.{runs_none}
 use Rattle.rpm_db.specs.inner.Writes.{SameFiles}
 use Rattle.rpm_select.specs.Picks.{entry_in}
 use Rattle.rpm_select.specs.Selections.{picks}
+use Rattle.rpm_exercise.proofs.Asking.{looks_on, reads_done, reads_failed}
 use Rattle.rpm_exercise.proofs.Walked.{served, count_more}
 use Rattle.rpm_exercise.proofs.counts.count_served.Goals as goal
 
@@ -41,11 +41,7 @@ loop-picked-preserved g c =
           subst (λ (f : Files). (rest : List (ℕ × Package)) × (left f ≡ entry_in c.in-Ok-Some.picked ∷ rest)) same next in
           rw c.into_number-number.ensures (count_more (packages start.pkg db.store) sel n c.in-Ok-Some.picked here.0 here.1 c.loop-picked.count
           (length (above 0 (picks (packages start.pkg db.store) sel))) (inv.goes told serves));
-      runs = runs_then g.D.Disk.tells g.D.Disk.files g.D.Disk.left_since g.D.Disk.moment g.D.Disk.bytes_read g.D.Disk.follows g.met.D.Disk.follows_trans
-          SameFiles SameFiles SameFiles c.args.disk.now c.loop-picked.disk c.next_after.new.disk (λ x y same. same) (λ x y z first second. second ∙ first)
-          inv.runs
-          (runs_looks g.D.Disk.tells g.D.Disk.files g.D.Disk.left_since g.D.Disk.moment g.D.Disk.bytes_read g.D.Disk.follows SameFiles (λ f. refl) Pkg _
-          c.loop-picked.disk c.next_after.new.disk refl done.looks);
+      runs = looks_on g.D.Disk g.met.D.Disk.follows_trans _ c.args.disk.now c.loop-picked.disk c.next_after.new.disk inv.runs done.looks;
       disk = omega (arith, inv.disk, done.cause.later);
     }
 
@@ -63,18 +59,15 @@ returns-in-Ok-None-clause-told g c = λ told serves.
     let here = subst (λ (f : Files). above n (picks (packages f.pkg db.store) sel) ≡ []) same none in
     omega (arith, inv.goes told serves, ap length here)
 
-pub returns-in-Ok-None-clause-runs : goal.returns-in-Ok-None-clause-runs
-returns-in-Ok-None-clause-runs g c =
-    runs_then g.D.Disk.tells g.D.Disk.files g.D.Disk.left_since g.D.Disk.moment g.D.Disk.bytes_read g.D.Disk.follows g.met.D.Disk.follows_trans
-    SameFiles SameFiles SameFiles c.args.disk.now c.loop-picked.disk c.next_after.new.disk (λ x y same. same) (λ x y z first second. second ∙ first)
-    c.loop-picked.invariant.runs
-    (runs_looks g.D.Disk.tells g.D.Disk.files g.D.Disk.left_since g.D.Disk.moment g.D.Disk.bytes_read g.D.Disk.follows SameFiles (λ f. refl) Pkg _
-    c.loop-picked.disk c.next_after.new.disk refl c.in-Ok-None.ensures.looks)
+pub returns-in-Ok-None-clause-reads : goal.returns-in-Ok-None-clause-reads
+returns-in-Ok-None-clause-reads g c =
+    let inv = c.loop-picked.invariant in
+    let last = c.in-Ok-None.ensures in
+    reads_done g.D.Disk g.met.D.Disk.follows_trans _ c.args.disk.now c.loop-picked.disk c.next_after.new.disk inv.runs inv.disk last.looks last.cause.later
 
-pub returns-in-Err-clause-runs : goal.returns-in-Err-clause-runs
-returns-in-Err-clause-runs g c =
-    runs_then g.D.Disk.tells g.D.Disk.files g.D.Disk.left_since g.D.Disk.moment g.D.Disk.bytes_read g.D.Disk.follows g.met.D.Disk.follows_trans
-    SameFiles SameFiles SameFiles c.args.disk.now c.loop-picked.disk c.next_after.new.disk (λ x y same. same) (λ x y z first second. second ∙ first)
-    c.loop-picked.invariant.runs
-    (runs_looks g.D.Disk.tells g.D.Disk.files g.D.Disk.left_since g.D.Disk.moment g.D.Disk.bytes_read g.D.Disk.follows SameFiles (λ f. refl) Pkg _
-    c.loop-picked.disk c.next_after.new.disk refl c.in-Err.ensures.looks)
+pub returns-in-Err-clause-reads : goal.returns-in-Err-clause-reads
+returns-in-Err-clause-reads g c =
+    let inv = c.loop-picked.invariant in
+    let said = c.in-Err.ensures in
+    rw c.halt_of.ensures (reads_failed g.D.Disk g.met.D.Disk.follows_trans _ c.in-Err.fault _ c.args.disk.now c.loop-picked.disk c.next_after.new.disk inv.runs
+    inv.disk said.looks said.unbroken (record { later = said.cause.later; rose = λ is. said.cause.rose (ap Err is) }))

@@ -1,20 +1,18 @@
-use Rattle.std.proofs.Common.{refl, sym, ap, ◌∙◌, subst}
+use Rattle.std.proofs.Common.{Err, refl, sym, ap, ◌∙◌, subst}
 use Rattle.rpm_outside.specs.Files.{Files}
-use Rattle.rpm_outside.specs.declared.disk.File.TheVariants.{Idx}
 use Rattle.rpm_db.specs.Database.{Keeps}
 use Rattle.rpm_db.specs.State.{packages}
-use Rattle.rpm_db.specs.inner.Running.{runs_looks, runs_then}
-use Rattle.rpm_db.specs.inner.Writes.{SameFiles}
+use Rattle.rpm_db.specs.inner.FromOne.{from_one}
 use Rattle.rpm_select.specs.declared.selection.Selection.TheVariants as question
 use Rattle.rpm_select.specs.Selections.{picks}
 use Rattle.rpm_select.specs.inner.Rising.{picks_from_one}
-use Rattle.rpm_exercise.proofs.Halts.{reading_kind, asking_kind, all_asking}
+use Rattle.rpm_exercise.proofs.Asking.{asks_served, asks_unserved}
 use Rattle.rpm_exercise.proofs.Walked.{served}
 use Rattle.rpm_exercise.proofs.digest.digest.Goals as goal
 
 pub digest_served-requires-clause-keeps : goal.digest_served-requires-clause-keeps
 digest_served-requires-clause-keeps g c = λ told.
-    subst (λ (f : Files). Keeps f.pkg c.args.db.now) (sym (c.in-Ok.ensures.looks.untouched told).same) (c.requires.asked.readable told).keeps
+    subst (λ (f : Files). Keeps f.pkg c.args.db.now) (sym (c.in-Ok.ensures.looks.untouched told).same) (c.requires.asked.keeps told)
 
 pub returns-in-Ok-clause-told : goal.returns-in-Ok-clause-told
 returns-in-Ok-clause-told g c = λ told rows.
@@ -24,27 +22,16 @@ returns-in-Ok-clause-told g c = λ told rows.
     let mid = g.D.Disk.files c.new.new.disk in
     let same = (c.in-Ok.ensures.looks.untouched told).same in
     let serves = served sel db c.in-Ok.picker c.in-Ok.picker mid start refl same (c.in-Ok.ensures.serves told rows) in
-    let whole = picks_from_one mid.pkg db sel (c.requires.asked.from_one told) ∙ ap (λ (f : Files). picks (packages f.pkg db.store) sel) same in
+    let whole = picks_from_one mid.pkg db sel (from_one start.pkg db (c.requires.asked.keeps told)) ∙ ap (λ (f : Files). picks (packages f.pkg db.store) sel) same in
     rw (← whole) (c.digest_served.ensures.told told serves)
 
-pub returns-in-Ok-clause-kinds : goal.returns-in-Ok-clause-kinds
-returns-in-Ok-clause-kinds g c = all_asking c.digest_served.result c.digest_served.ensures.kinds
+pub returns-in-Ok-clause-asks : goal.returns-in-Ok-clause-asks
+returns-in-Ok-clause-asks g c =
+    asks_served g.D.Disk g.met.D.Disk.follows_trans c.digest_served.result c.args.disk.now c.new.new.disk c.digest_served.new.disk c.args.db.now
+    c.in-Ok.ensures.looks c.in-Ok.ensures.cause.later c.digest_served.ensures.reads
 
-pub returns-in-Ok-clause-runs : goal.returns-in-Ok-clause-runs
-returns-in-Ok-clause-runs g c =
-    runs_then g.D.Disk.tells g.D.Disk.files g.D.Disk.left_since g.D.Disk.moment g.D.Disk.bytes_read g.D.Disk.follows g.met.D.Disk.follows_trans
-    SameFiles SameFiles SameFiles c.args.disk.now c.new.new.disk c.digest_served.new.disk (λ x y same. same) (λ x y z first second. second ∙ first)
-    (runs_looks g.D.Disk.tells g.D.Disk.files g.D.Disk.left_since g.D.Disk.moment g.D.Disk.bytes_read g.D.Disk.follows SameFiles (λ f. refl) Idx _
-    c.args.disk.now c.new.new.disk refl c.in-Ok.ensures.looks)
-    c.digest_served.ensures.runs
-
-pub returns-in-Err-clause-lawful : goal.returns-in-Err-clause-lawful
-returns-in-Err-clause-lawful g c = λ told rows. rw c.halt_of.ensures (reading_kind c.in-Err.fault (c.in-Err.ensures.lawful told rows))
-
-pub returns-in-Err-clause-kinds : goal.returns-in-Err-clause-kinds
-returns-in-Err-clause-kinds g c = rw c.halt_of.ensures (asking_kind c.in-Err.fault)
-
-pub returns-in-Err-clause-runs : goal.returns-in-Err-clause-runs
-returns-in-Err-clause-runs g c =
-    runs_looks g.D.Disk.tells g.D.Disk.files g.D.Disk.left_since g.D.Disk.moment g.D.Disk.bytes_read g.D.Disk.follows SameFiles (λ f. refl) Idx _
-    c.args.disk.now c.new.new.disk refl c.in-Err.ensures.looks
+pub returns-in-Err-clause-asks : goal.returns-in-Err-clause-asks
+returns-in-Err-clause-asks g c =
+    let said = c.in-Err.ensures in
+    rw c.halt_of.ensures (asks_unserved g.D.Disk g.met.D.Disk.follows_trans _ c.in-Err.fault c.args.disk.now c.new.new.disk c.args.db.now said.looks said.lawful
+    (record { later = said.cause.later; rose = λ is. said.cause.rose (ap Err is) }))

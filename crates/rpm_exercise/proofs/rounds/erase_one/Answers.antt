@@ -1,4 +1,4 @@
-use Rattle.std.proofs.Common.{◌+◌, arith, Err}
+use Rattle.std.proofs.Common.{◌+◌, arith, Err, rules}
 use Rattle.rpm_db.specs.State.{state}
 use Rattle.rpm_exercise.proofs.Limited.{memory_limits}
 use Rattle.rpm_exercise.proofs.Made.{erased_one}
@@ -11,7 +11,7 @@ pub returns-in-Ok-erase-clause-went : goal.returns-in-Ok-erase-clause-went
 returns-in-Ok-erase-clause-went g c = record {
   made = λ told.
       erased_one c.in-Ok.number (c.args.b + c.args.i) (state (g.D.Disk.files c.args.disk.now).pkg c.args.db.now.store)
-      (state (g.D.Disk.files c.erase.new.disk).pkg c.erase.new.self.store) c.in-Ok.ensures.value (omega (arith, c.requires.some))
+      (state (g.D.Disk.files c.erase.new.disk).pkg c.erase.new.self.store) c.in-Ok.ensures.value
       (c.in-Ok-erase.ensures.changed.state_is told);
   limits = λ told j rows.
       let done = c.in-Ok-erase.ensures in
@@ -20,6 +20,8 @@ returns-in-Ok-erase-clause-went g c = record {
       told c.requires.ready.going (rows yes))
       (done.end told) (λ yes. done.changed.reach told (rows yes));
   left = left_made g.D.Disk _ _ _ _ _ c.in-Ok-erase.ensures.runs c.in-Ok-erase.ensures.cause.later _ _ c.in-Ok-erase.ensures.left c.requires.ready.going;
+  spent = tt;
+  kinds = tt;
 }
 
 pub returns-in-Err-clause-went : goal.returns-in-Err-clause-went
@@ -28,6 +30,8 @@ returns-in-Err-clause-went g c = record {
   limits = λ told j rows.
       rw c.in-Err.ensures.kinds (memory_limits j (state (g.D.Disk.files c.args.disk.now).pkg c.args.db.now.store) c.args.db.now.store c.args.db.now.store _);
   left = rw c.in-Err.ensures.kinds (left_none g.D.Disk g.met.D.Disk.follows_refl c.args.disk.now c.args.db.now c.requires.ready (Err halt.NoMemory) (λ is. cc));
+  spent = rw c.in-Err.ensures.kinds tt;
+  kinds = rw c.in-Err.ensures.kinds tt;
 }
 
 pub returns-in-Err-erase-clause-went : goal.returns-in-Err-erase-clause-went
@@ -41,4 +45,6 @@ returns-in-Err-erase-clause-went g c = record {
   left = rw c.halt_of.ensures (left_halted g.D.Disk _ _ _ _ c.in-Err-erase.ensures.runs c.in-Err-erase.ensures.cause.later
       c.in-Err-erase.ensures.left.indexed c.in-Err-erase.fault
       (λ is. c.in-Err-erase.ensures.cause.rose (cc)));
+  spent = search rules;
+  kinds = search rules;
 }

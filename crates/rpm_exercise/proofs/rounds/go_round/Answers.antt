@@ -61,6 +61,8 @@ returns-in-Err-clause-went g c = record {
       (c.in-Err.ensures.went.limits told j (λ yes. c.loop-done.invariant.left.carried.index told (rows yes)));
   left = left_then g.D.Disk g.met.D.Disk.follows_trans c.args.disk.now c.loop-done.disk c.take_turn.new.disk c.args.db.now c.loop-done.db
       c.take_turn.new.db _ _ c.loop-done.invariant.left c.in-Err.ensures.went.left;
+  spent = c.in-Err.ensures.went.spent;
+  kinds = c.in-Err.ensures.went.kinds;
 }
 
 pub returns-clause-went : goal.returns-clause-went
@@ -82,4 +84,6 @@ returns-clause-went g c = record {
       c.args.db.now.store c.loop-done.db.store (record { failed = 0; changes = c.loop-done.changes }) (each_none f (k + 1) n k (omega arith))
       (c.loop-done.invariant.limited told j rows);
   left = c.loop-done.invariant.left;
+  spent = tt;
+  kinds = tt;
 }

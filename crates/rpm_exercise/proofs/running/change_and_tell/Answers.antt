@@ -4,8 +4,9 @@ use Rattle.rpm_outside.specs.Files.{Files}
 use Rattle.rpm_db.specs.State.{state}
 use Rattle.rpm_change.specs.Limits.{LimitsTurn}
 use Rattle.rpm_exercise.specs.Rounds.{changes}
+use Rattle.rpm_exercise.proofs.Halts.{changes_kind, telling_stop}
 use Rattle.rpm_exercise.proofs.Limited.{telling_limits}
-use Rattle.rpm_exercise.proofs.Told.{from_one_after, told_done, told_halted}
+use Rattle.rpm_exercise.proofs.Told.{told_done, told_halted}
 use Rattle.rpm_exercise.proofs.Reading.{left_read, cause_on}
 use Rattle.rpm_exercise.proofs.running.change_and_tell.Goals as goal
 
@@ -14,13 +15,19 @@ tell-requires g c =
     let carried = c.in-Ok.ensures.went.left.carried in
     record {
       asked = record {
-        readable = λ told. record { keeps = (carried.serving told).keeps; index = (carried.serving told).index };
+        keeps = λ told. (carried.serving told).keeps;
+        keeps_index = λ told. (carried.serving told).index;
         going = carried.going;
-        from_one = λ told.
-            from_one_after (g.D.Disk.files c.args.disk.now).pkg (g.D.Disk.files c.change_all.new.disk).pkg c.args.db.now c.change_all.new.db
-            (c.in-Ok.ensures.went.made told).from_one (c.requires.from_one told);
       };
     }
+
+pub returns-in-Err-clause-stop : goal.returns-in-Err-clause-stop
+returns-in-Err-clause-stop g c =
+    let went = c.in-Err.ensures.went in
+    record { kind = changes_kind c.in-Err.halt went.kinds; spent = went.spent; indexed = went.left.indexed }
+
+pub returns-in-Err-tell-clause-stop : goal.returns-in-Err-tell-clause-stop
+returns-in-Err-tell-clause-stop g c = telling_stop c.change_all.new.db c.in-Err-tell.halt c.in-Ok.ensures.went.left.indexed c.in-Err-tell.ensures.kinds
 
 pub returns-in-Err-clause-left : goal.returns-in-Err-clause-left
 returns-in-Err-clause-left g c = c.in-Err.ensures.went.left

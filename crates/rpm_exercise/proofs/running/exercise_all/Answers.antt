@@ -1,6 +1,5 @@
-use Rattle.std.proofs.Common.{true, is_some, refl, ap, ◌∙◌, subst, arith}
+use Rattle.std.proofs.Common.{true, refl, ◌∙◌, subst, arith}
 use Rattle.rpm_outside.specs.Buffered.{inner}
-use Rattle.rpm_pkgdb.specs.Slots.{slot_with}
 use Rattle.rpm_pkgdb.specs.Store.{Store}
 use Rattle.rpm_db.specs.Lawful.{Remade}
 use Rattle.rpm_db.specs.State.{State, state}
@@ -10,15 +9,12 @@ use Rattle.rpm_change.specs.Endings.{outputs, Ended}
 use Rattle.rpm_change.specs.Limits.{LimitsTurn}
 use Rattle.rpm_exercise.specs.Exercised.{exercise}
 use Rattle.rpm_exercise.specs.Rounds.{changes}
+use Rattle.rpm_exercise.proofs.Halts.{reading_stop}
 use Rattle.rpm_exercise.proofs.Limited.{reading_limits}
 use Rattle.rpm_exercise.proofs.Told.{state_remade}
 use Rattle.rpm_change.specs.inner.Leaving.{current_left}
 use Rattle.rpm_outside.specs.Causes.{Rose}
 use Rattle.rpm_exercise.proofs.running.exercise_all.Goals as goal
-
-pub change_and_tell-requires-clause-from_one : goal.change_and_tell-requires-clause-from_one
-change_and_tell-requires-clause-from_one g c = λ told.
-    ap (λ (v : Store). is_some (slot_with 0 v.slots)) c.in-Ok.ensures.store ∙ c.requires.from_one told
 
 pub returns-in-Ok-clause-ended : goal.returns-in-Ok-clause-ended
 returns-in-Ok-clause-ended g c = λ told et e.
@@ -35,8 +31,8 @@ returns-in-Ok-clause-current g c =
     current_left g.D.Disk c.renew.new.disk c.change_and_tell.new.disk c.renew.new.db c.change_and_tell.new.db c.change_and_tell.result
     c.change_and_tell.ensures.left c.in-Ok.ensures.current.index
 
-pub returns-in-Ok-clause-indexed : goal.returns-in-Ok-clause-indexed
-returns-in-Ok-clause-indexed g c = c.change_and_tell.ensures.left.indexed
+pub returns-in-Err-clause-stop : goal.returns-in-Err-clause-stop
+returns-in-Err-clause-stop g c = reading_stop c.renew.new.db c.in-Err.halt c.in-Err.ensures.indexed c.in-Err.ensures.kinds
 
 pub returns-in-Ok-clause-disk : goal.returns-in-Ok-clause-disk
 returns-in-Ok-clause-disk g c =

@@ -4,7 +4,8 @@ use Rattle.rpm_db.specs.inner.Running.{runs_none}
 use Rattle.rpm_db.specs.inner.Writes.{SameFiles}
 use Rattle.rpm_exercise.specs.Exercised.{capability_line, capability_lines}
 use Rattle.rpm_exercise.proofs.Reading.{reads_on}
-use Rattle.rpm_exercise.proofs.Told.{askable_same, rows_same, packages_same}
+use Rattle.rpm_exercise.proofs.Asking.{askable_same, asks_done, asks_failed}
+use Rattle.rpm_exercise.proofs.Told.{rows_same, packages_same}
 use Rattle.rpm_exercise.proofs.Walked.{told_of, lines_more, lines_end}
 use Rattle.rpm_exercise.proofs.summary.push_capabilities.Goals as goal
 
@@ -36,18 +37,18 @@ loop-c-preserved g c =
           c.push_capability.new.text.items (packages_same start mid db same) (done.told told (rows_same start mid db same rows)) in
           lines_more line c.loop-c.text.items c.push_capability.new.text.items (c.args.text.now.items ++ capability_lines (packages start.pkg db.store))
           c.loop-c.c 7 (omega arith) is (inv.goes told rows);
-      runs = reads_on g.D.Disk g.met.D.Disk.follows_trans c.args.disk.now c.loop-c.disk c.push_capability.new.disk inv.runs done.runs;
-      disk = omega (arith, inv.disk, done.disk.later);
+      runs = reads_on g.D.Disk g.met.D.Disk.follows_trans c.args.disk.now c.loop-c.disk c.push_capability.new.disk inv.runs done.asks.runs;
+      disk = omega (arith, inv.disk, done.asks.disk.later);
     }
 
-pub returns-in-Err-clause-lawful : goal.returns-in-Err-clause-lawful
-returns-in-Err-clause-lawful g c = λ told rows.
-    c.in-Err.ensures.lawful told
-    (rows_same (g.D.Disk.files c.args.disk.now) (g.D.Disk.files c.loop-c.disk) c.args.db.now (c.loop-c.invariant.runs.reads_as told) rows)
+pub returns-in-Err-clause-asks : goal.returns-in-Err-clause-asks
+returns-in-Err-clause-asks g c =
+    asks_failed g.D.Disk g.met.D.Disk.follows_trans _ _ c.in-Err.halt c.args.disk.now c.loop-c.disk c.push_capability.new.disk c.args.db.now
+    c.loop-c.invariant.runs c.loop-c.invariant.disk c.in-Err.ensures.asks
 
-pub returns-in-Err-clause-runs : goal.returns-in-Err-clause-runs
-returns-in-Err-clause-runs g c =
-    reads_on g.D.Disk g.met.D.Disk.follows_trans c.args.disk.now c.loop-c.disk c.push_capability.new.disk c.loop-c.invariant.runs c.in-Err.ensures.runs
+pub returns-clause-asks : goal.returns-clause-asks
+returns-clause-asks g c =
+    asks_done g.D.Disk g.met.D.Disk.follows_trans c.args.disk.now c.loop-c.disk c.args.db.now c.loop-c.invariant.runs c.loop-c.invariant.disk
 
 pub returns-clause-told : goal.returns-clause-told
 returns-clause-told g c = λ told rows.

@@ -1,0 +1,23 @@
+-- The words of clauses, from one place.
+pub use Rattle.std.specs.FinMap.{FinMap}
+pub use Rattle.std.specs.List.{flat_map}
+pub use Rattle.std.specs.List.Sorted.{IsStrictlyIncreasing}
+pub use Rattle.std.specs.Ordering.{nat_cmp}
+pub use Rattle.rpm_db.specs.State.{Package}
+pub use Rattle.rpm_graph.specs.Networks.{IsBefore, edge}
+pub use Rattle.rpm_select.specs.Reach.{is_in}
+pub use Rattle.rpm_select.specs.Recents.{Recalls}
+pub use Rattle.rpm_select.specs.Selections.{picks}
+pub use Rattle.rpm_check.specs.Edges.{HasEdgesOf, all_edges, edges_from, givers, good_numbers, graph_of}
+pub use Rattle.rpm_check.specs.Frame.{Asks, HasRows, IsAskable, packages_in}
+pub use Rattle.rpm_check.specs.Unmet.{IsNextUnmet, is_above, is_met, is_passed_over, lacks, required, unmet}
+pub use Rattle.rpm_check.specs.Unmet.{unmet_after, unmet_in}
+pub use Rattle.rpm_check.specs.declared.faults.CheckFault.TheVariants.{NoMemory}
+pub use Rattle.rpm_check.specs.inner.Ends.{BeginsBelow, BeginsUpTo, good_if, is_end, is_good_at, needs_at}
+pub use Rattle.rpm_check.specs.inner.Faults.{fault_in}
+pub use Rattle.rpm_check.specs.inner.GiverMemos.{KnowsGivers, KnowsGiversOn}
+pub use Rattle.rpm_check.specs.inner.Memos.{Knows, KnowsOn, need_of}
+pub use Rattle.rpm_check.specs.inner.Needs.{needed_in}
+pub use Rattle.rpm_check.specs.inner.Nodes.{AreRising, edges_of, numbers_of}
+pub use Rattle.rpm_check.specs.inner.Picking.{is_some_of}
+pub use Rattle.rpm_check.specs.inner.Rounds.{IsFirst, unmet_at}
