@@ -20,3 +20,4 @@ pub mod Tasks
 pub mod Theorem
 pub mod Working
 pub mod inner
+pub mod Prelude

@@ -1,7 +1,7 @@
 //! How a command line ended.
 
 ghost use Rattle.std.specs.Prelude.{◌≡◌};
-ghost use Rattle.rpm_tool.specs.Closing.{status_of};
+ghost use Rattle.rpm_tool.specs.Prelude.{status_of};
 
 use rpm_db::Damage;
 use rpm_qfparse::FormatFault;

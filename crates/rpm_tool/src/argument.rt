@@ -1,17 +1,8 @@
 //! One argument of a query.
 
 ghost use Rattle.std.specs.Prelude.{◌≡◌, ◌≢◌, ◌+◌, ◌≤◌, ℕ, [], false, IsTrue, Err, IfOk, IfErr};
-ghost use Rattle.rpm_outside.specs.Buffered.{holds};
-ghost use Rattle.rpm_outside.specs.declared.disk.File.TheVariants.{Pkg};
-ghost use Rattle.rpm_db.specs.State.{above};
+ghost use Rattle.rpm_tool.specs.Prelude.{above, answered, argument_part, argument_reach, cost_all, cost_to, DiskFault, HasRows, holds, is_indexed, is_of_sink, is_some_of, IsOfChain, Kept, KeptIndex, lent, Looks, packages_in, PartIs, Peeks, picks, Pkg, pkg_read, question_of, reach_all, reach_to, ReadsOf, Serves, shown, StopHands};
 ghost use Rattle.rpm_db.specs.Database as database;
-ghost use Rattle.rpm_db.specs.Database.{is_indexed, cost_to, cost_all};
-ghost use Rattle.rpm_select.specs.Selections.{picks};
-ghost use Rattle.rpm_select.specs.Reach.{Serves, reach_to, reach_all};
-ghost use Rattle.rpm_tool.specs.Queries.{lent, question_of, answered, argument_part};
-ghost use Rattle.rpm_tool.specs.Reads.{ReadsOf, argument_reach, IsOfChain};
-ghost use Rattle.rpm_tool.specs.Answers.{PartIs, is_some_of, is_of_sink};
-ghost use Rattle.rpm_tool.specs.Frame.{Looks, Peeks, shown, DiskFault, Kept, KeptIndex, HasRows, packages_in, pkg_read, StopHands};
 
 use crate::missing::put_missing_part;
 use crate::picked::{print_above, stop_of};

@@ -1,9 +1,7 @@
 //! The command that the words ask for, and its format.
 
 ghost use Rattle.std.specs.Prelude.{◌≡◌, true, Some, Ok, IfOk, IfErr};
-ghost use Rattle.rpm_words.specs.Ask.{ask, IsSound};
-ghost use Rattle.rpm_tool.specs.Asked.{deed_of, inquiry_of, of_files, by_key, needs_no_index, format_text, asks_format};
-ghost use Rattle.rpm_tool.specs.Answers.{Undone};
+ghost use Rattle.rpm_tool.specs.Prelude.{ask, asks_format, by_key, deed_of, format_text, inquiry_of, IsSound, needs_no_index, of_files, Undone};
 
 use crate::answer::Why;
 use rpm_qfparse::{Format, FormatKind, parse};

@@ -1,31 +1,9 @@
 //! Commands that change packages: all changes of a command line are one.
 
 ghost use Rattle.std.specs.Prelude.{◌≡◌, ◌≢◌, ◌⊎◌, ℕ, ◌^◌, ◌<◌, ◌≤◌, List, [], length, Bool, true, false, not, IsTrue, Ok, Err, IfOk, IfErr, OnOk};
-ghost use Rattle.rpm_outside.specs.Buffered.{inner, holds};
-ghost use Rattle.rpm_outside.specs.Causes.{HasCauseAt, Rose};
-ghost use Rattle.rpm_outside.specs.Changes.{AreSettled, IsSettled};
-ghost use Rattle.rpm_outside.specs.Logs.{Closed, log_state, reopened, unlogged};
-ghost use Rattle.rpm_pkgdb.specs.Store.{store};
+ghost use Rattle.rpm_tool.specs.Prelude.{AreSettled, asked_task, begun, changes_index, Closed, CommittedAs, DiskFault, done_why, EmptyBy, EndsGroup, Hand, Hands, HasCauseAt, holds, idle, images, Indexed, inner, is_anew, is_blank, is_done, is_halt, is_held, is_indexed, is_of_commit, is_of_streams, is_of_words, IsBroken, IsCountable, IsLawful, IsOfOpening, IsOutside, IsSettled, IsSound, IsWholeIndex, laid_files, LimitsBy, log_state, LogIs, needs_none, OneChange, OpensBy, outputs, overlay_below, overlay_held, overlay_starved, reads_shelf, reopened, Rose, Runs, SameLog, Serving, ShelfFault, shown, state, state_in, store, task_course, task_parts, unlogged, why_of, why_of_halt, why_of_open, Worked, WorkedWith};
 ghost use Rattle.rpm_db.specs.Database as database;
-ghost use Rattle.rpm_db.specs.Database.{is_blank, is_indexed};
-ghost use Rattle.rpm_db.specs.Lawful.{IsLawful, IsWholeIndex};
-ghost use Rattle.rpm_db.specs.State.{state};
-ghost use Rattle.rpm_db.specs.inner.Writes.{SameLog};
-ghost use Rattle.rpm_group.specs.Layers.{laid_files};
-ghost use Rattle.rpm_group.specs.Overlay.{overlay_below, overlay_held, overlay_starved};
-ghost use Rattle.rpm_change.specs.Endings.{outputs};
 ghost use Rattle.rpm_change.specs.Erasing as erasing;
-ghost use Rattle.rpm_change.specs.Steps.{idle};
-ghost use Rattle.rpm_words.specs.Ask.{IsSound};
-ghost use Rattle.rpm_tool.specs.Answers.{is_of_words};
-ghost use Rattle.rpm_tool.specs.Keyed.{is_done};
-ghost use Rattle.rpm_tool.specs.Changing.{EmptyBy, IsBroken, is_held};
-ghost use Rattle.rpm_tool.specs.Tasks.{task_parts, task_course, asked_task, reads_shelf, is_anew, changes_index, needs_none, IsCountable};
-ghost use Rattle.rpm_tool.specs.Limits.{LimitsBy, begun, LogIs};
-ghost use Rattle.rpm_tool.specs.Working.{OpensBy, IsOutside, IsOfOpening, Worked, WorkedWith, CommittedAs, EndsGroup, is_halt, is_of_commit, is_of_streams, done_why, why_of, why_of_open, why_of_halt};
-ghost use Rattle.rpm_tool.specs.inner.OneChange.{OneChange};
-ghost use Rattle.rpm_tool.specs.Frame.{Runs, shown, DiskFault, ShelfFault, images, Serving, Indexed, state_in, Hands};
-ghost use Rattle.rpm_change.specs.Hands.{Hand};
 
 use crate::answer::Why;
 use crate::courses::{add_on, erase_on, exercise_on, import_on, make_on, rebuild_on, replace_on};
@@ -68,9 +46,10 @@ fn change_on<D: Disk, S: Shelf, O: Sink + Drop, E: Sink + Drop>(
     err: &mut Buffered<E>,
 ) -> Result<Tally, Why>
     requires countable { IsCountable (task_parts task.now) }
-    ensures worked { IsTrue D.tells → (reads_shelf (task_parts task.now) ≡ true → IsTrue S.tells) → WorkedWith (is_anew (task_parts task.now)) (changes_index
-        (task_parts task.now)) (task_course (S.paths shelf.old) now (task_parts task.now)) (D.files disk.old) (D.files disk.new) result (shown O.Sink E.Sink
-        out.old err.old) (shown O.Sink E.Sink out.new err.new) }
+    ensures worked { IsTrue D.tells → (reads_shelf (task_parts task.now) ≡ true → IsTrue S.tells)
+        → WorkedWith (is_anew (task_parts task.now)) (changes_index (task_parts task.now))
+        (task_course (S.paths shelf.old) now (task_parts task.now)) (D.files disk.old) (D.files disk.new) result
+        (shown O.Sink E.Sink out.old err.old) (shown O.Sink E.Sink out.new err.new) }
     ensures limits { IsTrue D.tells → (reads_shelf (task_parts task.now) ≡ true → IsTrue S.tells)
         → LimitsBy (is_anew (task_parts task.now)) (IsLawful (D.files disk.old).pkg (D.files disk.old).idx)
         (task_course (S.paths shelf.old) now (task_parts task.now)) (D.files disk.old) (why_of result) }
@@ -81,7 +60,8 @@ fn change_on<D: Disk, S: Shelf, O: Sink + Drop, E: Sink + Drop>(
     ensures paths { IsTrue S.tells → S.paths shelf.new ≡ S.paths shelf.old }
     ensures disk { DiskFault D.Disk (result ≡ Err Why.DiskFault) disk.old disk.new }
     ensures shelf { ShelfFault S.Shelf (result ≡ Err Why.ShelfFault) shelf.old shelf.new }
-    ensures hands { Hands O.Sink E.Sink (result ≡ Err Why.OutFault) (result ≡ Err Why.ErrFault) out.old err.old out.new err.new }
+    ensures hands { Hands O.Sink E.Sink (result ≡ Err Why.OutFault) (result ≡ Err Why.ErrFault) out.old err.old out.new
+        err.new }
 {
     match task {
         Task::Make => make_on(alloc, disk),
@@ -118,11 +98,14 @@ fn committed(tally: Tally, answer: Result<(), CommitFault>) -> CommandEnding
 
 /// Commits the changes of a command that was done, which count where that succeeds.
 fn commit_all<D: Disk>(overlay: Overlay<D>, tally: Tally) -> (CommandEnding, D)
-    requires settled { IsTrue D.tells → AreSettled (D.files (overlay_below overlay)) (D.left_since (overlay_below overlay) (D.moment (overlay_below overlay))) }
+    requires settled { IsTrue D.tells → AreSettled (D.files (overlay_below overlay))
+        (D.left_since (overlay_below overlay) (D.moment (overlay_below overlay))) }
     requires closed { IsTrue D.tells → log_state (D.files (overlay_below overlay)).log ≡ Closed }
     ensures ends { IsTrue D.tells → EndsGroup D.files D.left_since D.moment (Ok tally) result.0.why result.0.changes
-        (unlogged (laid_files (overlay_held overlay) (D.files (overlay_below overlay)))) (overlay_below overlay) result.1 }
-    ensures log { IsTrue D.tells → LogIs (laid_files (overlay_held overlay) (D.files (overlay_below overlay))) result.0.why }
+        (unlogged (laid_files (overlay_held overlay) (D.files (overlay_below overlay)))) (overlay_below overlay)
+        result.1 }
+    ensures log { IsTrue D.tells → LogIs (laid_files (overlay_held overlay) (D.files (overlay_below overlay)))
+        result.0.why }
     ensures kinds { is_of_commit result.0.why ≡ true }
     ensures counted { is_done result.0.why ≡ false → result.0.changes ≡ 0 }
     ensures goes_on { D.follows (overlay_below overlay) result.1 }
@@ -138,11 +121,14 @@ fn commit_all<D: Disk>(overlay: Overlay<D>, tally: Tally) -> (CommandEnding, D)
 /// Ends a command on an overlay: its changes are committed where it was done, and else let go.
 fn end_group<D: Disk>(overlay: Overlay<D>, ended: Result<Tally, Why>) -> (CommandEnding, D)
     requires halted { IfErr ended (λ given. is_halt given ≡ true) }
-    requires settled { IsTrue D.tells → AreSettled (D.files (overlay_below overlay)) (D.left_since (overlay_below overlay) (D.moment (overlay_below overlay))) }
+    requires settled { IsTrue D.tells → AreSettled (D.files (overlay_below overlay))
+        (D.left_since (overlay_below overlay) (D.moment (overlay_below overlay))) }
     requires closed { IsTrue D.tells → log_state (D.files (overlay_below overlay)).log ≡ Closed }
     ensures ends { IsTrue D.tells → EndsGroup D.files D.left_since D.moment ended result.0.why result.0.changes
-        (unlogged (laid_files (overlay_held overlay) (D.files (overlay_below overlay)))) (overlay_below overlay) result.1 }
-    ensures log { IsTrue D.tells → LogIs (laid_files (overlay_held overlay) (D.files (overlay_below overlay))) result.0.why }
+        (unlogged (laid_files (overlay_held overlay) (D.files (overlay_below overlay)))) (overlay_below overlay)
+        result.1 }
+    ensures log { IsTrue D.tells → LogIs (laid_files (overlay_held overlay) (D.files (overlay_below overlay)))
+        result.0.why }
     ensures counted { is_done result.0.why ≡ false → result.0.changes ≡ 0 }
     ensures of_words { is_of_words result.0.why ≡ false }
     ensures kept { is_of_streams result.0.why ≡ true → ended ≡ Err result.0.why }
@@ -173,8 +159,9 @@ fn change_recovered<D: Disk, S: Shelf, O: Sink + Drop, E: Sink + Drop>(
     requires countable { IsCountable (task_parts task.now) }
     requires settled { IsTrue D.tells → AreSettled (D.files disk) (images D.Disk disk) }
     requires closed { IsTrue D.tells → log_state (D.files disk).log ≡ Closed }
-    ensures one { IsTrue D.tells → (reads_shelf (task_parts task.now) ≡ true → IsTrue S.tells) → OneChange D.files D.left_since D.moment (S.paths shelf.old)
-        now (task_parts task.now) result.0.why result.0.changes disk result.1 (shown O.Sink E.Sink out.old err.old) (shown O.Sink E.Sink out.new err.new) }
+    ensures one { IsTrue D.tells → (reads_shelf (task_parts task.now) ≡ true → IsTrue S.tells)
+        → OneChange D.files D.left_since D.moment (S.paths shelf.old) now (task_parts task.now) result.0.why
+        result.0.changes disk result.1 (shown O.Sink E.Sink out.old err.old) (shown O.Sink E.Sink out.new err.new) }
     ensures empty { IsTrue D.tells → EmptyBy (needs_none (task_parts task.now)) (reopened (D.files disk)) result.0.why }
     ensures counted { is_done result.0.why ≡ false → result.0.changes ≡ 0 }
     ensures shelf_unread { reads_shelf (task_parts task.now) ≡ false → shelf.new ≡ shelf.old }
@@ -183,7 +170,8 @@ fn change_recovered<D: Disk, S: Shelf, O: Sink + Drop, E: Sink + Drop>(
     ensures goes_on { D.follows disk result.1 }
     ensures disk { DiskFault D.Disk (result.0.why ≡ Why.DiskFault) disk result.1 }
     ensures shelf { ShelfFault S.Shelf (result.0.why ≡ Why.ShelfFault) shelf.old shelf.new }
-    ensures hands { Hands O.Sink E.Sink (result.0.why ≡ Why.OutFault) (result.0.why ≡ Why.ErrFault) out.old err.old out.new err.new }
+    ensures hands { Hands O.Sink E.Sink (result.0.why ≡ Why.OutFault) (result.0.why ≡ Why.ErrFault) out.old err.old
+        out.new err.new }
 {
     match Overlay::load(alloc, disk) {
         Ok(overlay) => {
@@ -195,26 +183,31 @@ fn change_recovered<D: Disk, S: Shelf, O: Sink + Drop, E: Sink + Drop>(
     }
 }
 
-/// Finishes what a crash left of a change, and makes the changes of a command, one after the other and all as one change. An argument that
-/// fails has its line, and the others go on. Where there is no database, one is made.
+/// Finishes what a crash left of a change, and makes the changes of a command, one after the other and all as one
+/// change. An argument that fails has its line, and the others go on. Where there is no database, one is made.
 ///
-/// The changes are held in memory, over the disk, and committed after the last one: a crash at any moment leaves all of them or none.
-/// The ending is `Done`, or `Failed` with how many arguments failed; only then are changes counted, and on a lawful database the index is
-/// current then, and the disk lawful. Any other ending leaves what the files stand for as it was, `DiskFault` aside, after which all changes
-/// or none are made. That a command line is one change is this project's own rule.
+/// The changes are held in memory, over the disk, and committed after the last one: a crash at any moment leaves all
+/// of them or none. The ending is `Done`, or `Failed` with how many arguments failed; only then are changes counted,
+/// and on a lawful database the index is current then, and the disk lawful. Any other ending leaves what the files
+/// stand for as it was, `DiskFault` aside, after which all changes or none are made. That a command line is one
+/// change is this project's own rule.
 ///
-/// - `BadLog` comes exactly where the log is malformed, and else `Damaged` where `Packages.db` is damaged, with the place.
+/// - `BadLog` comes exactly where the log is malformed, and else `Damaged` where `Packages.db` is damaged, with the
+///   place.
 /// - `NotEmpty` comes exactly of an exercise where there are packages, with the least number.
-/// - `IndexFull` comes first where the index must be made before the changes and needs more than 268435456 units. Then, going through the
-///   changes in order, the first that is refused decides, and of it the first limit that it meets: `NumbersSpent`, `GenerationSpent`,
-///   `StoreFull`, `IndexFull`. Of `IndexFull` that is said on a lawful database, and on any of a command that makes the index anew.
+/// - `IndexFull` comes first where the index must be made before the changes and needs more than 268435456 units.
+///   Then, going through the changes in order, the first that is refused decides, and of it the first limit that it
+///   meets: `NumbersSpent`, `GenerationSpent`, `StoreFull`, `IndexFull`. Of `IndexFull` that is said on a lawful
+///   database, and on any of a command that makes the index anew.
 /// - `LogFull` tells how many units the log would have, more than 268435456.
 /// - `BadIndex` comes only where an index that was found current is changed, and isn't well formed as a whole.
-/// - `DiskFault`, `ShelfFault`, `OutFault` and `ErrFault` come only where that object's count of faults rose; `NoMemory` comes freely.
+/// - `DiskFault`, `ShelfFault`, `OutFault` and `ErrFault` come only where that object's count of faults rose;
+///   `NoMemory` comes freely.
 ///
-/// Of `Packages.db` it reads the slot pages, the blocks of all packages where the index must be made, and those of each package that is
-/// replaced or erased. It syncs three times before the changes and five times for them, and keeps a page of 4 KiB in memory for each 4 KiB
-/// that are written. `now` is the moment of an installation, in seconds since 1970.
+/// Of `Packages.db` it reads the slot pages, the blocks of all packages where the index must be made, and those of
+/// each package that is replaced or erased. It syncs three times before the changes and five times for them, and
+/// keeps a page of 4 KiB in memory for each 4 KiB that are written. `now` is the moment of an installation, in
+/// seconds since 1970.
 fn change<D: Disk, S: Shelf, O: Sink + Drop, E: Sink + Drop>(
     alloc: Global,
     disk: D,
@@ -225,8 +218,9 @@ fn change<D: Disk, S: Shelf, O: Sink + Drop, E: Sink + Drop>(
     err: &mut Buffered<E>,
 ) -> (CommandEnding, D)
     requires countable { IsCountable (task_parts task.now) }
-    ensures one { IsTrue D.tells → (reads_shelf (task_parts task.now) ≡ true → IsTrue S.tells) → OneChange D.files D.left_since D.moment (S.paths shelf.old)
-        now (task_parts task.now) result.0.why result.0.changes disk result.1 (shown O.Sink E.Sink out.old err.old) (shown O.Sink E.Sink out.new err.new) }
+    ensures one { IsTrue D.tells → (reads_shelf (task_parts task.now) ≡ true → IsTrue S.tells)
+        → OneChange D.files D.left_since D.moment (S.paths shelf.old) now (task_parts task.now) result.0.why
+        result.0.changes disk result.1 (shown O.Sink E.Sink out.old err.old) (shown O.Sink E.Sink out.new err.new) }
     ensures empty { IsTrue D.tells → EmptyBy (needs_none (task_parts task.now)) (reopened (D.files disk)) result.0.why }
     ensures counted { is_done result.0.why ≡ false → result.0.changes ≡ 0 }
     ensures shelf_unread { reads_shelf (task_parts task.now) ≡ false → shelf.new ≡ shelf.old }
@@ -235,7 +229,8 @@ fn change<D: Disk, S: Shelf, O: Sink + Drop, E: Sink + Drop>(
     ensures goes_on { D.follows disk result.1 }
     ensures disk { DiskFault D.Disk (result.0.why ≡ Why.DiskFault) disk result.1 }
     ensures shelf { ShelfFault S.Shelf (result.0.why ≡ Why.ShelfFault) shelf.old shelf.new }
-    ensures hands { Hands O.Sink E.Sink (result.0.why ≡ Why.OutFault) (result.0.why ≡ Why.ErrFault) out.old err.old out.new err.new }
+    ensures hands { Hands O.Sink E.Sink (result.0.why ≡ Why.OutFault) (result.0.why ≡ Why.ErrFault) out.old err.old
+        out.new err.new }
 {
     let mut disk = disk;
     match recover(&mut disk) {
@@ -256,10 +251,11 @@ pub fn change_asked<D: Disk, S: Shelf, O: Sink + Drop, E: Sink + Drop>(
     now: u32,
 ) -> (CommandEnding, D)
     requires sound { IsSound words.now ask.now }
-    ensures one { IsTrue D.tells → (reads_shelf (asked_task words.now ask.now) ≡ true → IsTrue S.tells) → OneChange D.files D.left_since D.moment (S.paths
-        shelf.old) now (asked_task words.now ask.now) result.0.why result.0.changes disk result.1 (shown O.Sink E.Sink out.old err.old) (shown O.Sink E.Sink
-        out.new err.new) }
-    ensures empty { IsTrue D.tells → EmptyBy (needs_none (asked_task words.now ask.now)) (reopened (D.files disk)) result.0.why }
+    ensures one { IsTrue D.tells → (reads_shelf (asked_task words.now ask.now) ≡ true → IsTrue S.tells)
+        → OneChange D.files D.left_since D.moment (S.paths shelf.old) now (asked_task words.now ask.now) result.0.why
+        result.0.changes disk result.1 (shown O.Sink E.Sink out.old err.old) (shown O.Sink E.Sink out.new err.new) }
+    ensures empty { IsTrue D.tells → EmptyBy (needs_none (asked_task words.now ask.now)) (reopened (D.files disk))
+        result.0.why }
     ensures counted { is_done result.0.why ≡ false → result.0.changes ≡ 0 }
     ensures shelf_unread { reads_shelf (asked_task words.now ask.now) ≡ false → shelf.new ≡ shelf.old }
     ensures paths { IsTrue S.tells → S.paths shelf.new ≡ S.paths shelf.old }
@@ -267,7 +263,8 @@ pub fn change_asked<D: Disk, S: Shelf, O: Sink + Drop, E: Sink + Drop>(
     ensures goes_on { D.follows disk result.1 }
     ensures disk { DiskFault D.Disk (result.0.why ≡ Why.DiskFault) disk result.1 }
     ensures shelf { ShelfFault S.Shelf (result.0.why ≡ Why.ShelfFault) shelf.old shelf.new }
-    ensures hands { Hands O.Sink E.Sink (result.0.why ≡ Why.OutFault) (result.0.why ≡ Why.ErrFault) out.old err.old out.new err.new }
+    ensures hands { Hands O.Sink E.Sink (result.0.why ≡ Why.OutFault) (result.0.why ≡ Why.ErrFault) out.old err.old
+        out.new err.new }
 {
     match task_of(alloc, words, ask) {
         Ok(task) => change(alloc, disk, shelf, &task, now, out, err),

@@ -1,10 +1,7 @@
 //! The line that closes a command on standard error.
 
 ghost use Rattle.std.specs.Prelude.{◌≡◌, []};
-ghost use Rattle.rpm_outside.specs.Buffered.{inner, holds};
-ghost use Rattle.rpm_outside.specs.Sinks.{Writes};
-ghost use Rattle.rpm_tool.specs.Closing.{reason_text, damage_line, log_line, index_line, held_line, rule_text, word_told, usage_line, fault_text, format_line, closing};
-ghost use Rattle.rpm_words.specs.Words.{text_at};
+ghost use Rattle.rpm_tool.specs.Prelude.{closing, damage_line, fault_text, format_line, held_line, holds, index_line, inner, log_line, reason_text, rule_text, text_at, usage_line, word_told, Writes};
 
 use crate::answer::Why;
 use crate::pieces::put_pieces;

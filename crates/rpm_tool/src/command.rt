@@ -3,14 +3,7 @@
 ghost use Rattle.std.specs.Prelude.{◌≡◌, ◌≢◌, ◌+◌, ◌≤◌, [], false, IsTrue, None};
 ghost use Rattle.rpm_words.specs.declared.switch.Chosen.TheVariants as by;
 ghost use Rattle.rpm_words.specs.declared.ask.Mode.TheVariants as mode;
-ghost use Rattle.rpm_words.specs.Ask.{ask, IsSound};
-ghost use Rattle.rpm_tool.specs.Asked.{is_changing, asks};
-ghost use Rattle.rpm_tool.specs.Closing.{status_of, closing};
-ghost use Rattle.rpm_tool.specs.Keyed.{is_done};
-ghost use Rattle.rpm_tool.specs.Frame.{outs, Hands};
-ghost use Rattle.rpm_tool.specs.Theorem.{ran, AnswersWords, Does, Answers, Causes, Laws};
-ghost use Rattle.rpm_tool.specs.Answers.{is_of_words, Ends};
-ghost use Rattle.rpm_tool.specs.Frame.{shown, DiskFault, ShelfFault};
+ghost use Rattle.rpm_tool.specs.Prelude.{Answers, AnswersWords, ask, asks, Causes, closing, DiskFault, Does, Ends, Hands, is_changing, is_done, is_of_words, IsSound, Laws, outs, ran, ShelfFault, shown, status_of};
 
 use crate::answer::{Outcome, Why, status_of};
 use crate::asked::{by_key, of_files, read_command};

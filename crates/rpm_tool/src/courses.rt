@@ -1,22 +1,12 @@
 //! What each command does on the disk over which its changes are held: it opens the database, and changes it.
 
 ghost use Rattle.std.specs.Prelude.{◌≡◌, ◌≢◌, ℕ, ◌^◌, ◌<◌, ◌≤◌, Bool, List, [], codes, length, map, true, false, IsTrue, Err, IfErr};
-ghost use Rattle.rpm_outside.specs.Buffered.{inner};
-ghost use Rattle.rpm_outside.specs.Shelves.{bytes_at};
-ghost use Rattle.rpm_db.specs.inner.Writes.{SameLog};
+ghost use Rattle.rpm_tool.specs.Prelude.{bytes_at, DiskFault, EmptyOn, Hand, idle, inner, is_halt, is_held, is_of_streams, IsLawful, LimitsBy, outputs, Runs, SameLog, ShelfFault, why_of, why_of_exercise, why_of_halt, Worked, WorkedWith};
 ghost use Rattle.rpm_change.specs.Adding as adding;
-ghost use Rattle.rpm_change.specs.Endings.{outputs};
 ghost use Rattle.rpm_change.specs.Erasing as erasing;
 ghost use Rattle.rpm_change.specs.Importing as importing;
 ghost use Rattle.rpm_change.specs.Rebuilding as rebuilding;
-ghost use Rattle.rpm_change.specs.Steps.{idle};
 ghost use Rattle.rpm_exercise.specs.Exercised as exercised;
-ghost use Rattle.rpm_tool.specs.Changing.{EmptyOn, is_held};
-ghost use Rattle.rpm_db.specs.Lawful.{IsLawful};
-ghost use Rattle.rpm_tool.specs.Limits.{LimitsBy};
-ghost use Rattle.rpm_tool.specs.Working.{Worked, WorkedWith, is_halt, is_of_streams, why_of, why_of_exercise, why_of_halt};
-ghost use Rattle.rpm_tool.specs.Frame.{Runs, DiskFault, ShelfFault};
-ghost use Rattle.rpm_change.specs.Hands.{Hand};
 
 use crate::answer::Why;
 use crate::opening::open_to_change;
@@ -48,7 +38,8 @@ pub(crate) fn make_on<D: Disk>(alloc: Global, disk: &mut D) -> Result<Tally, Why
     ensures worked { IsTrue D.tells → (out_tells err_tells : Bool) (out err : List ℕ)
         → WorkedWith false false (λ s. idle) (D.files disk.old) (D.files disk.new) result
         (outputs out_tells out err_tells err) (outputs out_tells out err_tells err) }
-    ensures limits { IsTrue D.tells → LimitsBy false (IsLawful (D.files disk.old).pkg (D.files disk.old).idx) (λ s. idle) (D.files disk.old) (why_of result) }
+    ensures limits { IsTrue D.tells → LimitsBy false (IsLawful (D.files disk.old).pkg (D.files disk.old).idx)
+        (λ s. idle) (D.files disk.old) (why_of result) }
     ensures runs { Runs D.Disk SameLog disk.old disk.new }
     ensures halted { IfErr result (λ given. is_halt given ≡ true) }
     ensures held { IfErr result (λ given. is_held given ≡ false) }
@@ -76,10 +67,13 @@ pub(crate) fn add_on<D: Disk, S: Shelf, E: Sink + Drop>(
 ) -> Result<Tally, Why>
     requires few { length paths.now < 2 ^ 32 }
     ensures worked { IsTrue D.tells → IsTrue S.tells → (out_tells : Bool) (out : List ℕ)
-        → Worked (λ s. adding.add_files (S.paths shelf.old) now s (map (λ path. path.now) paths.now)) (D.files disk.old) (D.files disk.new) result
-        (outputs out_tells out E.tells (E.taken (inner err.old))) (outputs out_tells out E.tells (E.taken (inner err.new))) }
+        → Worked (λ s. adding.add_files (S.paths shelf.old) now s (map (λ path. path.now) paths.now))
+        (D.files disk.old) (D.files disk.new) result (outputs out_tells out E.tells (E.taken (inner err.old)))
+        (outputs out_tells out E.tells (E.taken (inner err.new))) }
     ensures limits { IsTrue D.tells → IsTrue S.tells
-        → LimitsBy false (IsLawful (D.files disk.old).pkg (D.files disk.old).idx) (λ s. adding.add_files (S.paths shelf.old) now s (map (λ path. path.now) paths.now)) (D.files disk.old) (why_of result) }
+        → LimitsBy false (IsLawful (D.files disk.old).pkg (D.files disk.old).idx)
+        (λ s. adding.add_files (S.paths shelf.old) now s (map (λ path. path.now) paths.now)) (D.files disk.old)
+        (why_of result) }
     ensures runs { Runs D.Disk SameLog disk.old disk.new }
     ensures halted { IfErr result (λ given. is_halt given ≡ true) }
     ensures held { IfErr result (λ given. is_held given ≡ false) }
@@ -110,10 +104,12 @@ pub(crate) fn replace_on<D: Disk, S: Shelf, E: Sink + Drop>(
     err: &mut Buffered<E>,
 ) -> Result<Tally, Why>
     ensures worked { IsTrue D.tells → IsTrue S.tells → (out_tells : Bool) (out : List ℕ)
-        → Worked (λ s. adding.replace (S.paths shelf.old) now s number path.now) (D.files disk.old) (D.files disk.new) result
-        (outputs out_tells out E.tells (E.taken (inner err.old))) (outputs out_tells out E.tells (E.taken (inner err.new))) }
+        → Worked (λ s. adding.replace (S.paths shelf.old) now s number path.now) (D.files disk.old) (D.files disk.new)
+        result (outputs out_tells out E.tells (E.taken (inner err.old)))
+        (outputs out_tells out E.tells (E.taken (inner err.new))) }
     ensures limits { IsTrue D.tells → IsTrue S.tells
-        → LimitsBy false (IsLawful (D.files disk.old).pkg (D.files disk.old).idx) (λ s. adding.replace (S.paths shelf.old) now s number path.now) (D.files disk.old) (why_of result) }
+        → LimitsBy false (IsLawful (D.files disk.old).pkg (D.files disk.old).idx)
+        (λ s. adding.replace (S.paths shelf.old) now s number path.now) (D.files disk.old) (why_of result) }
     ensures runs { Runs D.Disk SameLog disk.old disk.new }
     ensures halted { IfErr result (λ given. is_halt given ≡ true) }
     ensures held { IfErr result (λ given. is_held given ≡ false) }
@@ -144,8 +140,10 @@ pub(crate) fn erase_on<D: Disk, E: Sink + Drop>(
     requires few { length numbers.now < 2 ^ 32 }
     ensures worked { IsTrue D.tells → (out_tells : Bool) (out : List ℕ)
         → Worked (λ s. erasing.erase s numbers.now) (D.files disk.old) (D.files disk.new) result
-        (outputs out_tells out E.tells (E.taken (inner err.old))) (outputs out_tells out E.tells (E.taken (inner err.new))) }
-    ensures limits { IsTrue D.tells → LimitsBy false (IsLawful (D.files disk.old).pkg (D.files disk.old).idx) (λ s. erasing.erase s numbers.now) (D.files disk.old) (why_of result) }
+        (outputs out_tells out E.tells (E.taken (inner err.old)))
+        (outputs out_tells out E.tells (E.taken (inner err.new))) }
+    ensures limits { IsTrue D.tells → LimitsBy false (IsLawful (D.files disk.old).pkg (D.files disk.old).idx)
+        (λ s. erasing.erase s numbers.now) (D.files disk.old) (why_of result) }
     ensures runs { Runs D.Disk SameLog disk.old disk.new }
     ensures halted { IfErr result (λ given. is_halt given ≡ true) }
     ensures held { IfErr result (λ given. is_held given ≡ false) }
@@ -172,10 +170,13 @@ pub(crate) fn import_on<D: Disk, S: Shelf, E: Sink + Drop>(
     err: &mut Buffered<E>,
 ) -> Result<Tally, Why>
     ensures worked { IsTrue D.tells → IsTrue S.tells → (out_tells : Bool) (out : List ℕ)
-        → Worked (λ s. importing.import_list importing.max_headers (bytes_at (S.paths shelf.old) (codes "-"))) (D.files disk.old) (D.files disk.new) result
-        (outputs out_tells out E.tells (E.taken (inner err.old))) (outputs out_tells out E.tells (E.taken (inner err.new))) }
+        → Worked (λ s. importing.import_list importing.max_headers (bytes_at (S.paths shelf.old) (codes "-")))
+        (D.files disk.old) (D.files disk.new) result (outputs out_tells out E.tells (E.taken (inner err.old)))
+        (outputs out_tells out E.tells (E.taken (inner err.new))) }
     ensures limits { IsTrue D.tells → IsTrue S.tells
-        → LimitsBy false (IsLawful (D.files disk.old).pkg (D.files disk.old).idx) (λ s. importing.import_list importing.max_headers (bytes_at (S.paths shelf.old) (codes "-"))) (D.files disk.old) (why_of result) }
+        → LimitsBy false (IsLawful (D.files disk.old).pkg (D.files disk.old).idx)
+        (λ s. importing.import_list importing.max_headers (bytes_at (S.paths shelf.old) (codes "-")))
+        (D.files disk.old) (why_of result) }
     ensures runs { Runs D.Disk SameLog disk.old disk.new }
     ensures halted { IfErr result (λ given. is_halt given ≡ true) }
     ensures held { IfErr result (λ given. is_held given ≡ false) }
@@ -203,8 +204,10 @@ pub(crate) fn rebuild_on<D: Disk, O: Sink + Drop>(
 ) -> Result<Tally, Why>
     ensures worked { IsTrue D.tells → (err_tells : Bool) (err : List ℕ)
         → WorkedWith true false (λ s. rebuilding.rebuild s) (D.files disk.old) (D.files disk.new) result
-        (outputs O.tells (O.taken (inner out.old)) err_tells err) (outputs O.tells (O.taken (inner out.new)) err_tells err) }
-    ensures limits { IsTrue D.tells → LimitsBy true (IsLawful (D.files disk.old).pkg (D.files disk.old).idx) (λ s. rebuilding.rebuild s) (D.files disk.old) (why_of result) }
+        (outputs O.tells (O.taken (inner out.old)) err_tells err)
+        (outputs O.tells (O.taken (inner out.new)) err_tells err) }
+    ensures limits { IsTrue D.tells → LimitsBy true (IsLawful (D.files disk.old).pkg (D.files disk.old).idx)
+        (λ s. rebuilding.rebuild s) (D.files disk.old) (why_of result) }
     ensures runs { Runs D.Disk SameLog disk.old disk.new }
     ensures halted { IfErr result (λ given. is_halt given ≡ true) }
     ensures held { IfErr result (λ given. is_held given ≡ false) }
@@ -248,9 +251,11 @@ pub(crate) fn exercise_on<D: Disk, O: Sink + Drop>(
     requires few { headers ≤ 100000 }
     ensures worked { IsTrue D.tells → (err_tells : Bool) (err : List ℕ)
         → WorkedWith true false (λ s. exercised.exercise headers s) (D.files disk.old) (D.files disk.new) result
-        (outputs O.tells (O.taken (inner out.old)) err_tells err) (outputs O.tells (O.taken (inner out.new)) err_tells err) }
+        (outputs O.tells (O.taken (inner out.old)) err_tells err)
+        (outputs O.tells (O.taken (inner out.new)) err_tells err) }
     ensures empty { IsTrue D.tells → EmptyOn (D.files disk.old) (why_of result) }
-    ensures limits { IsTrue D.tells → LimitsBy true (IsLawful (D.files disk.old).pkg (D.files disk.old).idx) (λ s. exercised.exercise headers s) (D.files disk.old) (why_of result) }
+    ensures limits { IsTrue D.tells → LimitsBy true (IsLawful (D.files disk.old).pkg (D.files disk.old).idx)
+        (λ s. exercised.exercise headers s) (D.files disk.old) (why_of result) }
     ensures runs { Runs D.Disk SameLog disk.old disk.new }
     ensures halted { IfErr result (λ given. is_halt given ≡ true) }
     ensures shelf { result ≢ Err Why.ShelfFault }

@@ -1,18 +1,8 @@
 //! What is told of the paths that several packages own and that differ.
 
 ghost use Rattle.std.specs.Prelude.{◌≡◌, ◌≢◌, ◌+◌, ◌≤◌, ℕ, [], ◌∷◌, map, false, IsTrue, Err};
-ghost use Rattle.rpm_outside.specs.Buffered.{holds};
-ghost use Rattle.rpm_outside.specs.declared.disk.File.TheVariants.{Pkg};
+ghost use Rattle.rpm_tool.specs.Prelude.{check_files, conflict_step, cost_all, DiskFault, EndHands, ErrTakes, Everything, fails, Hand, holds, if_differs, is_foreign, is_some_of, Kept, label_told, Looks, OutTakes, packages_in, PartIs, Pkg, pkg_read, Reached, reached_by, shown, StepIs, StopHands, together, told_steps, unread_step, Went, whole};
 ghost use Rattle.rpm_db.specs.Database as database;
-ghost use Rattle.rpm_db.specs.Database.{cost_all};
-ghost use Rattle.rpm_select.specs.Reach.{Everything};
-ghost use Rattle.rpm_change.specs.Steps.{whole};
-ghost use Rattle.rpm_tool.specs.Steps.{fails, together};
-ghost use Rattle.rpm_tool.specs.FileReport.{if_differs, unread_step, conflict_step, label_told, told_steps, check_files};
-ghost use Rattle.rpm_tool.specs.Reads.{reached_by};
-ghost use Rattle.rpm_tool.specs.Answers.{StepIs, Reached, PartIs, Went, is_foreign, is_some_of};
-ghost use Rattle.rpm_tool.specs.Frame.{Looks, shown, DiskFault, Kept, packages_in, pkg_read, OutTakes, ErrTakes, StopHands, EndHands};
-ghost use Rattle.rpm_change.specs.Hands.{Hand};
 
 use crate::answer::Why;
 use crate::pieces::put_line;
@@ -58,7 +48,8 @@ fn put_conflict<'a, O: Sink + Drop>(
     report: &'a ConflictList,
     conflict: &'a Conflict,
 ) -> Result<bool, Stop>
-    ensures step { OutTakes O.Sink (StepIs (conflict_step (label_told report.now) conflict.now) result) out.old out.new }
+    ensures step { OutTakes O.Sink (StepIs (conflict_step (label_told report.now) conflict.now) result) out.old
+        out.new }
     ensures no_read { result ≢ Err Stop.ReadFault }
     ensures no_err { result ≢ Err Stop.ErrFault }
     ensures out { Hand O.Sink (result ≡ Err Stop.OutFault) out.old out.new }

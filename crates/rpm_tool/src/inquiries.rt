@@ -1,19 +1,8 @@
 //! What is asked of a database that was opened with its index.
 
 ghost use Rattle.std.specs.Prelude.{◌≡◌, ◌+◌, ◌≤◌, [], map, true, false, IsTrue};
-ghost use Rattle.rpm_outside.specs.Buffered.{holds};
+ghost use Rattle.rpm_tool.specs.Prelude.{Anywhere, argument_reach, before, CauseIs, DiskFault, DoesBy, EndHands, HasRows, holds, idle, inquiry_of, is_foreign, is_indexed, is_of_opening, is_query, IsOfSome, Kept, KeptIndex, OrderIs, Outputs, packages_in, PartIs, Peeks, pkg_read, Portion, reach_sum, reached_by, reaches_by, shown, text_at, unsatisfied, Went, why_of_report};
 ghost use Rattle.rpm_db.specs.Database as database;
-ghost use Rattle.rpm_db.specs.Database.{is_indexed};
-ghost use Rattle.rpm_words.specs.Words.{text_at};
-ghost use Rattle.rpm_change.specs.Endings.{Outputs};
-ghost use Rattle.rpm_change.specs.Steps.{idle};
-ghost use Rattle.rpm_tool.specs.Steps.{Portion, before};
-ghost use Rattle.rpm_tool.specs.Answers.{Anywhere, PartIs, Went, is_foreign, is_of_opening};
-ghost use Rattle.rpm_tool.specs.Asked.{is_query, inquiry_of};
-ghost use Rattle.rpm_tool.specs.Reads.{argument_reach, reaches_by, reach_sum, reached_by};
-ghost use Rattle.rpm_tool.specs.Requirements.{unsatisfied, why_of_report, IsOfSome};
-ghost use Rattle.rpm_tool.specs.Keyed.{DoesBy, CauseIs, OrderIs};
-ghost use Rattle.rpm_tool.specs.Frame.{Peeks, shown, DiskFault, Kept, KeptIndex, HasRows, packages_in, pkg_read, EndHands};
 
 use crate::answer::Why;
 use crate::asked::{Inquiry, inquiry_of};

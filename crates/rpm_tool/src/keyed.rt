@@ -1,14 +1,7 @@
 //! The commands that open the database with its index: questions by key, and the reports on requirements.
 
 ghost use Rattle.std.specs.Prelude.{◌≡◌, ◌+◌, ◌≤◌, [], false, true, IsTrue};
-ghost use Rattle.rpm_outside.specs.Changes.{IsSettled};
-ghost use Rattle.rpm_outside.specs.declared.disk.File.TheVariants.{Pkg, Idx};
-ghost use Rattle.rpm_pkgdb.specs.Store.{store};
-ghost use Rattle.rpm_db.specs.Lawful.{IsLawful, AreLawful, IsLawfulStill, Remade};
-ghost use Rattle.rpm_tool.specs.Asked.{is_query};
-ghost use Rattle.rpm_tool.specs.Keyed.{HasIndex, OpenedBy, AnswersByKey, FullIs, BadIs, DidByKey, is_done, keyed_cost, why_of_recover};
-ghost use Rattle.rpm_tool.specs.Answers.{is_foreign};
-ghost use Rattle.rpm_tool.specs.Frame.{Runs, shown, DiskFault, images, LeavesIn, pkg_read, EndHands};
+ghost use Rattle.rpm_tool.specs.Prelude.{AnswersByKey, AreLawful, BadIs, DidByKey, DiskFault, EndHands, FullIs, HasIndex, Idx, images, is_done, is_foreign, is_query, IsLawful, IsLawfulStill, IsSettled, keyed_cost, LeavesIn, OpenedBy, Pkg, pkg_read, Remade, Runs, shown, store, why_of_recover};
 
 use crate::answer::Why;
 use crate::inquiries::answer_inquiry;

@@ -1,9 +1,7 @@
 //! Commands on a database as it reads when an open log is gone through.
 
 ghost use Rattle.std.specs.Prelude.{◌≡◌, ◌+◌, ◌≤◌, [], false, IsTrue};
-ghost use Rattle.rpm_outside.specs.Logs.{reopened};
-ghost use Rattle.rpm_tool.specs.Answers.{is_foreign, why_of_load, unless_starved, Queried, query_cost};
-ghost use Rattle.rpm_tool.specs.Frame.{Leaves, shown, DiskFault, pkg_read, EndHands};
+ghost use Rattle.rpm_tool.specs.Prelude.{DiskFault, EndHands, is_foreign, Leaves, pkg_read, Queried, query_cost, reopened, shown, unless_starved, why_of_load};
 
 use crate::answer::Why;
 use crate::unindexed::answer_unindexed;

@@ -1,11 +1,7 @@
 //! The line of an argument that picks nothing.
 
 ghost use Rattle.std.specs.Prelude.{◌≡◌, ◌≢◌, ℕ, [], Err};
-ghost use Rattle.rpm_change.specs.Steps.{whole};
-ghost use Rattle.rpm_tool.specs.Queries.{missing, missing_record, missing_part};
-ghost use Rattle.rpm_tool.specs.Answers.{PartIs};
-ghost use Rattle.rpm_tool.specs.Frame.{shown, OutTakes, ErrTakes, StopHands};
-ghost use Rattle.rpm_change.specs.Hands.{Hand};
+ghost use Rattle.rpm_tool.specs.Prelude.{ErrTakes, Hand, missing, missing_part, missing_record, OutTakes, PartIs, shown, StopHands, whole};
 
 use crate::pieces::put_line;
 use crate::step::Stop;

@@ -1,19 +1,8 @@
 //! Opening the database to change it.
 
 ghost use Rattle.std.specs.Prelude.{◌≡◌, [], true, false, not, IsTrue, Err, IfOk, IfErr, OnOk};
-ghost use Rattle.rpm_outside.specs.Changes.{IsSettled};
-ghost use Rattle.rpm_hindex.specs.Sizes.{units_for};
-ghost use Rattle.rpm_pkgdb.specs.Reaches.{ReachesTo};
-ghost use Rattle.rpm_pkgdb.specs.Store.{store};
+ghost use Rattle.rpm_tool.specs.Prelude.{begun, DiskFault, images, Indexed, is_blank, is_indexed, IsBroken, IsLawful, IsOfOpening, IsOutside, IsSettled, IsWholeIndex, OpensBy, OpensWithin, ReachesMade, ReachesTo, Runs, SameLog, Serving, state_in, store, units_for, why_of_open};
 ghost use Rattle.rpm_db.specs.Database as database;
-ghost use Rattle.rpm_db.specs.Database.{is_blank, is_indexed};
-ghost use Rattle.rpm_db.specs.Lawful.{IsLawful, IsWholeIndex};
-ghost use Rattle.rpm_db.specs.Reaches.{ReachesMade};
-ghost use Rattle.rpm_db.specs.inner.Writes.{SameLog};
-ghost use Rattle.rpm_tool.specs.Changing.{IsBroken};
-ghost use Rattle.rpm_tool.specs.Limits.{begun};
-ghost use Rattle.rpm_tool.specs.Working.{OpensBy, OpensWithin, IsOutside, IsOfOpening, why_of_open};
-ghost use Rattle.rpm_tool.specs.Frame.{Runs, DiskFault, images, Serving, Indexed, state_in};
 
 use crate::answer::Why;
 use rpm_db::{ChangeFault, Db, DbOpenFault};

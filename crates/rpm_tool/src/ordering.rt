@@ -1,17 +1,8 @@
 //! An order in which the packages could be installed.
 
 ghost use Rattle.std.specs.Prelude.{◌≡◌, ◌≢◌, ℕ, ◌<◌, [], map, true, false, IsTrue, Err, IfOk, IfErr};
-ghost use Rattle.std.specs.List.{flat_map};
-ghost use Rattle.rpm_outside.specs.Buffered.{holds};
-ghost use Rattle.rpm_header.specs.Header.{header};
+ghost use Rattle.rpm_tool.specs.Prelude.{Anywhere, class_steps, ClassesAre, cycle_line, DiskFault, flat_map, graph_of, Hand, HasRows, header, holds, is_of_sink, IsOrder, Kept, KeptIndex, label_step, label_text, OrderPartIs, OutTakes, packages_in, Peeks, Reached, read_text, shown, StepIs, StopHands, StopsOfSome, ToOut, whole};
 ghost use Rattle.rpm_db.specs.Database as database;
-ghost use Rattle.rpm_check.specs.Edges.{graph_of};
-ghost use Rattle.rpm_change.specs.Steps.{whole, ToOut};
-ghost use Rattle.rpm_graph.specs.Orders.{IsOrder};
-ghost use Rattle.rpm_tool.specs.Answers.{Anywhere, Reached, StepIs, is_of_sink};
-ghost use Rattle.rpm_tool.specs.Requirements.{read_text, label_text, label_step, cycle_line, class_steps, ClassesAre, OrderPartIs, StopsOfSome};
-ghost use Rattle.rpm_tool.specs.Frame.{Peeks, shown, DiskFault, Kept, KeptIndex, HasRows, packages_in, OutTakes, StopHands};
-ghost use Rattle.rpm_change.specs.Hands.{Hand};
 
 use crate::step::{Stop, put_text};
 use crate::unreadable::{read_blob, stop_of_check, tell_each_bad};
@@ -186,8 +177,9 @@ fn put_classes<D: Disk, O: Sink + Drop>(
 ) -> Result<(), Stop>
     requires keeps { Kept D.Disk disk.old db.now }
     requires runs { db.now.stopped ≡ false }
-    ensures went { IsTrue D.tells → OutTakes O.Sink (λ old new. Reached
-        (flat_map (class_steps (packages_in D.Disk disk.old db.now)) list.now) result old new Anywhere) out.old out.new }
+    ensures went { IsTrue D.tells → OutTakes O.Sink
+        (λ old new. Reached (flat_map (class_steps (packages_in D.Disk disk.old db.now)) list.now) result old new
+        Anywhere) out.old out.new }
     ensures looks { Peeks D.Disk true disk.old disk.new }
     ensures unbroken { (unit : ℕ) → result ≢ Err (Stop.BadIndex unit) }
     ensures no_err { result ≢ Err Stop.ErrFault }

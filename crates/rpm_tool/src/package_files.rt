@@ -1,18 +1,7 @@
 //! A query of package files.
 
 ghost use Rattle.std.specs.Prelude.{◌≡◌, ◌≢◌, ◌++◌, ℕ, [], ◌∷◌, map, false, IsTrue, Err};
-ghost use Rattle.std.specs.List.{concat};
-ghost use Rattle.rpm_qfeval.specs.Meaning.{meaning};
-ghost use Rattle.rpm_outside.specs.Browses.{left};
-ghost use Rattle.rpm_file.specs.Package.{package_header};
-ghost use Rattle.rpm_change.specs.Steps.{bearer, whole, ToErr};
-ghost use Rattle.rpm_tool.specs.Steps.{fails, told};
-ghost use Rattle.rpm_tool.specs.Queries.{printed};
-ghost use Rattle.rpm_change.specs.Texts.{refused_line, absent_line};
-ghost use Rattle.rpm_tool.specs.PackageFiles.{read_part, file_part, query_files};
-ghost use Rattle.rpm_tool.specs.Answers.{stop_in, why_of_files, PartIs, Anywhere, Went, is_of_words};
-ghost use Rattle.rpm_tool.specs.Frame.{shown, ShelfFault, ErrTakes, StopHands, EndHands};
-ghost use Rattle.rpm_change.specs.Hands.{Hand};
+ghost use Rattle.rpm_tool.specs.Prelude.{absent_line, Anywhere, bearer, concat, EndHands, ErrTakes, fails, file_part, Hand, is_of_words, left, meaning, package_header, PartIs, printed, query_files, read_part, refused_line, ShelfFault, shown, stop_in, StopHands, ToErr, told, Went, whole, why_of_files};
 
 use crate::answer::Why;
 use crate::pieces::put_line;

@@ -1,18 +1,8 @@
 //! The packages that a question picks, printed one after the other.
 
 ghost use Rattle.std.specs.Prelude.{◌≡◌, ◌≢◌, ℕ, ◌+◌, ◌-◌, ◌<◌, ◌≤◌, ◌||◌, [], false, IsTrue, Err, IfOk, IfSome};
-ghost use Rattle.rpm_outside.specs.Buffered.{holds};
-ghost use Rattle.rpm_outside.specs.declared.disk.File.TheVariants.{Pkg};
-ghost use Rattle.rpm_db.specs.State.{above};
-ghost use Rattle.rpm_db.specs.Database.{cost_to, cost_all};
-ghost use Rattle.rpm_select.specs.Selections.{picks};
-ghost use Rattle.rpm_select.specs.Reach.{Serves, asks, unasked, reach_to, reach_all};
-ghost use Rattle.rpm_select.specs.Picks.{entry_in, number_in};
-ghost use Rattle.rpm_tool.specs.Queries.{packages_part};
-ghost use Rattle.rpm_tool.specs.Reports.{step_by};
-ghost use Rattle.rpm_tool.specs.Reads.{ReadsIn, reach_until};
-ghost use Rattle.rpm_tool.specs.Answers.{stop_of, OneIs, NextIs, PartIs, cost_until, fails_in, is_some_of};
-ghost use Rattle.rpm_tool.specs.Frame.{Looks, shown, DiskFault, Kept, KeptIndex, HasRows, packages_in, pkg_read, StopHands};
+ghost use Rattle.rpm_tool.specs.Prelude.{above, cost_all, cost_to, cost_until, DiskFault, entry_in, fails_in, HasRows, holds, is_some_of, Kept, KeptIndex, Looks, NextIs, number_in, OneIs, packages_in, packages_part, PartIs, picks, Pkg, pkg_read, reach_all, reach_to, reach_until, ReadsIn, Serves, shown, step_by, stop_of, StopHands, unasked};
+ghost use Rattle.rpm_select.specs.Reach.{asks};
 
 use crate::step::{Stop, Way, print_picked};
 use rpm_db::Db;

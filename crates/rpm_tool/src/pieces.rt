@@ -1,9 +1,7 @@
 //! Text that is written in pieces.
 
 ghost use Rattle.std.specs.Prelude.{◌≡◌, [], map};
-ghost use Rattle.std.specs.List.{concat};
-ghost use Rattle.rpm_outside.specs.Buffered.{inner, holds};
-ghost use Rattle.rpm_outside.specs.Sinks.{Writes};
+ghost use Rattle.rpm_tool.specs.Prelude.{concat, holds, inner, Writes};
 
 use rpm_outside::{Buffered, Failed, Sink, put_all};
 

@@ -1,21 +1,10 @@
 //! The queries of an opened database.
 
 ghost use Rattle.std.specs.Prelude.{◌≡◌, ◌≢◌, ◌+◌, ◌<◌, ◌≤◌, ℕ, [], ◌∷◌, if◌then◌else◌, false, map, IsTrue};
-ghost use Rattle.rpm_outside.specs.Buffered.{holds};
-ghost use Rattle.rpm_outside.specs.declared.disk.File.TheVariants.{Pkg};
+ghost use Rattle.rpm_tool.specs.Prelude.{argument_part, argument_reach, before, cost_all, DiskFault, EndHands, Everything, HasRows, holds, idle, in_turn, is_foreign, is_indexed, is_of_opening, IsOfChains, Kept, KeptIndex, Looks, packages_in, packages_part, Peeks, picks, Pkg, pkg_read, query, reach_sum, reached_by, reaches_by, shown, step_by, text_at, Went};
+ghost use Rattle.rpm_tool.specs.Answers.{why_of};
 ghost use Rattle.rpm_db.specs.Database as database;
-ghost use Rattle.rpm_db.specs.Database.{is_indexed, cost_all};
-ghost use Rattle.rpm_select.specs.Selections.{picks};
-ghost use Rattle.rpm_select.specs.Reach.{Everything};
 ghost use Rattle.rpm_select.specs.declared.selection.Selection.TheVariants as question;
-ghost use Rattle.rpm_words.specs.Words.{text_at};
-ghost use Rattle.rpm_change.specs.Steps.{idle};
-ghost use Rattle.rpm_tool.specs.Steps.{before, in_turn};
-ghost use Rattle.rpm_tool.specs.Queries.{packages_part, argument_part, query};
-ghost use Rattle.rpm_tool.specs.Reports.{step_by};
-ghost use Rattle.rpm_tool.specs.Reads.{argument_reach, reaches_by, reach_sum, reached_by, IsOfChains};
-ghost use Rattle.rpm_tool.specs.Answers.{why_of, is_foreign, is_of_opening, Went};
-ghost use Rattle.rpm_tool.specs.Frame.{Looks, Peeks, shown, DiskFault, Kept, KeptIndex, HasRows, packages_in, pkg_read, EndHands};
 
 use crate::answer::Why;
 use crate::argument::answer;

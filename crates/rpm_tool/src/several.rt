@@ -1,15 +1,7 @@
 //! Several command lines on one disk, one after the other.
 
 ghost use Rattle.std.specs.Prelude.{◌≡◌, ◌≤◌, ℕ, List, [], length, IsTrue, IfOk, OnErr, OnOk};
-ghost use Rattle.rpm_db.specs.Changes.{next};
-ghost use Rattle.rpm_db.specs.State.{State};
-ghost use Rattle.rpm_change.specs.Endings.{outputs};
-ghost use Rattle.rpm_tool.specs.Changing.{AllFit, HasState, RowsFit};
-ghost use Rattle.rpm_tool.specs.Given.{IsAhead, RiseWithin};
-ghost use Rattle.rpm_tool.specs.History.{AllStand, StandsIn, FromOneOf, Leads, Cuts, TellsLines, calls_of};
-ghost use Rattle.rpm_tool.specs.Keyed.{AreLawfulGroups};
-ghost use Rattle.rpm_tool.specs.Lines.{LineIs, InTurn, between};
-ghost use Rattle.rpm_tool.specs.Frame.{images, outs, LeavesIn};
+ghost use Rattle.rpm_tool.specs.Prelude.{AllFit, AllStand, AreLawfulGroups, between, calls_of, Cuts, FromOneOf, HasState, images, InTurn, IsAhead, Leads, LeavesIn, LineIs, next, outputs, outs, RiseWithin, RowsFit, StandsIn, State, TellsLines};
 
 use crate::answer::Outcome;
 use crate::command::run;

@@ -1,18 +1,7 @@
 //! What is printed of one package.
 
 ghost use Rattle.std.specs.Prelude.{◌≡◌, ◌≢◌, ℕ, [], ◌++◌, Err, IfOk};
-ghost use Rattle.rpm_outside.specs.Buffered.{inner, holds};
-ghost use Rattle.rpm_header.specs.Digest.{magic};
-ghost use Rattle.rpm_db.specs.State.{Good};
-ghost use Rattle.rpm_qfeval.specs.Meaning.{meaning};
-ghost use Rattle.rpm_qfeval.specs.Printed.{Prints, ending};
-ghost use Rattle.rpm_select.specs.Picks.{entry_in};
-ghost use Rattle.rpm_tool.specs.Answers.{StepIs};
-ghost use Rattle.rpm_change.specs.Steps.{Bearer, ToOut, ToErr, bearer};
-ghost use Rattle.rpm_tool.specs.Queries.{bad_line, printed};
-ghost use Rattle.rpm_tool.specs.Reports.{step_by};
-ghost use Rattle.rpm_tool.specs.Frame.{shown, OutTakes, ErrTakes, StopHands};
-ghost use Rattle.rpm_change.specs.Hands.{Hand};
+ghost use Rattle.rpm_tool.specs.Prelude.{bad_line, bearer, Bearer, ending, entry_in, ErrTakes, Good, Hand, holds, inner, magic, meaning, OutTakes, printed, Prints, shown, step_by, StepIs, StopHands, ToErr, ToOut};
 
 use itoa::Buffer;
 use rpm_header::{MAGIC, View};

@@ -1,12 +1,7 @@
 //! What a command changes, by its words.
 
 ghost use Rattle.std.specs.Prelude.{◌≡◌, ℕ, ◌+◌, ◌<◌, ◌≤◌, ◌^◌, [], ◌∷◌, ◌++◌, length, map, IfOk, OnOk};
-ghost use Rattle.std.specs.List.{filter_map};
-ghost use Rattle.rpm_words.specs.Number.{number};
-ghost use Rattle.rpm_words.specs.Ask.{IsSound};
-ghost use Rattle.rpm_words.specs.Words.{text_at};
-ghost use Rattle.rpm_tool.specs.Asked.{is_changing, is_changing_in};
-ghost use Rattle.rpm_tool.specs.Tasks.{TaskParts, task_parts, numbers_asked, replacing, asked_task, IsCountable};
+ghost use Rattle.rpm_tool.specs.Prelude.{asked_task, filter_map, is_changing, is_changing_in, IsCountable, IsSound, number, numbers_asked, replacing, task_parts, TaskParts, text_at};
 
 use rpm_words::{Ask, Mode, Words, number_of};
 use std::alloc::{AllocError, Global};

@@ -1,15 +1,8 @@
 //! The commands that open the database without its index.
 
 ghost use Rattle.std.specs.Prelude.{◌≡◌, ◌+◌, ◌≤◌, ℕ, [], false, IsTrue};
-ghost use Rattle.rpm_outside.specs.Buffered.{holds};
-ghost use Rattle.rpm_outside.specs.declared.disk.File.TheVariants.{Pkg};
-ghost use Rattle.rpm_pkgdb.specs.Store.{store};
+ghost use Rattle.rpm_tool.specs.Prelude.{course, deed_of, DiskFault, EndHands, holds, is_foreign, is_indexed, Kept, Looks, LooksAt, Opened, Pkg, pkg_read, query_cost, reach_by, reach_cost, read_to, shown, store, Went};
 ghost use Rattle.rpm_db.specs.Database as database;
-ghost use Rattle.rpm_db.specs.Database.{is_indexed};
-ghost use Rattle.rpm_tool.specs.Asked.{deed_of};
-ghost use Rattle.rpm_tool.specs.Reports.{course};
-ghost use Rattle.rpm_tool.specs.Answers.{is_foreign, Went, Opened, reach_by, reach_cost, read_to, query_cost};
-ghost use Rattle.rpm_tool.specs.Frame.{Looks, LooksAt, shown, DiskFault, Kept, pkg_read, EndHands};
 
 use crate::answer::Why;
 use crate::asked::{Deed, deed_of};

@@ -2,14 +2,8 @@
 
 ghost use Rattle.std.specs.Prelude.{◌≡◌, ◌≢◌, ℕ, [], true, false, IsTrue, Err, IfOk};
 ghost use Rattle.std.specs.FinMap as finite;
-ghost use Rattle.rpm_outside.specs.Buffered.{holds};
+ghost use Rattle.rpm_tool.specs.Prelude.{Anywhere, bad_at, bad_parts, bad_step, DiskFault, ErrTakes, fails, Hand, holds, IsHeld, IsRead, Kept, packages_in, PartIs, Peeks, stop_of_check};
 ghost use Rattle.rpm_db.specs.Database as database;
-ghost use Rattle.rpm_tool.specs.Answers.{Anywhere, PartIs};
-ghost use Rattle.rpm_tool.specs.Requirements.{IsRead, IsHeld, bad_at, bad_parts, stop_of_check};
-ghost use Rattle.rpm_tool.specs.Steps.{fails};
-ghost use Rattle.rpm_tool.specs.Queries.{bad_step};
-ghost use Rattle.rpm_tool.specs.Frame.{Peeks, DiskFault, Kept, packages_in, ErrTakes};
-ghost use Rattle.rpm_change.specs.Hands.{Hand};
 
 use crate::step::{Stop, put_bad};
 use rpm_check::CheckFault;

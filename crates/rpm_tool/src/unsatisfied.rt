@@ -1,19 +1,9 @@
 //! The requirements that no package meets, each with its line.
 
 ghost use Rattle.std.specs.Prelude.{◌≡◌, ◌≢◌, ℕ, [], map, if◌then◌else◌, true, false, IsTrue, Err, IfOk, IfErr, slice_get};
-ghost use Rattle.std.specs.Option.{option_map};
-ghost use Rattle.rpm_outside.specs.Buffered.{holds};
-ghost use Rattle.rpm_header.specs.Header.{header};
+ghost use Rattle.rpm_tool.specs.Prelude.{Anywhere, depflags, DiskFault, Hand, has, HasRows, header, holds, is_of_sink, is_open, IsHeld, Kept, KeptIndex, letters, needed_in, option_map, OutTakes, packages_in, PartIs, Peeks, range_text, Reached, read_text, required, shown, StepIs, StopHands, StopsOfSome, unmet_line, unmet_part, unmet_step, unmet_text, unsatisfied_part};
 ghost use Rattle.rpm_db.specs.Database as database;
-ghost use Rattle.rpm_check.specs.inner.Needs.{needed_in};
 ghost use Rattle.rpm_check.specs.Unmet as lacking;
-ghost use Rattle.rpm_check.specs.Unmet.{required};
-ghost use Rattle.rpm_version.specs.Range.{is_open};
-ghost use Rattle.rpm_qfeval.specs.Numbers.{has, letters, depflags};
-ghost use Rattle.rpm_tool.specs.Answers.{Anywhere, Reached, StepIs, PartIs, is_of_sink};
-ghost use Rattle.rpm_tool.specs.Requirements.{IsHeld, read_text, range_text, unmet_line, unmet_text, unmet_step, unmet_part, unsatisfied_part, StopsOfSome};
-ghost use Rattle.rpm_tool.specs.Frame.{Peeks, shown, DiskFault, Kept, KeptIndex, HasRows, packages_in, OutTakes, StopHands};
-ghost use Rattle.rpm_change.specs.Hands.{Hand};
 
 use crate::step::{Stop, put_text};
 use crate::unreadable::{Held, hold, stop_of_check, tell_each_bad};

@@ -1,21 +1,8 @@
 //! What verifying says of all packages.
 
 ghost use Rattle.std.specs.Prelude.{◌≡◌, ◌≢◌, ◌+◌, ◌*◌, ◌≤◌, ℕ, [], ◌∷◌, map, true, false, IsTrue, Some, Err};
-ghost use Rattle.std.specs.FinMap.{entries};
-ghost use Rattle.rpm_outside.specs.Buffered.{inner, holds};
-ghost use Rattle.rpm_outside.specs.Sinks.{Writes};
-ghost use Rattle.rpm_outside.specs.declared.disk.File.TheVariants.{Pkg};
+ghost use Rattle.rpm_tool.specs.Prelude.{bearer, cost, cost_all, DiskFault, entries, entry_verdict, Everything, Hand, holds, inner, is_foreign, Kept, Looks, OutTakes, packages_in, PartIs, Pkg, pkg_read, reached_by, together, unsound, verdict, verdict_line, verdict_part, verify, Went, Writes};
 ghost use Rattle.rpm_db.specs.Database as database;
-ghost use Rattle.rpm_db.specs.Database.{cost, cost_all};
-ghost use Rattle.rpm_db.specs.Verdicts.{verdict};
-ghost use Rattle.rpm_select.specs.Reach.{Everything};
-ghost use Rattle.rpm_change.specs.Steps.{bearer};
-ghost use Rattle.rpm_tool.specs.Steps.{together};
-ghost use Rattle.rpm_tool.specs.Reports.{verdict_line, unsound, verdict_part, entry_verdict, verify};
-ghost use Rattle.rpm_tool.specs.Reads.{reached_by};
-ghost use Rattle.rpm_tool.specs.Answers.{PartIs, Went, is_foreign};
-ghost use Rattle.rpm_tool.specs.Frame.{Looks, DiskFault, Kept, packages_in, pkg_read, OutTakes};
-ghost use Rattle.rpm_change.specs.Hands.{Hand};
 
 use crate::answer::Why;
 use crate::pieces::put_line;

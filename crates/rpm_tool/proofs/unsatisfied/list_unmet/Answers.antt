@@ -9,20 +9,20 @@ use Rattle.rpm_tool.proofs.unsatisfied.list_unmet.Goals as goal
 
 pub returns-in-Ok-clause-looks : goal.returns-in-Ok-clause-looks
 returns-in-Ok-clause-looks g c = peeks_glances g.D.Disk.tells g.D.Disk.files g.D.Disk.left_since g.D.Disk.moment g.D.Disk.bytes_read g.D.Disk.follows
-    c.args.disk.now c.unmet.new.disk c.in-Ok.ensures.looks
+    c.args.disk.now c.unmet.new.disk c.in-Ok.ensures.asks.looks
 
 pub returns-in-Err-clause-looks : goal.returns-in-Err-clause-looks
 returns-in-Err-clause-looks g c = peeks_glances g.D.Disk.tells g.D.Disk.files g.D.Disk.left_since g.D.Disk.moment g.D.Disk.bytes_read g.D.Disk.follows
-    c.args.disk.now c.unmet.new.disk c.in-Err.ensures.looks
+    c.args.disk.now c.unmet.new.disk c.in-Err.ensures.asks.looks
 
 pub returns-in-Err-clause-broken : goal.returns-in-Err-clause-broken
 returns-in-Err-clause-broken g c = λ told.
     let idx = (g.D.Disk.files c.args.disk.now).idx in
-    subst (λ (s : Stop). StopsOfSome idx s) (sym c.stop_of_check.ensures) (broken_stops idx c.in-Err.fault (c.in-Err.ensures.broken told))
+    subst (λ (s : Stop). StopsOfSome idx s) (sym c.stop_of_check.ensures) (broken_stops idx c.in-Err.fault (c.in-Err.ensures.asks.broken told))
 
 pub returns-in-Err-clause-lawful : goal.returns-in-Err-clause-lawful
 returns-in-Err-clause-lawful g c = λ told rows.
-    subst (λ (s : Stop). is_of_sink s ≡ false) (sym c.stop_of_check.ensures) (lawful_stops c.in-Err.fault (c.in-Err.ensures.lawful told rows))
+    subst (λ (s : Stop). is_of_sink s ≡ false) (sym c.stop_of_check.ensures) (lawful_stops c.in-Err.fault (c.in-Err.ensures.asks.lawful told rows))
 
 pub returns-in-Err-clause-no_out : goal.returns-in-Err-clause-no_out
 returns-in-Err-clause-no_out g c = λ is.
@@ -36,8 +36,8 @@ returns-in-Err-clause-no_err g c = λ is.
 
 pub returns-in-Err-clause-disk : goal.returns-in-Err-clause-disk
 returns-in-Err-clause-disk g c = record {
-  later = c.in-Err.ensures.cause.later;
+  later = c.in-Err.ensures.asks.cause.later;
   rose = λ is.
       let same : c.stop_of_check.result ≡ stop.ReadFault = cc in
-      c.in-Err.ensures.cause.rose (ap Err (checks_read c.in-Err.fault (sym c.stop_of_check.ensures ∙ same)));
+      c.in-Err.ensures.asks.cause.rose (ap Err (checks_read c.in-Err.fault (sym c.stop_of_check.ensures ∙ same)));
 }
