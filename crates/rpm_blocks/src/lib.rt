@@ -94,8 +94,8 @@ impl Used {
 
     /// The same ranges, with room for so many more.
     ///
-    /// `Err` where memory is refused. Takes 16 bytes for each range, 8 for each run and 24 for each further range, and copies ranges and
-    /// runs: no search is made.
+    /// `Err` where memory is refused. Takes 16 bytes for each range, 8 for each run and 24 for each further range,
+    /// and copies ranges and runs: no search is made.
     pub fn copy_with_room(&self, alloc: Global, more: u32) -> Result<Used, AllocError>
         ensures { IfOk result (λ used. used ≡ record { ranges = self.now.ranges; spare = more }) }
     {

@@ -18,7 +18,8 @@ pub enum FileFault {
     /// The magic of a header doesn't stand where one begins.
     #[error("bad header magic")]
     BadMagic,
-    /// The first fault of the signature header. It is named where it is found, since a fault by itself is one of the main header.
+    /// The first fault of the signature header. It is named where it is found, since a fault by itself is one of the
+    /// main header.
     #[error("signature header: {0}")]
     Signature(HeaderFault),
     /// The first fault of the main header.

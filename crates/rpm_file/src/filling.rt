@@ -9,7 +9,8 @@ use crate::fault::ListFault;
 use rpm_outside::{Failed, Shelf};
 use std::alloc::AllocError;
 
-/// Reads until a buffer is full or the open item at its end, and says how many bytes came. Takes one more read to see the end.
+/// Reads until a buffer is full or the open item at its end, and says how many bytes came. Takes one more read to see
+/// the end.
 ///
 /// # Errors
 ///
@@ -61,7 +62,8 @@ pub fn begin(room: &mut Vec<u8>, front: &[u8]) -> Result<(), AllocError>
     Ok(())
 }
 
-/// Reads up to so many bytes into a vector, after its first `from`, and says how many came: fewer only at the end of the open item.
+/// Reads up to so many bytes into a vector, after its first `from`, and says how many came: fewer only at the end of
+/// the open item.
 fn fill_some<S: Shelf>(
     shelf: &mut S,
     room: &mut Vec<u8>,
@@ -72,7 +74,8 @@ fn fill_some<S: Shelf>(
     requires few { from + more ≤ 68157440 }
     ensures within { IfOk result (λ count. count ≤ more) }
     ensures long { OnOk result (from + more ≤ vec_len room.new) }
-    ensures extends { IfOk result (λ count. IsTrue S.tells → Extends (S.rest shelf.old) (S.rest shelf.new) (take from room.old.items)
+    ensures extends { IfOk result (λ count. IsTrue S.tells
+        → Extends (S.rest shelf.old) (S.rest shelf.new) (take from room.old.items)
         (take (from + count) room.new.items)) }
     ensures ended { IfOk result (λ count. IsTrue S.tells → count < more → left (S.rest shelf.new) ≡ []) }
     ensures only { IfErr result IsOutside }
@@ -100,8 +103,9 @@ fn next_piece(done: usize, size: usize) -> usize
     (size - done).min(done.max(FIRST))
 }
 
-/// Reads into a vector, after its first `from` bytes, until there are so many or the open item is at its end. Says how many there
-/// are then. Where the vector is too short it grows as the bytes come: by 4,096 bytes, or by as many as came so far.
+/// Reads into a vector, after its first `from` bytes, until there are so many or the open item is at its end. Says
+/// how many there are then. Where the vector is too short it grows as the bytes come: by 4,096 bytes, or by as many
+/// as came so far.
 ///
 /// # Errors
 ///
@@ -117,8 +121,8 @@ pub fn fill_upto<S: Shelf>(
     requires most { size ≤ 68157440 }
     ensures within { IfOk result (λ done. done ≤ size) }
     ensures long { IfOk result (λ done. done ≤ vec_len room.new) }
-    ensures appends { IfOk result (λ done. IsTrue S.tells → Appends (S.rest shelf.old) (S.rest shelf.new) (take from room.old.items) size
-        (take done room.new.items)) }
+    ensures appends { IfOk result (λ done. IsTrue S.tells
+        → Appends (S.rest shelf.old) (S.rest shelf.new) (take from room.old.items) size (take done room.new.items)) }
     ensures only { IfErr result IsOutside }
     ensures browses { Browses S.tells S.paths S.rest S.absences S.faults shelf.old shelf.new }
     ensures cause { HasCauseAt (result ≡ Err ListFault.ReadFault) (S.faults shelf.old) (S.faults shelf.new) }

@@ -47,7 +47,8 @@ fn size_in(intro: &[u8]) -> Result<usize, ListFault>
     Ok(8 + 16 * entries as usize + data as usize)
 }
 
-/// Takes the 16 bytes with which a header of a list begins, its magic in front. Says whether they came: they don't at the list's end.
+/// Takes the 16 bytes with which a header of a list begins, its magic in front. Says whether they came: they don't at
+/// the list's end.
 fn take_intro<S: Shelf>(shelf: &mut S, intro: &mut [u8]) -> Result<bool, ListFault>
     requires { length intro.old ≡ 16 }
     ensures answers { IsTrue S.tells → AnswersIntro (S.rest shelf.old) (S.rest shelf.new) intro.new result }
@@ -67,7 +68,8 @@ fn take_intro<S: Shelf>(shelf: &mut S, intro: &mut [u8]) -> Result<bool, ListFau
     Ok(true)
 }
 
-/// Reads the rest of a header that begins with these 16 bytes, its magic in front. Says how long it is without the magic: never None.
+/// Reads the rest of a header that begins with these 16 bytes, its magic in front. Says how long it is without the
+/// magic: never None.
 fn read_behind<S: Shelf>(
     shelf: &mut S,
     room: &mut Vec<u8>,
@@ -75,7 +77,8 @@ fn read_behind<S: Shelf>(
 ) -> Result<Option<usize>, ListFault>
     requires { length intro.now ≡ 16 }
     ensures within { IfOk result (λ found. IfSome found (λ size. size ≤ vec_len room.new)) }
-    ensures answers { IsTrue S.tells → AnswersBehind intro.now (S.rest shelf.old) (S.rest shelf.new) room.new.items result }
+    ensures answers { IsTrue S.tells → AnswersBehind intro.now (S.rest shelf.old) (S.rest shelf.new) room.new.items
+        result }
     ensures browses { Browses S.tells S.paths S.rest S.absences S.faults shelf.old shelf.new }
     ensures cause { HasCauseAt (result ≡ Err ListFault.ReadFault) (S.faults shelf.old) (S.faults shelf.new) }
 {
@@ -90,22 +93,22 @@ fn read_behind<S: Shelf>(
     Ok(Some(size))
 }
 
-/// Reads the next header of the list that is open into the front of a vector, without its magic and unparsed, and says how long it is:
-/// of its bytes the magic and the two lengths in front were looked at. None exactly where the open item is at its end, or none is open.
-/// No byte after the header is read.
+/// Reads the next header of the list that is open into the front of a vector, without its magic and unparsed, and
+/// says how long it is: of its bytes the magic and the two lengths in front were looked at. None exactly where the
+/// open item is at its end, or none is open. No byte after the header is read.
 ///
-/// The vector is made longer where it is too short, and never shorter: so one vector serves for all headers of a list, and is as long as
-/// the longest of them. What stands in it after the header, and after a fault, is of no use.
+/// The vector is made longer where it is too short, and never shorter: so one vector serves for all headers of a
+/// list, and is as long as the longest of them. What stands in it after the header, and after a fault, is of no use.
 ///
-/// The body is read straight into the vector, in as few reads as the shelf gives it, and memory is taken as
-/// bytes come: at first 4,096 bytes, then as many as came so far. So a short list never costs more than these or twice what it gave,
-/// whatever length it claims.
+/// The body is read straight into the vector, in as few reads as the shelf gives it, and memory is taken as bytes
+/// come: at first 4,096 bytes, then as many as came so far. So a short list never costs more than these or twice what
+/// it gave, whatever length it claims.
 ///
 /// # Errors
 ///
 /// The first of these, in this order: `Short` where the list ends within the header's first 16 bytes; `BadMagic`;
-/// `TooManyEntries` and `TooMuchData` by its two lengths; `Short` where its body is cut. A fault says
-/// nothing of what follows it, so the list isn't to be read on. `ReadFault` only where a read failed, and `NoMemory` where no memory
+/// `TooManyEntries` and `TooMuchData` by its two lengths; `Short` where its body is cut. A fault says nothing of what
+/// follows it, so the list isn't to be read on. `ReadFault` only where a read failed, and `NoMemory` where no memory
 /// was found.
 pub fn read_header<S: Shelf>(shelf: &mut S, room: &mut Vec<u8>) -> Result<Option<usize>, ListFault>
     ensures within { IfOk result (λ found. IfSome found (λ size. size ≤ vec_len room.new)) }
@@ -122,7 +125,8 @@ pub fn read_header<S: Shelf>(shelf: &mut S, room: &mut Vec<u8>) -> Result<Option
     }
 }
 
-/// Reads the next header of the list that is open, as `read_header` does, into a vector of its own, which has exactly the header's bytes.
+/// Reads the next header of the list that is open, as `read_header` does, into a vector of its own, which has exactly
+/// the header's bytes.
 ///
 /// # Errors
 ///

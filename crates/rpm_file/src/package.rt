@@ -93,7 +93,8 @@ fn skip_lead<S: Shelf>(shelf: &mut S) -> Result<(), FileFault>
 /// Skips what fills a header of this length up to a multiple of 8.
 fn skip_padding<S: Shelf>(shelf: &mut S, blob: &[u8]) -> Result<(), FileFault>
     requires { length blob.now ≤ max_blob }
-    ensures answers { IsTrue S.tells → AnswersSkip (behind_padding blob.now) (S.rest shelf.old) (S.rest shelf.new) result }
+    ensures answers { IsTrue S.tells → AnswersSkip (behind_padding blob.now) (S.rest shelf.old) (S.rest shelf.new)
+        result }
     ensures browses { Browses S.tells S.paths S.rest S.absences S.faults shelf.old shelf.new }
     ensures cause { HasCauseAt (result ≡ Err FileFault.ReadFault) (S.faults shelf.old) (S.faults shelf.new) }
 {
@@ -143,7 +144,8 @@ fn read_main<S: Shelf>(
     shelf: &mut S,
     signature: &View<'_>,
 ) -> Result<Package, FileFault>
-    ensures answers { IsTrue S.tells → AnswersBy (behind_signature signature.now) (S.rest shelf.old) (S.rest shelf.new) result }
+    ensures answers { IsTrue S.tells → AnswersBy (behind_signature signature.now) (S.rest shelf.old) (S.rest shelf.new)
+        result }
     ensures browses { Browses S.tells S.paths S.rest S.absences S.faults shelf.old shelf.new }
     ensures cause { HasCauseAt (result ≡ Err FileFault.ReadFault) (S.faults shelf.old) (S.faults shelf.new) }
 {
@@ -162,16 +164,17 @@ fn joined(alloc: Global, signature: &View<'_>, main: &View<'_>) -> Result<Packag
 
 /// Reads the package file that is open, up to the end of its main header, and no byte after it.
 ///
-/// Each header's body is read straight into a vector of its own, as `next_header` does it, and both are checked once. What is handed up
-/// is a third vector. Takes time in proportion to the two headers, and to the texts that `View::parse` reads.
+/// Each header's body is read straight into a vector of its own, as `next_header` does it, and both are checked once.
+/// What is handed up is a third vector. Takes time in proportion to the two headers, and to the texts that
+/// `View::parse` reads.
 ///
 /// # Errors
 ///
 /// The first of these, in this order: `Short` where the file ends within its lead; `NotAPackage`; for the signature
-/// header `Short` where it ends within its first 16 bytes, `BadMagic`, `Signature` with the limit that its two lengths pass, `Short` where its
-/// body is cut, `Signature` with its first fault; `Short` where the padding is cut; the same for the main
-/// header, with `Main`; `TooLarge` exactly where the header with the entries that join it passes a limit. `ReadFault`
-/// only where a read failed, and `NoMemory` where no memory was found.
+/// header `Short` where it ends within its first 16 bytes, `BadMagic`, `Signature` with the limit that its two
+/// lengths pass, `Short` where its body is cut, `Signature` with its first fault; `Short` where the padding is cut;
+/// the same for the main header, with `Main`; `TooLarge` exactly where the header with the entries that join it
+/// passes a limit. `ReadFault` only where a read failed, and `NoMemory` where no memory was found.
 pub fn read_package<S: Shelf>(alloc: Global, shelf: &mut S) -> Result<Package, FileFault>
     ensures answers { IsTrue S.tells → AnswersBy package_header (S.rest shelf.old) (S.rest shelf.new) result }
     ensures browses { Browses S.tells S.paths S.rest S.absences S.faults shelf.old shelf.new }

@@ -1,4 +1,5 @@
-//! The order of the classes: each after those that its edges end in, and of those that may come next the one with the least number.
+//! The order of the classes: each after those that its edges end in, and of those that may come next the one with the
+//! least number.
 
 ghost use Rattle.std.specs.Prelude.{◌≡◌, ℕ, ◌<◌, ◌≤◌, IfOk, length, slice_index_or, []};
 ghost use Rattle.rpm_graph.specs.Orders.{IsOrder, IsOnlyOrder, StandOnce, EdgesGoBack};
@@ -46,11 +47,12 @@ impl ClassList {
     }
 }
 
-/// The order in which the classes of a graph are listed: each one after those that its edges end in, and of those that may come next the one
-/// with the least number.
+/// The order in which the classes of a graph are listed: each one after those that its edges end in, and of those
+/// that may come next the one with the least number.
 ///
-/// Gabow's search for the classes, and then Kahn's algorithm with an ordered set of those that are ready. Takes time and memory by the number
-/// of numbers and edges, with a logarithm for that set and for finding the numbers that edges join. `Err` where memory is refused.
+/// Gabow's search for the classes, and then Kahn's algorithm with an ordered set of those that are ready. Takes time
+/// and memory by the number of numbers and edges, with a logarithm for that set and for finding the numbers that
+/// edges join. `Err` where memory is refused.
 pub fn order(alloc: Global, graph: &Graph) -> Result<ClassList, AllocError>
     ensures order { IfOk result (IsOrder graph.now) }
     ensures only { IfOk result (IsOnlyOrder graph.now) }

@@ -1,4 +1,5 @@
-//! The classes of a graph of numbers, and the order in which they are listed: each class after those that its edges end in.
+//! The classes of a graph of numbers, and the order in which they are listed: each class after those that its edges
+//! end in.
 #![tactic(auto)]
 
 mod class_list;

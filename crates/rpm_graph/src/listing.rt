@@ -114,8 +114,8 @@ fn begin(alloc: Global, ends: &[Vec<usize>], leasts: &[u32]) -> Result<Listing, 
 
 // The classes, in order.
 //
-// Kahn's algorithm with an ordered set of the classes that are ready. A class waits for one of its ends at a time, so that each end is looked at
-// once, and once more for each time that the class waits.
+// Kahn's algorithm with an ordered set of the classes that are ready. A class waits for one of its ends at a time, so
+// that each end is looked at once, and once more for each time that the class waits.
 pub fn list_classes(
     alloc: Global,
     ends: &[Vec<usize>],

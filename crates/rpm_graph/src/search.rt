@@ -50,7 +50,8 @@ impl Search {
     // Takes the last level off the path, as a class.
     pub fn close(&mut self, root: usize)
         requires rooted { root < length self.old.path.items }
-        requires within { (i : ℕ) → i < length self.old.path.items → slice_index self.old.path.items i < length self.old.ranks.items }
+        requires within { (i : ℕ) → i < length self.old.path.items
+            → slice_index self.old.path.items i < length self.old.ranks.items }
         requires room { length self.old.ranks.items + self.old.closed + 1 < 2 ^ 64 }
         ensures { IsClosed root self.old self.new }
     {
@@ -114,8 +115,10 @@ impl Search {
 // Takes off the last edge that waits, where it begins on the last level.
 fn take_waiting(pending: &mut Vec<Link>, ranks: &[usize], root: usize) -> Option<Link>
     requires { (i : ℕ) → i < length pending.old.items → (link_at pending.old.items i).from < length ranks.now }
-    ensures none { IfNone result (NoneWaits ranks.now pending.old.items root × (pending.new.items ≡ pending.old.items)) }
-    ensures some { IfSome result (λ l. (pending.old.items ≡ pending.new.items ++ l ∷ []) × (root < slice_index ranks.now l.from)) }
+    ensures none { IfNone result (NoneWaits ranks.now pending.old.items root
+        × (pending.new.items ≡ pending.old.items)) }
+    ensures some { IfSome result (λ l. (pending.old.items ≡ pending.new.items ++ l ∷ [])
+        × (root < slice_index ranks.now l.from)) }
 {
     let waiting = pending.len();
     if waiting == 0 {
@@ -184,8 +187,8 @@ pub struct Split {
 
 /// The classes of the places that lead to each other, numbered so that no edge goes to a higher one.
 ///
-/// Gabow's search along a path, with a stack for the path, one for its levels and one for the edges that wait: each place and each edge is
-/// looked at once, and nothing calls itself. `Err` where memory is refused.
+/// Gabow's search along a path, with a stack for the path, one for its levels and one for the edges that wait: each
+/// place and each edge is looked at once, and nothing calls itself. `Err` where memory is refused.
 pub fn find_classes(alloc: Global, rows: &[Vec<usize>]) -> Result<Split, AllocError>
     requires within { AreWithin (rows_of rows.now) }
     requires small { length rows.now < 2 ^ 59 }

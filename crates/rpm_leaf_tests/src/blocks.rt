@@ -9,7 +9,8 @@ use std::alloc::{AllocError, Global};
 /// The least place from a block on, which is used from then on.
 fn take(used: &mut Used, count: u32, from: u32) -> Result<Option<u32>, AllocError>
     requires { 1 ≤ count }
-    ensures { IfOk result (λ taken. IfSome taken (λ place. SomeIndex used.new.ranges (λ i. (range_at used.new.ranges i).start ≡ place))) }
+    ensures { IfOk result (λ taken. IfSome taken
+        (λ place. SomeIndex used.new.ranges (λ i. (range_at used.new.ranges i).start ≡ place))) }
 {
     used.reserve(1)?;
     let Some(place) = used.first_fit(count, from) else {

@@ -185,7 +185,8 @@ fn push_empty(builder: &mut Builder, count: u32) -> Result<(), AllocError> {
     Ok(())
 }
 
-/// Whether a header of these entries may have two numbers after them, has so many bytes then, and may not have three entries after them.
+/// Whether a header of these entries may have two numbers after them, has so many bytes then, and may not have three
+/// entries after them.
 fn is_full(
     alloc: Global,
     builder: &Builder,
@@ -197,8 +198,8 @@ fn is_full(
     Ok(has_length(dribbled(alloc, &blob, TIMES), length) && more == Some(fault))
 }
 
-/// Whether as many entries as a header may have are laid out, and one more is refused: after a header, as a region and where the data are
-/// too much besides.
+/// Whether as many entries as a header may have are laid out, and one more is refused: after a header, as a region
+/// and where the data are too much besides.
 fn entries_end(alloc: Global) -> Result<bool, AllocError> {
     let mut many = Builder::new(alloc);
     push_empty(&mut many, 65_533)?;
@@ -213,7 +214,8 @@ fn entries_end(alloc: Global) -> Result<bool, AllocError> {
     Ok(few && most && region && both)
 }
 
-/// Whether as many bytes of data as a header may have are laid out, and one more is refused: after a header and as a region.
+/// Whether as many bytes of data as a header may have are laid out, and one more is refused: after a header and as a
+/// region.
 fn bytes_end(alloc: Global) -> Result<bool, AllocError> {
     let mut much = Builder::new(alloc);
     much.push_bin(1000, &Vec::from_elem(alloc, 0, 67_108_856)?)?;

@@ -4,8 +4,8 @@ use crate::words::line;
 use rpm_words::{Ask, Chosen, Mode, Span, read};
 use std::alloc::{AllocError, Global};
 
-// Lines with their mode, their selection, whether files are listed, the word and the byte at which a format begins, and the words that
-// are arguments.
+// Lines with their mode, their selection, whether files are listed, the word and the byte at which a format begins,
+// and the words that are arguments.
 const COMMANDS: &[(&str, Mode, Chosen, bool, Option<(u32, u32)>, &[u32])] = &[
     ("rpm|-qa", Mode::Query, Chosen::All, false, None, &[]),
     (

@@ -118,7 +118,8 @@ fn first_other(alloc: Global, view: &View<'_>) -> Result<Option<u32>, AllocError
     Ok(None)
 }
 
-/// The first place of the table at which the header of all forms has another entry, or the number of entries that it ought to have.
+/// The first place of the table at which the header of all forms has another entry, or the number of entries that it
+/// ought to have.
 fn differing(alloc: Global) -> Result<Option<u32>, AllocError> {
     let blob = bytes_of(alloc, FORMS)?;
     match View::parse(&blob) {

@@ -3,7 +3,8 @@
 use rpm_outside::{MemShelf, Shelf};
 use std::alloc::{AllocError, Global};
 
-// A header of four texts: NAME `a`, VERSION `1`, RELEASE `2` and ARCH `x`. Its layout was worked out by hand, as that of the next two.
+// A header of four texts: NAME `a`, VERSION `1`, RELEASE `2` and ARCH `x`. Its layout was worked out by hand, as that
+// of the next two.
 pub const PLAIN: &str = "00000004 00000008
     000003e8 00000006 00000000 00000001
     000003e9 00000006 00000002 00000001
@@ -41,8 +42,9 @@ pub const REGION_INSTALLED: &str = "00000007 00000020
     00000468 00000004 0000001c 00000001
     61003100 32007800 0000003f 00000007 ffffffb0 00000010 00000005 00000005";
 
-// A package of two files, with what it provides and requires, and a group in one language. The layouts of this one and the next two
-// were made by a program of a few lines in Python, which packs an entry's numbers after filling up with zeros.
+// A package of two files, with what it provides and requires, and a group in one language. The layouts of this one
+// and the next two were made by a program of a few lines in Python, which packs an entry's numbers after filling up
+// with zeros.
 pub const SHELL: &str = "0000000f 00000072
     000003e8 00000006 00000000 00000001
     000003e9 00000006 00000005 00000001

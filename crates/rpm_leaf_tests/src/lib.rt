@@ -1,7 +1,8 @@
-//! The tests of the crates that stand on no file: headers, tags, package files, versions, blocks, command lines, formats and graphs.
+//! The tests of the crates that stand on no file: headers, tags, package files, versions, blocks, command lines,
+//! formats and graphs.
 //!
-//! There is nothing else here. Each of the crates below promises what it does in its contracts; a test shows by values from outside
-//! that the promise is the one that was meant, and that a call answers where memory is ample.
+//! There is nothing else here. Each of the crates below promises what it does in its contracts; a test shows by
+//! values from outside that the promise is the one that was meant, and that a call answers where memory is ample.
 #![tactic(auto)]
 
 #[cfg(test)]

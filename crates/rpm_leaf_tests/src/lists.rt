@@ -124,7 +124,8 @@ fn unlike_list(alloc: Global) -> Option<(usize, (usize, u8))> {
     None
 }
 
-/// The first of so many reads whose failure isn't told, where a read takes so many bytes at most; the last one sees the list's end.
+/// The first of so many reads whose failure isn't told, where a read takes so many bytes at most; the last one sees
+/// the list's end.
 fn untold_read(alloc: Global, most: u32, reads: u64) -> Option<u64> {
     for read in 0..reads {
         if fault_at(alloc, most, read + 1) != Ok(Some(ListFault::ReadFault)) {

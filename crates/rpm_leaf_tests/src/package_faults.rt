@@ -97,7 +97,8 @@ fn is_wrong(alloc: Global, changes: &[(usize, u8)], fault: FileFault) -> Result<
     is_refused(alloc, &wrong, fault)
 }
 
-// The two lengths of main headers, and how long the file is: as many entries as a header may have, and as many bytes of data.
+// The two lengths of main headers, and how long the file is: as many entries as a header may have, and as many bytes
+// of data.
 const FULL: &[(&str, usize)] = &[
     ("0000ffff 00000000", 152 + 16 * 65_535),
     ("00000000 04000000", 152 + 67_108_864),

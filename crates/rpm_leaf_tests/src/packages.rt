@@ -79,8 +79,8 @@ fn is_joined(alloc: Global, tag: u16, last: u16, joins: Option<u16>) -> Result<b
     is_read(alloc, &file, &want)
 }
 
-// The magic and a signature header of entries of each form, and the magic after it. Neither the tag 1001 joins nor an entry of type 0,
-// and two entries that become one tag both join.
+// The magic and a signature header of entries of each form, and the magic after it. Neither the tag 1001 joins nor an
+// entry of type 0, and two entries that become one tag both join.
 const MANY: &str = "8eade801 00000000 0000000b 00000028
     0000010e 00000005 00000000 00000001
     0000010d 00000006 00000008 00000001

@@ -139,7 +139,8 @@ impl<'v, 'a> Column<'v, 'a> {
     /// Puts the value by the role of a tag, in a round.
     pub fn put<O: Sink>(&mut self, sink: &mut O, part: &TagPart, round: u32) -> Result<(), Failed>
         ensures puts { Writes O.tells O.taken O.faults O.follows sink.old sink.new
-            (padded part.now.left part.now.width (text_or_none part.now.role part.now.show round self.old.value)) result }
+            (padded part.now.left part.now.width (text_or_none part.now.role part.now.show round self.old.value))
+            result }
         ensures same { self.new ≡ self.old }
     {
         let place = match part.role {

@@ -23,7 +23,8 @@ use rpm_tags::{Class, Joined, TagValue, value};
 
 /// Puts bytes in the width of a tag.
 pub fn put_plain<O: Sink>(sink: &mut O, part: &TagPart, text: &[u8]) -> Result<(), Failed>
-    ensures { Writes O.tells O.taken O.faults O.follows sink.old sink.new (padded part.now.left part.now.width text.now) result }
+    ensures { Writes O.tells O.taken O.faults O.follows sink.old sink.new
+        (padded part.now.left part.now.width text.now) result }
 {
     if part.width == 0 {
         return put_all(sink, text);
@@ -32,14 +33,16 @@ pub fn put_plain<O: Sink>(sink: &mut O, part: &TagPart, text: &[u8]) -> Result<(
 }
 
 fn put_decimal<O: Sink>(sink: &mut O, part: &TagPart, number: u64) -> Result<(), Failed>
-    ensures { Writes O.tells O.taken O.faults O.follows sink.old sink.new (padded part.now.left part.now.width (decimal number)) result }
+    ensures { Writes O.tells O.taken O.faults O.follows sink.old sink.new
+        (padded part.now.left part.now.width (decimal number)) result }
 {
     let mut digits = Decimal::new();
     put_plain(sink, part, digits.format(number).as_bytes())
 }
 
 fn put_day<O: Sink>(sink: &mut O, part: &TagPart, number: u64) -> Result<(), Failed>
-    ensures { Writes O.tells O.taken O.faults O.follows sink.old sink.new (padded part.now.left part.now.width (dates.day number)) result }
+    ensures { Writes O.tells O.taken O.faults O.follows sink.old sink.new
+        (padded part.now.left part.now.width (dates.day number)) result }
 {
     match u32::try_from(number) {
         Ok(second) => put_plain(sink, part, &day(second)),
@@ -48,7 +51,8 @@ fn put_day<O: Sink>(sink: &mut O, part: &TagPart, number: u64) -> Result<(), Fai
 }
 
 fn put_date<O: Sink>(sink: &mut O, part: &TagPart, number: u64) -> Result<(), Failed>
-    ensures { Writes O.tells O.taken O.faults O.follows sink.old sink.new (padded part.now.left part.now.width (dates.date number)) result }
+    ensures { Writes O.tells O.taken O.faults O.follows sink.old sink.new
+        (padded part.now.left part.now.width (dates.date number)) result }
 {
     match u32::try_from(number) {
         Ok(second) => put_plain(sink, part, &date(second)),
@@ -121,7 +125,8 @@ pub fn put_stored_text<O: Sink>(
 
 /// Puts a blob, which is the only element of its value.
 pub fn put_blob<O: Sink>(sink: &mut O, part: &TagPart, bytes: &[u8]) -> Result<(), Failed>
-    ensures { Writes O.tells O.taken O.faults O.follows sink.old sink.new (padded part.now.left part.now.width (blob_text part.now.show bytes.now)) result }
+    ensures { Writes O.tells O.taken O.faults O.follows sink.old sink.new
+        (padded part.now.left part.now.width (blob_text part.now.show bytes.now)) result }
 {
     match part.show {
         Show::Plain => put_padded(sink, part.left, part.width, &Shown::Hex(bytes)),
@@ -134,7 +139,8 @@ pub fn put_blob<O: Sink>(sink: &mut O, part: &TagPart, bytes: &[u8]) -> Result<(
 
 /// Puts what stands for an element that isn't there.
 pub fn put_none<O: Sink>(sink: &mut O, part: &TagPart) -> Result<(), Failed>
-    ensures { Writes O.tells O.taken O.faults O.follows sink.old sink.new (padded part.now.left part.now.width (or_none None)) result }
+    ensures { Writes O.tells O.taken O.faults O.follows sink.old sink.new
+        (padded part.now.left part.now.width (or_none None)) result }
 {
     put_plain(sink, part, b"(none)")
 }
@@ -168,8 +174,8 @@ pub fn put_value<O: Sink>(
     value: &TagValue<'_>,
     round: u32,
 ) -> Result<(), Failed>
-    ensures { Writes O.tells O.taken O.faults O.follows sink.old sink.new (padded part.now.left part.now.width (value_text part.now.role part.now.show
-        round value.now)) result }
+    ensures { Writes O.tells O.taken O.faults O.follows sink.old sink.new
+        (padded part.now.left part.now.width (value_text part.now.role part.now.show round value.now)) result }
 {
     match part.role {
         Role::Element => put_element(sink, part, value, round),
@@ -189,7 +195,8 @@ pub fn put_looked_up<O: Sink>(
     number: u32,
     round: u32,
 ) -> Result<(), Failed>
-    ensures { Writes O.tells O.taken O.faults O.follows sink.old sink.new (tag_text view.now number round part.now) result }
+    ensures { Writes O.tells O.taken O.faults O.follows sink.old sink.new (tag_text view.now number round part.now)
+        result }
 {
     match value(view, number, part.tag) {
         None => put_none(sink, part),

@@ -28,7 +28,8 @@ fn put_inner_part<O: Sink>(
 ) -> Result<(), Failed>
     requires told { AreValues view.now number columns.old }
     requires proper { PartIsProper true part.now }
-    ensures puts { Writes O.tells O.taken O.faults O.follows sink.old sink.new (part_bytes view.now number round part.now) result }
+    ensures puts { Writes O.tells O.taken O.faults O.follows sink.old sink.new
+        (part_bytes view.now number round part.now) result }
     ensures same { columns.new ≡ columns.old }
 {
     match part {
@@ -59,7 +60,8 @@ fn put_inner_parts<O: Sink>(
 ) -> Result<(), Failed>
     requires told { AreValues view.now number columns.old }
     requires proper { AreProper true parts.now }
-    ensures puts { Writes O.tells O.taken O.faults O.follows sink.old sink.new (bytes view.now number round parts.now) result }
+    ensures puts { Writes O.tells O.taken O.faults O.follows sink.old sink.new (bytes view.now number round parts.now)
+        result }
     ensures same { columns.new ≡ columns.old }
 {
     for i in 0..parts.len() {
@@ -84,7 +86,8 @@ fn put_part_at<O: Sink>(
     requires told { AreValues view.now number columns.old }
     requires plain { IfSome (slice_get ready.old i) (StandsReady view.now number part.now) }
     requires proper { PartIsProper true part.now }
-    ensures puts { Writes O.tells O.taken O.faults O.follows sink.old sink.new (part_bytes view.now number round part.now) result }
+    ensures puts { Writes O.tells O.taken O.faults O.follows sink.old sink.new
+        (part_bytes view.now number round part.now) result }
     ensures columns { columns.new ≡ columns.old }
     ensures ready { ready.new ≡ ready.old }
 {
@@ -120,7 +123,8 @@ fn put_round<O: Sink>(
     requires told { AreValues view.now number columns.old }
     requires ready { StandReady view.now number inner.now ready.old }
     requires proper { AreProper true inner.now }
-    ensures puts { Writes O.tells O.taken O.faults O.follows sink.old sink.new (bytes view.now number round inner.now) result }
+    ensures puts { Writes O.tells O.taken O.faults O.follows sink.old sink.new (bytes view.now number round inner.now)
+        result }
     ensures columns { columns.new ≡ columns.old }
     ensures ready { ready.new ≡ ready.old }
 {
@@ -153,7 +157,8 @@ fn put_rounds<O: Sink>(
     requires told { AreValues view.now number columns.old }
     requires ready { StandReady view.now number inner.now ready.old }
     requires proper { AreProper true inner.now }
-    ensures { Writes O.tells O.taken O.faults O.follows sink.old sink.new (rounds (count ∷ []) (λ i. bytes view.now number i inner.now)) result }
+    ensures { Writes O.tells O.taken O.faults O.follows sink.old sink.new
+        (rounds (count ∷ []) (λ i. bytes view.now number i inner.now)) result }
 {
     let mut next = 0;
     for round in 0..count {

@@ -109,7 +109,8 @@ pub fn put_tag<O: Sink>(
     round: u32,
 ) -> Result<(), Failed>
     requires { AreValues view.now number columns.old }
-    ensures puts { Writes O.tells O.taken O.faults O.follows sink.old sink.new (tag_text view.now number round part.now) result }
+    ensures puts { Writes O.tells O.taken O.faults O.follows sink.old sink.new
+        (tag_text view.now number round part.now) result }
     ensures same { columns.new ≡ columns.old }
 {
     if let Some(k) = place_of(columns, next, Asked::by(part)) {

@@ -66,7 +66,8 @@ impl<'a> PlainTexts<'a> {
     #[cold]
     #[inline(never)]
     fn put_again<O: Sink>(&self, sink: &mut O, round: u32) -> Result<(), Failed>
-        ensures { Writes O.tells O.taken O.faults O.follows sink.old sink.new (or_none (slice_get self.now round)) result }
+        ensures { Writes O.tells O.taken O.faults O.follows sink.old sink.new (or_none (slice_get self.now round))
+            result }
     {
         if round >= self.count {
             return put_all(sink, b"(none)");
@@ -77,7 +78,8 @@ impl<'a> PlainTexts<'a> {
     /// Puts the text of a round. Each element of a bracket comes by here, so the call is no call.
     #[inline(always)]
     pub fn put<O: Sink>(&mut self, sink: &mut O, round: u32) -> Result<(), Failed>
-        ensures puts { Writes O.tells O.taken O.faults O.follows sink.old sink.new (or_none (slice_get self.old round)) result }
+        ensures puts { Writes O.tells O.taken O.faults O.follows sink.old sink.new (or_none (slice_get self.old round))
+            result }
         ensures same { self.new ≡ self.old }
     {
         if self.place != round {

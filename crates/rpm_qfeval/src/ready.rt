@@ -35,7 +35,8 @@ pub fn is_ready(ready: &[Ready<'_, '_>], i: usize) -> bool {
 
 /// Puts the number of a round. Where counts differ nothing is printed, so each round has its number.
 pub fn put_number_of<O: Sink>(sink: &mut O, numbers: &Numbers<'_>, round: u32) -> Result<(), Failed>
-    ensures { Writes O.tells O.taken O.faults O.follows sink.old sink.new (or_none (slice_get (map decimal numbers.now) round)) result }
+    ensures { Writes O.tells O.taken O.faults O.follows sink.old sink.new
+        (or_none (slice_get (map decimal numbers.now) round)) result }
 {
     if round >= numbers.count() {
         return put_all(sink, b"(none)");

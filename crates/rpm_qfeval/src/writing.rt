@@ -160,7 +160,8 @@ fn put_bracket<O: Sink>(
 #[cycle(writing)]
 fn put_part<O: Sink>(sink: &mut O, part: &Part, view: &View<'_>, number: u32) -> Result<(), Failed>
     requires { PartIsProper false part.now }
-    ensures { Writes O.tells O.taken O.faults O.follows sink.old sink.new (part_bytes view.now number 0 part.now) result }
+    ensures { Writes O.tells O.taken O.faults O.follows sink.old sink.new (part_bytes view.now number 0 part.now)
+        result }
 {
     match part {
         Part::Text(text) => put_all(sink, text.as_slice()),

@@ -40,8 +40,8 @@ fn is_folder<R: Files<File = fs::File>>(rt: &R, path: &str) -> bool {
     }
 }
 
-/// Makes a folder in one that is there, and its name last. One that is there may have been made by a process that was stopped before its
-/// name lasted, so the folder above it is synced as well, if that can be.
+/// Makes a folder in one that is there, and its name last. One that is there may have been made by a process that was
+/// stopped before its name lasted, so the folder above it is synced as well, if that can be.
 fn make_one<R: Files<File = fs::File>>(rt: &R, path: &str) -> Result<(), Failed> {
     let is_made = rt.create_dir(path).is_ok();
     if !is_made && !is_folder(rt, path) {
@@ -79,8 +79,8 @@ impl Folder {
         Ok(())
     }
 
-    /// Makes the names in a folder last: this one, or one that a symbolic link leads to. Who may not read it, and made no file, goes
-    /// without.
+    /// Makes the names in a folder last: this one, or one that a symbolic link leads to. Who may not read it, and
+    /// made no file, goes without.
     fn keep_names<R: Files<File = fs::File>>(&self, rt: &R, path: &str) -> Result<(), Failed> {
         match sync_names(rt, path) {
             Ok(()) => Ok(()),

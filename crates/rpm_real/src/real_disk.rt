@@ -24,8 +24,8 @@ pub struct RealDisk<'a, R: Files<File = fs::File>> {
 }
 
 impl<'a, R: Files<File = fs::File>> RealDisk<'a, R> {
-    /// The disk of a folder, of which no file is opened yet. It needs not be there: the first write makes it. Where its name is empty, each
-    /// call fails.
+    /// The disk of a folder, of which no file is opened yet. It needs not be there: the first write makes it. Where
+    /// its name is empty, each call fails.
     ///
     /// # Errors
     ///

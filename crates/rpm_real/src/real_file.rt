@@ -50,8 +50,8 @@ fn fill(file: &fs::File, offset: u64, into: &mut [u8]) -> Result<(), Failed> {
     }
 }
 
-/// Cuts off the bytes after the last whole unit. Nobody sees them; a write after them would show them in place of zeros. The cut lasts
-/// before anything is written, since a crash could keep the write and lose the cut.
+/// Cuts off the bytes after the last whole unit. Nobody sees them; a write after them would show them in place of
+/// zeros. The cut lasts before anything is written, since a crash could keep the write and lose the cut.
 fn cut_tail(file: &mut fs::File) -> Result<(), Failed> {
     let Ok(end) = file.seek(SeekFrom::End(0)) else {
         return Err(Failed);
@@ -84,7 +84,8 @@ impl RealFile {
         })
     }
 
-    /// Looks for the file, which isn't open, and opens it for reading, if it is there. One that isn't there is looked for once.
+    /// Looks for the file, which isn't open, and opens it for reading, if it is there. One that isn't there is looked
+    /// for once.
     #[cold]
     #[inline(never)]
     fn look<R: Files<File = fs::File>>(&mut self, rt: &R) -> Result<(), Failed>
@@ -155,7 +156,8 @@ impl RealFile {
         self.open_to_read(rt)?;
         match &mut self.file {
             None => Ok(0),
-            // Where the end is costs less to ask than all that is known of the file. Each read and write says its own place.
+            // Where the end is costs less to ask than all that is known of the file. Each read and write says its own
+            // place.
             Some(file) => match file.seek(SeekFrom::End(0)) {
                 Ok(end) => {
                     self.units = Some(end / 16);
@@ -220,7 +222,8 @@ impl RealFile {
         self.put(unit, bytes)
     }
 
-    /// Makes what was written last, and the name of the file: also of one that was there, since who made it may have been stopped before.
+    /// Makes what was written last, and the name of the file: also of one that was there, since who made it may have
+    /// been stopped before.
     pub fn sync<R: Files<File = fs::File>>(
         &mut self,
         rt: &R,

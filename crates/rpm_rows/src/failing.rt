@@ -53,7 +53,8 @@ fn check_image(
     same_bytes(alloc, shown.line, "opened again", &shown.after, &text)
 }
 
-/// That a line of which this call fails ends with a disk fault and leaves one of the two databases. Whether the call failed.
+/// That a line of which this call fails ends with a disk fault and leaves one of the two databases. Whether the call
+/// failed.
 fn check_call(
     alloc: Global,
     start: &Start,

@@ -71,7 +71,8 @@ impl Fixtures {
         Ok(())
     }
 
-    /// Writes over the bytes that were named last, from a byte on. It may follow their statement alone, or another one like this.
+    /// Writes over the bytes that were named last, from a byte on. It may follow their statement alone, or another
+    /// one like this.
     pub fn patch(&mut self, offset: i64, bytes: &[u8]) -> Result<(), Fault> {
         if !self.is_open {
             return Err(Fault::OutOfPlace);

@@ -1,4 +1,5 @@
-//! Worked rows: command lines from files of data, run on objects in memory, and compared with what the files expect of them.
+//! Worked rows: command lines from files of data, run on objects in memory, and compared with what the files expect
+//! of them.
 #![tactic(auto)]
 
 mod ahead;

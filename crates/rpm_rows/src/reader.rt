@@ -242,7 +242,8 @@ impl Reader {
     }
 }
 
-/// The rows of a file's statements. What stands in front of the first one is a row of line 0. Bytes that it names are added to the fixtures.
+/// The rows of a file's statements. What stands in front of the first one is a row of line 0. Bytes that it names are
+/// added to the fixtures.
 pub fn rows_of(
     alloc: Global,
     fixtures: &mut Fixtures,

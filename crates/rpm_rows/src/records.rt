@@ -80,7 +80,8 @@ fn record_of(alloc: Global, head: Head, key: &[u8]) -> Result<Record, AllocError
     })
 }
 
-/// Adds the record that begins at a unit, and gives the unit of the next one in its chain. None where the record is cut off.
+/// Adds the record that begins at a unit, and gives the unit of the next one in its chain. None where the record is
+/// cut off.
 fn push_record(
     alloc: Global,
     index: &[u8],
@@ -122,8 +123,9 @@ fn push_chain(
     Ok(false)
 }
 
-/// All records of an index, in an order that is the same for two indexes with the same records, each as often. None where a chain is malformed,
-/// or the counts of units and records aren't those of the chains. An index without bytes has no records.
+/// All records of an index, in an order that is the same for two indexes with the same records, each as often. None
+/// where a chain is malformed, or the counts of units and records aren't those of the chains. An index without bytes
+/// has no records.
 pub fn records_of(alloc: Global, index: &[u8]) -> Result<Option<Vec<Record>>, AllocError> {
     let mut records = Vec::new(alloc);
     let buckets = number_at(index, 0, 3).unwrap_or(0);

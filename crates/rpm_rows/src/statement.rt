@@ -29,8 +29,8 @@ fn push_line(
     Ok(())
 }
 
-/// The statements of a file's bytes. Empty lines and those that begin with `#` are passed over; one that begins with `+ ` goes on with the
-/// statement before it.
+/// The statements of a file's bytes. Empty lines and those that begin with `#` are passed over; one that begins with
+/// `+ ` goes on with the statement before it.
 pub fn statements_of(alloc: Global, bytes: &[u8]) -> Result<Vec<Statement>, AllocError> {
     let mut found = Vec::new(alloc);
     for (i, line) in bytes.split(|byte| *byte == b'\n').enumerate() {

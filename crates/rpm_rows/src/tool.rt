@@ -45,7 +45,8 @@ fn sink_of(alloc: Global, start: &Start, limit: u64) -> MemSink {
     sink
 }
 
-/// Runs a command line on these objects. No other function calls `run`: each call's proof goes through its whole contract.
+/// Runs a command line on these objects. No other function calls `run`: each call's proof goes through its whole
+/// contract.
 fn run_with(
     alloc: Global,
     words: &Words,

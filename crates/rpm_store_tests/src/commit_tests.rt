@@ -63,7 +63,8 @@ fn images_have(
     Ok(true)
 }
 
-// The first moment of a disk of which an image has neither. The last has the second files alone, where they are there then.
+// The first moment of a disk of which an image has neither. The last has the second files alone, where they are there
+// then.
 fn other_moment(
     alloc: Global,
     disk: &MemDisk,
@@ -124,7 +125,8 @@ fn a_stop_leaves_a_change_whole_or_not_at_all(rt: HostRuntime) -> Result<(), All
     Ok(())
 }
 
-// The first failing call, and the first moment, at which the log isn't finished by the next one who recovers. 0 is no call.
+// The first failing call, and the first moment, at which the log isn't finished by the next one who recovers. 0 is no
+// call.
 fn other_recovery(alloc: Global) -> Result<Option<(u64, Option<u64>)>, AllocError> {
     let new: Both = (&[1, 7, 8], &[9, 3]);
     for failing in 0..20 {

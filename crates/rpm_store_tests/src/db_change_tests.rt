@@ -80,7 +80,8 @@ const BAD: ChangeFault = ChangeFault::BadHeader(HeaderFault::TooManyEntries);
 
 const TEXT: &[u8] = b"no header";
 
-// The place of a number that is the last one, a change of the seven packages, what it answers, and the tally of the name `a` then.
+// The place of a number that is the last one, a change of the seven packages, what it answers, and the tally of the
+// name `a` then.
 const STEPS: &[(Option<usize>, Step, Result<u32, ChangeFault>, Tally)] = &[
     (None, Step::Add(&PLAIN), Ok(8), (6, 29, 0)),
     (None, Step::Add(TEXT), Err(BAD), (5, 21, 0)),

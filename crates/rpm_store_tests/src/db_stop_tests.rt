@@ -8,7 +8,8 @@ use rpm_db::{ChangeFault, Db};
 use rpm_outside::{File, MemDisk, Pick};
 use std::alloc::{AllocError, Global};
 
-// Whether opening the database of one package reads its blocks exactly where the generations of the files differ: for the index.
+// Whether opening the database of one package reads its blocks exactly where the generations of the files differ: for
+// the index.
 fn is_remade_where_due(alloc: Global, disk: &mut MemDisk) -> Result<bool, AllocError> {
     let packages = disk.copy_file(alloc, File::Pkg)?;
     let index = disk.copy_file(alloc, File::Idx)?;
@@ -39,7 +40,8 @@ fn images_have(
     Ok(true)
 }
 
-// The first moment of replacing the plain header at which neither it nor the newer one is there; the last moment has the newer one.
+// The first moment of replacing the plain header at which neither it nor the newer one is there; the last moment has
+// the newer one.
 fn other_moment(alloc: Global) -> Result<Option<u64>, AllocError> {
     let mut disk = MemDisk::new(alloc, &one_package(alloc)?, &sealed_file(alloc, 320)?, &[])?;
     let goes = put(alloc, &mut disk, 1, &NEWER) == Some(Ok(()));
@@ -59,7 +61,8 @@ fn a_stop_leaves_the_old_header_or_the_new_one(rt: HostRuntime) -> Result<(), Al
     Ok(())
 }
 
-// What putting a header answers on a disk whose call of this number fails, and what erasing answers then. None where it isn't opened.
+// What putting a header answers on a disk whose call of this number fails, and what erasing answers then. None where
+// it isn't opened.
 fn failing(
     alloc: Global,
     call: u64,

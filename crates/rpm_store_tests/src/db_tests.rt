@@ -28,8 +28,8 @@ const DIGEST: &[u8] = b"3d0d85fe20030bf49852a9bd894c16eaef3594996b7685ce400298d8
 
 const OTHER: &[u8] = b"3d0d85fe20030bf49852a9bd894c16eaef3594996b7685ce400298d8bbab7e00\0";
 
-// The packages of a store: number, bytes in front and after, the type of the entry 273 (6 is a text, 7 bytes), and the checksum. Those
-// that aren't right are 0.
+// The packages of a store: number, bytes in front and after, the type of the entry 273 (6 is a text, 7 bytes), and
+// the checksum. Those that aren't right are 0.
 const SEVEN: &[(u32, &[u8], &[u8], u8, u32)] = &[
     (1, &PLAIN, b"more", 6, 0x761f_08a2),
     (2, &REGION, OTHER, 6, 0),

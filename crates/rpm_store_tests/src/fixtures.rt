@@ -80,8 +80,8 @@ pub fn header(alloc: Global, entries: &[Entry<'_>]) -> Result<Vec<u8>, AllocErro
     Ok(blob)
 }
 
-/// The header of the package `pkgI-1.K-1.noarch`, K being the last digit of I. It gives one of seven capabilities and needs the next, and
-/// has one of eleven texts elsewhere.
+/// The header of the package `pkgI-1.K-1.noarch`, K being the last digit of I. It gives one of seven capabilities and
+/// needs the next, and has one of eleven texts elsewhere.
 pub fn generated(alloc: Global, i: u32) -> Result<Vec<u8>, AllocError> {
     let name = format!(in alloc; "pkg{i}\0")?;
     let version = format!(in alloc; "1.{}\0", i % 10)?;

@@ -16,7 +16,8 @@ fn void<D: Disk>(disk: &mut D) -> bool {
     }
 }
 
-// Makes the index of each generation up to this one: of `a`, then of `b` in place, then of nothing from scratch, which is voided.
+// Makes the index of each generation up to this one: of `a`, then of `b` in place, then of nothing from scratch,
+// which is voided.
 fn written(alloc: Global, disk: &mut MemDisk, last: u32) -> Result<bool, AllocError> {
     let (a, b, none) = (
         rows_of(alloc, &[b"a"])?,
@@ -72,7 +73,8 @@ fn images_agree(alloc: Global, disk: &MemDisk, moment: u64, last: u32) -> Result
     Ok(true)
 }
 
-// Whether the changes up to this generation fail exactly where this call of the disk does, and each image agrees with it. 0 is no call.
+// Whether the changes up to this generation fail exactly where this call of the disk does, and each image agrees with
+// it. 0 is no call.
 fn stops_well(alloc: Global, last: u32, failing: u64) -> Result<bool, AllocError> {
     let mut disk = MemDisk::new(alloc, &[], &[], &[])?;
     disk.fail_call(failing)?;
@@ -143,7 +145,8 @@ fn used(file: &[u8]) -> u32 {
     }
 }
 
-// The rows of each change that are dropped, their number, and those that are added; how many rows are there then, and how many units.
+// The rows of each change that are dropped, their number, and those that are added; how many rows are there then, and
+// how many units.
 const CHANGES: &[((u32, u32), u32, (u32, u32), usize, u32)] = &[
     // in place, after the 218 units that were there
     ((10, 30), 1, (120, 140), 100, 258),
@@ -170,8 +173,8 @@ fn other_change(alloc: Global, disk: &mut MemDisk) -> Result<Option<u32>, AllocE
     Ok(None)
 }
 
-// The unit after the last one that is written where `b` is added to an index of which unit 1 says that it has so many units, in a file
-// as long as one can be; and how many units it says then.
+// The unit after the last one that is written where `b` is added to an index of which unit 1 says that it has so many
+// units, in a file as long as one can be; and how many units it says then.
 fn changed_at_the_end(alloc: Global, units: u32) -> Result<(bool, u64, u32), AllocError> {
     let mut file = sealed_file(alloc, 320)?;
     change(&mut file, 16, &units.to_le_bytes());

@@ -51,8 +51,8 @@ fn key_fault(
     Ok(drop_fault(alloc, disk, &row, &Rows::new(alloc)))
 }
 
-// A byte to change, the unit of the fault that a chain has then for one who looks for `a` or drops it, and whether it is met by one who
-// drops `ef`, the first record.
+// A byte to change, the unit of the fault that a chain has then for one who looks for `a` or drops it, and whether it
+// is met by one who drops `ef`, the first record.
 const FAULTS: &[(usize, u8, u64, bool)] = &[
     // the bucket's word names a unit before the records, or after them
     (124, 17, 7, true),
@@ -91,7 +91,8 @@ fn other_fault(alloc: Global) -> Result<Option<(usize, u8)>, AllocError> {
     Ok(None)
 }
 
-// A byte of unit 1 to change, and what is told then to one who drops three records: as it was, fewer records, and fewer units.
+// A byte of unit 1 to change, and what is told then to one who drops three records: as it was, fewer records, and
+// fewer units.
 const COUNTS: &[(usize, u8, Option<PrepareFault>)] = &[
     (20, 3, None),
     (20, 2, Some(PrepareFault::BadIndex { unit: 1 })),

@@ -5,7 +5,8 @@ use rpm_hindex::{FindFault, Hindex, Hits, Rows, index_units};
 use rpm_outside::{Disk, File, MemDisk};
 use std::alloc::{AllocError, Global};
 
-// The index of one package with the one key `a` of kind 1, sealed at 2: its units that aren't zeros, each with its place.
+// The index of one package with the one key `a` of kind 1, sealed at 2: its units that aren't zeros, each with its
+// place.
 const SEALED: &[(usize, [u8; 16])] = &[
     (
         0,
@@ -74,7 +75,8 @@ fn hit_count(hits: &Hits, place: Option<u32>) -> usize {
     count
 }
 
-/// How often a key is found, at one place alone where one is named. `Err(None)` where the index isn't sealed at this generation.
+/// How often a key is found, at one place alone where one is named. `Err(None)` where the index isn't sealed at this
+/// generation.
 #[tactic(auto, using(crate::proofs::Sealed::current_in_order))]
 pub fn find<D: Disk>(
     alloc: Global,
@@ -116,8 +118,8 @@ pub fn rows_of(alloc: Global, keys: &[&[u8]]) -> Result<Rows, AllocError> {
     Ok(rows)
 }
 
-// Keys, and how often the row of each is there before a change, is dropped and added by it, and is there then. The last three share
-// a bucket.
+// Keys, and how often the row of each is there before a change, is dropped and added by it, and is there then. The
+// last three share a bucket.
 const KEYS: &[(&[u8], [usize; 4])] = &[
     (b"", [1, 0, 1, 2]),
     (b"sixteen bytes go", [1, 1, 0, 0]),

@@ -138,8 +138,8 @@ fn a_sink_fails_after_its_limit(rt: HostRuntime) {
 
 const PIECES: [&[u8]; 4] = [&[1; 4000], &[2; 200], &[3; 4097], &[4; 4096]];
 
-// Whether the pieces and a flush went through a buffer to a sink that takes so many bytes, how often it failed, and how many bytes it
-// has, all of them right.
+// Whether the pieces and a flush went through a buffer to a sink that takes so many bytes, how often it failed, and
+// how many bytes it has, all of them right.
 fn through_a_buffer(alloc: Global, limit: u64) -> Result<(bool, u64, usize), AllocError> {
     let mut sink = MemSink::new(alloc);
     sink.fail_after(limit);

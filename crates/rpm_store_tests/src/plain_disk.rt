@@ -6,9 +6,9 @@ use crate::fixtures::change;
 use rpm_outside::{Disk, Failed, File};
 use std::alloc::Global;
 
-/// A disk of `Packages.db` and `Hindex.db` that doesn't tell what it holds, so that a call on it owes nothing of that. One of the files
-/// may be as long as a file can be, with zeros after what is held of it: what is written there isn't kept. Its counts, as contracts
-/// see them, stand at their ends.
+/// A disk of `Packages.db` and `Hindex.db` that doesn't tell what it holds, so that a call on it owes nothing of
+/// that. One of the files may be as long as a file can be, with zeros after what is held of it: what is written there
+/// isn't kept. Its counts, as contracts see them, stand at their ends.
 #[derive(Drop)]
 pub struct PlainDisk {
     pub pkg: Vec<u8>,

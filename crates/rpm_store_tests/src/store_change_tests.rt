@@ -30,7 +30,8 @@ pub fn erase<D: Disk>(alloc: Global, disk: &mut D, n: u32) -> bool {
     }
 }
 
-/// Puts a blob under a number that is there, or under a new one, and answers the number. None where that doesn't go otherwise.
+/// Puts a blob under a number that is there, or under a new one, and answers the number. None where that doesn't go
+/// otherwise.
 pub fn put<D: Disk>(
     alloc: Global,
     disk: &mut D,
@@ -92,7 +93,8 @@ fn a_package_is_put_and_erased(rt: HostRuntime) -> Result<(), AllocError> {
     Ok(())
 }
 
-/// A store of generation 2 whose slots all have the header, one after the other, and so many free blocks after the first.
+/// A store of generation 2 whose slots all have the header, one after the other, and so many free blocks after the
+/// first.
 pub fn full_pages(alloc: Global, pages: u32, gap: u32) -> Result<MemDisk, AllocError> {
     let mut draft = Draft::new(alloc, pages, 2);
     let next = pages.saturating_mul(256).saturating_sub(1);
@@ -107,8 +109,8 @@ pub fn full_pages(alloc: Global, pages: u32, gap: u32) -> Result<MemDisk, AllocE
 
 static BYTES: [u8; 85] = [0x5a; 85];
 
-// What putting bytes answers where the file ends at the greatest block and the numbers 2 and 1 have all blocks but the last seven, with
-// this next number; and the unit after the last one that is written.
+// What putting bytes answers where the file ends at the greatest block and the numbers 2 and 1 have all blocks but
+// the last seven, with this next number; and the unit after the last one that is written.
 fn put_at_the_end(
     alloc: Global,
     next: u32,
@@ -128,7 +130,8 @@ fn put_at_the_end(
     Ok((number, disk.end))
 }
 
-// The next number, the number that is asked for and the length of a blob; what putting it answers, and the unit after it.
+// The next number, the number that is asked for and the length of a blob; what putting it answers, and the unit after
+// it.
 const ENDS: &[(u32, Option<u32>, usize, Result<u32, PlanFault>, u64)] = &[
     (3, None, 84, Ok(3), 268_435_456),
     (3, None, 85, Err(PlanFault::StoreFull), 0),

@@ -138,7 +138,8 @@ fn first_fault(
     Ok(Some(1000))
 }
 
-// The first of these changes of which a crash at a moment, or a call that fails, leaves neither the packages before nor those after.
+// The first of these changes of which a crash at a moment, or a call that fails, leaves neither the packages before
+// nor those after.
 fn other_change(
     alloc: Global,
     file: &[u8],

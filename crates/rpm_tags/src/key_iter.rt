@@ -184,9 +184,10 @@ fn tag_of_kind(kind: Kind) -> u32
     }
 }
 
-/// The keys of a kind in a header, in order: each element of the kind's tag, with its place from 0. For Installtid the elements are
-/// numbers, and a tag that isn't of class Number has no key; for each other kind they are texts, and a tag that isn't of class Text
-/// has none. A tag that is missing has none. A look-up in the header; going through the keys reads each of their bytes once.
+/// The keys of a kind in a header, in order: each element of the kind's tag, with its place from 0. For Installtid
+/// the elements are numbers, and a tag that isn't of class Number has no key; for each other kind they are texts, and
+/// a tag that isn't of class Text has none. A tag that is missing has none. A look-up in the header; going through
+/// the keys reads each of their bytes once.
 pub fn keys<'a>(kind: Kind, view: &View<'a>) -> KeyIter<'a>
     ensures { result ≡ keys kind view.now }
 {

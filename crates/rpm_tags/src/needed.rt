@@ -102,9 +102,9 @@ impl<'a> Iterator for DependencyIter<'a> {
     }
 }
 
-/// What a package needs or gives, by the tags of its names, flags and versions: each name with the flags and the version at its
-/// place, which are 0 and the empty text where their array is missing, too short or of another class. Three look-ups in the
-/// header; going through it reads each byte of the names and the versions once.
+/// What a package needs or gives, by the tags of its names, flags and versions: each name with the flags and the
+/// version at its place, which are 0 and the empty text where their array is missing, too short or of another class.
+/// Three look-ups in the header; going through it reads each byte of the names and the versions once.
 #[tactic(auto, unfolding(crate::specs::Wanted::dependencies))]
 pub fn dependencies<'a>(view: &View<'a>, tags: Tags) -> DependencyIter<'a>
     ensures { result ≡ dependencies tags view.now }

@@ -27,8 +27,8 @@ fn split_path(path: &[u8]) -> (&[u8], &[u8])
     path.split_at(path.len() - base_len(path))
 }
 
-/// Whether a file of this directory and name counts for a path that is cut. The directory is read only where the name is that of
-/// the path.
+/// Whether a file of this directory and name counts for a path that is cut. The directory is read only where the name
+/// is that of the path.
 fn counts(
     directories: &mut Directories<'_, '_>,
     index: u64,
@@ -38,7 +38,8 @@ fn counts(
 ) -> bool
     requires below { index < length directories.old }
     requires cut { base.now ≡ base_name (front.now ++ base.now) }
-    ensures value { result ≡ counts_for (front.now ++ base.now) (file_name directories.old (index, text.now), text.now) }
+    ensures value { result ≡ counts_for (front.now ++ base.now)
+        (file_name directories.old (index, text.now), text.now) }
     ensures same { directories.new ≡ directories.old }
 {
     text == base && directories.dir(index) == front
@@ -52,7 +53,8 @@ fn is_any_at(
     path: &[u8],
 ) -> bool
     requires { are_matched directories.old indexes.now bases.now ≡ true }
-    ensures { result ≡ list_any (counts_for path.now) (zip (file_names directories.old indexes.now bases.now) bases.now) }
+    ensures { result ≡ list_any (counts_for path.now)
+        (zip (file_names directories.old indexes.now bases.now) bases.now) }
 {
     let (front, base) = split_path(path);
     let _ = indexes.count();
@@ -85,7 +87,8 @@ fn is_any_far(dirs: &Texts<'_>, indexes: &Numbers<'_>, bases: &Texts<'_>, path: 
 }
 
 fn is_any_in(dirs: Texts<'_>, indexes: &Numbers<'_>, bases: &Texts<'_>, path: &[u8]) -> bool
-    ensures { result ≡ any_counts_for path.now (filenames (Some dirs.entry) (Some indexes.now) (Some bases.now)) (Some bases.now) }
+    ensures { result ≡ any_counts_for path.now (filenames (Some dirs.entry) (Some indexes.now) (Some bases.now))
+        (Some bases.now) }
 {
     let dirs = match asked_for(dirs, indexes, bases) {
         None => return false,
@@ -97,8 +100,9 @@ fn is_any_in(dirs: Texts<'_>, indexes: &Numbers<'_>, bases: &Texts<'_>, path: &[
     is_any_at(&mut Directories::new(&dirs, None), indexes, bases, path)
 }
 
-/// Whether an element of FILENAMES is this path, and its name is what follows the path's last slash. Reads each name once, and
-/// the directories of those alone that have the path's name, as `TagValue::texts` reads them. Takes no memory.
+/// Whether an element of FILENAMES is this path, and its name is what follows the path's last slash. Reads each name
+/// once, and the directories of those alone that have the path's name, as `TagValue::texts` reads them. Takes no
+/// memory.
 #[tactic(auto, unfolding(crate::specs::Wanted::has_file))]
 pub fn has_file(view: &View<'_>, path: &[u8]) -> bool
     ensures { result ≡ has_file view.now path.now }

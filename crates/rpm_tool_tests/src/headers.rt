@@ -5,7 +5,8 @@ use rpm_change::{generated, installed};
 use rpm_header::View;
 use std::test::Fail;
 
-// The headers in hex, made by a program of a few lines in Python, which packs an entry's numbers after filling up with zeros.
+// The headers in hex, made by a program of a few lines in Python, which packs an entry's numbers after filling up
+// with zeros.
 const FIRST: &str =
     "0000000d00000046000003e8000000060000000000000001000003e9000000060000000500000001000003ea000000060000000900000001000003fe00000006\
     0000000b000000010000041700000008000000120000000200000458000000040000001c00000002000004590000000800000024000000020000041900000008\

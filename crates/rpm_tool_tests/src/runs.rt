@@ -1,4 +1,5 @@
-//! The one call of `run` on objects in memory, and the one on real files: the proof of each goes through its whole contract.
+//! The one call of `run` on objects in memory, and the one on real files: the proof of each goes through its whole
+//! contract.
 
 use crate::fixtures::package;
 use rpm_outside::{MemDisk, MemShelf, MemSink};

@@ -1,4 +1,5 @@
-//! What a crash at each moment leaves, in the oldest image, the newest and mixed ones; and a disk of which each call fails in turn.
+//! What a crash at each moment leaves, in the oldest image, the newest and mixed ones; and a disk of which each call
+//! fails in turn.
 
 use crate::fixtures::{changed, database, log};
 use crate::runs::{outcome, run_on};
@@ -70,8 +71,8 @@ fn is_answered_again(
     Ok(is_right)
 }
 
-// Whether the question ends with DiskFault where this call of the disk fails, and is answered so when it is asked again; and None where no
-// call failed.
+// Whether the question ends with DiskFault where this call of the disk fails, and is answered so when it is asked
+// again; and None where no call failed.
 fn is_answered_behind(
     alloc: Global,
     files: Files<'_>,
@@ -176,8 +177,8 @@ const ONE: &[u8] = b"a-1-2.x\n";
 
 const THREE: &[u8] = b"a-1-2.x\na-1-2.x\na-1-2.x\n";
 
-// Whether an image reopens to three packages, or to one; None where it does to neither. The query of all leaves it alone, and the
-// question by key prints the same and leaves a log without a group.
+// Whether an image reopens to three packages, or to one; None where it does to neither. The query of all leaves it
+// alone, and the question by key prints the same and leaves a log without a group.
 fn has_three(alloc: Global, image: MemDisk) -> Result<Option<bool>, AllocError> {
     let all = run_on(alloc, "rpm -qa", image)?;
     let was_left = all.disk.now() == 0;
@@ -208,8 +209,8 @@ fn images_of_three(alloc: Global, disk: &MemDisk, moment: u64) -> Result<Option<
     Ok(Some(found))
 }
 
-// Whether the files of a moment's newest image, but an index that was removed, are a database of one package or of three once it was
-// rebuilt: a question by key then prints what the query of all does.
+// Whether the files of a moment's newest image, but an index that was removed, are a database of one package or of
+// three once it was rebuilt: a question by key then prints what the query of all does.
 fn is_rebuilt(alloc: Global, disk: &MemDisk, moment: u64) -> Result<bool, AllocError> {
     if moment > disk.now() {
         return Ok(false);

@@ -1,4 +1,5 @@
-//! The files of a system on which the opened folders are counted, and a standard input and an output that a signal interrupts first.
+//! The files of a system on which the opened folders are counted, and a standard input and an output that a signal
+//! interrupts first.
 
 use std::alloc::Allocator;
 use std::cell::Cell;

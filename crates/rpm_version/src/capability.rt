@@ -107,8 +107,8 @@ impl<'a> Capability<'a> {
         Ok(Capability { name, flags, evr })
     }
 
-    /// The capability that a package needs, by its name and by the range that its flags and its version give: a plain name where every
-    /// version is in that range. It overlaps what the range overlaps. Copies nothing.
+    /// The capability that a package needs, by its name and by the range that its flags and its version give: a plain
+    /// name where every version is in that range. It overlaps what the range overlaps. Copies nothing.
     pub fn of_range(name: &'a [u8], flags: u64, version: &'a [u8]) -> Self
         ensures name { result.name ≡ name.now }
         ensures plain { (result.flags == 0) ≡ is_open flags version.now }
