@@ -2,6 +2,7 @@ mod Ahead
 mod Anew
 mod Answering
 mod Arguments
+mod Askable
 mod Asking
 mod Begun
 mod Behind
@@ -10,6 +11,7 @@ mod Chained
 mod Checked
 mod Closed
 mod Completed
+mod Coursed
 mod Deeds
 mod Defaults
 mod Emptied
@@ -26,7 +28,6 @@ mod Fitting
 mod Fixtures
 mod Greatest
 mod Grouped
-mod Halting
 mod Histories
 mod Joins
 mod Labels
@@ -60,6 +61,7 @@ mod Recovered
 mod Regrouped
 mod Rising
 mod RowsFit
+mod SoFar
 mod Standing
 mod Starved
 mod Stopping

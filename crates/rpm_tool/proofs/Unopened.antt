@@ -1,5 +1,5 @@
 -- A command that was stopped before its first change.
-use Rattle.std.proofs.Common.{ℕ, Bool, true, false, [], Result, Ok, Err, refl}
+use Rattle.std.proofs.Common.{ℕ, Bool, [], Result, Ok, Err, refl}
 use Rattle.rpm_outside.specs.Files.{Files}
 use Rattle.rpm_pkgdb.specs.declared.slot.Damage.{Damage}
 use Rattle.rpm_pkgdb.specs.Store.{Store, store}
@@ -9,7 +9,7 @@ use Rattle.rpm_change.specs.Steps.{Course}
 use Rattle.rpm_change.specs.Endings.{Outputs, Through, ThroughSome}
 use Rattle.rpm_tool.specs.declared.answer.Why.{Why}
 use Rattle.rpm_tool.specs.declared.answer.Why.TheVariants as why
-use Rattle.rpm_tool.specs.Working.{OpensIn, OpensBy, Stopped, WorkedBy, WorkedWith, Worked}
+use Rattle.rpm_tool.specs.Working.{OpensIn, OpensBy, Stopped, WorkedBy, WorkedWith}
 use Rattle.rpm_tool.proofs.Brokens.{open_unbroken}
 
 none_done : (c : Course) (old new : Outputs) → Through [] old new → ThroughSome c.steps old new
@@ -51,7 +51,3 @@ open_with anew changing course old new w before now opens none = record {
   index = λ _. tt;
   reached = tt;
 }
-
-pub open_worked : (course : State → Course) (old new : Files) (w : Why) (before now : Outputs) → OpensBy old (store old.pkg) new (Err w)
-    → Through [] before now → Worked course old new (Err w) before now
-open_worked = open_with false true

@@ -1,5 +1,5 @@
 -- From the opening of a database to the last change of a command.
-use Rattle.std.proofs.Common.{◌≡◌, ◌≤◌, Bool, false, Result, Ok, Err, refl, sym, subst}
+use Rattle.std.proofs.Common.{◌≡◌, ◌≤◌, Bool, true, false, Result, Ok, Err, refl, sym, subst}
 use Rattle.rpm_outside.specs.Files.{Units, Files}
 use Rattle.rpm_pkgdb.specs.declared.slot.Damage.{Damage}
 use Rattle.rpm_pkgdb.specs.Store.{Store, store, in_file}
@@ -14,7 +14,7 @@ use Rattle.rpm_change.specs.Steps.{Course}
 use Rattle.rpm_change.specs.Endings.{Outputs, Done, Ended, WholeTurn}
 use Rattle.rpm_tool.specs.Changing.{IsBroken}
 use Rattle.rpm_tool.specs.Limits.{ReachesBy}
-use Rattle.rpm_tool.specs.Working.{OpensBy, Stopped, WorkedBy, WorkedWith, Worked, why_of_halt}
+use Rattle.rpm_tool.specs.Working.{OpensBy, Stopped, WorkedBy, WorkedWith, why_of_halt}
 use Rattle.rpm_tool.proofs.Brokens.{done_unbroken, halt_unbroken}
 
 -- a store says the same as what its file says of it
@@ -49,7 +49,7 @@ module _ (course : State → Course) (old mid new : Files) (db last : Database) 
 
   pub halted_worked : (h : Halt) (t : State) → OpensBy old (store old.pkg) mid (Ok db) → Ended (course found) found t (Err h) before now
       → (¬ IsWholeIndex mid.idx → IsBroken old.pkg old.idx)
-      → (IsWholeIndex mid.idx → WholeTurn new.idx (Err h)) → Worked course old new (Err (why_of_halt h)) before now
+      → (IsWholeIndex mid.idx → WholeTurn new.idx (Err h)) → WorkedWith false true course old new (Err (why_of_halt h)) before now
   halted_worked h t opens ended broken whole = record {
     went = halted_by (store old.pkg) h t opens ended;
     bad = λ unit is. (refl, broken (λ was. halt_unbroken new.idx h unit (whole was) is));

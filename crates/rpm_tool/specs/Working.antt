@@ -78,6 +78,16 @@ abbrev pub why_of_exercise : ExerciseFault → Why
 why_of_exercise (NotEmpty held) = why.NotEmpty held
 why_of_exercise (Halted halt) = why_of_halt halt
 
+-- how a command ended whose course did so
+abbrev pub ended_as : Result Tally Halt → Result Tally Why
+ended_as (Ok tally) = Ok tally
+ended_as (Err halt) = Err (why_of_halt halt)
+
+-- and one whose exercise did
+abbrev pub exercise_ended : Result Tally ExerciseFault → Result Tally Why
+exercise_ended (Ok tally) = Ok tally
+exercise_ended (Err fault) = Err (why_of_exercise fault)
+
 -- a fault of the disk, or want of memory
 abbrev pub IsOutside : Why → Type 0
 IsOutside why.DiskFault = Unit {0}
@@ -135,10 +145,6 @@ pub record WorkedWith (anew changing : Bool) (course : State → Course) (old ne
   pub made : IfOk ended (λ tally. IsMade new.pkg)
   pub index : MayBegin anew (IsLawful old.pkg old.idx) → IfOk ended (λ tally. HasCurrent new.pkg new.idx)
   pub reached : IfOk ended (λ tally. ReachesBy anew (IsLawful old.pkg old.idx) course old new)
-
--- of one that makes it where it isn't current, and changes it
-abbrev pub Worked : (State → Course) → Files → Files → Result Tally Why → Outputs → Outputs → Type 0
-Worked course old new ended before now = WorkedWith false true course old new ended before now
 
 -- ---- how the group ends
 

@@ -1,8 +1,7 @@
 //! One argument of a query.
 
 ghost use Rattle.std.specs.Prelude.{◌≡◌, ◌≢◌, ◌+◌, ◌≤◌, ℕ, [], false, IsTrue, Err, IfOk, IfErr};
-ghost use Rattle.rpm_tool.specs.Prelude.{above, answered, argument_part, argument_reach, cost_all, cost_to, DiskFault, HasRows, holds, is_indexed, is_of_sink, is_some_of, IsOfChain, Kept, KeptIndex, lent, Looks, packages_in, PartIs, Peeks, picks, Pkg, pkg_read, question_of, reach_all, reach_to, ReadsOf, Serves, shown, StopHands};
-ghost use Rattle.rpm_db.specs.Database as database;
+ghost use Rattle.rpm_tool.specs.Prelude.{above, answered, argument_part, argument_reach, cost_all, cost_to, DiskFault, HasRows, holds, is_indexed, is_of_sink, is_some_of, IsAskable, IsOfChain, lent, Looks, packages_in, PartIs, Peeks, picks, Pkg, pkg_read, question_of, reach_all, reach_to, ReadsOf, Serves, shown, StopHands};
 
 use crate::missing::put_missing_part;
 use crate::picked::{print_above, stop_of};
@@ -66,10 +65,7 @@ fn is_any_passed<D: Disk>(
     selection: &Selection<'_>,
     after: u32,
 ) -> Result<bool, Stop>
-    requires keeps { Kept D.Disk disk.old db.now }
-    requires runs { db.now.stopped ≡ false }
-    requires from_one { database.holds 0 db.now ≡ false }
-    ensures kept { Kept D.Disk disk.new db.now }
+    requires asked { IsAskable D.Disk disk.old db.now }
     ensures told { IsTrue D.tells → Serves picker.old (packages_in D.Disk disk.old db.now) selection.now
         → above after (picks (packages_in D.Disk disk.old db.now) selection.now) ≡ []
         → IfOk result (λ any. any ≡ is_some_of (picks (packages_in D.Disk disk.old db.now) selection.now)) }
@@ -101,10 +97,7 @@ fn answer_question<D: Disk, O: Sink + Drop, E: Sink + Drop>(
     out: &mut Buffered<O>,
     err: &mut Buffered<E>,
 ) -> Result<bool, Stop>
-    requires keeps { Kept D.Disk disk.old db.now }
-    requires runs { db.now.stopped ≡ false }
-    requires from_one { database.holds 0 db.now ≡ false }
-    ensures kept { Kept D.Disk disk.new db.now }
+    requires asked { IsAskable D.Disk disk.old db.now }
     ensures went { IsTrue D.tells → Serves picker.old (packages_in D.Disk disk.old db.now) selection.now → (j : ℕ)
         → PartIs (answered format.now chosen after j text.now (picks (packages_in D.Disk disk.old db.now)
         selection.now)) result (shown O.Sink E.Sink out.old err.old) (shown O.Sink E.Sink out.new err.new)
@@ -145,12 +138,7 @@ pub fn answer<D: Disk, O: Sink + Drop, E: Sink + Drop>(
     out: &mut Buffered<O>,
     err: &mut Buffered<E>,
 ) -> Result<bool, Stop>
-    requires keeps { Kept D.Disk disk.old db.now }
-    requires keeps_index { KeptIndex D.Disk disk.old db.now }
-    requires runs { db.now.stopped ≡ false }
-    requires from_one { database.holds 0 db.now ≡ false }
-    ensures kept { Kept D.Disk disk.new db.now }
-    ensures kept_index { KeptIndex D.Disk disk.new db.now }
+    requires asked { IsAskable D.Disk disk.old db.now }
     ensures went { IsTrue D.tells → HasRows D.Disk disk.old db.now → (j : ℕ)
         → PartIs (argument_part format.now (packages_in D.Disk disk.old db.now) chosen after j text.now) result
         (shown O.Sink E.Sink out.old err.old) (shown O.Sink E.Sink out.new err.new)

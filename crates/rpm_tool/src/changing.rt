@@ -1,18 +1,16 @@
 //! Commands that change packages: all changes of a command line are one.
 
-ghost use Rattle.std.specs.Prelude.{◌≡◌, ◌≢◌, ◌⊎◌, ℕ, ◌^◌, ◌<◌, ◌≤◌, List, [], length, Bool, true, false, not, IsTrue, Ok, Err, IfOk, IfErr, OnOk};
-ghost use Rattle.rpm_tool.specs.Prelude.{AreSettled, asked_task, begun, changes_index, Closed, CommittedAs, DiskFault, done_why, EmptyBy, EndsGroup, Hand, Hands, HasCauseAt, holds, idle, images, Indexed, inner, is_anew, is_blank, is_done, is_halt, is_held, is_indexed, is_of_commit, is_of_streams, is_of_words, IsBroken, IsCountable, IsLawful, IsOfOpening, IsOutside, IsSettled, IsSound, IsWholeIndex, laid_files, LimitsBy, log_state, LogIs, needs_none, OneChange, OpensBy, outputs, overlay_below, overlay_held, overlay_starved, reads_shelf, reopened, Rose, Runs, SameLog, Serving, ShelfFault, shown, state, state_in, store, task_course, task_parts, unlogged, why_of, why_of_halt, why_of_open, Worked, WorkedWith};
-ghost use Rattle.rpm_db.specs.Database as database;
-ghost use Rattle.rpm_change.specs.Erasing as erasing;
+ghost use Rattle.std.specs.Prelude.{◌≡◌, ◌⊎◌, ◌≤◌, true, false, IsTrue, Ok, Err, IfErr};
+ghost use Rattle.rpm_tool.specs.Prelude.{AreSettled, asked_task, Closed, CommittedAs, DiskFault, done_why, EmptyBy, EndsGroup, HasCauseAt, images, is_done, is_halt, is_of_commit, is_of_streams, is_of_words, IsCountable, IsSound, Keeps, laid_files, log_state, LogIs, needs_none, OneChange, overlay_below, overlay_held, overlay_starved, reads_shelf, reopened, Rose, shown, Streams, task_parts, unlogged};
 
 use crate::answer::Why;
-use crate::courses::{add_on, erase_on, exercise_on, import_on, make_on, rebuild_on, replace_on};
+use crate::courses::change_on;
 use crate::keyed::why_of_recover;
 use crate::loaded::{unless_starved, why_of_load};
 use crate::task::{Task, task_of};
 use rpm_change::Tally;
 use rpm_group::{CommitFault, Overlay, recover};
-use rpm_outside::{Buffered, Disk, File, Shelf, Sink};
+use rpm_outside::{Buffered, Disk, Shelf, Sink};
 use rpm_words::{Ask, Words};
 use std::alloc::{AllocError, Global};
 
@@ -32,45 +30,6 @@ fn done_why(failed: u32) -> Why
         Why::Done
     } else {
         Why::Failed(failed)
-    }
-}
-
-/// Opens the database and makes the changes of a command.
-fn change_on<D: Disk, S: Shelf, O: Sink + Drop, E: Sink + Drop>(
-    alloc: Global,
-    disk: &mut D,
-    shelf: &mut S,
-    task: &Task<'_>,
-    now: u32,
-    out: &mut Buffered<O>,
-    err: &mut Buffered<E>,
-) -> Result<Tally, Why>
-    requires countable { IsCountable (task_parts task.now) }
-    ensures worked { IsTrue D.tells → (reads_shelf (task_parts task.now) ≡ true → IsTrue S.tells)
-        → WorkedWith (is_anew (task_parts task.now)) (changes_index (task_parts task.now))
-        (task_course (S.paths shelf.old) now (task_parts task.now)) (D.files disk.old) (D.files disk.new) result
-        (shown O.Sink E.Sink out.old err.old) (shown O.Sink E.Sink out.new err.new) }
-    ensures limits { IsTrue D.tells → (reads_shelf (task_parts task.now) ≡ true → IsTrue S.tells)
-        → LimitsBy (is_anew (task_parts task.now)) (IsLawful (D.files disk.old).pkg (D.files disk.old).idx)
-        (task_course (S.paths shelf.old) now (task_parts task.now)) (D.files disk.old) (why_of result) }
-    ensures runs { Runs D.Disk SameLog disk.old disk.new }
-    ensures halted { IfErr result (λ given. is_halt given ≡ true) }
-    ensures empty { IsTrue D.tells → EmptyBy (needs_none (task_parts task.now)) (D.files disk.old) (why_of result) }
-    ensures shelf_unread { reads_shelf (task_parts task.now) ≡ false → shelf.new ≡ shelf.old }
-    ensures paths { IsTrue S.tells → S.paths shelf.new ≡ S.paths shelf.old }
-    ensures disk { DiskFault D.Disk (result ≡ Err Why.DiskFault) disk.old disk.new }
-    ensures shelf { ShelfFault S.Shelf (result ≡ Err Why.ShelfFault) shelf.old shelf.new }
-    ensures hands { Hands O.Sink E.Sink (result ≡ Err Why.OutFault) (result ≡ Err Why.ErrFault) out.old err.old out.new
-        err.new }
-{
-    match task {
-        Task::Make => make_on(alloc, disk),
-        Task::Add(paths) => add_on(alloc, disk, shelf, paths.as_slice(), now, err),
-        Task::Replace { number, path } => replace_on(alloc, disk, shelf, *number, path, now, err),
-        Task::Erase(numbers) => erase_on(alloc, disk, numbers.as_slice(), err),
-        Task::Import => import_on(alloc, disk, shelf, err),
-        Task::Rebuild => rebuild_on(alloc, disk, out),
-        Task::Exercise(headers) => exercise_on(alloc, disk, *headers, out),
     }
 }
 
@@ -164,14 +123,11 @@ fn change_recovered<D: Disk, S: Shelf, O: Sink + Drop, E: Sink + Drop>(
         result.0.changes disk result.1 (shown O.Sink E.Sink out.old err.old) (shown O.Sink E.Sink out.new err.new) }
     ensures empty { IsTrue D.tells → EmptyBy (needs_none (task_parts task.now)) (reopened (D.files disk)) result.0.why }
     ensures counted { is_done result.0.why ≡ false → result.0.changes ≡ 0 }
-    ensures shelf_unread { reads_shelf (task_parts task.now) ≡ false → shelf.new ≡ shelf.old }
-    ensures paths { IsTrue S.tells → S.paths shelf.new ≡ S.paths shelf.old }
     ensures of_words { is_of_words result.0.why ≡ false }
     ensures goes_on { D.follows disk result.1 }
     ensures disk { DiskFault D.Disk (result.0.why ≡ Why.DiskFault) disk result.1 }
-    ensures shelf { ShelfFault S.Shelf (result.0.why ≡ Why.ShelfFault) shelf.old shelf.new }
-    ensures hands { Hands O.Sink E.Sink (result.0.why ≡ Why.OutFault) (result.0.why ≡ Why.ErrFault) out.old err.old
-        out.new err.new }
+    ensures streams { Streams S.Shelf O.Sink E.Sink (reads_shelf (task_parts task.now)) (λ why. result.0.why ≡ why)
+        (shelf.old, out.old, err.old) (shelf.new, out.new, err.new) }
 {
     match Overlay::load(alloc, disk) {
         Ok(overlay) => {
@@ -222,15 +178,9 @@ fn change<D: Disk, S: Shelf, O: Sink + Drop, E: Sink + Drop>(
         → OneChange D.files D.left_since D.moment (S.paths shelf.old) now (task_parts task.now) result.0.why
         result.0.changes disk result.1 (shown O.Sink E.Sink out.old err.old) (shown O.Sink E.Sink out.new err.new) }
     ensures empty { IsTrue D.tells → EmptyBy (needs_none (task_parts task.now)) (reopened (D.files disk)) result.0.why }
-    ensures counted { is_done result.0.why ≡ false → result.0.changes ≡ 0 }
-    ensures shelf_unread { reads_shelf (task_parts task.now) ≡ false → shelf.new ≡ shelf.old }
-    ensures paths { IsTrue S.tells → S.paths shelf.new ≡ S.paths shelf.old }
-    ensures of_words { is_of_words result.0.why ≡ false }
-    ensures goes_on { D.follows disk result.1 }
-    ensures disk { DiskFault D.Disk (result.0.why ≡ Why.DiskFault) disk result.1 }
-    ensures shelf { ShelfFault S.Shelf (result.0.why ≡ Why.ShelfFault) shelf.old shelf.new }
-    ensures hands { Hands O.Sink E.Sink (result.0.why ≡ Why.OutFault) (result.0.why ≡ Why.ErrFault) out.old err.old
-        out.new err.new }
+    ensures keeps { Keeps D.Disk result.0 disk result.1 }
+    ensures streams { Streams S.Shelf O.Sink E.Sink (reads_shelf (task_parts task.now)) (λ why. result.0.why ≡ why)
+        (shelf.old, out.old, err.old) (shelf.new, out.new, err.new) }
 {
     let mut disk = disk;
     match recover(&mut disk) {
@@ -256,15 +206,10 @@ pub fn change_asked<D: Disk, S: Shelf, O: Sink + Drop, E: Sink + Drop>(
         result.0.changes disk result.1 (shown O.Sink E.Sink out.old err.old) (shown O.Sink E.Sink out.new err.new) }
     ensures empty { IsTrue D.tells → EmptyBy (needs_none (asked_task words.now ask.now)) (reopened (D.files disk))
         result.0.why }
-    ensures counted { is_done result.0.why ≡ false → result.0.changes ≡ 0 }
-    ensures shelf_unread { reads_shelf (asked_task words.now ask.now) ≡ false → shelf.new ≡ shelf.old }
-    ensures paths { IsTrue S.tells → S.paths shelf.new ≡ S.paths shelf.old }
-    ensures of_words { is_of_words result.0.why ≡ false }
-    ensures goes_on { D.follows disk result.1 }
-    ensures disk { DiskFault D.Disk (result.0.why ≡ Why.DiskFault) disk result.1 }
-    ensures shelf { ShelfFault S.Shelf (result.0.why ≡ Why.ShelfFault) shelf.old shelf.new }
-    ensures hands { Hands O.Sink E.Sink (result.0.why ≡ Why.OutFault) (result.0.why ≡ Why.ErrFault) out.old err.old
-        out.new err.new }
+    ensures keeps { Keeps D.Disk result.0 disk result.1 }
+    ensures streams { Streams S.Shelf O.Sink E.Sink (reads_shelf (asked_task words.now ask.now))
+        (λ why. result.0.why ≡ why) (shelf.old, out.old, err.old)
+        (shelf.new, out.new, err.new) }
 {
     match task_of(alloc, words, ask) {
         Ok(task) => change(alloc, disk, shelf, &task, now, out, err),

@@ -1,9 +1,7 @@
 //! The top call: a command line does what its command's steps say.
 
-ghost use Rattle.std.specs.Prelude.{◌≡◌, ◌≢◌, ◌+◌, ◌≤◌, [], false, IsTrue, None};
-ghost use Rattle.rpm_words.specs.declared.switch.Chosen.TheVariants as by;
-ghost use Rattle.rpm_words.specs.declared.ask.Mode.TheVariants as mode;
-ghost use Rattle.rpm_tool.specs.Prelude.{Answers, AnswersWords, ask, asks, Causes, closing, DiskFault, Does, Ends, Hands, is_changing, is_done, is_of_words, IsSound, Laws, outs, ran, ShelfFault, shown, status_of};
+ghost use Rattle.std.specs.Prelude.{◌≡◌, true, false, None};
+ghost use Rattle.rpm_tool.specs.Prelude.{Answers, AnswersWords, asks, Causes, closing, DiskFault, Does, Ends, is_changing, IsSound, Keeps, Laws, outs, ran, shown, status_of, Streams};
 
 use crate::answer::{Outcome, Why, status_of};
 use crate::asked::{by_key, of_files, read_command};
@@ -34,15 +32,10 @@ fn begin<D: Disk, S: Shelf, O: Sink + Drop, E: Sink + Drop>(
     ensures does { Does (ran D.Disk S.Shelf words.now now result.0.why result.0.changes (disk, shelf.old)
         (shown O.Sink E.Sink out.old err.old) (result.1, shelf.new)) ask.now format.now
         (shown O.Sink E.Sink out.new err.new) }
-    ensures done { is_of_words result.0.why ≡ false }
     ensures idle { is_changing ask.now ≡ false → result.0.changes ≡ 0 }
-    ensures counted { is_done result.0.why ≡ false → result.0.changes ≡ 0 }
-    ensures paths { IsTrue S.tells → S.paths shelf.new ≡ S.paths shelf.old }
-    ensures goes_on { D.follows disk result.1 }
-    ensures disk { DiskFault D.Disk (result.0.why ≡ Why.DiskFault) disk result.1 }
-    ensures shelf { ShelfFault S.Shelf (result.0.why ≡ Why.ShelfFault) shelf.old shelf.new }
-    ensures hands { Hands O.Sink E.Sink (result.0.why ≡ Why.OutFault) (result.0.why ≡ Why.ErrFault) out.old err.old
-        out.new err.new }
+    ensures keeps { Keeps D.Disk result.0 disk result.1 }
+    ensures streams { Streams S.Shelf O.Sink E.Sink true (λ why. result.0.why ≡ why) (shelf.old, out.old, err.old)
+        (shelf.new, out.new, err.new) }
 {
     if is_changing(ask) {
         change_asked(alloc, words, ask, disk, shelf, out, err, now)
@@ -74,9 +67,8 @@ fn command<D: Disk, S: Shelf, O: Sink + Drop, E: Sink + Drop>(
     ensures answers { Answers (ran D.Disk S.Shelf words.now now result.0.why result.0.changes (disk, shelf.old)
         (shown O.Sink E.Sink out.old err.old) (result.1, shelf.new)) (shown O.Sink E.Sink out.new err.new) }
     ensures disk { DiskFault D.Disk (result.0.why ≡ Why.DiskFault) disk result.1 }
-    ensures shelf { ShelfFault S.Shelf (result.0.why ≡ Why.ShelfFault) shelf.old shelf.new }
-    ensures hands { Hands O.Sink E.Sink (result.0.why ≡ Why.OutFault) (result.0.why ≡ Why.ErrFault) out.old err.old
-        out.new err.new }
+    ensures streams { Streams S.Shelf O.Sink E.Sink true (λ why. result.0.why ≡ why) (shelf.old, out.old, err.old)
+        (shelf.new, out.new, err.new) }
 {
     match read_command(alloc, words) {
         Ok((ask, format)) => begin(alloc, words, &ask, &format, disk, shelf, out, err, now),

@@ -1,8 +1,7 @@
 //! What is told of the paths that several packages own and that differ.
 
 ghost use Rattle.std.specs.Prelude.{◌≡◌, ◌≢◌, ◌+◌, ◌≤◌, ℕ, [], ◌∷◌, map, false, IsTrue, Err};
-ghost use Rattle.rpm_tool.specs.Prelude.{check_files, conflict_step, cost_all, DiskFault, EndHands, ErrTakes, Everything, fails, Hand, holds, if_differs, is_foreign, is_some_of, Kept, label_told, Looks, OutTakes, packages_in, PartIs, Pkg, pkg_read, Reached, reached_by, shown, StepIs, StopHands, together, told_steps, unread_step, Went, whole};
-ghost use Rattle.rpm_db.specs.Database as database;
+ghost use Rattle.rpm_tool.specs.Prelude.{check_files, conflict_step, cost_all, DiskFault, EndHands, ErrTakes, Everything, fails, Hand, holds, if_differs, is_foreign, is_some_of, IsAskable, label_told, Looks, OutTakes, packages_in, PartIs, Pkg, pkg_read, Reached, reached_by, shown, StepIs, StopHands, together, told_steps, unread_step, Went, whole};
 
 use crate::answer::Why;
 use crate::pieces::put_line;
@@ -134,9 +133,7 @@ pub fn check_files<D: Disk, O: Sink + Drop, E: Sink + Drop>(
     out: &mut Buffered<O>,
     err: &mut Buffered<E>,
 ) -> Why
-    requires keeps { Kept D.Disk disk.old db.now }
-    requires runs { db.now.stopped ≡ false }
-    requires from_one { database.holds 0 db.now ≡ false }
+    requires asked { IsAskable D.Disk disk.old db.now }
     ensures went { IsTrue D.tells → Went (check_files (packages_in D.Disk disk.old db.now)) result
         (shown O.Sink E.Sink out.old err.old) (shown O.Sink E.Sink out.new err.new)
         (λ for. pkg_read D.Disk disk.new ≤ pkg_read D.Disk disk.old + reached_by (Everything ∷ []) db.now for) }

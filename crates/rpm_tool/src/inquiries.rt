@@ -1,8 +1,7 @@
 //! What is asked of a database that was opened with its index.
 
 ghost use Rattle.std.specs.Prelude.{◌≡◌, ◌+◌, ◌≤◌, [], map, true, false, IsTrue};
-ghost use Rattle.rpm_tool.specs.Prelude.{Anywhere, argument_reach, before, CauseIs, DiskFault, DoesBy, EndHands, HasRows, holds, idle, inquiry_of, is_foreign, is_indexed, is_of_opening, is_query, IsOfSome, Kept, KeptIndex, OrderIs, Outputs, packages_in, PartIs, Peeks, pkg_read, Portion, reach_sum, reached_by, reaches_by, shown, text_at, unsatisfied, Went, why_of_report};
-ghost use Rattle.rpm_db.specs.Database as database;
+ghost use Rattle.rpm_tool.specs.Prelude.{Anywhere, argument_reach, before, CauseIs, DiskFault, DoesBy, EndHands, HasRows, holds, idle, inquiry_of, is_foreign, is_indexed, is_of_opening, is_query, IsAskable, IsOfSome, OrderIs, Outputs, packages_in, PartIs, Peeks, pkg_read, Portion, reach_sum, reached_by, reaches_by, shown, text_at, unsatisfied, Went, why_of_report};
 
 use crate::answer::Why;
 use crate::asked::{Inquiry, inquiry_of};
@@ -31,56 +30,6 @@ fn why_of_report(told: Result<bool, Stop>) -> Why
     }
 }
 
-/// Tells the requirements that no package meets.
-fn answer_unmet<D: Disk, O: Sink + Drop, E: Sink + Drop>(
-    alloc: Global,
-    db: &Db,
-    disk: &mut D,
-    out: &mut Buffered<O>,
-    err: &mut Buffered<E>,
-) -> Why
-    requires keeps { Kept D.Disk disk.old db.now }
-    requires runs { db.now.stopped ≡ false }
-    requires keeps_index { KeptIndex D.Disk disk.old db.now }
-    requires from_one { database.holds 0 db.now ≡ false }
-    ensures went { IsTrue D.tells → HasRows D.Disk disk.old db.now
-        → Went (unsatisfied (packages_in D.Disk disk.old db.now)) result (shown O.Sink E.Sink out.old err.old)
-        (shown O.Sink E.Sink out.new err.new) Anywhere }
-    ensures done { is_foreign result ≡ false }
-    ensures opened { is_of_opening result ≡ false }
-    ensures bad_index { IsTrue D.tells → IsOfSome (D.files disk.old).idx result }
-    ensures looks { Peeks D.Disk true disk.old disk.new }
-    ensures disk { DiskFault D.Disk (result ≡ Why.DiskFault) disk.old disk.new }
-    ensures hands { EndHands O.Sink E.Sink result out.old err.old out.new err.new }
-{
-    why_of_report(report_unmet(alloc, db, disk, out, err))
-}
-
-/// Tells an order in which the packages could be installed.
-fn answer_order<D: Disk, O: Sink + Drop, E: Sink + Drop>(
-    alloc: Global,
-    db: &Db,
-    disk: &mut D,
-    out: &mut Buffered<O>,
-    err: &mut Buffered<E>,
-) -> Why
-    requires keeps { Kept D.Disk disk.old db.now }
-    requires runs { db.now.stopped ≡ false }
-    requires keeps_index { KeptIndex D.Disk disk.old db.now }
-    requires from_one { database.holds 0 db.now ≡ false }
-    ensures went { IsTrue D.tells → HasRows D.Disk disk.old db.now
-        → OrderIs (packages_in D.Disk disk.old db.now) result (shown O.Sink E.Sink out.old err.old)
-        (shown O.Sink E.Sink out.new err.new) }
-    ensures done { is_foreign result ≡ false }
-    ensures opened { is_of_opening result ≡ false }
-    ensures bad_index { IsTrue D.tells → IsOfSome (D.files disk.old).idx result }
-    ensures looks { Peeks D.Disk true disk.old disk.new }
-    ensures disk { DiskFault D.Disk (result ≡ Why.DiskFault) disk.old disk.new }
-    ensures hands { EndHands O.Sink E.Sink result out.old err.old out.new err.new }
-{
-    why_of_report(report_order(alloc, db, disk, out, err))
-}
-
 /// Answers what a command asks of a database that was opened with its index.
 pub fn answer_inquiry<D: Disk, O: Sink + Drop, E: Sink + Drop>(
     alloc: Global,
@@ -92,10 +41,7 @@ pub fn answer_inquiry<D: Disk, O: Sink + Drop, E: Sink + Drop>(
     out: &mut Buffered<O>,
     err: &mut Buffered<E>,
 ) -> Why
-    requires keeps { Kept D.Disk disk.old db.now }
-    requires runs { db.now.stopped ≡ false }
-    requires keeps_index { KeptIndex D.Disk disk.old db.now }
-    requires from_one { database.holds 0 db.now ≡ false }
+    requires asked { IsAskable D.Disk disk.old db.now }
     ensures went { IsTrue D.tells → HasRows D.Disk disk.old db.now
         → DoesBy (inquiry_of ask.now.mode) format.now words.now ask.now (packages_in D.Disk disk.old db.now)
         (λ for. pkg_read D.Disk disk.new ≤ pkg_read D.Disk disk.old + reached_by
@@ -115,7 +61,7 @@ pub fn answer_inquiry<D: Disk, O: Sink + Drop, E: Sink + Drop>(
 {
     match inquiry_of(ask.mode()) {
         Inquiry::Query => query_opened(alloc, db, disk, words, ask, format, out, err),
-        Inquiry::Unmet => answer_unmet(alloc, db, disk, out, err),
-        Inquiry::Order => answer_order(alloc, db, disk, out, err),
+        Inquiry::Unmet => why_of_report(report_unmet(alloc, db, disk, out, err)),
+        Inquiry::Order => why_of_report(report_order(alloc, db, disk, out, err)),
     }
 }

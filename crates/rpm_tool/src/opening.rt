@@ -1,8 +1,7 @@
 //! Opening the database to change it.
 
-ghost use Rattle.std.specs.Prelude.{◌≡◌, [], true, false, not, IsTrue, Err, IfOk, IfErr, OnOk};
-ghost use Rattle.rpm_tool.specs.Prelude.{begun, DiskFault, images, Indexed, is_blank, is_indexed, IsBroken, IsLawful, IsOfOpening, IsOutside, IsSettled, IsWholeIndex, OpensBy, OpensWithin, ReachesMade, ReachesTo, Runs, SameLog, Serving, state_in, store, units_for, why_of_open};
-ghost use Rattle.rpm_db.specs.Database as database;
+ghost use Rattle.std.specs.Prelude.{◌≡◌, false, not, IsTrue, Err, IfOk, IfErr, OnOk};
+ghost use Rattle.rpm_tool.specs.Prelude.{BeginsOn, DiskFault, images, is_blank, is_indexed, IsOfOpening, IsOutside, IsSettled, OpensBy, OpensOn, Runs, SameLog, Serving, store, why_of_open};
 
 use crate::answer::Why;
 use rpm_db::{ChangeFault, Db, DbOpenFault};
@@ -27,19 +26,7 @@ fn make_blank<D: Disk>(alloc: Global, db: &mut Db, disk: &mut D) -> Result<(), W
     requires indexed { is_indexed db.old ≡ not (is_blank db.old) }
     requires serving { Serving D.Disk disk.old db.old }
     requires pkg { IsTrue D.tells → IsSettled File.Pkg (D.files disk.old) (images D.Disk disk.old) }
-    ensures indexed { OnOk result (is_indexed db.new ≡ true) }
-    ensures going { OnOk result (db.new.stopped ≡ false) }
-    ensures serving { OnOk result (Serving D.Disk disk.new db.new) }
-    ensures state { OnOk result (IsTrue D.tells → state_in D.Disk disk.new db.new ≡ state_in D.Disk disk.old db.old) }
-    ensures begun { OnOk result (db.new.store ≡ begun db.old.store) }
-    ensures not_blank { OnOk result (is_blank db.new ≡ false) }
-    ensures rows { OnOk result (IsTrue D.tells → (is_blank db.old ≡ false → Indexed D.Disk disk.old db.old)
-        → Indexed D.Disk disk.new db.new) }
-    ensures whole { OnOk result (IsTrue D.tells → (is_blank db.old ≡ false → IsWholeIndex (D.files disk.old).idx)
-        → IsWholeIndex (D.files disk.new).idx) }
-    ensures reach { OnOk result (IsTrue D.tells
-        → ReachesMade (units_for []) (D.files disk.old).idx (D.files disk.new).idx) }
-    ensures end { OnOk result (IsTrue D.tells → ReachesTo db.new.store (D.files disk.old).pkg (D.files disk.new).pkg) }
+    ensures begins { OnOk result (BeginsOn D.Disk disk.old disk.new db.old db.new) }
     ensures fault { IfErr result IsOutside }
     ensures runs { Runs D.Disk SameLog disk.old disk.new }
     ensures disk { DiskFault D.Disk (result ≡ Err Why.DiskFault) disk.old disk.new }
@@ -54,21 +41,9 @@ fn make_blank<D: Disk>(alloc: Global, db: &mut Db, disk: &mut D) -> Result<(), W
 
 /// Opens the database with its index, to change it; where there is none, one is made.
 pub(crate) fn open_to_change<D: Disk>(alloc: Global, disk: &mut D) -> Result<Db, Why>
-    ensures opened { IsTrue D.tells → OpensBy (D.files disk.old) (store (D.files disk.old).pkg)
+    ensures found { IsTrue D.tells → OpensBy (D.files disk.old) (store (D.files disk.old).pkg)
         (D.files disk.new) result }
-    ensures indexed { IfOk result (λ db. is_indexed db ≡ true) }
-    ensures going { IfOk result (λ db. db.stopped ≡ false) }
-    ensures from_one { IfOk result (λ db. IsTrue D.tells → database.holds 0 db ≡ false) }
-    ensures serving { IfOk result (λ db. Serving D.Disk disk.new db) }
-    ensures rows { IfOk result (λ db. IsTrue D.tells → IsLawful (D.files disk.old).pkg (D.files disk.old).idx
-        → Indexed D.Disk disk.new db) }
-    ensures broken { IfOk result (λ _db. IsTrue D.tells → ¬ IsWholeIndex (D.files disk.new).idx
-        → IsBroken (D.files disk.old).pkg (D.files disk.old).idx) }
-    ensures begun { IfOk result (λ db. IsTrue D.tells
-        → IfOk (store (D.files disk.old).pkg) (λ value. db.store ≡ begun value)) }
-    ensures reach { IfOk result (λ db. IsTrue D.tells → IfOk (store (D.files disk.old).pkg)
-        (λ value. OpensWithin (D.files disk.old) value db (D.files disk.new))) }
-    ensures not_blank { IfOk result (λ db. is_blank db ≡ false) }
+    ensures opens { IfOk result (OpensOn D.Disk disk.old disk.new) }
     ensures fault { IfErr result IsOfOpening }
     ensures runs { Runs D.Disk SameLog disk.old disk.new }
     ensures disk { DiskFault D.Disk (result ≡ Err Why.DiskFault) disk.old disk.new }

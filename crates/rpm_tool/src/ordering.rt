@@ -1,8 +1,7 @@
 //! An order in which the packages could be installed.
 
-ghost use Rattle.std.specs.Prelude.{◌≡◌, ◌≢◌, ℕ, ◌<◌, [], map, true, false, IsTrue, Err, IfOk, IfErr};
-ghost use Rattle.rpm_tool.specs.Prelude.{Anywhere, class_steps, ClassesAre, cycle_line, DiskFault, flat_map, graph_of, Hand, HasRows, header, holds, is_of_sink, IsOrder, Kept, KeptIndex, label_step, label_text, OrderPartIs, OutTakes, packages_in, Peeks, Reached, read_text, shown, StepIs, StopHands, StopsOfSome, ToOut, whole};
-ghost use Rattle.rpm_db.specs.Database as database;
+ghost use Rattle.std.specs.Prelude.{◌≡◌, ◌≢◌, ℕ, ◌<◌, map, true, false, IsTrue, Err, IfOk, IfErr};
+ghost use Rattle.rpm_tool.specs.Prelude.{Anywhere, class_steps, ClassesAre, cycle_line, DiskFault, flat_map, graph_of, Hand, HasRows, header, is_of_sink, IsAskable, IsOrder, label_step, label_text, OrderPartIs, OutTakes, packages_in, Peeks, Reached, read_text, ReadsBy, shown, StepIs, StopHands, StopsOfSome, TellsOut, ToOut, whole};
 
 use crate::step::{Stop, put_text};
 use crate::unreadable::{read_blob, stop_of_check, tell_each_bad};
@@ -56,16 +55,11 @@ fn put_label<D: Disk, O: Sink + Drop>(
     indent: &[u8],
     out: &mut Buffered<O>,
 ) -> Result<bool, Stop>
-    requires keeps { Kept D.Disk disk.old db.now }
-    requires runs { db.now.stopped ≡ false }
-    ensures kept { Kept D.Disk disk.new db.now }
+    requires asked { IsAskable D.Disk disk.old db.now }
     ensures step { IsTrue D.tells → OutTakes O.Sink (StepIs (label_step (packages_in D.Disk disk.old db.now) indent.now
         number) result) out.old out.new }
-    ensures looks { Peeks D.Disk true disk.old disk.new }
     ensures unbroken { (unit : ℕ) → result ≢ Err (Stop.BadIndex unit) }
-    ensures no_err { result ≢ Err Stop.ErrFault }
-    ensures disk { DiskFault D.Disk (result ≡ Err Stop.ReadFault) disk.old disk.new }
-    ensures out { Hand O.Sink (result ≡ Err Stop.OutFault) out.old out.new }
+    ensures tells { TellsOut D.Disk O.Sink result disk.old disk.new out.old out.new }
 {
     let blob = match read_blob(alloc, db, disk, number) {
         Ok(blob) => blob,
@@ -86,17 +80,12 @@ fn put_labels<D: Disk, O: Sink + Drop>(
     indent: &[u8],
     out: &mut Buffered<O>,
 ) -> Result<(), Stop>
-    requires keeps { Kept D.Disk disk.old db.now }
-    requires runs { db.now.stopped ≡ false }
-    ensures kept { Kept D.Disk disk.new db.now }
+    requires asked { IsAskable D.Disk disk.old db.now }
     ensures went { IsTrue D.tells → OutTakes O.Sink (λ old new. Reached
         (map (label_step (packages_in D.Disk disk.old db.now) indent.now) class.now) result old new Anywhere)
         out.old out.new }
-    ensures looks { Peeks D.Disk true disk.old disk.new }
     ensures unbroken { (unit : ℕ) → result ≢ Err (Stop.BadIndex unit) }
-    ensures no_err { result ≢ Err Stop.ErrFault }
-    ensures disk { DiskFault D.Disk (result ≡ Err Stop.ReadFault) disk.old disk.new }
-    ensures out { Hand O.Sink (result ≡ Err Stop.OutFault) out.old out.new }
+    ensures tells { TellsOut D.Disk O.Sink result disk.old disk.new out.old out.new }
 {
     for number in class {
         match put_label(alloc, db, disk, *number, indent, out) {
@@ -146,16 +135,11 @@ fn put_class<D: Disk, O: Sink + Drop>(
     class: &[u32],
     out: &mut Buffered<O>,
 ) -> Result<(), Stop>
-    requires keeps { Kept D.Disk disk.old db.now }
-    requires runs { db.now.stopped ≡ false }
-    ensures kept { Kept D.Disk disk.new db.now }
+    requires asked { IsAskable D.Disk disk.old db.now }
     ensures went { IsTrue D.tells → OutTakes O.Sink (λ old new. Reached
         (class_steps (packages_in D.Disk disk.old db.now) class.now) result old new Anywhere) out.old out.new }
-    ensures looks { Peeks D.Disk true disk.old disk.new }
     ensures unbroken { (unit : ℕ) → result ≢ Err (Stop.BadIndex unit) }
-    ensures no_err { result ≢ Err Stop.ErrFault }
-    ensures disk { DiskFault D.Disk (result ≡ Err Stop.ReadFault) disk.old disk.new }
-    ensures out { Hand O.Sink (result ≡ Err Stop.OutFault) out.old out.new }
+    ensures tells { TellsOut D.Disk O.Sink result disk.old disk.new out.old out.new }
 {
     let count = class.len();
     if count == 1 {
@@ -175,16 +159,12 @@ fn put_classes<D: Disk, O: Sink + Drop>(
     list: &ClassList,
     out: &mut Buffered<O>,
 ) -> Result<(), Stop>
-    requires keeps { Kept D.Disk disk.old db.now }
-    requires runs { db.now.stopped ≡ false }
+    requires asked { IsAskable D.Disk disk.old db.now }
     ensures went { IsTrue D.tells → OutTakes O.Sink
         (λ old new. Reached (flat_map (class_steps (packages_in D.Disk disk.old db.now)) list.now) result old new
         Anywhere) out.old out.new }
-    ensures looks { Peeks D.Disk true disk.old disk.new }
     ensures unbroken { (unit : ℕ) → result ≢ Err (Stop.BadIndex unit) }
-    ensures no_err { result ≢ Err Stop.ErrFault }
-    ensures disk { DiskFault D.Disk (result ≡ Err Stop.ReadFault) disk.old disk.new }
-    ensures out { Hand O.Sink (result ≡ Err Stop.OutFault) out.old out.new }
+    ensures tells { TellsOut D.Disk O.Sink result disk.old disk.new out.old out.new }
 {
     for k in 0..list.classes() {
         match put_class(alloc, db, disk, list.class(k), out) {
@@ -197,19 +177,12 @@ fn put_classes<D: Disk, O: Sink + Drop>(
 
 /// The packages in an order in which they could be installed.
 fn list_classes<D: Disk>(alloc: Global, db: &Db, disk: &mut D) -> Result<ClassList, Stop>
-    requires keeps { Kept D.Disk disk.old db.now }
-    requires keeps_index { KeptIndex D.Disk disk.old db.now }
-    requires runs { db.now.stopped ≡ false }
-    requires from_one { database.holds 0 db.now ≡ false }
-    ensures kept { Kept D.Disk disk.new db.now }
+    requires asked { IsAskable D.Disk disk.old db.now }
     ensures told { IfOk result (λ list. IsTrue D.tells → HasRows D.Disk disk.old db.now
         → IsOrder (graph_of (packages_in D.Disk disk.old db.now)) list) }
     ensures broken { IsTrue D.tells → IfErr result (StopsOfSome (D.files disk.old).idx) }
     ensures lawful { IsTrue D.tells → HasRows D.Disk disk.old db.now → IfErr result (λ stop. is_of_sink stop ≡ false) }
-    ensures no_out { result ≢ Err Stop.OutFault }
-    ensures no_err { result ≢ Err Stop.ErrFault }
-    ensures looks { Peeks D.Disk true disk.old disk.new }
-    ensures disk { DiskFault D.Disk (result ≡ Err Stop.ReadFault) disk.old disk.new }
+    ensures reads { ReadsBy D.Disk result disk.old disk.new }
 {
     let graph = match read_graph(alloc, db, disk) {
         Ok(graph) => graph,
@@ -228,17 +201,11 @@ fn tell_order<D: Disk, O: Sink + Drop>(
     disk: &mut D,
     out: &mut Buffered<O>,
 ) -> Result<(), Stop>
-    requires keeps { Kept D.Disk disk.old db.now }
-    requires keeps_index { KeptIndex D.Disk disk.old db.now }
-    requires runs { db.now.stopped ≡ false }
-    requires from_one { database.holds 0 db.now ≡ false }
+    requires asked { IsAskable D.Disk disk.old db.now }
     ensures went { IsTrue D.tells → HasRows D.Disk disk.old db.now
         → OutTakes O.Sink (ClassesAre (packages_in D.Disk disk.old db.now) result) out.old out.new }
     ensures broken { IsTrue D.tells → IfErr result (StopsOfSome (D.files disk.old).idx) }
-    ensures no_err { result ≢ Err Stop.ErrFault }
-    ensures looks { Peeks D.Disk true disk.old disk.new }
-    ensures disk { DiskFault D.Disk (result ≡ Err Stop.ReadFault) disk.old disk.new }
-    ensures out { Hand O.Sink (result ≡ Err Stop.OutFault) out.old out.new }
+    ensures tells { TellsOut D.Disk O.Sink result disk.old disk.new out.old out.new }
 {
     match list_classes(alloc, db, disk) {
         Ok(list) => put_classes(alloc, db, disk, &list, out),
@@ -260,10 +227,7 @@ pub fn report_order<D: Disk, O: Sink + Drop, E: Sink + Drop>(
     out: &mut Buffered<O>,
     err: &mut Buffered<E>,
 ) -> Result<bool, Stop>
-    requires keeps { Kept D.Disk disk.old db.now }
-    requires keeps_index { KeptIndex D.Disk disk.old db.now }
-    requires runs { db.now.stopped ≡ false }
-    requires from_one { database.holds 0 db.now ≡ false }
+    requires asked { IsAskable D.Disk disk.old db.now }
     ensures went { IsTrue D.tells → HasRows D.Disk disk.old db.now
         → OrderPartIs (packages_in D.Disk disk.old db.now) result (shown O.Sink E.Sink out.old err.old)
         (shown O.Sink E.Sink out.new err.new) }

@@ -1,7 +1,7 @@
 //! The packages that a question picks, printed one after the other.
 
 ghost use Rattle.std.specs.Prelude.{◌≡◌, ◌≢◌, ℕ, ◌+◌, ◌-◌, ◌<◌, ◌≤◌, ◌||◌, [], false, IsTrue, Err, IfOk, IfSome};
-ghost use Rattle.rpm_tool.specs.Prelude.{above, cost_all, cost_to, cost_until, DiskFault, entry_in, fails_in, HasRows, holds, is_some_of, Kept, KeptIndex, Looks, NextIs, number_in, OneIs, packages_in, packages_part, PartIs, picks, Pkg, pkg_read, reach_all, reach_to, reach_until, ReadsIn, Serves, shown, step_by, stop_of, StopHands, unasked};
+ghost use Rattle.rpm_tool.specs.Prelude.{above, cost_all, cost_to, cost_until, DiskFault, entry_in, fails_in, HasRows, holds, is_some_of, IsAskable, Looks, NextIs, number_in, OneIs, packages_in, packages_part, PartIs, picks, Pkg, pkg_read, reach_all, reach_to, reach_until, ReadsIn, Serves, shown, step_by, stop_of, StopHands, unasked};
 ghost use Rattle.rpm_select.specs.Reach.{asks};
 
 use crate::step::{Stop, Way, print_picked};
@@ -35,11 +35,8 @@ pub fn begin_unasked<D: Disk>(
     disk: &mut D,
     selection: &Selection<'_>,
 ) -> Picker
-    requires keeps { Kept D.Disk disk.old db.now }
-    requires keeps_index { KeptIndex D.Disk disk.old db.now }
-    requires runs { db.now.stopped ≡ false }
+    requires asked { IsAskable D.Disk disk.old db.now }
     requires unasked { asks db.now selection.now ≡ false }
-    ensures kept { Kept D.Disk disk.new db.now }
     ensures reach { IsTrue D.tells → HasRows D.Disk disk.old db.now → result ≡ unasked selection.now }
     ensures serves { IsTrue D.tells → HasRows D.Disk disk.old db.now
         → Serves result (packages_in D.Disk disk.new db.now) selection.now }
@@ -87,10 +84,8 @@ fn print_next<D: Disk, O: Sink + Drop, E: Sink + Drop>(
     out: &mut Buffered<O>,
     err: &mut Buffered<E>,
 ) -> Result<Option<(u32, bool)>, Stop>
-    requires keeps { Kept D.Disk disk.old db.now }
-    requires runs { db.now.stopped ≡ false }
+    requires asked { IsAskable D.Disk disk.old db.now }
     ensures same { picker.new ≡ picker.old }
-    ensures kept { Kept D.Disk disk.new db.now }
     ensures went { IsTrue D.tells → Serves picker.old (packages_in D.Disk disk.old db.now) selection.now → (j : ℕ)
         → NextIs (step_by way.now j) number (picks (packages_in D.Disk disk.old db.now) selection.now) result
         (shown O.Sink E.Sink out.old err.old) (shown O.Sink E.Sink out.new err.new)
@@ -125,10 +120,8 @@ pub fn print_above<D: Disk, O: Sink + Drop, E: Sink + Drop>(
     out: &mut Buffered<O>,
     err: &mut Buffered<E>,
 ) -> Result<PrintedPackages, Stop>
-    requires keeps { Kept D.Disk disk.old db.now }
-    requires runs { db.now.stopped ≡ false }
+    requires asked { IsAskable D.Disk disk.old db.now }
     ensures same { picker.new ≡ picker.old }
-    ensures kept { Kept D.Disk disk.new db.now }
     ensures went { IsTrue D.tells → Serves picker.old (packages_in D.Disk disk.old db.now) selection.now → (j : ℕ)
         → PartIs (packages_part (step_by way.now j) after (picks (packages_in D.Disk disk.old db.now) selection.now))
         (fails_in result) (shown O.Sink E.Sink out.old err.old) (shown O.Sink E.Sink out.new err.new)

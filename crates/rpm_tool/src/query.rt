@@ -1,9 +1,7 @@
 //! The queries of an opened database.
 
 ghost use Rattle.std.specs.Prelude.{◌≡◌, ◌≢◌, ◌+◌, ◌<◌, ◌≤◌, ℕ, [], ◌∷◌, if◌then◌else◌, false, map, IsTrue};
-ghost use Rattle.rpm_tool.specs.Prelude.{argument_part, argument_reach, before, cost_all, DiskFault, EndHands, Everything, HasRows, holds, idle, in_turn, is_foreign, is_indexed, is_of_opening, IsOfChains, Kept, KeptIndex, Looks, packages_in, packages_part, Peeks, picks, Pkg, pkg_read, query, reach_sum, reached_by, reaches_by, shown, step_by, text_at, Went};
-ghost use Rattle.rpm_tool.specs.Answers.{why_of};
-ghost use Rattle.rpm_db.specs.Database as database;
+ghost use Rattle.rpm_tool.specs.Prelude.{argument_part, argument_reach, before, cost_all, DiskFault, EndHands, Everything, HasRows, holds, idle, in_turn, is_foreign, is_indexed, is_of_opening, IsAskable, IsOfChains, Looks, packages_in, packages_part, Peeks, picks, Pkg, pkg_read, query, reach_sum, reached_by, reaches_by, shown, step_by, text_at, Went, why_of};
 ghost use Rattle.rpm_select.specs.declared.selection.Selection.TheVariants as question;
 
 use crate::answer::Why;
@@ -42,9 +40,7 @@ pub fn query_all<D: Disk, O: Sink + Drop, E: Sink + Drop>(
     out: &mut Buffered<O>,
     err: &mut Buffered<E>,
 ) -> Why
-    requires keeps { Kept D.Disk disk.old db.now }
-    requires runs { db.now.stopped ≡ false }
-    requires keeps_index { KeptIndex D.Disk disk.old db.now }
+    requires asked { IsAskable D.Disk disk.old db.now }
     ensures went { IsTrue D.tells → HasRows D.Disk disk.old db.now
         → Went (before (packages_part (step_by way.now 0) after (picks (packages_in D.Disk disk.old db.now)
         question.All)) idle) result (shown O.Sink E.Sink out.old err.old) (shown O.Sink E.Sink out.new err.new)
@@ -93,10 +89,7 @@ fn query_each<D: Disk, O: Sink + Drop, E: Sink + Drop>(
     out: &mut Buffered<O>,
     err: &mut Buffered<E>,
 ) -> Why
-    requires keeps { Kept D.Disk disk.old db.now }
-    requires runs { db.now.stopped ≡ false }
-    requires keeps_index { KeptIndex D.Disk disk.old db.now }
-    requires from_one { database.holds 0 db.now ≡ false }
+    requires asked { IsAskable D.Disk disk.old db.now }
     ensures went { IsTrue D.tells → HasRows D.Disk disk.old db.now
         → Went (in_turn (argument_part format.now (packages_in D.Disk disk.old db.now) ask.now.chosen ask.now.after) 0
         (map (text_at words.now) ask.now.arguments)) result (shown O.Sink E.Sink out.old err.old)
@@ -151,10 +144,7 @@ pub fn query_opened<D: Disk, O: Sink + Drop, E: Sink + Drop>(
     out: &mut Buffered<O>,
     err: &mut Buffered<E>,
 ) -> Why
-    requires keeps { Kept D.Disk disk.old db.now }
-    requires runs { db.now.stopped ≡ false }
-    requires keeps_index { KeptIndex D.Disk disk.old db.now }
-    requires from_one { database.holds 0 db.now ≡ false }
+    requires asked { IsAskable D.Disk disk.old db.now }
     ensures went { IsTrue D.tells → HasRows D.Disk disk.old db.now
         → Went (query format.now (packages_in D.Disk disk.old db.now) words.now ask.now) result
         (shown O.Sink E.Sink out.old err.old) (shown O.Sink E.Sink out.new err.new)

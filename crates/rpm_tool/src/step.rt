@@ -1,7 +1,7 @@
 //! What is printed of one package.
 
 ghost use Rattle.std.specs.Prelude.{◌≡◌, ◌≢◌, ℕ, [], ◌++◌, Err, IfOk};
-ghost use Rattle.rpm_tool.specs.Prelude.{bad_line, bearer, Bearer, ending, entry_in, ErrTakes, Good, Hand, holds, inner, magic, meaning, OutTakes, printed, Prints, shown, step_by, StepIs, StopHands, ToErr, ToOut};
+ghost use Rattle.rpm_tool.specs.Prelude.{bad_line, Bearer, bearer, ending, entry_in, ErrTakes, Good, Hand, holds, inner, magic, meaning, OutTakes, printed, Prints, shown, step_by, StepIs, StopHands, ToErr, ToOut};
 
 use itoa::Buffer;
 use rpm_header::{MAGIC, View};

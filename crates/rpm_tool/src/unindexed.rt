@@ -1,8 +1,7 @@
 //! The commands that open the database without its index.
 
 ghost use Rattle.std.specs.Prelude.{◌≡◌, ◌+◌, ◌≤◌, ℕ, [], false, IsTrue};
-ghost use Rattle.rpm_tool.specs.Prelude.{course, deed_of, DiskFault, EndHands, holds, is_foreign, is_indexed, Kept, Looks, LooksAt, Opened, Pkg, pkg_read, query_cost, reach_by, reach_cost, read_to, shown, store, Went};
-ghost use Rattle.rpm_db.specs.Database as database;
+ghost use Rattle.rpm_tool.specs.Prelude.{course, deed_of, DiskFault, EndHands, holds, is_foreign, is_indexed, IsAskable, Looks, LooksAt, Opened, Pkg, pkg_read, query_cost, reach_by, reach_cost, read_to, shown, store, Went};
 
 use crate::answer::Why;
 use crate::asked::{Deed, deed_of};
@@ -27,10 +26,8 @@ fn answer_opened<D: Disk, O: Sink + Drop, E: Sink + Drop>(
     out: &mut Buffered<O>,
     err: &mut Buffered<E>,
 ) -> Why
-    requires keeps { Kept D.Disk disk.old db.now }
-    requires runs { db.now.stopped ≡ false }
+    requires asked { IsAskable D.Disk disk.old db.now }
     requires no_index { is_indexed db.now ≡ false }
-    requires from_one { database.holds 0 db.now ≡ false }
     ensures went { IsTrue D.tells → Went (course format.now (D.files disk.old).pkg db.now.store words.now ask.now)
         result (shown O.Sink E.Sink out.old err.old) (shown O.Sink E.Sink out.new err.new)
         (λ for. pkg_read D.Disk disk.new ≤ pkg_read D.Disk disk.old + reach_by (deed_of ask.now.mode)

@@ -1,9 +1,8 @@
 //! What the reports read of packages, and the packages that can't be read.
 
-ghost use Rattle.std.specs.Prelude.{◌≡◌, ◌≢◌, ℕ, [], true, false, IsTrue, Err, IfOk};
+ghost use Rattle.std.specs.Prelude.{◌≡◌, ◌≢◌, ℕ, true, false, IsTrue, Err, IfOk};
 ghost use Rattle.std.specs.FinMap as finite;
-ghost use Rattle.rpm_tool.specs.Prelude.{Anywhere, bad_at, bad_parts, bad_step, DiskFault, ErrTakes, fails, Hand, holds, IsHeld, IsRead, Kept, packages_in, PartIs, Peeks, stop_of_check};
-ghost use Rattle.rpm_db.specs.Database as database;
+ghost use Rattle.rpm_tool.specs.Prelude.{Anywhere, bad_at, bad_parts, bad_step, ErrTakes, fails, Hand, IsAskable, IsHeld, IsRead, packages_in, PartIs, ReadsBy, stop_of_check, TellsErr};
 
 use crate::step::{Stop, put_bad};
 use rpm_check::CheckFault;
@@ -29,16 +28,11 @@ pub fn read_blob<D: Disk>(
     disk: &mut D,
     number: u32,
 ) -> Result<Vec<u8>, Stop>
-    requires keeps { Kept D.Disk disk.old db.now }
-    requires runs { db.now.stopped ≡ false }
-    ensures kept { Kept D.Disk disk.new db.now }
+    requires asked { IsAskable D.Disk disk.old db.now }
     ensures told { IfOk result (λ blob. IsTrue D.tells
         → IsRead (packages_in D.Disk disk.old db.now) number blob.items) }
-    ensures looks { Peeks D.Disk true disk.old disk.new }
     ensures unbroken { (unit : ℕ) → result ≢ Err (Stop.BadIndex unit) }
-    ensures no_out { result ≢ Err Stop.OutFault }
-    ensures no_err { result ≢ Err Stop.ErrFault }
-    ensures disk { DiskFault D.Disk (result ≡ Err Stop.ReadFault) disk.old disk.new }
+    ensures reads { ReadsBy D.Disk result disk.old disk.new }
 {
     match db.read(alloc, disk, number) {
         Ok(blob) => Ok(blob),
@@ -64,18 +58,13 @@ pub fn hold<D: Disk>(
     number: u32,
     held: &mut Held,
 ) -> Result<(), Stop>
-    requires keeps { Kept D.Disk disk.old db.now }
-    requires runs { db.now.stopped ≡ false }
+    requires asked { IsAskable D.Disk disk.old db.now }
     requires holding { IsTrue D.tells → IsHeld (packages_in D.Disk disk.old db.now) held.old }
-    ensures kept { Kept D.Disk disk.new db.now }
     ensures held { IsTrue D.tells → IsHeld (packages_in D.Disk disk.new db.now) held.new }
     ensures number { IfOk result (λ _done. held.new.number ≡ number) }
     ensures unread { held.old.number ≡ number → disk.new ≡ disk.old }
-    ensures looks { Peeks D.Disk true disk.old disk.new }
     ensures unbroken { (unit : ℕ) → result ≢ Err (Stop.BadIndex unit) }
-    ensures no_out { result ≢ Err Stop.OutFault }
-    ensures no_err { result ≢ Err Stop.ErrFault }
-    ensures disk { DiskFault D.Disk (result ≡ Err Stop.ReadFault) disk.old disk.new }
+    ensures reads { ReadsBy D.Disk result disk.old disk.new }
 {
     if held.number == number {
         return Ok(());
@@ -117,17 +106,12 @@ fn tell_bad<D: Disk, E: Sink + Drop>(
     number: u32,
     err: &mut Buffered<E>,
 ) -> Result<bool, Stop>
-    requires keeps { Kept D.Disk disk.old db.now }
-    requires runs { db.now.stopped ≡ false }
-    ensures kept { Kept D.Disk disk.new db.now }
+    requires asked { IsAskable D.Disk disk.old db.now }
     ensures went { IsTrue D.tells → ErrTakes E.Sink (λ old new. PartIs
         (bad_at number (finite.get (packages_in D.Disk disk.old db.now) number)) result old new Anywhere)
         err.old err.new }
-    ensures looks { Peeks D.Disk true disk.old disk.new }
-    ensures no_out { result ≢ Err Stop.OutFault }
     ensures unbroken { (unit : ℕ) → result ≢ Err (Stop.BadIndex unit) }
-    ensures disk { DiskFault D.Disk (result ≡ Err Stop.ReadFault) disk.old disk.new }
-    ensures err { Hand E.Sink (result ≡ Err Stop.ErrFault) err.old err.new }
+    ensures tells { TellsErr D.Disk E.Sink result disk.old disk.new err.old err.new }
 {
     match db.get(alloc, disk, number) {
         Ok(_blob) => Ok(false),
@@ -146,17 +130,11 @@ pub fn tell_each_bad<D: Disk, E: Sink + Drop>(
     disk: &mut D,
     err: &mut Buffered<E>,
 ) -> Result<bool, Stop>
-    requires keeps { Kept D.Disk disk.old db.now }
-    requires runs { db.now.stopped ≡ false }
-    requires from_one { database.holds 0 db.now ≡ false }
-    ensures kept { Kept D.Disk disk.new db.now }
+    requires asked { IsAskable D.Disk disk.old db.now }
     ensures went { IsTrue D.tells → ErrTakes E.Sink (λ old new. PartIs (bad_parts (packages_in D.Disk disk.old db.now))
         result old new Anywhere) err.old err.new }
-    ensures looks { Peeks D.Disk true disk.old disk.new }
-    ensures no_out { result ≢ Err Stop.OutFault }
     ensures unbroken { (unit : ℕ) → result ≢ Err (Stop.BadIndex unit) }
-    ensures disk { DiskFault D.Disk (result ≡ Err Stop.ReadFault) disk.old disk.new }
-    ensures err { Hand E.Sink (result ≡ Err Stop.ErrFault) err.old err.new }
+    ensures tells { TellsErr D.Disk E.Sink result disk.old disk.new err.old err.new }
 {
     let mut number = 0;
     let mut fails = false;

@@ -1,8 +1,7 @@
 //! The requirements that no package meets, each with its line.
 
 ghost use Rattle.std.specs.Prelude.{◌≡◌, ◌≢◌, ℕ, [], map, if◌then◌else◌, true, false, IsTrue, Err, IfOk, IfErr, slice_get};
-ghost use Rattle.rpm_tool.specs.Prelude.{Anywhere, depflags, DiskFault, Hand, has, HasRows, header, holds, is_of_sink, is_open, IsHeld, Kept, KeptIndex, letters, needed_in, option_map, OutTakes, packages_in, PartIs, Peeks, range_text, Reached, read_text, required, shown, StepIs, StopHands, StopsOfSome, unmet_line, unmet_part, unmet_step, unmet_text, unsatisfied_part};
-ghost use Rattle.rpm_db.specs.Database as database;
+ghost use Rattle.rpm_tool.specs.Prelude.{Anywhere, depflags, DiskFault, has, HasRows, header, is_of_sink, is_open, IsAskable, IsHeld, letters, needed_in, option_map, OutTakes, packages_in, PartIs, Peeks, range_text, Reached, read_text, ReadsBy, required, shown, StepIs, StopHands, StopsOfSome, TellsOut, unmet_line, unmet_part, unmet_step, unmet_text, unsatisfied_part};
 ghost use Rattle.rpm_check.specs.Unmet as lacking;
 
 use crate::step::{Stop, put_text};
@@ -136,20 +135,15 @@ fn put_unmet<D: Disk, O: Sink + Drop>(
     held: &mut Held,
     out: &mut Buffered<O>,
 ) -> Result<bool, Stop>
-    requires keeps { Kept D.Disk disk.old db.now }
-    requires runs { db.now.stopped ≡ false }
+    requires asked { IsAskable D.Disk disk.old db.now }
     requires holding { IsTrue D.tells → IsHeld (packages_in D.Disk disk.old db.now) held.old }
-    ensures kept { Kept D.Disk disk.new db.now }
     ensures held { IsTrue D.tells → IsHeld (packages_in D.Disk disk.new db.now) held.new }
     ensures number { IfOk result (λ _to_out. held.new.number ≡ unmet.number) }
     ensures unread { held.old.number ≡ unmet.number → disk.new ≡ disk.old }
     ensures step { IsTrue D.tells → OutTakes O.Sink (StepIs (unmet_step (packages_in D.Disk disk.old db.now) unmet)
         result) out.old out.new }
-    ensures looks { Peeks D.Disk true disk.old disk.new }
     ensures unbroken { (unit : ℕ) → result ≢ Err (Stop.BadIndex unit) }
-    ensures no_err { result ≢ Err Stop.ErrFault }
-    ensures disk { DiskFault D.Disk (result ≡ Err Stop.ReadFault) disk.old disk.new }
-    ensures out { Hand O.Sink (result ≡ Err Stop.OutFault) out.old out.new }
+    ensures tells { TellsOut D.Disk O.Sink result disk.old disk.new out.old out.new }
 {
     match hold(alloc, db, disk, unmet.number, held) {
         Ok(()) => {}
@@ -170,16 +164,11 @@ fn put_each_unmet<D: Disk, O: Sink + Drop>(
     list: &[Unmet],
     out: &mut Buffered<O>,
 ) -> Result<(), Stop>
-    requires keeps { Kept D.Disk disk.old db.now }
-    requires runs { db.now.stopped ≡ false }
-    requires from_one { database.holds 0 db.now ≡ false }
+    requires asked { IsAskable D.Disk disk.old db.now }
     ensures went { IsTrue D.tells → OutTakes O.Sink (λ old new. Reached
         (map (unmet_step (packages_in D.Disk disk.old db.now)) list.now) result old new Anywhere) out.old out.new }
-    ensures looks { Peeks D.Disk true disk.old disk.new }
     ensures unbroken { (unit : ℕ) → result ≢ Err (Stop.BadIndex unit) }
-    ensures no_err { result ≢ Err Stop.ErrFault }
-    ensures disk { DiskFault D.Disk (result ≡ Err Stop.ReadFault) disk.old disk.new }
-    ensures out { Hand O.Sink (result ≡ Err Stop.OutFault) out.old out.new }
+    ensures tells { TellsOut D.Disk O.Sink result disk.old disk.new out.old out.new }
 {
     // No package has the number 0.
     let mut held = Held {
@@ -197,19 +186,12 @@ fn put_each_unmet<D: Disk, O: Sink + Drop>(
 
 /// The requirements that no package meets.
 fn list_unmet<D: Disk>(alloc: Global, db: &Db, disk: &mut D) -> Result<UnmetList, Stop>
-    requires keeps { Kept D.Disk disk.old db.now }
-    requires keeps_index { KeptIndex D.Disk disk.old db.now }
-    requires runs { db.now.stopped ≡ false }
-    requires from_one { database.holds 0 db.now ≡ false }
-    ensures kept { Kept D.Disk disk.new db.now }
+    requires asked { IsAskable D.Disk disk.old db.now }
     ensures told { IfOk result (λ list. IsTrue D.tells → HasRows D.Disk disk.old db.now
         → list ≡ lacking.unmet (packages_in D.Disk disk.old db.now)) }
     ensures broken { IsTrue D.tells → IfErr result (StopsOfSome (D.files disk.old).idx) }
     ensures lawful { IsTrue D.tells → HasRows D.Disk disk.old db.now → IfErr result (λ stop. is_of_sink stop ≡ false) }
-    ensures no_out { result ≢ Err Stop.OutFault }
-    ensures no_err { result ≢ Err Stop.ErrFault }
-    ensures looks { Peeks D.Disk true disk.old disk.new }
-    ensures disk { DiskFault D.Disk (result ≡ Err Stop.ReadFault) disk.old disk.new }
+    ensures reads { ReadsBy D.Disk result disk.old disk.new }
 {
     match unmet(alloc, db, disk) {
         Ok(list) => Ok(list),
@@ -224,18 +206,12 @@ fn tell_unmet<D: Disk, O: Sink + Drop>(
     disk: &mut D,
     out: &mut Buffered<O>,
 ) -> Result<bool, Stop>
-    requires keeps { Kept D.Disk disk.old db.now }
-    requires keeps_index { KeptIndex D.Disk disk.old db.now }
-    requires runs { db.now.stopped ≡ false }
-    requires from_one { database.holds 0 db.now ≡ false }
+    requires asked { IsAskable D.Disk disk.old db.now }
     ensures went { IsTrue D.tells → HasRows D.Disk disk.old db.now
         → OutTakes O.Sink (λ old new. PartIs (unmet_part (packages_in D.Disk disk.old db.now)) result old new Anywhere)
         out.old out.new }
     ensures broken { IsTrue D.tells → IfErr result (StopsOfSome (D.files disk.old).idx) }
-    ensures no_err { result ≢ Err Stop.ErrFault }
-    ensures looks { Peeks D.Disk true disk.old disk.new }
-    ensures disk { DiskFault D.Disk (result ≡ Err Stop.ReadFault) disk.old disk.new }
-    ensures out { Hand O.Sink (result ≡ Err Stop.OutFault) out.old out.new }
+    ensures tells { TellsOut D.Disk O.Sink result disk.old disk.new out.old out.new }
 {
     let list = match list_unmet(alloc, db, disk) {
         Ok(list) => list,
@@ -259,10 +235,7 @@ pub fn report_unmet<D: Disk, O: Sink + Drop, E: Sink + Drop>(
     out: &mut Buffered<O>,
     err: &mut Buffered<E>,
 ) -> Result<bool, Stop>
-    requires keeps { Kept D.Disk disk.old db.now }
-    requires keeps_index { KeptIndex D.Disk disk.old db.now }
-    requires runs { db.now.stopped ≡ false }
-    requires from_one { database.holds 0 db.now ≡ false }
+    requires asked { IsAskable D.Disk disk.old db.now }
     ensures went { IsTrue D.tells → HasRows D.Disk disk.old db.now
         → PartIs (unsatisfied_part (packages_in D.Disk disk.old db.now)) result (shown O.Sink E.Sink out.old err.old)
         (shown O.Sink E.Sink out.new err.new) Anywhere }

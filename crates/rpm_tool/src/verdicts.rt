@@ -1,7 +1,7 @@
 //! What verifying says of all packages.
 
 ghost use Rattle.std.specs.Prelude.{◌≡◌, ◌≢◌, ◌+◌, ◌*◌, ◌≤◌, ℕ, [], ◌∷◌, map, true, false, IsTrue, Some, Err};
-ghost use Rattle.rpm_tool.specs.Prelude.{bearer, cost, cost_all, DiskFault, entries, entry_verdict, Everything, Hand, holds, inner, is_foreign, Kept, Looks, OutTakes, packages_in, PartIs, Pkg, pkg_read, reached_by, together, unsound, verdict, verdict_line, verdict_part, verify, Went, Writes};
+ghost use Rattle.rpm_tool.specs.Prelude.{bearer, cost, cost_all, DiskFault, entries, entry_verdict, Everything, Hand, holds, inner, is_foreign, IsAskable, Looks, OutTakes, packages_in, PartIs, Pkg, pkg_read, reached_by, together, unsound, verdict, verdict_line, verdict_part, verify, Went, Writes};
 ghost use Rattle.rpm_db.specs.Database as database;
 
 use crate::answer::Why;
@@ -75,10 +75,8 @@ fn verify_one<D: Disk, O: Sink + Drop>(
     number: u32,
     out: &mut Buffered<O>,
 ) -> Result<bool, Stop>
-    requires keeps { Kept D.Disk disk.old db.now }
-    requires runs { db.now.stopped ≡ false }
+    requires asked { IsAskable D.Disk disk.old db.now }
     requires there { database.holds number db.now ≡ true }
-    ensures kept { Kept D.Disk disk.new db.now }
     ensures went { IsTrue D.tells → OutTakes O.Sink (λ old new. PartIs
         (verdict_part number (verdict (D.files disk.old).pkg db.now number)) result old new
         (λ for. for ≡ bearer 0 number)) out.old out.new }
@@ -104,9 +102,7 @@ fn verify_all<D: Disk, O: Sink + Drop>(
     disk: &mut D,
     out: &mut Buffered<O>,
 ) -> Result<bool, Stop>
-    requires keeps { Kept D.Disk disk.old db.now }
-    requires runs { db.now.stopped ≡ false }
-    requires from_one { database.holds 0 db.now ≡ false }
+    requires asked { IsAskable D.Disk disk.old db.now }
     ensures went { IsTrue D.tells → OutTakes O.Sink (λ old new. PartIs
         (together (map (entry_verdict (D.files disk.old).pkg db.now.store)
         (entries (packages_in D.Disk disk.old db.now)))) result old new
@@ -138,9 +134,7 @@ pub fn report<D: Disk, O: Sink + Drop>(
     disk: &mut D,
     out: &mut Buffered<O>,
 ) -> Why
-    requires keeps { Kept D.Disk disk.old db.now }
-    requires runs { db.now.stopped ≡ false }
-    requires from_one { database.holds 0 db.now ≡ false }
+    requires asked { IsAskable D.Disk disk.old db.now }
     ensures went { IsTrue D.tells → OutTakes O.Sink (λ old new. Went (verify (D.files disk.old).pkg db.now.store) result
         old new (λ for. pkg_read D.Disk disk.new ≤ pkg_read D.Disk disk.old + reached_by (Everything ∷ []) db.now for))
         out.old out.new }

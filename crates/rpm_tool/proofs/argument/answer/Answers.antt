@@ -20,7 +20,11 @@ use Rattle.rpm_tool.proofs.Unbroken.{part_unbroken, chain_unbroken, chain_of}
 use Rattle.rpm_tool.proofs.Questions.{picked_same, reach_same, chain_same}
 use Rattle.rpm_tool.proofs.Reached.{served}
 use Rattle.rpm_tool.proofs.Answering.{part_reads}
+use Rattle.rpm_tool.proofs.Askable.{asked_still}
 use Rattle.rpm_tool.proofs.argument.answer.Goals as goal
+
+pub answer_question-requires : goal.answer_question-requires
+answer_question-requires g c = record { asked = asked_still g.D.Disk c.args.disk.now c.new.new.disk c.args.db.now c.in-Ok.ensures.looks.untouched c.requires.asked }
 
 pub returns-in-Ok-clause-went : goal.returns-in-Ok-clause-went
 returns-in-Ok-clause-went g c = λ told rows j.

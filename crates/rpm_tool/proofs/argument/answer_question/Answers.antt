@@ -14,7 +14,11 @@ use Rattle.rpm_tool.proofs.Nexts.{passed_here}
 use Rattle.rpm_tool.proofs.Rising.{none_at_all}
 use Rattle.rpm_tool.proofs.Answering.{answered_stop, answered_done, some_above}
 use Rattle.rpm_tool.proofs.argument.answer_question.Answers.Passing as passing
+use Rattle.rpm_tool.proofs.Askable.{asked_still}
 use Rattle.rpm_tool.proofs.argument.answer_question.Goals as goal
+
+pub is_any_passed-requires : goal.is_any_passed-requires
+is_any_passed-requires g c = record { asked = asked_still g.D.Disk c.args.disk.now c.print_above.new.disk c.args.db.now c.in-Ok.ensures.looks.untouched c.requires.asked }
 
 pub returns-in-Err-clause-went : goal.returns-in-Err-clause-went
 returns-in-Err-clause-went g c = λ told serves j.

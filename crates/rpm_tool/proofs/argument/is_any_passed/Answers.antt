@@ -10,7 +10,7 @@ pub returns-then-after-eq0-clause-told : goal.returns-then-after-eq0-clause-told
 returns-then-after-eq0-clause-told g c = λ told serves none.
     let file = (g.D.Disk.files c.args.disk.now).pkg in
     let es = picks (packages file c.args.db.now.store) c.args.selection.now in
-    let nothing : es ≡ [] = sym (picks_from_one file c.args.db.now c.args.selection.now c.requires.from_one)
+    let nothing : es ≡ [] = sym (picks_from_one file c.args.db.now c.args.selection.now c.requires.asked.from_one)
     ∙ subst (λ (k : ℕ). above k es ≡ []) c.if-after-eq0.true none in
     sym (ap is_some_of nothing)
 
@@ -18,4 +18,4 @@ pub returns-in-Ok-clause-told : goal.returns-in-Ok-clause-told
 returns-in-Ok-clause-told g c = λ told serves none.
     let file = (g.D.Disk.files c.args.disk.now).pkg in
     c.in-Ok.ensures.told told serves ∙ any_passed c.args.after (picks (packages file c.args.db.now.store) c.args.selection.now) none
-    (picks_from_one file c.args.db.now c.args.selection.now c.requires.from_one)
+    (picks_from_one file c.args.db.now c.args.selection.now c.requires.asked.from_one)

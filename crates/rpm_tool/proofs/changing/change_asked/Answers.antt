@@ -18,8 +18,15 @@ returns-in-Ok-clause-one g c = λ told shelf.
     (outputs g.O.Sink.tells (g.O.Sink.taken (inner c.change.new.out)) g.E.Sink.tells (g.E.Sink.taken (inner c.change.new.err)))) same
     (c.change.ensures.one told (λ reads. shelf (sym (ap reads_shelf same) ∙ reads)))
 
-pub returns-in-Ok-clause-shelf_unread : goal.returns-in-Ok-clause-shelf_unread
-returns-in-Ok-clause-shelf_unread g c = λ reads. c.change.ensures.shelf_unread (ap reads_shelf c.in-Ok.ensures.asked ∙ reads)
+pub returns-in-Ok-clause-streams : goal.returns-in-Ok-clause-streams
+returns-in-Ok-clause-streams g c =
+    let streams = c.change.ensures.streams in
+    record {
+      unread = λ reads. streams.unread (ap reads_shelf c.in-Ok.ensures.asked ∙ reads);
+      paths = streams.paths;
+      shelf = streams.shelf;
+      hands = streams.hands;
+    }
 
 pub returns-in-Err-clause-one : goal.returns-in-Err-clause-one
 returns-in-Err-clause-one g c = λ told shelf.

@@ -7,7 +7,7 @@ use Rattle.rpm_tool.proofs.command.begin.Goals as goal
 pub returns-then-is_changing-clause-does : goal.returns-then-is_changing-clause-does
 returns-then-is_changing-clause-does g c =
     let said = c.change_asked.ensures in
-    does_change _ _ _ _ (sym c.is_changing.ensures ∙ c.if-is_changing.true) said.one said.empty said.shelf_unread
+    does_change _ _ _ _ (sym c.is_changing.ensures ∙ c.if-is_changing.true) said.one said.empty said.streams.unread
 
 pub returns-then-of_files-clause-does : goal.returns-then-of_files-clause-does
 returns-then-of_files-clause-does g c =
@@ -29,20 +29,54 @@ returns-else-by_key-clause-does g c =
     does_plain _ _ _ _ (sym c.of_files.ensures ∙ c.if-of_files.false) (sym c.by_key.ensures ∙ c.if-by_key.false)
     (sym c.is_changing.ensures ∙ c.if-is_changing.false) (λ told. record { went = said.went told; reads = said.reads told }) said.looks refl
 
-pub returns-then-by_key-clause-done : goal.returns-then-by_key-clause-done
-returns-then-by_key-clause-done g c = unforeign c.answer_keyed-why.result.0 c.answer_keyed-why.ensures.done
+-- ---- what each keeps
 
-pub returns-then-by_key-clause-shelf : goal.returns-then-by_key-clause-shelf
-returns-then-by_key-clause-shelf g c = record {
-  later = omega arith;
-  rose = λ is. let both : true ≡ false = sym (ap is_foreign is) ∙ c.answer_keyed-why.ensures.done in absurd cc;
+pub returns-then-is_changing-clause-streams : goal.returns-then-is_changing-clause-streams
+returns-then-is_changing-clause-streams g c =
+    let streams = c.change_asked.ensures.streams in
+    record { unread = λ is. absurd cc; paths = streams.paths; shelf = streams.shelf; hands = streams.hands }
+
+pub returns-then-of_files-clause-keeps : goal.returns-then-of_files-clause-keeps
+returns-then-of_files-clause-keeps g c = record {
+  counted = λ is. refl;
+  of_words = c.print_files-why.ensures.done;
+  goes_on = g.met.D.Disk.follows_refl c.args.disk;
+  disk = record { later = omega arith; rose = λ is. absurd (c.print_files-why.ensures.no_disk is) };
 }
 
-pub returns-else-by_key-clause-done : goal.returns-else-by_key-clause-done
-returns-else-by_key-clause-done g c = unforeign c.answer_loaded-why.result.0 c.answer_loaded-why.ensures.done
+pub returns-then-of_files-clause-streams : goal.returns-then-of_files-clause-streams
+returns-then-of_files-clause-streams g c =
+    let said = c.print_files-why.ensures in
+    record { unread = λ is. absurd cc; paths = said.paths; shelf = said.shelf; hands = said.hands }
 
-pub returns-else-by_key-clause-shelf : goal.returns-else-by_key-clause-shelf
-returns-else-by_key-clause-shelf g c = record {
-  later = omega arith;
-  rose = λ is. let both : true ≡ false = sym (ap is_foreign is) ∙ c.answer_loaded-why.ensures.done in absurd cc;
+pub returns-then-by_key-clause-keeps : goal.returns-then-by_key-clause-keeps
+returns-then-by_key-clause-keeps g c =
+    let said = c.answer_keyed-why.ensures in
+    record { counted = λ is. refl; of_words = unforeign c.answer_keyed-why.result.0 said.done; goes_on = said.goes_on; disk = said.disk }
+
+pub returns-then-by_key-clause-streams : goal.returns-then-by_key-clause-streams
+returns-then-by_key-clause-streams g c = record {
+  unread = λ is. absurd cc;
+  paths = λ told. refl;
+  shelf = record {
+    later = omega arith;
+    rose = λ is. let both : true ≡ false = sym (ap is_foreign is) ∙ c.answer_keyed-why.ensures.done in absurd cc;
+  };
+  hands = c.answer_keyed-why.ensures.hands;
+}
+
+pub returns-else-by_key-clause-keeps : goal.returns-else-by_key-clause-keeps
+returns-else-by_key-clause-keeps g c =
+    let said = c.answer_loaded-why.ensures in
+    record { counted = λ is. refl; of_words = unforeign c.answer_loaded-why.result.0 said.done; goes_on = said.looks.goes_on; disk = said.disk }
+
+pub returns-else-by_key-clause-streams : goal.returns-else-by_key-clause-streams
+returns-else-by_key-clause-streams g c = record {
+  unread = λ is. absurd cc;
+  paths = λ told. refl;
+  shelf = record {
+    later = omega arith;
+    rose = λ is. let both : true ≡ false = sym (ap is_foreign is) ∙ c.answer_loaded-why.ensures.done in absurd cc;
+  };
+  hands = c.answer_loaded-why.ensures.hands;
 }

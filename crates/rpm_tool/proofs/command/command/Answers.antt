@@ -11,7 +11,7 @@ pub returns-in-Ok-clause-words : goal.returns-in-Ok-clause-words
 unfolding asks_format
 returns-in-Ok-clause-words g c =
     let words = c.args.words.now in
-    let done = c.begin.ensures.done in
+    let done = c.begin.ensures.keeps.of_words in
     record {
       usage = usage_of_done words (ask words) c.in-Ok.format c.in-Ok.ensures.ok.1 c.begin.result.0.why done;
       usage_kind = λ f is. let both : true ≡ false = sym (ap is_of_words is) ∙ done in absurd cc;
@@ -35,9 +35,9 @@ returns-in-Ok-clause-answers g c =
           rw (← same.0, ← same.1) c.begin.ensures.does;
       unasked = λ none. absurd (none_asked (ask words) (asks_format words) c.in-Ok.ask c.in-Ok.format read.0 read.1 none);
       idle = λ still. c.begin.ensures.idle (sym (ap changes_in read.0) ∙ still);
-      counted = c.begin.ensures.counted;
-      paths = c.begin.ensures.paths;
-      goes_on = c.begin.ensures.goes_on;
+      counted = c.begin.ensures.keeps.counted;
+      paths = c.begin.ensures.streams.paths;
+      goes_on = c.begin.ensures.keeps.goes_on;
     }
 
 pub returns-in-Err-clause-words : goal.returns-in-Err-clause-words

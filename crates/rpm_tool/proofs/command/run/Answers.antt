@@ -18,15 +18,15 @@ returns-clause-answers g c =
     let err = ap (λ (lent : _). lent.now) c.new-err.ensures.inner in
     ended g.O.Sink.tells g.E.Sink.tells g.O.Sink.taken g.E.Sink.taken g.E.Sink.faults (λ lent. lent.now) (closing c.args.words.now c.command-disk.result.0.why)
     c.put_closing.result (inner c.command-disk.new.out).now _ (inner c.new-err.result) (inner c.command-disk.new.err) (inner c.put_closing.new.err)
-    c.args.err.now _ err c.command-disk.ensures.hands.err.cause.later c.put_closing.ensures (search rules) (search rules) _
+    c.args.err.now _ err c.command-disk.ensures.streams.hands.err.cause.later c.put_closing.ensures (search rules) (search rules) _
     (rw (out, err) at c.command-disk.ensures.answers)
 
 pub returns-clause-causes : goal.returns-clause-causes
 returns-clause-causes g c =
-    let hands = c.command-disk.ensures.hands in
+    let hands = c.command-disk.ensures.streams.hands in
     record {
       disk = c.command-disk.ensures.disk;
-      shelf = c.command-disk.ensures.shelf;
+      shelf = c.command-disk.ensures.streams.shelf;
       out = counted_fault g.O.Sink.faults (inner c.command-disk.new.out).now (ap (λ (lent : _). lent.now) c.new-out.ensures.inner) hands.out.cause
           (omega arith) (search rules);
       err = counted_fault g.E.Sink.faults (inner c.put_closing.new.err).now (ap (λ (lent : _). lent.now) c.new-err.ensures.inner) hands.err.cause

@@ -20,6 +20,18 @@ use Rattle.rpm_tool.proofs.OpeningLaws.{leaves_peeks, runs_peeks, opened_rows, o
 use Rattle.rpm_tool.proofs.Endings.{went_by, unrefused, full_opened, by_fault, by_memory}
 use Rattle.rpm_tool.proofs.keyed.answer_indexed.Goals as goal
 
+pub answer_inquiry-requires : goal.answer_inquiry-requires
+answer_inquiry-requires g c =
+    let opened = c.in-Ok.ensures in
+    record {
+      asked = record {
+        keeps = λ told. (opened.opened told).keeps.0;
+        keeps_index = λ told. (opened.opened told).keeps.1;
+        runs = opened.fresh.going;
+        from_one = opened.fresh.from_one;
+      };
+    }
+
 pub returns-in-Ok-clause-went : goal.returns-in-Ok-clause-went
 returns-in-Ok-clause-went g c = λ told.
     let a = c.args.ask.now in

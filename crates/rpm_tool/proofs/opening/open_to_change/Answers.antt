@@ -16,8 +16,8 @@ use Rattle.rpm_tool.proofs.Limited.{stored_one}
 use Rattle.rpm_tool.proofs.Opened.{open_refused, open_made, open_unmade, open_kinds}
 use Rattle.rpm_tool.proofs.opening.open_to_change.Goals as goal
 
-pub returns-in-Err-clause-opened : goal.returns-in-Err-clause-opened
-returns-in-Err-clause-opened g c = λ told.
+pub returns-in-Err-clause-found : goal.returns-in-Err-clause-found
+returns-in-Err-clause-found g c = λ told.
     rw c.why_of_open.ensures (open_refused (g.D.Disk.files c.args.disk.now) (g.D.Disk.files c.open.new.disk) (g.D.Disk.files c.open.new.disk) c.in-Err.fault
     (c.in-Err.ensures.opened told))
 
@@ -32,19 +32,38 @@ returns-in-Err-clause-runs g c =
     (runs_none g.D.Disk.tells g.D.Disk.files g.D.Disk.left_since g.D.Disk.moment g.D.Disk.bytes_read g.D.Disk.follows g.met.D.Disk.follows_refl SameLog
     (λ f. refl) c.open.new.disk)
 
-pub returns-in-Ok-make_blank-clause-opened : goal.returns-in-Ok-make_blank-clause-opened
-returns-in-Ok-make_blank-clause-opened g c = λ told.
+pub returns-in-Ok-make_blank-clause-found : goal.returns-in-Ok-make_blank-clause-found
+returns-in-Ok-make_blank-clause-found g c = λ told.
     open_made (g.D.Disk.files c.args.disk.now) (g.D.Disk.files c.open.new.disk) (g.D.Disk.files c.make_blank.new.disk) c.in-Ok.db c.make_blank.new.db
-    (c.in-Ok.ensures.opened told) (c.in-Ok.ensures.runs.reads_as told).pkg (c.in-Ok-make_blank.ensures.state told)
+    (c.in-Ok.ensures.opened told) (c.in-Ok.ensures.runs.reads_as told).pkg (c.in-Ok-make_blank.ensures.begins.state_is told)
 
-pub returns-in-Ok-make_blank-clause-rows : goal.returns-in-Ok-make_blank-clause-rows
-returns-in-Ok-make_blank-clause-rows g c = λ told lawful.
-    c.in-Ok-make_blank.ensures.rows told (λ some. (c.in-Ok.ensures.opened told).index some lawful)
-
-pub returns-in-Ok-make_blank-clause-broken : goal.returns-in-Ok-make_blank-clause-broken
-returns-in-Ok-make_blank-clause-broken g c = λ told.
-    open_broken (g.D.Disk.files c.args.disk.now) (g.D.Disk.files c.open.new.disk) (g.D.Disk.files c.make_blank.new.disk) c.in-Ok.db
-    (c.in-Ok.ensures.opened told) (c.in-Ok-make_blank.ensures.whole told)
+pub returns-in-Ok-make_blank-clause-opens : goal.returns-in-Ok-make_blank-clause-opens
+returns-in-Ok-make_blank-clause-opens g c =
+    let old = g.D.Disk.files c.args.disk.now in
+    let mid = g.D.Disk.files c.open.new.disk in
+    let new = g.D.Disk.files c.make_blank.new.disk in
+    let begins = c.in-Ok-make_blank.ensures.begins in
+    record {
+      ready = begins.ready;
+      not_blank = begins.not_blank;
+      from_one = λ told.
+          sym (is_there new.pkg c.make_blank.new.db 0) ∙ ap (λ (s : State). is_some (finite.get s.packages 0)) (begins.state_is told)
+          ∙ is_there mid.pkg c.in-Ok.db 0 ∙ c.in-Ok.ensures.fresh.from_one;
+      rows = λ told lawful. begins.rows told (λ some. (c.in-Ok.ensures.opened told).index some lawful);
+      broken = λ told. open_broken old mid new c.in-Ok.db (c.in-Ok.ensures.opened told) (begins.whole told);
+      store_is = λ told. if_ok (store old.pkg) (λ value is.
+          begins.store_is ∙ ap begun (stored_one _ value c.in-Ok.db.store is (c.in-Ok.ensures.opened told).store_is));
+      reach = λ told. if_ok (store old.pkg) (λ value is. record {
+        pkg = omega (arith, begins.end told, ap length (c.in-Ok.ensures.runs.reads_as told).pkg);
+        idx = omega (
+          arith,
+          begins.reach told,
+          c.in-Ok.ensures.reach told,
+          ap (units_needed old.pkg) is,
+          least_units (rows (packages old.pkg value)),
+        );
+      });
+    }
 
 pub returns-in-Ok-make_blank-clause-runs : goal.returns-in-Ok-make_blank-clause-runs
 returns-in-Ok-make_blank-clause-runs g c =
@@ -52,8 +71,8 @@ returns-in-Ok-make_blank-clause-runs g c =
     Remade SameLog SameLog c.args.disk.now c.open.new.disk c.make_blank.new.disk (λ x y made. made.log) (λ x y z made same. same ∙ made.log)
     c.in-Ok.ensures.runs c.make_blank.ensures.runs
 
-pub returns-in-Err-make_blank-clause-opened : goal.returns-in-Err-make_blank-clause-opened
-returns-in-Err-make_blank-clause-opened g c = λ told.
+pub returns-in-Err-make_blank-clause-found : goal.returns-in-Err-make_blank-clause-found
+returns-in-Err-make_blank-clause-found g c = λ told.
     open_unmade (g.D.Disk.files c.args.disk.now) (g.D.Disk.files c.make_blank.new.disk) c.in-Err-make_blank.why c.in-Err-make_blank.ensures.fault
 
 pub returns-in-Err-make_blank-clause-runs : goal.returns-in-Err-make_blank-clause-runs
@@ -61,28 +80,3 @@ returns-in-Err-make_blank-clause-runs g c =
     runs_then g.D.Disk.tells g.D.Disk.files g.D.Disk.left_since g.D.Disk.moment g.D.Disk.bytes_read g.D.Disk.follows g.met.D.Disk.follows_trans
     Remade SameLog SameLog c.args.disk.now c.open.new.disk c.make_blank.new.disk (λ x y made. made.log) (λ x y z made same. same ∙ made.log)
     c.in-Ok.ensures.runs c.make_blank.ensures.runs
-
-pub returns-in-Ok-make_blank-clause-from_one : goal.returns-in-Ok-make_blank-clause-from_one
-returns-in-Ok-make_blank-clause-from_one g c = λ told.
-    sym (is_there (g.D.Disk.files c.make_blank.new.disk).pkg c.make_blank.new.db 0)
-    ∙ ap (λ (s : State). is_some (finite.get s.packages 0)) (c.in-Ok-make_blank.ensures.state told)
-    ∙ is_there (g.D.Disk.files c.open.new.disk).pkg c.in-Ok.db 0 ∙ c.in-Ok.ensures.fresh.from_one
-
-pub returns-in-Ok-make_blank-clause-begun : goal.returns-in-Ok-make_blank-clause-begun
-returns-in-Ok-make_blank-clause-begun g c = λ told.
-    if_ok (store (g.D.Disk.files c.args.disk.now).pkg) (λ value is.
-    c.in-Ok-make_blank.ensures.begun ∙ ap begun (stored_one _ value c.in-Ok.db.store is (c.in-Ok.ensures.opened told).store_is))
-
-pub returns-in-Ok-make_blank-clause-reach : goal.returns-in-Ok-make_blank-clause-reach
-returns-in-Ok-make_blank-clause-reach g c = λ told.
-    let old = g.D.Disk.files c.args.disk.now in
-    if_ok (store old.pkg) (λ value is. record {
-      pkg = omega (arith, c.in-Ok-make_blank.ensures.end told, ap length (c.in-Ok.ensures.runs.reads_as told).pkg);
-      idx = omega (
-        arith,
-        c.in-Ok-make_blank.ensures.reach told,
-        c.in-Ok.ensures.reach told,
-        ap (units_needed old.pkg) is,
-        least_units (rows (packages old.pkg value)),
-      );
-    })

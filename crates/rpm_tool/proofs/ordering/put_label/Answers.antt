@@ -36,4 +36,4 @@ returns-in-Err-clause-step g c = λ told et e.
     let o = g.O.Sink.taken (inner c.args.out.now) in
     step_none (label_step all c.args.indent.now c.args.number) c.in-Err.stop (outputs g.O.Sink.tells o et e)
     (λ unit is. c.in-Err.ensures.unbroken unit (ap Err is))
-    (λ is. c.in-Err.ensures.no_out (ap Err is)) (λ is. c.in-Err.ensures.no_err (ap Err is)) (through_none {ot = g.O.Sink.tells} {et = et} o e)
+    (λ is. c.in-Err.ensures.reads.no_out (ap Err is)) (λ is. c.in-Err.ensures.reads.no_err (ap Err is)) (through_none {ot = g.O.Sink.tells} {et = et} o e)

@@ -2,7 +2,6 @@ use Rattle.std.proofs.Common.{true, Bool, [], Ok, Err, refl, sym, ap, subst}
 use Rattle.rpm_outside.specs.Buffered.{inner}
 use Rattle.rpm_outside.specs.Files.{Files}
 use Rattle.rpm_select.specs.Reach.{HasIndexRows}
-use Rattle.rpm_db.specs.Database.{KeepsIndex}
 use Rattle.rpm_db.specs.State.{packages}
 use Rattle.rpm_check.specs.Edges.{graph_of}
 use Rattle.rpm_change.specs.Endings.{outputs}
@@ -13,6 +12,7 @@ use Rattle.rpm_tool.proofs.Deeds.{none_listed}
 use Rattle.rpm_tool.proofs.Stopping.{reached_as}
 use Rattle.rpm_tool.proofs.Checked.{unbroken_stops}
 use Rattle.rpm_tool.proofs.Peeking.{peeks_then}
+use Rattle.rpm_tool.proofs.Askable.{asked_still}
 use Rattle.rpm_tool.proofs.ordering.report_order.Goals as goal
 
 pub returns-in-Err-clause-went : goal.returns-in-Err-clause-went
@@ -30,9 +30,8 @@ pub returns-in-Err-clause-broken : goal.returns-in-Err-clause-broken
 returns-in-Err-clause-broken g c = λ told.
     unbroken_stops (g.D.Disk.files c.args.disk.now).idx c.in-Err.stop (λ unit is. c.in-Err.ensures.unbroken unit (ap Err is))
 
-pub tell_order-requires-clause-keeps_index : goal.tell_order-requires-clause-keeps_index
-tell_order-requires-clause-keeps_index g c = λ told.
-    subst (λ (f : Files). KeepsIndex f.idx c.args.db.now) (sym (c.in-Ok.ensures.looks.untouched told).same) (c.requires.keeps_index told)
+pub tell_order-requires : goal.tell_order-requires
+tell_order-requires g c = record { asked = asked_still g.D.Disk c.args.disk.now c.tell_each_bad.new.disk c.args.db.now c.in-Ok.ensures.tells.looks.untouched c.requires.asked }
 
 pub returns-in-Ok-tell_order-clause-went : goal.returns-in-Ok-tell_order-clause-went
 returns-in-Ok-tell_order-clause-went g c = λ told rows.
@@ -46,7 +45,7 @@ returns-in-Ok-tell_order-clause-went g c = λ told rows.
     let e = g.E.Sink.taken (inner c.args.err.now) in
     let e' = g.E.Sink.taken (inner c.tell_each_bad.new.err) in
     let second = subst (λ (f : Files). HasIndexRows db f.pkg f.idx → ClassesAre (packages f.pkg s) (Ok tt) (outputs ot o et e') (outputs ot o' et e'))
-    (c.in-Ok.ensures.looks.untouched told).same (λ has. c.in-Ok-tell_order.ensures.went told has et e') rows in (
+    (c.in-Ok.ensures.tells.looks.untouched told).same (λ has. c.in-Ok-tell_order.ensures.went told has et e') rows in (
       second.0,
       second.1,
       behind_plain ot et (bad_parts all) (classes_part all second.0) c.in-Ok.bad o o o' e e' e' (c.in-Ok.ensures.went told ot o)
@@ -56,8 +55,8 @@ returns-in-Ok-tell_order-clause-went g c = λ told rows.
 pub returns-in-Ok-tell_order-clause-looks : goal.returns-in-Ok-tell_order-clause-looks
 returns-in-Ok-tell_order-clause-looks g c =
     peeks_then g.D.Disk.tells g.D.Disk.files g.D.Disk.left_since g.D.Disk.moment g.D.Disk.bytes_read g.D.Disk.follows true g.met.D.Disk.follows_trans
-    c.args.disk.now c.tell_each_bad.new.disk c.tell_order.new.disk c.in-Ok.ensures.looks
-    c.in-Ok-tell_order.ensures.looks
+    c.args.disk.now c.tell_each_bad.new.disk c.tell_order.new.disk c.in-Ok.ensures.tells.looks
+    c.in-Ok-tell_order.ensures.tells.looks
 
 pub returns-in-Err-tell_order-clause-went : goal.returns-in-Err-tell_order-clause-went
 returns-in-Err-tell_order-clause-went g c = λ told rows.
@@ -72,7 +71,7 @@ returns-in-Err-tell_order-clause-went g c = λ told rows.
     let e' = g.E.Sink.taken (inner c.tell_each_bad.new.err) in
     let what = c.in-Err-tell_order.stop in
     let second = subst (λ (f : Files). HasIndexRows db f.pkg f.idx → ClassesAre (packages f.pkg s) (Err what) (outputs ot o et e') (outputs ot o' et e'))
-    (c.in-Ok.ensures.looks.untouched told).same (λ has. c.in-Err-tell_order.ensures.went told has et e') rows in (
+    (c.in-Ok.ensures.tells.looks.untouched told).same (λ has. c.in-Err-tell_order.ensures.went told has et e') rows in (
       second.0,
       second.1,
       behind_stop ot et (bad_parts all) (classes_part all second.0) c.in-Ok.bad o o o' e e' e' (c.in-Ok.ensures.went told ot o) what
@@ -84,10 +83,10 @@ returns-in-Err-tell_order-clause-went g c = λ told rows.
 
 pub returns-in-Err-tell_order-clause-broken : goal.returns-in-Err-tell_order-clause-broken
 returns-in-Err-tell_order-clause-broken g c = λ told.
-    subst (λ (f : Files). StopsOfSome f.idx c.in-Err-tell_order.stop) (c.in-Ok.ensures.looks.untouched told).same (c.in-Err-tell_order.ensures.broken told)
+    subst (λ (f : Files). StopsOfSome f.idx c.in-Err-tell_order.stop) (c.in-Ok.ensures.tells.looks.untouched told).same (c.in-Err-tell_order.ensures.broken told)
 
 pub returns-in-Err-tell_order-clause-looks : goal.returns-in-Err-tell_order-clause-looks
 returns-in-Err-tell_order-clause-looks g c =
     peeks_then g.D.Disk.tells g.D.Disk.files g.D.Disk.left_since g.D.Disk.moment g.D.Disk.bytes_read g.D.Disk.follows true g.met.D.Disk.follows_trans
-    c.args.disk.now c.tell_each_bad.new.disk c.tell_order.new.disk c.in-Ok.ensures.looks
-    c.in-Err-tell_order.ensures.looks
+    c.args.disk.now c.tell_each_bad.new.disk c.tell_order.new.disk c.in-Ok.ensures.tells.looks
+    c.in-Err-tell_order.ensures.tells.looks

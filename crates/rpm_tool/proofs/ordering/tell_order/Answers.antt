@@ -1,4 +1,4 @@
-use Rattle.std.proofs.Common.{true, [], subst}
+use Rattle.std.proofs.Common.{true, [], subst, arith}
 use Rattle.std.specs.Prelude.{is_ok}
 use Rattle.rpm_outside.specs.Buffered.{inner}
 use Rattle.rpm_outside.specs.Files.{Files}
@@ -11,8 +11,12 @@ use Rattle.rpm_tool.proofs.Deeds.{none_listed, order_listed}
 use Rattle.rpm_tool.proofs.Reaching.{through_none}
 use Rattle.rpm_tool.proofs.Stopping.{reached_unsunk}
 use Rattle.rpm_tool.proofs.Checked.{unbroken_result}
-use Rattle.rpm_tool.proofs.Peeking.{peeks_then}
+use Rattle.rpm_tool.proofs.Askable.{asked_still}
+use Rattle.rpm_tool.proofs.SoFar.{SoFar, last_out, read_first}
 use Rattle.rpm_tool.proofs.ordering.tell_order.Goals as goal
+
+pub put_classes-requires : goal.put_classes-requires
+put_classes-requires g c = record { asked = asked_still g.D.Disk c.args.disk.now c.list_classes.new.disk c.args.db.now c.in-Ok.ensures.reads.looks.untouched c.requires.asked }
 
 pub returns-in-Err-clause-went : goal.returns-in-Err-clause-went
 returns-in-Err-clause-went g c = λ told rows et e.
@@ -34,15 +38,21 @@ returns-in-Ok-clause-went g c = λ told rows et e.
     let r = c.put_classes.result in (
       list,
       order_listed (graph_of all) (is_ok r) list (c.in-Ok.ensures.told told rows),
-      subst (λ (f : Files). Reached (classes_part (packages f.pkg s) list).steps r old new Anywhere) (c.in-Ok.ensures.looks.untouched told).same
+      subst (λ (f : Files). Reached (classes_part (packages f.pkg s) list).steps r old new Anywhere) (c.in-Ok.ensures.reads.looks.untouched told).same
           (c.put_classes.ensures.went told et e),
     )
 
 pub returns-in-Ok-clause-broken : goal.returns-in-Ok-clause-broken
 returns-in-Ok-clause-broken g c = λ told. unbroken_result (g.D.Disk.files c.args.disk.now).idx c.put_classes.result c.put_classes.ensures.unbroken
 
-pub returns-in-Ok-clause-looks : goal.returns-in-Ok-clause-looks
-returns-in-Ok-clause-looks g c =
-    peeks_then g.D.Disk.tells g.D.Disk.files g.D.Disk.left_since g.D.Disk.moment g.D.Disk.bytes_read g.D.Disk.follows true g.met.D.Disk.follows_trans
-    c.args.disk.now c.list_classes.new.disk c.put_classes.new.disk c.in-Ok.ensures.looks
-    c.put_classes.ensures.looks
+pub returns-in-Err-clause-tells : goal.returns-in-Err-clause-tells
+returns-in-Err-clause-tells g c =
+    read_first g.D.Disk g.O.Sink _ _ c.in-Err.stop c.args.disk.now c.list_classes.new.disk c.args.out.now g.met.O.Sink.follows_refl c.in-Err.ensures.reads
+
+pub returns-in-Ok-clause-tells : goal.returns-in-Ok-clause-tells
+returns-in-Ok-clause-tells g c =
+    let read = c.in-Ok.ensures.reads in
+    let far : SoFar g.D.Disk g.O.Sink c.args.disk.now c.list_classes.new.disk c.args.out.now c.args.out.now =
+    record { looks = read.looks; disk = read.disk.later; taken = omega arith; rest = g.met.O.Sink.follows_refl (inner c.args.out.now) } in
+    last_out g.D.Disk g.O.Sink g.met.D.Disk.follows_trans g.met.O.Sink.follows_trans c.args.disk.now c.list_classes.new.disk c.put_classes.new.disk c.args.out.now
+    c.args.out.now c.put_classes.new.out far _ _ c.put_classes.ensures.tells

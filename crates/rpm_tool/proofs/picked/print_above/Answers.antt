@@ -19,7 +19,11 @@ use Rattle.rpm_tool.proofs.Looked.{looks_rest, rest_read}
 use Rattle.rpm_tool.proofs.Nexts.{next_here, fails_next, some_next, goes_next}
 use Rattle.rpm_tool.proofs.Reached.{reach_then}
 use Rattle.rpm_tool.proofs.picked.print_above.Answers.Ended as ended
+use Rattle.rpm_tool.proofs.Askable.{asked_still}
 use Rattle.rpm_tool.proofs.picked.print_above.Goals as goal
+
+pub print_next-requires : goal.print_next-requires
+print_next-requires g c = record { asked = asked_still g.D.Disk c.args.disk.now c.loop-next.disk c.args.db.now c.loop-next.invariant.looks.untouched c.requires.asked }
 
 pub loop-next-preserved : goal.loop-next-preserved
 loop-next-preserved g c =
@@ -51,7 +55,6 @@ loop-next-preserved g c =
     (step_by c.args.way.now j) n (Ok (Some (m, to_out))) (outputs ot o' et e') (outputs ot o'' et e'') (ReadsIn j n c.loop-next.picker db between now)
     (λ here. rw c.in-Ok-Some.field-0-is at (done.went told here j)) serves in
     record {
-      keeps = done.kept;
       same = done.same ∙ inv.same;
       reads = reach_then c.args.picker.now db c.args.after n m (g.D.Disk.bytes_read c.args.disk.now Pkg) between now (omega (arith, lt)) inv.reads
           (subst (λ (r : Reach). now ≤ between + (reach_to m r db - reach_to n r db)) inv.same (rw c.in-Ok-Some.field-0-is at done.reads));

@@ -5,7 +5,7 @@ use Rattle.rpm_outside.specs.Buffered.{inner}
 use Rattle.rpm_outside.specs.declared.disk.File.TheVariants.{Pkg}
 use Rattle.rpm_outside.specs.Looks.{Looks}
 use Rattle.rpm_db.specs.State.{packages, above}
-use Rattle.rpm_db.specs.Database.{Keeps, cost_to}
+use Rattle.rpm_db.specs.Database.{cost_to}
 use Rattle.rpm_select.specs.Selections.{picks}
 use Rattle.rpm_select.specs.Reach.{Serves, reach_to}
 use Rattle.rpm_tool.specs.Steps.{is_bad}
@@ -16,7 +16,6 @@ use Rattle.rpm_tool.proofs.picked.print_above.Given as goal
 
 abbrev pub invariant-loop-next : goal.invariant-loop-next
 invariant-loop-next g l = record {
-  keeps : IsTrue g.D.Disk.tells → Keeps (g.D.Disk.files l.disk).pkg l.db;
   same : l.picker ≡ l.initial.picker;
   later : l.after ≤ l.number;
   more : cost_to l.after l.db ≤ cost_to l.number l.db;

@@ -19,7 +19,11 @@ use Rattle.rpm_tool.proofs.Sums.{reads_one}
 use Rattle.rpm_tool.proofs.Unbroken.{why_unbroken}
 use Rattle.rpm_tool.proofs.Stopping.{reached_reads}
 use Rattle.rpm_tool.proofs.Answering.{went_stop}
+use Rattle.rpm_tool.proofs.Askable.{asked_still}
 use Rattle.rpm_tool.proofs.query.query_all.Goals as goal
+
+pub print_above-requires : goal.print_above-requires
+print_above-requires g c = record { asked = asked_still g.D.Disk c.args.disk.now c.begin_unasked-picker.new.disk c.args.db.now c.begin_unasked-picker.ensures.looks.untouched c.requires.asked }
 
 pub returns-clause-went : goal.returns-clause-went
 returns-clause-went g c = λ told rows.

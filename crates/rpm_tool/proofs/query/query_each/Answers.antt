@@ -17,7 +17,11 @@ use Rattle.rpm_tool.proofs.Turns.{part_here, reads_here, read_more, goes_turn}
 use Rattle.rpm_tool.proofs.Reaching.{goes_start}
 use Rattle.rpm_tool.proofs.Answering.{rest_of, turn_failed, went_done, went_failed, few_more}
 use Rattle.rpm_tool.proofs.query.query_each.Answers.Stopped as stopped
+use Rattle.rpm_tool.proofs.Askable.{asked_still}
 use Rattle.rpm_tool.proofs.query.query_each.Goals as goal
+
+pub answer-requires : goal.answer-requires
+answer-requires g c = record { asked = asked_still g.D.Disk c.args.disk.now c.loop-k.disk c.args.db.now c.loop-k.invariant.looks.untouched c.requires.asked }
 
 pub loop-k-init : goal.loop-k-init
 loop-k-init g c =
@@ -25,8 +29,6 @@ loop-k-init g c =
     let each = argument_part c.args.format.now (packages (g.D.Disk.files c.args.disk.now).pkg db.store) c.args.ask.now.chosen c.args.ask.now.after in
     let all = (rest_of each (text_at c.args.words.now) c.args.ask.now.arguments 0).steps in
     record {
-      keeps = c.requires.keeps;
-      keeps_index = c.requires.keeps_index;
       looks = peeks_none g.D.Disk.tells g.D.Disk.files g.D.Disk.left_since g.D.Disk.moment g.D.Disk.bytes_read g.D.Disk.follows (is_indexed db)
           g.met.D.Disk.follows_refl c.args.disk.now;
       reads = λ told rows. omega arith;
@@ -70,8 +72,6 @@ loop-k-preserved g c =
     (Ok c.in-Ok.fails) (outputs ot o' et e') (outputs ot o'' et e'')
     (λ there. rw (c.chosen.ensures, c.after.ensures, c.text_at-text.ensures) at (done.went told there k)) rows in
     record {
-      keeps = done.kept;
-      keeps_index = done.kept_index;
       looks = peeks_then g.D.Disk.tells g.D.Disk.files g.D.Disk.left_since g.D.Disk.moment g.D.Disk.bytes_read g.D.Disk.follows (is_indexed db)
           g.met.D.Disk.follows_trans c.args.disk.now c.loop-k.disk c.answer.new.disk inv.looks done.looks;
       reads = λ told rows.

@@ -3,7 +3,7 @@ use Rattle.std.specs.Prelude.{IsTrue}
 use Rattle.rpm_outside.specs.Buffered.{inner}
 use Rattle.rpm_outside.specs.declared.disk.File.TheVariants.{Pkg}
 use Rattle.rpm_db.specs.State.{packages}
-use Rattle.rpm_db.specs.Database.{Keeps, KeepsIndex, is_indexed}
+use Rattle.rpm_db.specs.Database.{is_indexed}
 use Rattle.rpm_words.specs.Words.{text_at}
 use Rattle.rpm_select.specs.Reach.{HasIndexRows}
 use Rattle.rpm_tool.specs.Queries.{argument_part}
@@ -14,8 +14,6 @@ use Rattle.rpm_tool.proofs.query.query_each.Given as goal
 
 abbrev pub invariant-loop-k : goal.invariant-loop-k
 invariant-loop-k g l = record {
-  keeps : IsTrue g.D.Disk.tells → Keeps (g.D.Disk.files l.disk).pkg l.db;
-  keeps_index : IsTrue g.D.Disk.tells → KeepsIndex (g.D.Disk.files l.disk).idx l.db;
   looks : Peeks g.D.Disk.tells g.D.Disk.files g.D.Disk.left_since g.D.Disk.moment g.D.Disk.bytes_read g.D.Disk.follows (is_indexed l.db)
       l.initial.disk l.disk;
   reads : IsTrue g.D.Disk.tells → HasIndexRows l.db (g.D.Disk.files l.initial.disk).pkg (g.D.Disk.files l.initial.disk).idx → g.D.Disk.bytes_read l.disk Pkg

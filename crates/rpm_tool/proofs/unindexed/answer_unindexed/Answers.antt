@@ -1,7 +1,18 @@
 use Rattle.std.proofs.Common.{◌+◌, ◌-◌, ◌^◌, arith}
 use Rattle.rpm_outside.specs.declared.disk.File.TheVariants.{Pkg}
 use Rattle.rpm_outside.specs.inner.Looking.{looks_then}
+use Rattle.rpm_tool.proofs.Askable.{keeps_none}
 use Rattle.rpm_tool.proofs.unindexed.answer_unindexed.Goals as goal
+
+pub answer_opened-requires-clause-asked : goal.answer_opened-requires-clause-asked
+answer_opened-requires-clause-asked g c =
+    let opened = c.in-Ok.ensures in
+    record {
+      keeps = opened.kept;
+      keeps_index = λ told. keeps_none (g.D.Disk.files c.open_unindexed.new.disk).idx c.in-Ok.db.index opened.unindexed;
+      runs = opened.runs;
+      from_one = opened.from_one;
+    }
 
 pub returns-in-Ok-clause-looks : goal.returns-in-Ok-clause-looks
 returns-in-Ok-clause-looks g c =

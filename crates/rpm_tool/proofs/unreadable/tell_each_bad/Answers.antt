@@ -10,8 +10,12 @@ use Rattle.rpm_tool.proofs.Reaching.{goes_start, goes_more, goes_stop, goes_end}
 use Rattle.rpm_tool.proofs.Printed.{none_more}
 use Rattle.rpm_tool.proofs.Verified.{no_entry, from_one, fails_later}
 use Rattle.rpm_tool.proofs.Telling.{next_package, bad_here}
-use Rattle.rpm_tool.proofs.Peeking.{peeks_none, peeks_then}
+use Rattle.rpm_tool.proofs.SoFar.{so_far_none, more_err, stops_err, ends_err}
+use Rattle.rpm_tool.proofs.Askable.{asked_still}
 use Rattle.rpm_tool.proofs.unreadable.tell_each_bad.Goals as goal
+
+pub tell_bad-requires : goal.tell_bad-requires
+tell_bad-requires g c = record { asked = asked_still g.D.Disk c.args.disk.now c.loop-next.disk c.args.db.now c.loop-next.invariant.far.looks.untouched c.requires.asked }
 
 pub loop-next-init : goal.loop-next-init
 loop-next-init g c =
@@ -19,12 +23,7 @@ loop-next-init g c =
     let file = (g.D.Disk.files c.args.disk.now).pkg in
     let all = (together (map bad_part (above 0 (entries (packages file db.store))))).steps in
     record {
-      keeps = c.requires.keeps;
-      looks = peeks_none g.D.Disk.tells g.D.Disk.files g.D.Disk.left_since g.D.Disk.moment g.D.Disk.bytes_read g.D.Disk.follows true
-          g.met.D.Disk.follows_refl c.args.disk.now;
-      disk = omega arith;
-      err = omega arith;
-      err_rest = g.met.E.Sink.follows_refl (inner c.args.err.now);
+      far = so_far_none g.D.Disk g.E.Sink g.met.D.Disk.follows_refl g.met.E.Sink.follows_refl c.args.disk.now c.args.err.now;
       goes = λ told ot o. goes_start ot g.E.Sink.tells all all o (g.E.Sink.taken (inner c.args.err.now)) refl;
       bad = λ told. refl;
     }
@@ -46,20 +45,16 @@ loop-next-preserved g c =
     let e' = g.E.Sink.taken (inner c.loop-next.err) in
     let e'' = g.E.Sink.taken (inner c.tell_bad.new.err) in
     record {
-      keeps = done.kept;
-      looks = peeks_then g.D.Disk.tells g.D.Disk.files g.D.Disk.left_since g.D.Disk.moment g.D.Disk.bytes_read g.D.Disk.follows true
-          g.met.D.Disk.follows_trans c.args.disk.now c.loop-next.disk c.tell_bad.new.disk inv.looks done.looks;
-      disk = omega (arith, inv.disk, done.disk.later);
-      err = omega (arith, inv.err, done.err.cause.later);
-      err_rest = g.met.E.Sink.follows_trans (inner c.args.err.now) (inner c.loop-next.err) (inner c.tell_bad.new.err) inv.err_rest done.err.goes_on;
+      far = more_err g.D.Disk g.E.Sink g.met.D.Disk.follows_trans g.met.E.Sink.follows_trans c.args.disk.now c.loop-next.disk c.tell_bad.new.disk c.args.err.now c.loop-next.err c.tell_bad.new.err
+          inv.far _ _ done.tells;
       goes = λ told ot o.
-          let part = bad_here here start db.store m next.0 (Ok c.in-Ok.bad) (outputs ot o et e') (outputs ot o et e'') (inv.looks.untouched told).same next.1
+          let part = bad_here here start db.store m next.0 (Ok c.in-Ok.bad) (outputs ot o et e') (outputs ot o et e'') (inv.far.looks.untouched told).same next.1
           (done.went told ot o) in
           goes_more ot et (together (map bad_part (above 0 es))).steps (together (map bad_part (above k es))).steps (bad_part (m, next.0)).steps
           (together (map bad_part (above m es))).steps o o o e e' e''
           (ap (λ (xs : List (ℕ × Package)). (together (map bad_part xs)).steps) next.2) (inv.goes told ot o) part.steps;
       bad = λ told.
-          let part = bad_here here start db.store m next.0 (Ok c.in-Ok.bad) (outputs et e' et e') (outputs et e' et e'') (inv.looks.untouched told).same next.1
+          let part = bad_here here start db.store m next.0 (Ok c.in-Ok.bad) (outputs et e' et e') (outputs et e' et e'') (inv.far.looks.untouched told).same next.1
           (done.went told et e') in
           fails_later c.loop-next.fails (bad_part (m, next.0)).fails c.in-Ok.bad (together (map bad_part (above m es))).fails
           (together (map bad_part (above 0 es))).fails part.fails
@@ -82,7 +77,7 @@ returns-in-Err-clause-went g c = λ told ot o.
     let e' = g.E.Sink.taken (inner c.loop-next.err) in
     let e'' = g.E.Sink.taken (inner c.tell_bad.new.err) in
     let what = c.in-Err.stop in
-    let part = bad_here here start db.store m next.0 (Err what) (outputs ot o et e') (outputs ot o et e'') (inv.looks.untouched told).same next.1
+    let part = bad_here here start db.store m next.0 (Err what) (outputs ot o et e') (outputs ot o et e'') (inv.far.looks.untouched told).same next.1
     (c.in-Err.ensures.went told ot o) in
     let reached : Reached {T = Bool} (together (map bad_part (above 0 es))).steps (Err what) (outputs ot o et e) (outputs ot o et e'') Anywhere =
     goes_stop ot et (together (map bad_part (above 0 es))).steps (together (map bad_part (above k es))).steps (bad_part (m, next.0)).steps
@@ -90,14 +85,18 @@ returns-in-Err-clause-went g c = λ told ot o.
     (inv.goes told ot o) Bool Bool what Anywhere part.steps in
     record {
       steps = subst (λ (xs : List (ℕ × Package)). Reached {T = Bool} (together (map bad_part xs)).steps (Err what) (outputs ot o et e) (outputs ot o et e'')
-          Anywhere) (from_one start.pkg db c.requires.from_one) reached;
+          Anywhere) (from_one start.pkg db c.requires.asked.from_one) reached;
       fails = tt;
     }
 
-pub returns-in-Err-clause-looks : goal.returns-in-Err-clause-looks
-returns-in-Err-clause-looks g c =
-    peeks_then g.D.Disk.tells g.D.Disk.files g.D.Disk.left_since g.D.Disk.moment g.D.Disk.bytes_read g.D.Disk.follows true
-    g.met.D.Disk.follows_trans c.args.disk.now c.loop-next.disk c.tell_bad.new.disk c.loop-next.invariant.looks c.in-Err.ensures.looks
+pub returns-in-Err-clause-tells : goal.returns-in-Err-clause-tells
+returns-in-Err-clause-tells g c =
+    stops_err g.D.Disk g.E.Sink g.met.D.Disk.follows_trans g.met.E.Sink.follows_trans c.args.disk.now c.loop-next.disk c.tell_bad.new.disk c.args.err.now c.loop-next.err c.tell_bad.new.err
+    c.loop-next.invariant.far _ _ c.in-Err.stop c.in-Err.ensures.tells
+
+pub returns-clause-tells : goal.returns-clause-tells
+returns-clause-tells g c =
+    ends_err g.D.Disk g.E.Sink _ _ c.args.disk.now c.loop-next.disk c.args.err.now c.loop-next.err c.loop-next.invariant.far
 
 pub returns-clause-went : goal.returns-clause-went
 returns-clause-went g c = λ told ot o.
@@ -107,7 +106,7 @@ returns-clause-went g c = λ told ot o.
     let file = (g.D.Disk.files c.args.disk.now).pkg in
     let es = entries (packages file db.store) in
     let none = no_entry (packages file db.store) k (c.in_default.ensures.told file) in
-    let first = from_one file db c.requires.from_one in
+    let first = from_one file db c.requires.asked.from_one in
     let et = g.E.Sink.tells in
     let e = g.E.Sink.taken (inner c.args.err.now) in
     let e' = g.E.Sink.taken (inner c.loop-next.err) in

@@ -3,20 +3,15 @@ use Rattle.std.specs.Prelude.{IsTrue}
 use Rattle.std.specs.FinMap.{entries}
 use Rattle.rpm_outside.specs.Buffered.{inner}
 use Rattle.rpm_db.specs.State.{packages, above}
-use Rattle.rpm_db.specs.Database.{Keeps}
 use Rattle.rpm_tool.specs.Steps.{together}
-use Rattle.rpm_tool.specs.Reads.{Peeks}
 use Rattle.rpm_tool.specs.Requirements.{bad_part}
 use Rattle.rpm_tool.proofs.Reaching.{Goes}
+use Rattle.rpm_tool.proofs.SoFar.{SoFar}
 use Rattle.rpm_tool.proofs.unreadable.tell_each_bad.Given as goal
 
 abbrev pub invariant-loop-next : goal.invariant-loop-next
 invariant-loop-next g l = record {
-  keeps : IsTrue g.D.Disk.tells → Keeps (g.D.Disk.files l.disk).pkg l.db;
-  looks : Peeks g.D.Disk.tells g.D.Disk.files g.D.Disk.left_since g.D.Disk.moment g.D.Disk.bytes_read g.D.Disk.follows true l.initial.disk l.disk;
-  disk : g.D.Disk.faults l.initial.disk ≤ g.D.Disk.faults l.disk;
-  err : g.E.Sink.faults (inner l.initial.err) ≤ g.E.Sink.faults (inner l.err);
-  err_rest : g.E.Sink.follows (inner l.initial.err) (inner l.err);
+  far : SoFar g.D.Disk g.E.Sink l.initial.disk l.disk l.initial.err l.err;
   goes : IsTrue g.D.Disk.tells → (out_tells : Bool) (out : List ℕ) → Goes out_tells g.E.Sink.tells
       (together (map bad_part (above 0 (entries (packages (g.D.Disk.files l.initial.disk).pkg l.db.store))))).steps
       (together (map bad_part (above l.number (entries (packages (g.D.Disk.files l.initial.disk).pkg l.db.store))))).steps

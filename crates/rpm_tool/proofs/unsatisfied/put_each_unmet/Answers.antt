@@ -9,8 +9,12 @@ use Rattle.rpm_tool.specs.Answers.{StepIs, Anywhere}
 use Rattle.rpm_tool.specs.Requirements.{IsRead, unmet_step}
 use Rattle.rpm_tool.proofs.Reaching.{goes_start, goes_more, goes_stop, goes_end}
 use Rattle.rpm_tool.proofs.Telling.{none_held, steps_at, step_stops}
-use Rattle.rpm_tool.proofs.Peeking.{peeks_none, peeks_then}
+use Rattle.rpm_tool.proofs.SoFar.{so_far_none, more_out, stops_out, ends_out}
+use Rattle.rpm_tool.proofs.Askable.{asked_still}
 use Rattle.rpm_tool.proofs.unsatisfied.put_each_unmet.Goals as goal
+
+pub put_unmet-requires-clause-asked : goal.put_unmet-requires-clause-asked
+put_unmet-requires-clause-asked g c = asked_still g.D.Disk c.args.disk.now c.loop-unmet.disk c.args.db.now c.loop-unmet.invariant.far.looks.untouched c.requires.asked
 
 abbrev no_unmet : Unmet
 no_unmet = record { number = 0; place = 0 }
@@ -21,13 +25,8 @@ loop-unmet-init g c =
     let start = g.D.Disk.files c.args.disk.now in
     let all = map (unmet_step (packages start.pkg db.store)) c.args.list.now in
     record {
-      keeps = c.requires.keeps;
-      holding = λ told. subst (IsRead (packages start.pkg db.store) 0) (sym c.new.ensures.items) (none_held start.pkg db c.requires.from_one);
-      looks = peeks_none g.D.Disk.tells g.D.Disk.files g.D.Disk.left_since g.D.Disk.moment g.D.Disk.bytes_read g.D.Disk.follows true
-          g.met.D.Disk.follows_refl c.args.disk.now;
-      disk = omega arith;
-      out = omega arith;
-      out_rest = g.met.O.Sink.follows_refl (inner c.args.out.now);
+      holding = λ told. subst (IsRead (packages start.pkg db.store) 0) (sym c.new.ensures.items) (none_held start.pkg db c.requires.asked.from_one);
+      far = so_far_none g.D.Disk g.O.Sink g.met.D.Disk.follows_refl g.met.O.Sink.follows_refl c.args.disk.now c.args.out.now;
       goes = λ told et e. goes_start g.O.Sink.tells et all all (g.O.Sink.taken (inner c.args.out.now)) e refl;
     }
 
@@ -47,17 +46,13 @@ loop-unmet-preserved g c =
     let o'' = g.O.Sink.taken (inner c.put_unmet.new.out) in
     let ot = g.O.Sink.tells in
     record {
-      keeps = done.kept;
       holding = done.held;
-      looks = peeks_then g.D.Disk.tells g.D.Disk.files g.D.Disk.left_since g.D.Disk.moment g.D.Disk.bytes_read g.D.Disk.follows true
-          g.met.D.Disk.follows_trans c.args.disk.now c.loop-unmet.disk c.put_unmet.new.disk inv.looks done.looks;
-      disk = omega (arith, inv.disk, done.disk.later);
-      out = omega (arith, inv.out, done.out.cause.later);
-      out_rest = g.met.O.Sink.follows_trans (inner c.args.out.now) (inner c.loop-unmet.out) (inner c.put_unmet.new.out) inv.out_rest done.out.goes_on;
+      far = more_out g.D.Disk g.O.Sink g.met.D.Disk.follows_trans g.met.O.Sink.follows_trans c.args.disk.now c.loop-unmet.disk c.put_unmet.new.disk c.args.out.now c.loop-unmet.out c.put_unmet.new.out
+          inv.far _ _ done.tells;
       goes = λ told et e.
           let one : StepIs (step x) (Ok c.in-Ok.field-0) (outputs ot o' et e) (outputs ot o'' et e) =
           subst (λ (f : Files). StepIs (unmet_step (packages f.pkg db.store) x) (Ok c.in-Ok.field-0) (outputs ot o' et e) (outputs ot o'' et e))
-          (inv.looks.untouched told).same
+          (inv.far.looks.untouched told).same
           (done.step told et e) in
           goes_more ot et (map step xs) (map step (drop i xs)) (step x ∷ []) (map step (drop (i + 1) xs)) o o' o'' e e e
           (steps_at step xs i no_unmet lt) (inv.goes told et e) one.1;
@@ -79,16 +74,20 @@ returns-in-Err-clause-went g c = λ told et e.
     let ot = g.O.Sink.tells in
     let what = c.in-Err.stop in
     let one : StepIs (step x) (Err what) (outputs ot o' et e) (outputs ot o'' et e) =
-    subst (λ (f : Files). StepIs (unmet_step (packages f.pkg db.store) x) (Err what) (outputs ot o' et e) (outputs ot o'' et e)) (inv.looks.untouched told).same
+    subst (λ (f : Files). StepIs (unmet_step (packages f.pkg db.store) x) (Err what) (outputs ot o' et e) (outputs ot o'' et e)) (inv.far.looks.untouched told).same
     (c.in-Err.ensures.step told et e) in
     goes_stop ot et (map step xs) (map step (drop i xs)) (step x ∷ []) (map step (drop (i + 1) xs)) o o' o'' e e e
     (steps_at step xs i no_unmet lt) (inv.goes told et e) Bool (Unit {0}) what Anywhere
     (step_stops (step x) what (outputs ot o' et e) (outputs ot o'' et e) one)
 
-pub returns-in-Err-clause-looks : goal.returns-in-Err-clause-looks
-returns-in-Err-clause-looks g c =
-    peeks_then g.D.Disk.tells g.D.Disk.files g.D.Disk.left_since g.D.Disk.moment g.D.Disk.bytes_read g.D.Disk.follows true
-    g.met.D.Disk.follows_trans c.args.disk.now c.loop-unmet.disk c.put_unmet.new.disk c.loop-unmet.invariant.looks c.in-Err.ensures.looks
+pub returns-in-Err-clause-tells : goal.returns-in-Err-clause-tells
+returns-in-Err-clause-tells g c =
+    stops_out g.D.Disk g.O.Sink g.met.D.Disk.follows_trans g.met.O.Sink.follows_trans c.args.disk.now c.loop-unmet.disk c.put_unmet.new.disk c.args.out.now c.loop-unmet.out c.put_unmet.new.out
+    c.loop-unmet.invariant.far _ _ c.in-Err.stop c.in-Err.ensures.tells
+
+pub returns-clause-tells : goal.returns-clause-tells
+returns-clause-tells g c =
+    ends_out g.D.Disk g.O.Sink _ _ c.args.disk.now c.loop-unmet.disk c.args.out.now c.loop-unmet.out c.loop-unmet.invariant.far
 
 pub returns-clause-went : goal.returns-clause-went
 returns-clause-went g c = λ told et e.

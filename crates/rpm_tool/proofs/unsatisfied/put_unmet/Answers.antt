@@ -24,7 +24,7 @@ returns-in-Ok-read_unmet_text-clause-step g c = λ told et e.
     let new = outputs g.O.Sink.tells (g.O.Sink.taken (inner c.put_text.new.out)) et e in
     let here : IsRead (packages (g.D.Disk.files c.hold.new.disk).pkg s) n bytes =
     subst (λ (m : ℕ). IsRead (packages (g.D.Disk.files c.hold.new.disk).pkg s) m bytes) c.in-Ok.ensures.number (c.in-Ok.ensures.held told) in
-    let read : IsRead all n bytes = subst (λ (f : Files). IsRead (packages f.pkg s) n bytes) (c.in-Ok.ensures.looks.untouched told).same here in
+    let read : IsRead all n bytes = subst (λ (f : Files). IsRead (packages f.pkg s) n bytes) (c.in-Ok.ensures.reads.looks.untouched told).same here in
     let is : c.in-Ok-read_unmet_text.line.items ≡ package_text line (finite.get all n) =
     c.in-Ok-read_unmet_text.ensures ∙ ap (λ (b : List ℕ). read_text line (header b)) c.deref.ensures.value ∙ sym (read line) in
     subst (λ (t : List ℕ). StepIs (ToOut (bearer 0 n) t) c.put_text.result old new) (c.deref-in-Ok-read_unmet_text.ensures.value ∙ is)
@@ -44,4 +44,4 @@ returns-in-Err-clause-step g c = λ told et e.
     let all = packages (g.D.Disk.files c.args.disk.now).pkg c.args.db.now.store in
     let o = g.O.Sink.taken (inner c.args.out.now) in
     step_none (unmet_step all c.args.unmet) c.in-Err.stop (outputs g.O.Sink.tells o et e) (λ unit is. c.in-Err.ensures.unbroken unit (ap Err is))
-    (λ is. c.in-Err.ensures.no_out (ap Err is)) (λ is. c.in-Err.ensures.no_err (ap Err is)) (through_none {ot = g.O.Sink.tells} {et = et} o e)
+    (λ is. c.in-Err.ensures.reads.no_out (ap Err is)) (λ is. c.in-Err.ensures.reads.no_err (ap Err is)) (through_none {ot = g.O.Sink.tells} {et = et} o e)

@@ -2,7 +2,6 @@ use Rattle.std.proofs.Common.{true, Ok, Err, sym, ap, subst}
 use Rattle.rpm_outside.specs.Buffered.{inner}
 use Rattle.rpm_outside.specs.Files.{Files}
 use Rattle.rpm_select.specs.Reach.{HasIndexRows}
-use Rattle.rpm_db.specs.Database.{KeepsIndex}
 use Rattle.rpm_db.specs.State.{packages}
 use Rattle.rpm_change.specs.Endings.{outputs}
 use Rattle.rpm_tool.specs.Answers.{PartIs, Anywhere}
@@ -10,6 +9,7 @@ use Rattle.rpm_tool.specs.Requirements.{bad_parts, unmet_part, StopsOfSome}
 use Rattle.rpm_tool.proofs.Behind.{behind_first, behind_both, behind_stop}
 use Rattle.rpm_tool.proofs.Checked.{unbroken_stops}
 use Rattle.rpm_tool.proofs.Peeking.{peeks_then}
+use Rattle.rpm_tool.proofs.Askable.{asked_still}
 use Rattle.rpm_tool.proofs.unsatisfied.report_unmet.Goals as goal
 
 pub returns-in-Err-clause-went : goal.returns-in-Err-clause-went
@@ -24,9 +24,8 @@ pub returns-in-Err-clause-broken : goal.returns-in-Err-clause-broken
 returns-in-Err-clause-broken g c = λ told.
     unbroken_stops (g.D.Disk.files c.args.disk.now).idx c.in-Err.stop (λ unit is. c.in-Err.ensures.unbroken unit (ap Err is))
 
-pub tell_unmet-requires-clause-keeps_index : goal.tell_unmet-requires-clause-keeps_index
-tell_unmet-requires-clause-keeps_index g c = λ told.
-    subst (λ (f : Files). KeepsIndex f.idx c.args.db.now) (sym (c.in-Ok.ensures.looks.untouched told).same) (c.requires.keeps_index told)
+pub tell_unmet-requires : goal.tell_unmet-requires
+tell_unmet-requires g c = record { asked = asked_still g.D.Disk c.args.disk.now c.tell_each_bad.new.disk c.args.db.now c.in-Ok.ensures.tells.looks.untouched c.requires.asked }
 
 pub returns-in-Ok-tell_unmet-clause-went : goal.returns-in-Ok-tell_unmet-clause-went
 returns-in-Ok-tell_unmet-clause-went g c = λ told rows.
@@ -41,14 +40,14 @@ returns-in-Ok-tell_unmet-clause-went g c = λ told rows.
     let e' = g.E.Sink.taken (inner c.tell_each_bad.new.err) in
     let some = c.in-Ok-tell_unmet.some in
     let second = subst (λ (f : Files). HasIndexRows db f.pkg f.idx → PartIs (unmet_part (packages f.pkg s)) (Ok some) (outputs ot o et e') (outputs ot o' et e')
-    Anywhere) (c.in-Ok.ensures.looks.untouched told).same (λ has. c.in-Ok-tell_unmet.ensures.went told has et e') rows in
+    Anywhere) (c.in-Ok.ensures.tells.looks.untouched told).same (λ has. c.in-Ok-tell_unmet.ensures.went told has et e') rows in
     behind_both ot et (bad_parts all) (unmet_part all) c.in-Ok.bad o o o' e e' e' (c.in-Ok.ensures.went told ot o) some second
 
 pub returns-in-Ok-tell_unmet-clause-looks : goal.returns-in-Ok-tell_unmet-clause-looks
 returns-in-Ok-tell_unmet-clause-looks g c =
     peeks_then g.D.Disk.tells g.D.Disk.files g.D.Disk.left_since g.D.Disk.moment g.D.Disk.bytes_read g.D.Disk.follows true g.met.D.Disk.follows_trans
-    c.args.disk.now c.tell_each_bad.new.disk c.tell_unmet.new.disk c.in-Ok.ensures.looks
-    c.in-Ok-tell_unmet.ensures.looks
+    c.args.disk.now c.tell_each_bad.new.disk c.tell_unmet.new.disk c.in-Ok.ensures.tells.looks
+    c.in-Ok-tell_unmet.ensures.tells.looks
 
 pub returns-in-Err-tell_unmet-clause-went : goal.returns-in-Err-tell_unmet-clause-went
 returns-in-Err-tell_unmet-clause-went g c = λ told rows.
@@ -64,15 +63,15 @@ returns-in-Err-tell_unmet-clause-went g c = λ told rows.
     let what = c.in-Err-tell_unmet.stop in
     let second = subst (λ (f : Files). HasIndexRows db f.pkg f.idx → PartIs (unmet_part (packages f.pkg s)) (Err what) (outputs ot o et e')
     (outputs ot o' et e')
-    Anywhere) (c.in-Ok.ensures.looks.untouched told).same (λ has. c.in-Err-tell_unmet.ensures.went told has et e') rows in
+    Anywhere) (c.in-Ok.ensures.tells.looks.untouched told).same (λ has. c.in-Err-tell_unmet.ensures.went told has et e') rows in
     behind_stop ot et (bad_parts all) (unmet_part all) c.in-Ok.bad o o o' e e' e' (c.in-Ok.ensures.went told ot o) what second
 
 pub returns-in-Err-tell_unmet-clause-broken : goal.returns-in-Err-tell_unmet-clause-broken
 returns-in-Err-tell_unmet-clause-broken g c = λ told.
-    subst (λ (f : Files). StopsOfSome f.idx c.in-Err-tell_unmet.stop) (c.in-Ok.ensures.looks.untouched told).same (c.in-Err-tell_unmet.ensures.broken told)
+    subst (λ (f : Files). StopsOfSome f.idx c.in-Err-tell_unmet.stop) (c.in-Ok.ensures.tells.looks.untouched told).same (c.in-Err-tell_unmet.ensures.broken told)
 
 pub returns-in-Err-tell_unmet-clause-looks : goal.returns-in-Err-tell_unmet-clause-looks
 returns-in-Err-tell_unmet-clause-looks g c =
     peeks_then g.D.Disk.tells g.D.Disk.files g.D.Disk.left_since g.D.Disk.moment g.D.Disk.bytes_read g.D.Disk.follows true g.met.D.Disk.follows_trans
-    c.args.disk.now c.tell_each_bad.new.disk c.tell_unmet.new.disk c.in-Ok.ensures.looks
-    c.in-Err-tell_unmet.ensures.looks
+    c.args.disk.now c.tell_each_bad.new.disk c.tell_unmet.new.disk c.in-Ok.ensures.tells.looks
+    c.in-Err-tell_unmet.ensures.tells.looks

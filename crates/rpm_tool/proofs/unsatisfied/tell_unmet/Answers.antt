@@ -9,8 +9,12 @@ use Rattle.rpm_tool.specs.Answers.{Anywhere, is_some_of}
 use Rattle.rpm_tool.specs.Requirements.{unmet_step, unmet_part}
 use Rattle.rpm_tool.proofs.Reaching.{through_none}
 use Rattle.rpm_tool.proofs.Stopping.{reached_unsunk}
-use Rattle.rpm_tool.proofs.Peeking.{peeks_then}
+use Rattle.rpm_tool.proofs.Askable.{asked_still}
+use Rattle.rpm_tool.proofs.SoFar.{SoFar, more_out, ends_out, read_first}
 use Rattle.rpm_tool.proofs.unsatisfied.tell_unmet.Goals as goal
+
+pub put_each_unmet-requires : goal.put_each_unmet-requires
+put_each_unmet-requires g c = record { asked = asked_still g.D.Disk c.args.disk.now c.list_unmet.new.disk c.args.db.now c.in-Ok.ensures.reads.looks.untouched c.requires.asked }
 
 some_of : {X : Type 0} (xs : List X) → is_some_of xs ≡ not (length xs == 0)
 some_of [] = refl
@@ -37,7 +41,7 @@ returns-in-Ok-put_each_unmet-clause-went g c = λ told rows et e.
     let new = outputs g.O.Sink.tells (g.O.Sink.taken (inner c.put_each_unmet.new.out)) et e in
     let list = c.as_slice.result.now in
     let here : Through (map (unmet_step all) list) old new =
-    subst (λ (f : Files). Through (map (unmet_step (packages f.pkg s)) list) old new) (c.in-Ok.ensures.looks.untouched told).same
+    subst (λ (f : Files). Through (map (unmet_step (packages f.pkg s)) list) old new) (c.in-Ok.ensures.reads.looks.untouched told).same
     (c.in-Ok-put_each_unmet.ensures.went told et e) in
     record {
       steps = subst (λ (us : List Unmet). Through (map (unmet_step all) us) old new) (c.as_slice.ensures ∙ c.in-Ok.ensures.told told rows) here;
@@ -45,8 +49,15 @@ returns-in-Ok-put_each_unmet-clause-went g c = λ told rows et e.
           ∙ some_of c.as_slice-in-Ok-put_each_unmet.result.now ∙ ap not (sym c.is_empty.ensures);
     }
 
-pub returns-in-Ok-put_each_unmet-clause-looks : goal.returns-in-Ok-put_each_unmet-clause-looks
-returns-in-Ok-put_each_unmet-clause-looks g c =
-    peeks_then g.D.Disk.tells g.D.Disk.files g.D.Disk.left_since g.D.Disk.moment g.D.Disk.bytes_read g.D.Disk.follows true g.met.D.Disk.follows_trans
-    c.args.disk.now c.list_unmet.new.disk c.put_each_unmet.new.disk c.in-Ok.ensures.looks
-    c.in-Ok-put_each_unmet.ensures.looks
+pub returns-in-Err-clause-tells : goal.returns-in-Err-clause-tells
+returns-in-Err-clause-tells g c =
+    read_first g.D.Disk g.O.Sink _ _ c.in-Err.stop c.args.disk.now c.list_unmet.new.disk c.args.out.now g.met.O.Sink.follows_refl c.in-Err.ensures.reads
+
+pub returns-in-Ok-put_each_unmet-clause-tells : goal.returns-in-Ok-put_each_unmet-clause-tells
+returns-in-Ok-put_each_unmet-clause-tells g c =
+    let read = c.in-Ok.ensures.reads in
+    let far : SoFar g.D.Disk g.O.Sink c.args.disk.now c.list_unmet.new.disk c.args.out.now c.args.out.now =
+    record { looks = read.looks; disk = read.disk.later; taken = omega arith; rest = g.met.O.Sink.follows_refl (inner c.args.out.now) } in
+    ends_out g.D.Disk g.O.Sink _ _ c.args.disk.now c.put_each_unmet.new.disk c.args.out.now c.put_each_unmet.new.out
+    (more_out g.D.Disk g.O.Sink g.met.D.Disk.follows_trans g.met.O.Sink.follows_trans c.args.disk.now c.list_unmet.new.disk c.put_each_unmet.new.disk c.args.out.now
+    c.args.out.now c.put_each_unmet.new.out far _ _ c.in-Ok-put_each_unmet.ensures.tells)

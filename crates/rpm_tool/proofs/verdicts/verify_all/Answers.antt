@@ -16,7 +16,11 @@ use Rattle.rpm_tool.proofs.Reaching.{goes_start, goes_more, goes_end}
 use Rattle.rpm_tool.proofs.Printed.{none_more}
 use Rattle.rpm_tool.proofs.Verified.{next_entry, no_entry, from_one, verdict_here, fails_later}
 use Rattle.rpm_tool.proofs.verdicts.verify_all.Answers.Stopped as stopped
+use Rattle.rpm_tool.proofs.Askable.{asked_still}
 use Rattle.rpm_tool.proofs.verdicts.verify_all.Goals as goal
+
+pub verify_one-requires-clause-asked : goal.verify_one-requires-clause-asked
+verify_one-requires-clause-asked g c = asked_still g.D.Disk c.args.disk.now c.loop-next.disk c.args.db.now c.loop-next.invariant.looks.untouched c.requires.asked
 
 pub loop-next-init : goal.loop-next-init
 loop-next-init g c =
@@ -24,7 +28,6 @@ loop-next-init g c =
     let file = (g.D.Disk.files c.args.disk.now).pkg in
     let all = (together (map (entry_verdict file db.store) (above 0 (entries (packages file db.store))))).steps in
     record {
-      keeps = c.requires.keeps;
       looks = looks_more g.D.Disk.tells g.D.Disk.files g.D.Disk.left_since g.D.Disk.moment g.D.Disk.bytes_read g.D.Disk.follows Pkg 0
           (cost_to 0 db) c.args.disk.now c.args.disk.now (omega arith)
           (looks_none g.D.Disk.tells g.D.Disk.files g.D.Disk.left_since g.D.Disk.moment g.D.Disk.bytes_read g.D.Disk.follows Pkg
@@ -51,7 +54,6 @@ loop-next-preserved g c =
     let o' = g.O.Sink.taken (inner c.loop-next.out) in
     let o'' = g.O.Sink.taken (inner c.verify_one.new.out) in
     record {
-      keeps = done.kept;
       looks = looks_then g.D.Disk.tells g.D.Disk.files g.D.Disk.left_since g.D.Disk.moment g.D.Disk.bytes_read g.D.Disk.follows Pkg
           g.met.D.Disk.follows_trans (cost_to k db) (cost m db) (cost_to m db) c.args.disk.now c.loop-next.disk c.verify_one.new.disk
           (omega (arith, cost_more db k m c.in-Some.ensures.next.0)) inv.looks done.looks;
@@ -90,7 +92,7 @@ returns-clause-went g c = λ told et e.
     let es = entries (packages file db.store) in
     let each : ℕ × Package → Portion = entry_verdict file db.store in
     let none = no_entry (packages file db.store) k (c.in_default.ensures.told file) in
-    let first = from_one file db c.requires.from_one in
+    let first = from_one file db c.requires.asked.from_one in
     let ot = g.O.Sink.tells in
     let o = g.O.Sink.taken (inner c.args.out.now) in
     let o' = g.O.Sink.taken (inner c.loop-next.out) in

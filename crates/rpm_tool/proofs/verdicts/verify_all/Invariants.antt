@@ -5,7 +5,7 @@ use Rattle.rpm_outside.specs.Buffered.{inner}
 use Rattle.rpm_outside.specs.declared.disk.File.TheVariants.{Pkg}
 use Rattle.rpm_outside.specs.Looks.{Looks}
 use Rattle.rpm_db.specs.State.{packages, above}
-use Rattle.rpm_db.specs.Database.{Keeps, cost_to}
+use Rattle.rpm_db.specs.Database.{cost_to}
 use Rattle.rpm_tool.specs.Steps.{together}
 use Rattle.rpm_tool.specs.Reports.{entry_verdict}
 use Rattle.rpm_tool.proofs.Reaching.{Goes}
@@ -13,7 +13,6 @@ use Rattle.rpm_tool.proofs.verdicts.verify_all.Given as goal
 
 abbrev pub invariant-loop-next : goal.invariant-loop-next
 invariant-loop-next g l = record {
-  keeps : IsTrue g.D.Disk.tells → Keeps (g.D.Disk.files l.disk).pkg l.db;
   looks : Looks g.D.Disk.tells g.D.Disk.files g.D.Disk.left_since g.D.Disk.moment g.D.Disk.bytes_read g.D.Disk.follows Pkg
       (cost_to l.number l.db) l.initial.disk l.disk;
   disk : g.D.Disk.faults l.initial.disk ≤ g.D.Disk.faults l.disk;

@@ -51,7 +51,7 @@ returns-in-Err-clause-went g c = λ told et e.
     (λ b is. subst (λ (w : Bearer). now ≤ before + reached_by (Everything ∷ []) db w) (sym is) few) part.steps) in
     record {
       steps = subst (λ (xs : List (ℕ × Package)). Reached {T = Bool} (together (map each xs)).steps (Err what) (outputs ot o et e) (outputs ot o'' et e) reads)
-          (from_one file db c.requires.from_one) reached;
+          (from_one file db c.requires.asked.from_one) reached;
       fails = tt;
     }
 
