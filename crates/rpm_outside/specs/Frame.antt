@@ -45,3 +45,23 @@ module _ {D : Type 0} (d : disk.Ghosts D) where
   -- an error comes only where it did
   abbrev pub DiskCause : {T E : Type 0} → Result T E → D → D → Type 0
   DiskCause result old new = HasCause (d.faults old) (d.faults new) result
+
+  -- at most so many bytes of a file were read, nothing else happened, and an error comes only where the disk counted a fault
+  pub record Reads {T E : Type 0} (file : File) (most : ℕ) (result : Result T E) (old new : D) : Type 0 where
+    pub looks : Looks file most old new
+    pub cause : DiskCause result old new
+
+  -- the same for an answer of several errors, of which this comes only where the disk counted a fault
+  pub record ReadsOr (file : File) (most : ℕ) (what : Type 0) (old new : D) : Type 0 where
+    pub looks : Looks file most old new
+    pub cause : DiskFault what old new
+
+  -- one file alone changed, as a relation says, so many bytes of it were read at most, and an error comes only where the disk counted a fault
+  pub record Writes {T E : Type 0} (file : File) (by : Units → Units → Type 0) (most : ℕ) (result : Result T E) (old new : D) : Type 0 where
+    pub changes : Changes file by most old new
+    pub cause : DiskCause result old new
+
+  -- the same for an answer of several errors
+  pub record WritesOr (file : File) (by : Units → Units → Type 0) (most : ℕ) (what : Type 0) (old new : D) : Type 0 where
+    pub changes : Changes file by most old new
+    pub cause : DiskFault what old new

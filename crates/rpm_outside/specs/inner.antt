@@ -19,4 +19,5 @@ pub mod PutLaws
 pub mod PutMore
 pub mod Puts
 pub mod Taken
+pub mod UnitLaws
 pub mod Upto
