@@ -1,88 +1,120 @@
--- Runs of calls that change Packages.db, in the form in which the answers join them.
-use Rattle.std.proofs.Common.{◌≡◌, ℕ, ◌+◌, ◌≤◌, Bool, Result, Ok, Err, OnOk, arith}
+-- Runs of calls that read or change Packages.db, in the form in which the answers join them.
+use Rattle.std.proofs.Common.{◌≡◌, ℕ, ◌+◌, ◌≤◌, Result, Ok, Err, OnOk, OnErr, IsErr, IsErrAnd, subst, sym, arith}
 use Rattle.std.specs.Prelude.{IsTrue}
-use Rattle.rpm_outside.specs.declared.disk.File.{File}
+use Rattle.rpm_outside.specs.declared.disk.Disk as disk
+use Rattle.rpm_outside.specs.declared.failed.Failed.{Failed}
 use Rattle.rpm_outside.specs.declared.disk.File.TheVariants.{Pkg}
 use Rattle.rpm_outside.specs.Files.{Units, Files}
-use Rattle.rpm_outside.specs.Crash.{Torn, TornFile, OnlyAfter, Elapses, LeavesOnly}
-use Rattle.rpm_outside.specs.Looks.{Looks}
-use Rattle.rpm_outside.specs.Changes.{Stops, Changes}
+use Rattle.rpm_outside.specs.Crash.{LeavesOnly}
+use Rattle.rpm_outside.specs.Changes.{Stops}
 use Rattle.rpm_outside.specs.inner.Changing as shared
+use Rattle.rpm_outside.specs.inner.Looking as reading
+use Rattle.rpm_outside.specs.Causes.{Rose}
+use Rattle.rpm_outside.specs.Frame.{Reads, ReadsOr, Writes, images}
+use Rattle.rpm_pkgdb.specs.Frame.{StopsIn}
 
-module _ {D : Type 0} (tells : Bool) (files : D → Files) (left_since : D → ℕ → Files → Type 0) (moment : D → ℕ)
-    (bytes_read : D → File → ℕ) (follows : D → D → Type 0) where
-  abbrev pub WritesOnly : (Units → Units → Type 0) → D → D → Type 0
-  WritesOnly R a b = Changes tells files left_since moment bytes_read follows Pkg R 0 a b
+-- the answer so far of a run that goes on
+abbrev pub done : Result (Unit {0}) Failed
+done = Ok tt
 
-  abbrev pub Copies : (Units → Units → Type 0) → ℕ → D → D → Type 0
-  Copies R most a b = Changes tells files left_since moment bytes_read follows Pkg R most a b
+failed_as : {T E X : Type 0} (r : Result T E) → X → OnErr r X
+failed_as (Ok t) x = tt
+failed_as (Err e) x = x
 
-  pub changes_weaker : (R S : Units → Units → Type 0) (a b : D) → ((x y : Units) → R x y → S x y) → WritesOnly R a b → WritesOnly S a b
-  changes_weaker R S a b weaker run = shared.changes_weaker tells files left_since moment bytes_read follows Pkg R S 0 0 a b (omega arith) weaker run
+failed_then : {T E : Type 0} (r : Result T E) (a b c : ℕ) → a ≤ b → OnErr r (Rose b c) → OnErr r (Rose a c)
+failed_then (Ok t) a b c le rose = tt
+failed_then (Err e) a b c le rose = omega arith
+
+module _ {D : Type 0} (d : disk.Ghosts D) where
+  -- a run that says less
+  pub writes_weaker : {R S : Units → Units → Type 0} {m n : ℕ} {X E : Type 0} {r : Result X E} {a b : D} → Writes d Pkg R m r a b → m ≤ n
+      → ((x y : Units) → R x y → S x y) → Writes d Pkg S n r a b
+  writes_weaker run le weaker = record {
+    changes = shared.changes_weaker d.tells d.files d.left_since d.moment d.bytes_read d.follows Pkg _ _ _ _ _ _ le weaker run.changes;
+    cause = run.cause;
+  }
 
   -- two runs, one after the other
-  pub changes_then : ((a b c : D) → follows a b → follows b c → follows a c) → (R S T : Units → Units → Type 0) (a b c : D)
-      → ((x y : Units) → R x y → T x y) → ((x y z : Units) → R x y → S y z → T x z) → WritesOnly R a b → WritesOnly S b c → WritesOnly T a c
-  changes_then trans R S T a b c weaker joined first second =
-      shared.changes_then tells files left_since moment bytes_read follows Pkg trans R S T 0 0 0 a b c (omega arith) weaker joined first second
+  pub writes_then : ((a b c : D) → d.follows a b → d.follows b c → d.follows a c) → {R S T : Units → Units → Type 0} {m n most : ℕ}
+      {X E Y F : Type 0} {r : Result X E} {q : Result Y F} {a b c : D} → Writes d Pkg R m r a b → Writes d Pkg S n q b c → m + n ≤ most
+      → ((x y : Units) → R x y → T x y) → ((x y z : Units) → R x y → S y z → T x z) → Writes d Pkg T most q a c
+  writes_then trans first second le weaker joined = record {
+    changes =
+        shared.changes_then d.tells d.files d.left_since d.moment d.bytes_read d.follows Pkg trans _ _ _ _ _ _ _ _ _ le weaker joined first.changes
+        second.changes;
+    cause = record {
+      later = omega (arith, first.cause.later, second.cause.later);
+      failed = failed_then _ _ _ _ first.cause.later second.cause.failed;
+    };
+  }
 
-  -- one write, whole or cut short
-  pub changes_write : (at : ℕ) (units : Units) (a b : D) → (IsTrue tells → TornFile Pkg at units (files a) (files b))
-      → (IsTrue tells → OnlyAfter (TornFile Pkg at units) (left_since a (moment a)) (left_since b (moment b)))
-      → (IsTrue tells → Elapses (moment a) (moment b) (left_since a) (left_since b)) → ((f : File) → bytes_read b f ≡ bytes_read a f) → follows a b
-      → WritesOnly (Torn at units) a b
-  changes_write = shared.changes_write tells files left_since moment bytes_read follows Pkg
-
-  -- one sync
-  pub changes_sync : (R : Units → Units → Type 0) → ((x : Units) → R x x) → (a b : D) → (IsTrue tells → files b ≡ files a)
-      → (IsTrue tells → (image : Files) → left_since b (moment b) image → left_since a (moment a) image)
-      → (IsTrue tells → Elapses (moment a) (moment b) (left_since a) (left_since b)) → ((f : File) → bytes_read b f ≡ bytes_read a f) → follows a b
-      → WritesOnly R a b
-  changes_sync = shared.changes_sync tells files left_since moment bytes_read follows Pkg
-
-  pub copies_from : (R S : Units → Units → Type 0) (a b : D) → ((x y : Units) → R x y → S x y) → WritesOnly R a b → Copies S 0 a b
-  copies_from R S a b weaker run = shared.changes_weaker tells files left_since moment bytes_read follows Pkg R S 0 0 a b (omega arith) weaker run
+  -- a run that failed, whatever is answered then
+  pub writes_failed : {R : Units → Units → Type 0} {most : ℕ} {X E Y F : Type 0} {e : E} {q : Result Y F} {a b : D}
+      → (let r : Result X E = Err e in Writes d Pkg R most r a b)
+      → Writes d Pkg R most q a b
+  writes_failed run = record { changes = run.changes; cause = record { later = run.cause.later; failed = failed_as _ run.cause.failed } }
 
   -- a run that only reads
-  pub copies_looks : (R : Units → Units → Type 0) → ((x : Units) → R x x) → (most : ℕ) (a b : D)
-      → Looks tells files left_since moment bytes_read follows Pkg most a b → Copies R most a b
-  copies_looks = shared.changes_looks tells files left_since moment bytes_read follows Pkg
+  pub writes_reads : {R : Units → Units → Type 0} {most : ℕ} {X E : Type 0} {r : Result X E} {a b : D} → Reads d Pkg most r a b → ((x : Units) → R x x)
+      → Writes d Pkg R most r a b
+  writes_reads run same = record {
+    changes = shared.changes_looks d.tells d.files d.left_since d.moment d.bytes_read d.follows Pkg _ same _ _ _ run.looks;
+    cause = run.cause;
+  }
 
-  pub copies_then : ((a b c : D) → follows a b → follows b c → follows a c) → (R S T : Units → Units → Type 0) (m n most : ℕ) (a b c : D) → m + n ≤ most
-      → ((x y : Units) → R x y → T x y) → ((x y z : Units) → R x y → S y z → T x z) → Copies R m a b → Copies S n b c → Copies T most a c
-  copies_then = shared.changes_then tells files left_since moment bytes_read follows Pkg
+  -- no run
+  pub writes_none : ((x : D) → d.follows x x) → {R : Units → Units → Type 0} (a : D) → ((x : Units) → R x x) → Writes d Pkg R 0 done a a
+  writes_none stays a same = record {
+    changes = shared.changes_none d.tells d.files d.left_since d.moment d.bytes_read d.follows Pkg stays _ same a;
+    cause = record { later = omega arith; failed = tt };
+  }
 
-  pub copies_none : ((d : D) → follows d d) → (R : Units → Units → Type 0) → ((x : Units) → R x x) → (d : D) → Copies R 0 d d
-  copies_none = shared.changes_none tells files left_since moment bytes_read follows Pkg
+  -- two runs that read
+  pub reads_then : ((a b c : D) → d.follows a b → d.follows b c → d.follows a c) → {m n most : ℕ} {X E Y F : Type 0} {r : Result X E} {q : Result Y F}
+      {a b c : D} → Reads d Pkg m r a b → Reads d Pkg n q b c → m + n ≤ most → Reads d Pkg most q a c
+  reads_then trans first second le = record {
+    looks =
+        reading.looks_then d.tells d.files d.left_since d.moment d.bytes_read d.follows Pkg trans _ _ _ _ _ _ le first.looks second.looks;
+    cause = record {
+      later = omega (arith, first.cause.later, second.cause.later);
+      failed = failed_then _ _ _ _ first.cause.later second.cause.failed;
+    };
+  }
 
-  pub copies_weaker : (R S : Units → Units → Type 0) (m n : ℕ) (a b : D) → m ≤ n → ((x y : Units) → R x y → S x y) → Copies R m a b → Copies S n a b
-  copies_weaker = shared.changes_weaker tells files left_since moment bytes_read follows Pkg
+  -- a run that goes on
+  pub reads_on : {most : ℕ} {X E : Type 0} {r : Result X E} {a b : D} → Reads d Pkg most r a b → Reads d Pkg most done a b
+  reads_on run = record { looks = run.looks; cause = record { later = run.cause.later; failed = tt } }
 
-module _ {D : Type 0} (tells : Bool) (files : D → Files) (left_since : D → ℕ → Files → Type 0) (moment : D → ℕ)
-    (bytes_read : D → File → ℕ) (follows : D → D → Type 0) (told : IsTrue tells) where
-  -- what crashes leave that fall into a run
-  pub copies_stops_from : (R : Units → Units → Type 0) (P : Units → Type 0) (most : ℕ) (a b : D)
-      → Changes tells files left_since moment bytes_read follows Pkg R most a b
-      → ((from image : Files) → left_since a (moment a) from → R from.pkg image.pkg → P image.pkg)
-      → LeavesOnly moment left_since a b (Stops Pkg P (left_since a (moment a)))
-  copies_stops_from = shared.stops_from tells files left_since moment bytes_read follows Pkg told
+  -- a run that failed, where the answer has several errors
+  pub reads_failed : {m most : ℕ} {X E : Type 0} {e : E} {what : Type 0} {a b : D} → (let r : Result X E = Err e in Reads d Pkg m r a b) → m ≤ most
+      → ReadsOr d Pkg most what a b
+  reads_failed run le = record {
+    looks = reading.looks_more d.tells d.files d.left_since d.moment d.bytes_read d.follows Pkg _ _ _ _ le run.looks;
+    cause = record { later = run.cause.later; rose = λ is. run.cause.failed };
+  }
 
-  -- and in two runs, one after the other
-  pub copies_stops_then : (R : Units → Units → Type 0) (P : Units → Type 0) (most : ℕ) (a b c : D)
-      → Changes tells files left_since moment bytes_read follows Pkg R most a b
-      → LeavesOnly moment left_since a b (Stops Pkg P (left_since a (moment a))) → LeavesOnly moment left_since b c (Stops Pkg P (left_since b (moment b)))
-      → LeavesOnly moment left_since a c (Stops Pkg P (left_since a (moment a)))
-  copies_stops_then = shared.stops_then tells files left_since moment bytes_read follows Pkg told
+  -- two runs that read, where the answer has several errors
+  pub reads_or_then : ((a b c : D) → d.follows a b → d.follows b c → d.follows a c) → {m n most : ℕ} {X E : Type 0} {r : Result X E} {what why : Type 0}
+      {a b c : D} → Reads d Pkg m r a b → ReadsOr d Pkg n why b c → m + n ≤ most → (what → why) → ReadsOr d Pkg most what a c
+  reads_or_then trans first second le only = record {
+    looks =
+        reading.looks_then d.tells d.files d.left_since d.moment d.bytes_read d.follows Pkg trans _ _ _ _ _ _ le first.looks second.looks;
+    cause = record {
+      later = omega (arith, first.cause.later, second.cause.later);
+      rose = λ is. (let rose = second.cause.rose (only is) in omega (arith, first.cause.later));
+    };
+  }
 
-  pub stops_from : (R : Units → Units → Type 0) (P : Units → Type 0) (a b : D) → Changes tells files left_since moment bytes_read follows Pkg R 0 a b
-      → ((from image : Files) → left_since a (moment a) from → R from.pkg image.pkg → P image.pkg)
-      → LeavesOnly moment left_since a b (Stops Pkg P (left_since a (moment a)))
-  stops_from R P = copies_stops_from R P 0
+module _ {D : Type 0} (d : disk.Ghosts D) (told : IsTrue d.tells) where
+  -- what stops leave that fall into a run
+  pub stops_while : (P : Units → Type 0) {R : Units → Units → Type 0} {most : ℕ} {X E : Type 0} {r : Result X E} {a b : D} → Writes d Pkg R most r a b
+      → ((from image : Files) → images d a from → R from.pkg image.pkg → P image.pkg) → StopsIn d a b P
+  stops_while P run = shared.stops_from d.tells d.files d.left_since d.moment d.bytes_read d.follows Pkg told _ P _ _ _ run.changes
 
-  pub stops_then : (R : Units → Units → Type 0) (P : Units → Type 0) (a b c : D) → Changes tells files left_since moment bytes_read follows Pkg R 0 a b
-      → LeavesOnly moment left_since a b (Stops Pkg P (left_since a (moment a))) → LeavesOnly moment left_since b c (Stops Pkg P (left_since b (moment b)))
-      → LeavesOnly moment left_since a c (Stops Pkg P (left_since a (moment a)))
-  stops_then R P = copies_stops_then R P 0
+  -- and into two runs, one after the other
+  pub stops_next : (P : Units → Type 0) {R : Units → Units → Type 0} {most : ℕ} {X E : Type 0} {r : Result X E} {a b c : D} → Writes d Pkg R most r a b
+      → StopsIn d a b P → StopsIn d b c P → StopsIn d a c P
+  stops_next P run = shared.stops_then d.tells d.files d.left_since d.moment d.bytes_read d.follows Pkg told _ P _ _ _ _ run.changes
 
 pub stops_weaker : {D : Type 0} (moment : D → ℕ) (left_since : D → ℕ → Files → Type 0) (P Q : Units → Type 0) (a b : D) → ((image : Units) → P image → Q image)
     → LeavesOnly moment left_since a b (Stops Pkg P (left_since a (moment a))) → LeavesOnly moment left_since a b (Stops Pkg Q (left_since a (moment a)))
@@ -100,3 +132,8 @@ map_ok (Err e) f a = tt
 pub both_ok : {T E A B C : Type 0} (r : Result T E) → (A → B → C) → OnOk r A → OnOk r B → OnOk r C
 both_ok (Ok t) f a b = f a b
 both_ok (Err e) f a b = tt
+
+-- what is said of an error that is passed on
+pub err_given : {T E : Type 0} (P : Result T E → Type 0) (e : E) (r : Result T E) → IsErr r × IsErrAnd r (λ x. x ≡ e) → P (Err e) → P r
+err_given P e (Err x) is given = subst (λ y. P (Err y)) (sym is.1) given
+err_given P e (Ok t) is given = absurd is.1

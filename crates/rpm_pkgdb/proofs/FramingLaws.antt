@@ -8,47 +8,48 @@ use Rattle.rpm_outside.specs.Files.{Units, unit_at, units_of, cut_up, bytes_of, 
 use Rattle.rpm_pkgdb.specs.inner.Clear.{Holds}
 use Rattle.rpm_outside.specs.inner.Cuts.{length-cut_up, bytes_of-cut_up}
 use Rattle.rpm_pkgdb.specs.declared.slot.Slot.{Slot}
-use Rattle.rpm_pkgdb.specs.Words.{word, begins}
+use Rattle.rpm_outside.specs.Words.{word, bytes_of_word}
+use Rattle.rpm_pkgdb.specs.Words.{begins}
 use Rattle.rpm_pkgdb.specs.Blobs.{Frame, blocks_for, is_head, is_tail, is_framed, tail, blocks_at, frame_of, blob_in}
 use Rattle.rpm_pkgdb.specs.Checksums.{adler}
-use Rattle.rpm_pkgdb.specs.Framing.{le, head_of, padding, tail_of, summed, framed}
+use Rattle.rpm_pkgdb.specs.Framing.{head_of, padding, tail_of, summed, framed}
 
-pub length-le : (n : ℕ) → length (le n) ≡ 4
-unfolding le
-length-le n = refl
+pub length-word : (n : ℕ) → length (bytes_of_word n) ≡ 4
+unfolding bytes_of_word
+length-word n = refl
 
-le-word : (n : ℕ) (rest : List ℕ) → n < 2 ^ 32 → from_le_bytes w32 (le n ++ rest) ≡ n
-unfolding le
-le-word n rest fits = from_le_bytes-to_le_bytes_4 n fits
+word-back : (n : ℕ) (rest : List ℕ) → n < 2 ^ 32 → from_le_bytes w32 (bytes_of_word n ++ rest) ≡ n
+unfolding bytes_of_word
+word-back n rest fits = from_le_bytes-to_le_bytes_4 n fits
 
 pub length-head_of : (n g size : ℕ) → length (head_of n g size) ≡ 16
-unfolding head_of le
+unfolding head_of bytes_of_word
 length-head_of n g size = refl
 
 pub length-tail_of : (sum size : ℕ) → length (tail_of sum size) ≡ 12
-unfolding tail_of le
+unfolding tail_of bytes_of_word
 length-tail_of sum size = refl
 
 module _ (n g size : ℕ) (fits_n : n < 2 ^ 32) (fits_g : g < 2 ^ 32) (fits_size : size < 2 ^ 32) where
   pub head-magic : begins (codes "BlbS") (head_of n g size) ≡ true
-  unfolding head_of word le
+  unfolding head_of word bytes_of_word
   head-magic = refl
 
   pub head-number : word 1 (head_of n g size) ≡ n
-  unfolding head_of word le
+  unfolding head_of word bytes_of_word
   head-number = from_le_bytes-to_le_bytes_4 n fits_n
 
   pub head-size : word 3 (head_of n g size) ≡ size
-  unfolding head_of word le
+  unfolding head_of word bytes_of_word
   head-size = from_le_bytes-to_le_bytes_4 size fits_size
 
 module _ (sum size : ℕ) (fits_size : size < 2 ^ 32) where
   tail-size : word 1 (tail_of sum size) ≡ size
-  unfolding tail_of word le
+  unfolding tail_of word bytes_of_word
   tail-size = from_le_bytes-to_le_bytes_4 size fits_size
 
   tail-magic : word 2 (tail_of sum size) ≡ from_le_bytes w32 (codes "BlbE")
-  unfolding tail_of word le
+  unfolding tail_of word bytes_of_word
   tail-magic = refl
 
 -- ---- units that stand in a file

@@ -7,7 +7,8 @@ use Rattle.std.proofs.lemmas.Bool.Decides.{nat_tests}
 use Rattle.rpm_outside.specs.Files.{Units, unit_at, blank}
 use Rattle.rpm_pkgdb.specs.declared.slot.Damage.{Damage}
 use Rattle.rpm_pkgdb.specs.declared.slot.Reason.{Reason}
-use Rattle.rpm_pkgdb.specs.Words.{word, begins, is_nonzero}
+use Rattle.rpm_outside.specs.Words.{word}
+use Rattle.rpm_pkgdb.specs.Words.{begins, is_nonzero}
 use Rattle.rpm_pkgdb.specs.Slots.{slot_of, slots_in, slot_at, free}
 use Rattle.rpm_pkgdb.specs.Damages.{head_reason, table, table_fault}
 use Rattle.rpm_pkgdb.specs.Store.{Store, store, blank_store, made_store, made_or_damaged, store_of, is_blank, unless, Keeps, in_file}

@@ -6,7 +6,7 @@ pub use Rattle.rpm_blocks.specs.Blocks.{block_limit}
 pub use Rattle.rpm_outside.specs.Changes.{IsSame}
 pub use Rattle.rpm_outside.specs.Crash.{Torn}
 pub use Rattle.rpm_outside.specs.Files.{Files, Units, blank, bytes_of, put, unit_at, units_of}
-pub use Rattle.rpm_outside.specs.Frame.{Changes, DiskCause, DiskFault, IsSettled, Looks}
+pub use Rattle.rpm_outside.specs.Frame.{IsSettled, Reads, ReadsOr, Writes}
 pub use Rattle.rpm_outside.specs.declared.disk.File.TheVariants.{Pkg}
 pub use Rattle.rpm_pkgdb.specs.Answers.{AnswerIs, AreParts, IsFrame, IsOutside, frame_in, given, given_blob, given_check}
 pub use Rattle.rpm_pkgdb.specs.Blobs.{blob_in, blobs, blocks_for, frame_of, frames, is_framed, is_head, is_tail}
@@ -14,12 +14,12 @@ pub use Rattle.rpm_pkgdb.specs.Checksums.{adler, checksum_holds, checksums_hold,
 pub use Rattle.rpm_pkgdb.specs.Costs.{cost, opening_cost}
 pub use Rattle.rpm_pkgdb.specs.Damages.{damage_at, head_reason, own_reason, shared_reason, table, table_fault}
 pub use Rattle.rpm_pkgdb.specs.Frame.{IsReady, Quiet, StopsIn, pkg}
-pub use Rattle.rpm_pkgdb.specs.Framing.{framed, head_of, le, next_unit, padding, summed, tail_of}
+pub use Rattle.rpm_pkgdb.specs.Framing.{framed, head_of, next_unit, padding, summed, tail_of}
 pub use Rattle.rpm_pkgdb.specs.Growing.{AreBehind, CanAdd, NeedsPage, grown, moved, moving_cost, next_end}
 pub use Rattle.rpm_pkgdb.specs.Pairs.{Drops, IsAt, IsGapFor, IsGreatest, IsNext, IsStrictlySorted, Pairs, find_in}
 pub use Rattle.rpm_pkgdb.specs.Pairs.{key_at}
-pub use Rattle.rpm_pkgdb.specs.Placing.{placed, placement_of}
 pub use Rattle.rpm_pkgdb.specs.Planned.{CantMove, HoldsPage, IsFor, IsFull, IsPlan, moves_of}
+pub use Rattle.rpm_pkgdb.specs.Planning.{HasMoreRoom, HasNoPlace, IsPlanned}
 pub use Rattle.rpm_pkgdb.specs.Plans.{AreAllUsed, FitsNowhere, IsFirstFree, IsLeast, IsTarget, slot_for}
 pub use Rattle.rpm_pkgdb.specs.Puts.{AfterPut, IsPut, PutStops}
 pub use Rattle.rpm_pkgdb.specs.Quiet.{Anything, BeforeOrAfter, HasSlot, IsFirstPage, with_free}
@@ -48,7 +48,7 @@ pub use Rattle.rpm_pkgdb.specs.inner.Putting.{HasRoomFor, IsBlobPut, IsReplaced}
 pub use Rattle.rpm_pkgdb.specs.inner.Ranges.{AreRangesOf, Forgets, ForgetsSlot, HasStart, HasUsed, IsFreeIn}
 pub use Rattle.rpm_pkgdb.specs.inner.Ranges.{Remembers}
 pub use Rattle.rpm_pkgdb.specs.inner.Reading.{AreRead, IsRead, added, fault_of}
-pub use Rattle.rpm_pkgdb.specs.inner.Rising.{Awaits, IsInOrder}
+pub use Rattle.rpm_pkgdb.specs.inner.Rising.{ArePages, Awaits, IsInOrder}
 pub use Rattle.rpm_pkgdb.specs.inner.Settings.{CanMove, NoShorter, WhileMoved}
 pub use Rattle.rpm_pkgdb.specs.inner.Still.{StandsStill}
 pub use Rattle.rpm_pkgdb.specs.inner.Tables.{AreBounded, AreNumbered, IsIndexed}

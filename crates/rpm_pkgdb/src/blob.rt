@@ -1,13 +1,14 @@
 //! The blocks of one blob.
 
 ghost use Rattle.std.specs.Prelude.{◌≡◌, ◌≢◌, ℕ, ◌+◌, ◌-◌, ◌*◌, ◌/◌, ◌%◌, ◌^◌, ◌≤◌, ◌<◌, ◌++◌, IsTrue, true, false, length, take, drop, Err, OnOk, IfOk, IfErr};
-ghost use Rattle.rpm_pkgdb.specs.Prelude.{AreParts, blob_in, bytes_of, checksum_holds, DiskFault, end_of, Files, frame_in, frame_of, is_framed, is_head, is_tail, IsFrame, IsOutside, Looks, Pkg, unit_at, Units, units_of, word};
+ghost use Rattle.rpm_pkgdb.specs.Prelude.{AreParts, blob_in, bytes_of, checksum_holds, end_of, Files, frame_in, frame_of, is_framed, is_head, is_tail, IsFrame, IsOutside, Pkg, ReadsOr, unit_at, Units, units_of, word};
+ghost use Rattle.rpm_pkgdb.specs.declared.blob.GetFault.TheVariants as faults;
 
 use crate::checksum::sums;
 use crate::reads::{read_unit, read_units};
 use crate::slot::Slot;
-use crate::words::word;
-use rpm_outside::Disk;
+use rpm_outside::{Disk, Failed, word};
+use std::alloc::AllocError;
 
 /// Why a number has no blob to give.
 #[derive(Clone, Copy, PartialEq, Eq)]
@@ -22,6 +23,22 @@ pub enum GetFault {
     DiskFault,
     /// There was no memory for the blob.
     NoMemory,
+}
+
+impl From<Failed> for GetFault {
+    ghost from_gives = { λ _ e. e ≡ faults.DiskFault };
+
+    fn from(_: Failed) -> GetFault {
+        GetFault::DiskFault
+    }
+}
+
+impl From<AllocError> for GetFault {
+    ghost from_gives = { λ _ e. e ≡ faults.NoMemory };
+
+    fn from(_: AllocError) -> GetFault {
+        GetFault::NoMemory
+    }
 }
 
 /// The blocks of a blob whose framing is right: the first unit, and the bytes of the others.
@@ -120,8 +137,7 @@ fn read_into<D: Disk>(disk: &mut D, at: u64, count: u32, room: Vec<u8>) -> Resul
     ensures bytes { IfOk result (λ v. IsTrue D.tells
         → v.items ≡ bytes_of (take count (drop at (D.files disk.old).pkg))) }
     ensures outside { IfErr result (λ e. IsOutside e) }
-    ensures looks { Looks D.Disk Pkg (16 * count) disk.old disk.new }
-    ensures cause { DiskFault D.Disk (result ≡ Err GetFault.DiskFault) disk.old disk.new }
+    ensures reads { ReadsOr D.Disk Pkg (16 * count) (result ≡ Err GetFault.DiskFault) disk.old disk.new }
 {
     let length = 16 * count as usize;
     let mut rest = room;
@@ -129,12 +145,8 @@ fn read_into<D: Disk>(disk: &mut D, at: u64, count: u32, room: Vec<u8>) -> Resul
         rest.clear();
         rest.shrink_to_fit();
     }
-    let Ok(()) = rest.resize(length, 0) else {
-        return Err(GetFault::NoMemory);
-    };
-    let Ok(()) = read_units(disk, at, &mut rest) else {
-        return Err(GetFault::DiskFault);
-    };
+    rest.resize(length, 0)?;
+    read_units(disk, at, &mut rest)?;
     Ok(rest)
 }
 
@@ -166,8 +178,7 @@ fn read_together<D: Disk>(
     ensures long { IfOk result (λ b. length b.rest.items ≡ 16 * (slot.count - 1)) }
     ensures present { result ≢ Err GetFault.NoSuch }
     ensures parts { IsTrue D.tells → AreParts n slot (D.files disk.old).pkg result }
-    ensures looks { Looks D.Disk Pkg (16 * slot.count) disk.old disk.new }
-    ensures cause { DiskFault D.Disk (result ≡ Err GetFault.DiskFault) disk.old disk.new }
+    ensures reads { ReadsOr D.Disk Pkg (16 * slot.count) (result ≡ Err GetFault.DiskFault) disk.old disk.new }
 {
     let bytes = read_into(disk, slot.offset as u64, slot.count, room)?;
     let blocks = parted(bytes);
@@ -177,8 +188,8 @@ fn read_together<D: Disk>(
     Ok(blocks)
 }
 
-// So many blocks at most, 64 KiB, come with their head by one call.
-const FEW: u32 = 4096;
+// So many blocks at most, 8 KiB, come with their head by one call.
+const FEW: u32 = 512;
 
 /// Reads the blocks of a number's slot: many of them once the head is there and right.
 fn read_parts<D: Disk>(disk: &mut D, n: u32, slot: Slot, room: Vec<u8>) -> Result<Blocks, GetFault>
@@ -188,15 +199,12 @@ fn read_parts<D: Disk>(disk: &mut D, n: u32, slot: Slot, room: Vec<u8>) -> Resul
     ensures long { IfOk result (λ b. length b.rest.items ≡ 16 * (slot.count - 1)) }
     ensures present { result ≢ Err GetFault.NoSuch }
     ensures parts { IsTrue D.tells → AreParts n slot (D.files disk.old).pkg result }
-    ensures looks { Looks D.Disk Pkg (16 * slot.count) disk.old disk.new }
-    ensures cause { DiskFault D.Disk (result ≡ Err GetFault.DiskFault) disk.old disk.new }
+    ensures reads { ReadsOr D.Disk Pkg (16 * slot.count) (result ≡ Err GetFault.DiskFault) disk.old disk.new }
 {
     if slot.count <= FEW {
         return read_together(disk, n, slot, room);
     }
-    let Ok(head) = read_unit(disk, slot.offset as u64) else {
-        return Err(GetFault::DiskFault);
-    };
+    let head = read_unit(disk, slot.offset as u64)?;
     if !is_head(n, slot.count, &head) {
         return Err(GetFault::Bad);
     }
@@ -220,8 +228,7 @@ pub fn read_blocks<D: Disk>(
     ensures long { IfOk result (λ b. 12 ≤ length b.rest.items) }
     ensures told { IsTrue D.tells → IsFrame (frame_of n slot (D.files disk.old).pkg) result }
     ensures present { result ≢ Err GetFault.NoSuch }
-    ensures looks { Looks D.Disk Pkg (16 * slot.count) disk.old disk.new }
-    ensures cause { DiskFault D.Disk (result ≡ Err GetFault.DiskFault) disk.old disk.new }
+    ensures reads { ReadsOr D.Disk Pkg (16 * slot.count) (result ≡ Err GetFault.DiskFault) disk.old disk.new }
 {
     if slot.count == 0 {
         return Err(GetFault::Bad);

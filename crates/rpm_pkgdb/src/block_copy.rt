@@ -1,7 +1,7 @@
 //! Blocks that are copied within the file.
 
 ghost use Rattle.std.specs.Prelude.{◌≡◌, ℕ, ◌+◌, ◌*◌, ◌^◌, ◌≤◌, ◌<◌, ◌⊎◌, IsTrue, length, OnOk};
-ghost use Rattle.rpm_pkgdb.specs.Prelude.{Changes, DiskCause, Files, Pkg, SameOutside, unit_at};
+ghost use Rattle.rpm_pkgdb.specs.Prelude.{Files, Pkg, SameOutside, unit_at, Writes};
 
 use crate::reads::read_units;
 use crate::writes::write_units;
@@ -16,8 +16,7 @@ pub fn copy_blocks<D: Disk>(disk: &mut D, from: u32, to: u32, count: u32) -> Res
     ensures copied { OnOk result (IsTrue D.tells → (i : ℕ) → i < count
         → unit_at (D.files disk.new).pkg (to + i) ≡ unit_at (D.files disk.old).pkg (from + i)) }
     ensures long { OnOk result (IsTrue D.tells → 0 < count → to + count ≤ length (D.files disk.new).pkg) }
-    ensures copies { Changes D.Disk Pkg (SameOutside to count) (16 * count) disk.old disk.new }
-    ensures cause { DiskCause D.Disk result disk.old disk.new }
+    ensures writes { Writes D.Disk Pkg (SameOutside to count) (16 * count) result disk.old disk.new }
 {
     let mut page = [0u8; 4096];
     let mut done = 0;

@@ -1,7 +1,7 @@
 //! Erasing a package.
 
 ghost use Rattle.std.specs.Prelude.{◌≡◌, IsTrue, IsSome, false, OnOk, OnErr};
-ghost use Rattle.rpm_pkgdb.specs.Prelude.{Anything, Changes, DiskCause, erased, EraseStops, IsErased, Keeps, Pkg, pkg, Quiet, slot_with, stopped};
+ghost use Rattle.rpm_pkgdb.specs.Prelude.{Anything, erased, EraseStops, IsErased, Keeps, Pkg, pkg, Quiet, slot_with, stopped, Writes};
 
 use crate::freed_slot::{FREE, free_slot};
 use crate::store::{DiskFault, PkgDb};
@@ -30,8 +30,7 @@ impl PkgDb {
         ensures erased { OnOk result (IsTrue D.tells → IsErased D.Disk disk.old disk.new self.old self.new n) }
         ensures stops { IsTrue D.tells → Quiet D.Disk disk.old self.old
             → EraseStops D.Disk disk.old disk.new self.old n }
-        ensures changes { Changes D.Disk Pkg Anything 0 disk.old disk.new }
-        ensures cause { DiskCause D.Disk result disk.old disk.new }
+        ensures writes { Writes D.Disk Pkg Anything 0 result disk.old disk.new }
     {
         let (place, slot) = self.slot_place(n);
         let Ok(()) = free_slot(disk, place, slot) else {

@@ -1,7 +1,7 @@
 //! The blocks of a blob that is written.
 
 ghost use Rattle.std.specs.Prelude.{◌≡◌, ℕ, ◌+◌, ◌-◌, ◌*◌, ◌/◌, ◌%◌, ◌^◌, ◌≤◌, ◌<◌, ◌++◌, IsTrue, length, take, drop, replicate, OnOk};
-ghost use Rattle.rpm_pkgdb.specs.Prelude.{adler, blocks_for, Changes, DiskCause, Files, framed, head_of, padding, Pkg, put, SameOutside, summed, tail_of, units_of};
+ghost use Rattle.rpm_pkgdb.specs.Prelude.{adler, blocks_for, Files, framed, head_of, padding, Pkg, put, SameOutside, summed, tail_of, units_of, Writes};
 
 use crate::checksum::sums;
 use crate::units::{blob_head, blob_tail};
@@ -55,8 +55,7 @@ fn write_some<D: Disk>(disk: &mut D, at: u64, bytes: &[u8]) -> Result<(), Failed
     requires inside { IsTrue D.tells → at ≤ length (D.files disk.old).pkg }
     ensures written { OnOk result (IsTrue D.tells
         → (D.files disk.new).pkg ≡ put at (units_of bytes.now) (D.files disk.old).pkg) }
-    ensures changes { Changes D.Disk Pkg (SameOutside at (length bytes.now / 16)) 0 disk.old disk.new }
-    ensures cause { DiskCause D.Disk result disk.old disk.new }
+    ensures writes { Writes D.Disk Pkg (SameOutside at (length bytes.now / 16)) 0 result disk.old disk.new }
 {
     if bytes.is_empty() {
         return Ok(());
@@ -76,8 +75,7 @@ pub fn write_blob<D: Disk>(
     requires room { start + blocks_for (length blob.now) ≤ 2 ^ 28 }
     ensures written { OnOk result (IsTrue D.tells
         → (D.files disk.new).pkg ≡ put start (units_of (framed number generation blob.now)) (D.files disk.old).pkg) }
-    ensures changes { Changes D.Disk Pkg (SameOutside start (blocks_for (length blob.now))) 0 disk.old disk.new }
-    ensures cause { DiskCause D.Disk result disk.old disk.new }
+    ensures writes { Writes D.Disk Pkg (SameOutside start (blocks_for (length blob.now))) 0 result disk.old disk.new }
 {
     let head = blob_head(number, generation, blob.len() as u32);
     let whole = blob.len() / 16;

@@ -1,7 +1,7 @@
 //! Pages of free slots.
 
 ghost use Rattle.std.specs.Prelude.{◌≡◌, ℕ, ◌+◌, ◌*◌, ◌^◌, ◌≤◌, ◌<◌, IsTrue, length, OnOk};
-ghost use Rattle.rpm_pkgdb.specs.Prelude.{Changes, DiskCause, Files, free, IsSlotUnit, Pkg, SameOutside, unit_at};
+ghost use Rattle.rpm_pkgdb.specs.Prelude.{Files, free, IsSlotUnit, Pkg, SameOutside, unit_at, Writes};
 
 use crate::freed_slot::FREE;
 use crate::units::slot_unit;
@@ -16,8 +16,7 @@ pub fn write_free_slots<D: Disk>(disk: &mut D, at: u32, count: u32) -> Result<()
     ensures slots { OnOk result (IsTrue D.tells → (i : ℕ) → at ≤ i → i < at + count
         → IsSlotUnit (unit_at (D.files disk.new).pkg i) free) }
     ensures long { OnOk result (IsTrue D.tells → at + count ≤ length (D.files disk.new).pkg) }
-    ensures changes { Changes D.Disk Pkg (SameOutside at count) 0 disk.old disk.new }
-    ensures cause { DiskCause D.Disk result disk.old disk.new }
+    ensures writes { Writes D.Disk Pkg (SameOutside at count) 0 result disk.old disk.new }
 {
     let units = [slot_unit(FREE); 256];
     let mut page = [0u8; 4096];

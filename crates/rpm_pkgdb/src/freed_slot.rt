@@ -1,7 +1,7 @@
 //! A slot that is set free.
 
 ghost use Rattle.std.specs.Prelude.{◌+◌, ◌^◌, ◌≤◌, IsTrue, OnOk};
-ghost use Rattle.rpm_pkgdb.specs.Prelude.{Anything, BeforeOrAfter, Changes, DiskCause, end_of, HasSlot, IsSlotFreed, Pkg, pkg, Quiet, StopsIn, Store, with_free};
+ghost use Rattle.rpm_pkgdb.specs.Prelude.{Anything, BeforeOrAfter, end_of, HasSlot, IsSlotFreed, Pkg, pkg, Quiet, StopsIn, Store, with_free, Writes};
 
 use crate::slot::Slot;
 use crate::units::slot_unit;
@@ -22,8 +22,7 @@ pub fn free_slot<D: Disk>(disk: &mut D, place: u32, slot: Slot) -> Result<(), Fa
     ensures freed { OnOk result (IsTrue D.tells → IsSlotFreed D.Disk disk.old disk.new place slot) }
     ensures images { IsTrue D.tells → (value : Store) → HasSlot value place slot → Quiet D.Disk disk.old value
         → StopsIn D.Disk disk.old disk.new (BeforeOrAfter value (with_free place value) (pkg D.Disk disk.old)) }
-    ensures changes { Changes D.Disk Pkg Anything 0 disk.old disk.new }
-    ensures cause { DiskCause D.Disk result disk.old disk.new }
+    ensures writes { Writes D.Disk Pkg Anything 0 result disk.old disk.new }
 {
     write_one(disk, 2 + place as u64, &slot_unit(FREE))?;
     // Only now: until the slot is durable they are the package.

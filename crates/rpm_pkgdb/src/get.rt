@@ -1,7 +1,7 @@
 //! The blob of a number, read.
 
 ghost use Rattle.std.specs.Prelude.{◌≡◌, ◌≤◌, IsTrue, length, None, Some, Ok, Err, ◌↔◌, IfOk};
-ghost use Rattle.rpm_pkgdb.specs.Prelude.{AnswerIs, blobs, checksums_hold, cost, DiskFault, frame_in, frames, given, given_blob, given_check, Keeps, Looks, Pkg, slot_with};
+ghost use Rattle.rpm_pkgdb.specs.Prelude.{AnswerIs, blobs, checksums_hold, cost, frame_in, frames, given, given_blob, given_check, Keeps, Pkg, ReadsOr, slot_with};
 ghost use Rattle.std.specs.FinMap as finite;
 
 use crate::blob::{Blocks, Checked, GetFault, read_blocks};
@@ -17,8 +17,7 @@ impl PkgDb {
         ensures kept { IsTrue D.tells → Keeps (D.files disk.new).pkg self.now }
         ensures told { IsTrue D.tells → AnswerIs frame_in (frames (D.files disk.old).pkg self.now n) result }
         ensures absent { (result ≡ Err GetFault.NoSuch) ↔ (slot_with n self.now.slots ≡ None) }
-        ensures looks { Looks D.Disk Pkg (cost n self.now) disk.old disk.new }
-        ensures cause { DiskFault D.Disk (result ≡ Err GetFault.DiskFault) disk.old disk.new }
+        ensures reads { ReadsOr D.Disk Pkg (cost n self.now) (result ≡ Err GetFault.DiskFault) disk.old disk.new }
     {
         match self.slot_of(n) {
             None => Err(GetFault::NoSuch),
@@ -28,8 +27,8 @@ impl PkgDb {
 
     /// The blob of a number.
     ///
-    /// Reads the number's own blocks, each once: 4096 or fewer by one call, whatever their head says, and of more the
-    /// first alone where the head is wrong. The bytes that are answered are those that were read, in the vector that
+    /// Reads the number's own blocks, each once: 512 or fewer, which are 8 KiB, by one call, whatever their head says,
+    /// and of more the first alone where the head is wrong. The bytes that are answered are those that were read, in the vector that
     /// they were read into.
     ///
     /// # Errors
@@ -43,8 +42,7 @@ impl PkgDb {
         ensures kept { IsTrue D.tells → Keeps (D.files disk.new).pkg self.now }
         ensures told { IsTrue D.tells → AnswerIs given (finite.get (blobs (D.files disk.old).pkg self.now) n) result }
         ensures absent { (result ≡ Err GetFault.NoSuch) ↔ (slot_with n self.now.slots ≡ None) }
-        ensures looks { Looks D.Disk Pkg (cost n self.now) disk.old disk.new }
-        ensures cause { DiskFault D.Disk (result ≡ Err GetFault.DiskFault) disk.old disk.new }
+        ensures reads { ReadsOr D.Disk Pkg (cost n self.now) (result ≡ Err GetFault.DiskFault) disk.old disk.new }
     {
         self.get_in(disk, n, Vec::new(alloc))
     }
@@ -60,13 +58,10 @@ impl PkgDb {
         ensures kept { IsTrue D.tells → Keeps (D.files disk.new).pkg self.now }
         ensures told { IsTrue D.tells → AnswerIs given (finite.get (blobs (D.files disk.old).pkg self.now) n) result }
         ensures absent { (result ≡ Err GetFault.NoSuch) ↔ (slot_with n self.now.slots ≡ None) }
-        ensures looks { Looks D.Disk Pkg (cost n self.now) disk.old disk.new }
-        ensures cause { DiskFault D.Disk (result ≡ Err GetFault.DiskFault) disk.old disk.new }
+        ensures reads { ReadsOr D.Disk Pkg (cost n self.now) (result ≡ Err GetFault.DiskFault) disk.old disk.new }
     {
-        match self.blocks(disk, n, room) {
-            Err(fault) => Err(fault),
-            Ok(blocks) => Ok(blocks.into_blob()),
-        }
+        let blocks = self.blocks(disk, n, room)?;
+        Ok(blocks.into_blob())
     }
 
     /// Whether the checksum in the tail of a number's blob is the Adler-32 of its head, bytes and padding.
@@ -87,13 +82,10 @@ impl PkgDb {
         ensures told { IsTrue D.tells → AnswerIs (λ holds. holds) (checksums_hold (D.files disk.old).pkg self.now n)
             result }
         ensures absent { (result ≡ Err GetFault.NoSuch) ↔ (slot_with n self.now.slots ≡ None) }
-        ensures looks { Looks D.Disk Pkg (cost n self.now) disk.old disk.new }
-        ensures cause { DiskFault D.Disk (result ≡ Err GetFault.DiskFault) disk.old disk.new }
+        ensures reads { ReadsOr D.Disk Pkg (cost n self.now) (result ≡ Err GetFault.DiskFault) disk.old disk.new }
     {
-        match self.blocks(disk, n, Vec::new(alloc)) {
-            Err(fault) => Err(fault),
-            Ok(blocks) => Ok(blocks.checksum_holds()),
-        }
+        let blocks = self.blocks(disk, n, Vec::new(alloc))?;
+        Ok(blocks.checksum_holds())
     }
 
     /// The blob of a number, and whether the checksum in its tail is right.
@@ -116,12 +108,9 @@ impl PkgDb {
         ensures holds { IsTrue D.tells → AnswerIs given_check (checksums_hold (D.files disk.old).pkg self.now n)
             result }
         ensures absent { (result ≡ Err GetFault.NoSuch) ↔ (slot_with n self.now.slots ≡ None) }
-        ensures looks { Looks D.Disk Pkg (cost n self.now) disk.old disk.new }
-        ensures cause { DiskFault D.Disk (result ≡ Err GetFault.DiskFault) disk.old disk.new }
+        ensures reads { ReadsOr D.Disk Pkg (cost n self.now) (result ≡ Err GetFault.DiskFault) disk.old disk.new }
     {
-        match self.blocks(disk, n, Vec::new(alloc)) {
-            Err(fault) => Err(fault),
-            Ok(blocks) => Ok(blocks.into_checked()),
-        }
+        let blocks = self.blocks(disk, n, Vec::new(alloc))?;
+        Ok(blocks.into_checked())
     }
 }

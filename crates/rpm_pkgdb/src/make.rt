@@ -1,7 +1,7 @@
 //! Making a database.
 
 ghost use Rattle.std.specs.Prelude.{◌≡◌, ◌+◌, ◌≤◌, IsTrue, false, vec_len, vec_capacity, ◌++◌, replicate, OnOk, OnErr};
-ghost use Rattle.rpm_pkgdb.specs.Prelude.{Changes, DiskCause, free, IsFirstPage, IsMadeNew, IsSettled, Keeps, made_new, MakesTo, next_unit, Pkg, pkg, Quiet, SameOutside, stopped, StopsIn, Store, unit_at};
+ghost use Rattle.rpm_pkgdb.specs.Prelude.{free, IsFirstPage, IsMadeNew, IsSettled, Keeps, made_new, MakesTo, next_unit, Pkg, pkg, Quiet, SameOutside, stopped, StopsIn, Store, unit_at, Writes};
 
 use crate::free_slots::write_free_slots;
 use crate::freed_slot::FREE;
@@ -15,8 +15,7 @@ use rpm_outside::{Disk, Failed};
 fn write_first_page<D: Disk>(disk: &mut D) -> Result<(), Failed>
     ensures page { OnOk result (IsTrue D.tells → IsFirstPage (pkg D.Disk disk.new)) }
     ensures settled { OnOk result (IsTrue D.tells → IsSettled D.Disk Pkg disk.new) }
-    ensures changes { Changes D.Disk Pkg (SameOutside 1 255) 0 disk.old disk.new }
-    ensures cause { DiskCause D.Disk result disk.old disk.new }
+    ensures writes { Writes D.Disk Pkg (SameOutside 1 255) 0 result disk.old disk.new }
 {
     write_units(disk, 1, &next_unit(1))?;
     write_free_slots(disk, 2, 254)?;
@@ -30,8 +29,7 @@ fn write_new<D: Disk>(disk: &mut D) -> Result<(), Failed>
     ensures quiet { OnOk result (IsTrue D.tells → (value : Store) → Quiet D.Disk disk.new (made_new value)) }
     ensures images { IsTrue D.tells → (value : Store) → value.pages ≡ 0 → Quiet D.Disk disk.old value
         → StopsIn D.Disk disk.old disk.new MakesTo }
-    ensures changes { Changes D.Disk Pkg (SameOutside 0 256) 0 disk.old disk.new }
-    ensures cause { DiskCause D.Disk result disk.old disk.new }
+    ensures writes { Writes D.Disk Pkg (SameOutside 0 256) 0 result disk.old disk.new }
 {
     write_first_page(disk)?;
     write_one(disk, 0, &head_unit(1, 1))
@@ -69,8 +67,7 @@ impl PkgDb {
         ensures err { OnErr result (self.new ≡ stopped self.old) }
         ensures made { OnOk result (IsTrue D.tells → IsMadeNew D.Disk disk.old disk.new self.new) }
         ensures images { IsTrue D.tells → Quiet D.Disk disk.old self.old → StopsIn D.Disk disk.old disk.new MakesTo }
-        ensures changes { Changes D.Disk Pkg (SameOutside 0 256) 0 disk.old disk.new }
-        ensures cause { DiskCause D.Disk result disk.old disk.new }
+        ensures writes { Writes D.Disk Pkg (SameOutside 0 256) 0 result disk.old disk.new }
     {
         let Ok(()) = write_new(disk) else {
             self.stopped = true;

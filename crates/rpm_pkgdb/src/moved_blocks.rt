@@ -1,7 +1,7 @@
 //! Blocks that are moved out of the way of a new slot page.
 
 ghost use Rattle.std.specs.Prelude.{◌≡◌, ℕ, ◌+◌, ◌*◌, ◌^◌, ◌≤◌, ◌<◌, ◌⊎◌, IsTrue, length, Some, OnOk};
-ghost use Rattle.rpm_pkgdb.specs.Prelude.{AreBlocksMoved, AreMoved, CanMove, CanMoveAll, Changes, DiskCause, end_of, IsMovable, IsSettled, move_at, moving_cost, NoShorter, Pkg, pkg, Quiet, SameOutside, slot_at, StandsStill, StopsIn, Store, unit_at, WhileMoved};
+ghost use Rattle.rpm_pkgdb.specs.Prelude.{AreBlocksMoved, AreMoved, CanMove, CanMoveAll, end_of, IsMovable, IsSettled, move_at, moving_cost, NoShorter, Pkg, pkg, Quiet, SameOutside, slot_at, StandsStill, StopsIn, Store, unit_at, WhileMoved, Writes};
 
 use crate::block_copy::copy_blocks;
 use crate::slot::Slot;
@@ -19,8 +19,7 @@ fn copy_settled<D: Disk>(disk: &mut D, from: u32, to: u32, count: u32) -> Result
         → unit_at (D.files disk.new).pkg (to + i) ≡ unit_at (D.files disk.old).pkg (from + i)) }
     ensures long { OnOk result (IsTrue D.tells → 0 < count → to + count ≤ length (D.files disk.new).pkg) }
     ensures settled { OnOk result (IsTrue D.tells → IsSettled D.Disk Pkg disk.new) }
-    ensures copies { Changes D.Disk Pkg (SameOutside to count) (16 * count) disk.old disk.new }
-    ensures cause { DiskCause D.Disk result disk.old disk.new }
+    ensures writes { Writes D.Disk Pkg (SameOutside to count) (16 * count) result disk.old disk.new }
 {
     copy_blocks(disk, from, to, count)?;
     settle(disk)
@@ -42,8 +41,7 @@ pub fn move_blocks<D: Disk>(
     ensures moved { OnOk result (IsTrue D.tells → AreBlocksMoved D.Disk disk.old disk.new place old to zeros_from) }
     ensures images { IsTrue D.tells → (value : Store) → CanMove value place old to → Quiet D.Disk disk.old value
         → StopsIn D.Disk disk.old disk.new (WhileMoved value place old to (pkg D.Disk disk.old)) }
-    ensures copies { Changes D.Disk Pkg NoShorter (16 * old.count) disk.old disk.new }
-    ensures cause { DiskCause D.Disk result disk.old disk.new }
+    ensures writes { Writes D.Disk Pkg NoShorter (16 * old.count) result disk.old disk.new }
 {
     let end = old.offset + old.count;
     let at = old.offset.max(zeros_from).min(end);
@@ -82,8 +80,7 @@ pub fn move_all<D: Disk>(
     ensures images { IsTrue D.tells → (value : Store) → CanMoveAll slots.now moves.now value
         → Quiet D.Disk disk.old value
         → StopsIn D.Disk disk.old disk.new (StandsStill value (pkg D.Disk disk.old)) }
-    ensures copies { Changes D.Disk Pkg NoShorter (moving_cost slots.now (Some moves.now)) disk.old disk.new }
-    ensures cause { DiskCause D.Disk result disk.old disk.new }
+    ensures writes { Writes D.Disk Pkg NoShorter (moving_cost slots.now (Some moves.now)) result disk.old disk.new }
 {
     for k in 0..moves.len() {
         let next = moves[k];

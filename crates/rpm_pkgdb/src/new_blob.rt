@@ -1,7 +1,7 @@
 //! A blob that is put: written beside the others, named by a slot, and then what it replaces becomes zeros.
 
 ghost use Rattle.std.specs.Prelude.{◌≡◌, ◌+◌, ◌^◌, ◌≤◌, ◌<◌, IsTrue, length, OnOk, IfSome};
-ghost use Rattle.rpm_pkgdb.specs.Prelude.{Anything, BlobPut, BlobTorn, blocks_for, CanPut, Changes, DiskCause, FieldPut, FieldTorn, framed, HasRoomFor, IsBlobPut, IsSettled, next_field, next_unit, Pkg, pkg, Quiet, StopsIn, Store, unit_at, units_of, WhilePut};
+ghost use Rattle.rpm_pkgdb.specs.Prelude.{Anything, BlobPut, BlobTorn, blocks_for, CanPut, FieldPut, FieldTorn, framed, HasRoomFor, IsBlobPut, IsSettled, next_field, next_unit, Pkg, pkg, Quiet, StopsIn, Store, unit_at, units_of, WhilePut, Writes};
 
 use crate::frame::write_blob;
 use crate::plan::Target;
@@ -14,8 +14,7 @@ use rpm_outside::{Disk, Failed};
 fn write_field<D: Disk>(disk: &mut D, next: Option<u32>) -> Result<(), Failed>
     ensures written { OnOk result (IsTrue D.tells → FieldPut next (D.files disk.old).pkg (D.files disk.new).pkg) }
     ensures bytes { OnOk result (IsTrue D.tells → IfSome next (λ n. unit_at (D.files disk.new).pkg 1 ≡ next_unit n)) }
-    ensures changes { Changes D.Disk Pkg (FieldTorn next) 0 disk.old disk.new }
-    ensures cause { DiskCause D.Disk result disk.old disk.new }
+    ensures writes { Writes D.Disk Pkg (FieldTorn next) 0 result disk.old disk.new }
 {
     match next {
         None => Ok(()),
@@ -39,9 +38,8 @@ fn write_first<D: Disk>(
     ensures next { OnOk result (IsTrue D.tells
         → IfSome (next_field target.now) (λ n. unit_at (D.files disk.new).pkg 1 ≡ next_unit n)) }
     ensures settled { OnOk result (IsTrue D.tells → IsSettled D.Disk Pkg disk.new) }
-    ensures changes { Changes D.Disk Pkg (BlobTorn target.now.start (blocks_for (length blob.now))
-        (next_field target.now)) 0 disk.old disk.new }
-    ensures cause { DiskCause D.Disk result disk.old disk.new }
+    ensures writes { Writes D.Disk Pkg (BlobTorn target.now.start (blocks_for (length blob.now))
+        (next_field target.now)) 0 result disk.old disk.new }
 {
     write_blob(disk, target.start, target.number, generation, blob)?;
     write_field(disk, target.next_field())?;
@@ -62,8 +60,7 @@ pub fn put_blob<D: Disk>(
     ensures images { IsTrue D.tells → (value : Store) → CanPut value target.now generation old blob.now
         → Quiet D.Disk disk.old value → StopsIn D.Disk disk.old disk.new
         (WhilePut value target.now generation blob.now (pkg D.Disk disk.old)) }
-    ensures changes { Changes D.Disk Pkg Anything 0 disk.old disk.new }
-    ensures cause { DiskCause D.Disk result disk.old disk.new }
+    ensures writes { Writes D.Disk Pkg Anything 0 result disk.old disk.new }
 {
     write_first(disk, target, generation, blob)?;
     write_one(disk, 2 + target.place as u64, &slot_unit(target.slot()))?;

@@ -83,12 +83,8 @@ impl Page {
             None => return Err(PlanFault::StoreFull),
             Some(to) => to,
         };
-        let Ok(()) = self.used.reserve(1) else {
-            return Err(PlanFault::NoMemory);
-        };
-        let Ok(()) = self.moves.push(Move { place, to }) else {
-            return Err(PlanFault::NoMemory);
-        };
+        self.used.reserve(1)?;
+        self.moves.push(Move { place, to })?;
         self.used.insert(to, slot.count);
         self.used.remove(slot.offset);
         self.slots[place as usize] = Slot {
@@ -155,16 +151,10 @@ impl PkgDb {
         ensures kinds { result ≢ Err PlanFault.NumbersSpent }
     {
         let end = 256 * (self.pages + 1);
-        let Ok(places) = places_before(alloc, &self.slots, end) else {
-            return Err(PlanFault::NoMemory);
-        };
-        let Ok(mut page) = self.page_of(alloc) else {
-            return Err(PlanFault::NoMemory);
-        };
+        let places = places_before(alloc, &self.slots, end)?;
+        let mut page = self.page_of(alloc)?;
         while let Some(place) = first_before(&page.slots, &places, end) {
-            if let Err(fault) = page.add_move(place, end) {
-                return Err(fault);
-            }
+            page.add_move(place, end)?;
         }
         Ok(page)
     }
@@ -184,13 +174,8 @@ impl PkgDb {
         ensures kinds { result ≢ Err PlanFault.NumbersSpent }
     {
         let _ = &self.slots;
-        let mut page = match self.plan_moves(alloc) {
-            Ok(page) => page,
-            Err(fault) => return Err(fault),
-        };
-        let Ok(()) = page.add_slots() else {
-            return Err(PlanFault::NoMemory);
-        };
+        let mut page = self.plan_moves(alloc)?;
+        page.add_slots()?;
         Ok(page)
     }
 }

@@ -1,13 +1,14 @@
 //! Where a blob is to go, decided before anything is written.
 
 ghost use Rattle.std.specs.Prelude.{◌≡◌, ◌≢◌, ◌↔◌, ℕ, ◌+◌, ◌*◌, ◌^◌, ◌≤◌, ◌<◌, true, false, None, Some, Err, length, MatchOption, IfSome, IsSome, OnOk, OnErr, IfOk, is_none};
-ghost use Rattle.rpm_pkgdb.specs.Prelude.{AreAllUsed, AreUsedTo, blocks_for, field_after, FitsNowhere, has_number, IsFirstFree, IsFor, IsFull, IsLeast, IsPackageNumber, IsPlan, IsTargetFor, next_field, next_number, placed, placement_of, slot_at, slot_for, slot_with, with_spare};
+ghost use Rattle.rpm_pkgdb.specs.Prelude.{AreAllUsed, AreUsedTo, field_after, FitsNowhere, has_number, HasMoreRoom, HasNoPlace, IsFirstFree, IsFor, IsFull, IsLeast, IsPackageNumber, IsPlan, IsPlanned, IsTargetFor, next_field, next_number, slot_at, slot_for, slot_with};
+ghost use Rattle.rpm_pkgdb.specs.declared.plan.PlanFault.TheVariants as faults;
 
 use crate::page_plan::Page;
 use crate::slot::Slot;
 use crate::store::PkgDb;
 use crate::used::make_room;
-use std::alloc::{AllocError, Global};
+use std::alloc::{AllocError, AllocFailed, Global};
 
 /// Number, slot and blocks of a blob.
 #[derive(Clone, Copy)]
@@ -42,6 +43,22 @@ pub enum PlanFault {
     NoMemory,
 }
 
+impl From<AllocError> for PlanFault {
+    ghost from_gives = { λ _ e. e ≡ faults.NoMemory };
+
+    fn from(_: AllocError) -> PlanFault {
+        PlanFault::NoMemory
+    }
+}
+
+impl<T: Drop> From<AllocFailed<T>> for PlanFault {
+    ghost from_gives = { λ _ e. e ≡ faults.NoMemory };
+
+    fn from(_: AllocFailed<T>) -> PlanFault {
+        PlanFault::NoMemory
+    }
+}
+
 /// The first free slot, where those before a place are used. Takes a step for each slot from there up to it.
 pub fn first_free(slots: &[Slot], from: u32) -> Option<u32>
     requires few { length slots.now < 2 ^ 32 }
@@ -59,8 +76,7 @@ pub fn first_free(slots: &[Slot], from: u32) -> Option<u32>
 impl PkgDb {
     /// Gathers the used ranges, where that wasn't done yet, and makes room for one put.
     fn prepare(&mut self, alloc: Global) -> Result<(), AllocError>
-        ensures same { self.new ≡ with_spare self.new.spare self.old }
-        ensures kept { self.old.spare ≤ self.new.spare }
+        ensures value { HasMoreRoom self.old self.new }
         ensures room { OnOk result (1 ≤ self.new.spare) }
         ensures err { OnErr result (self.new ≡ self.old) }
     {
@@ -133,10 +149,7 @@ impl PkgDb {
         ensures kinds { result ≢ Err PlanFault.NumbersSpent }
     {
         let _ = &self.slots;
-        let page = match self.plan_page(alloc) {
-            Ok(page) => page,
-            Err(fault) => return Err(fault),
-        };
+        let page = self.plan_page(alloc)?;
         match page.fit((length + 43) / 16, 256 * (self.pages + 1)) {
             None => Err(PlanFault::StoreFull),
             Some(start) => Ok(Plan {
@@ -211,25 +224,17 @@ impl PkgDb {
         requires made { 1 ≤ self.old.pages }
         requires held { IfSome n (λ m. IsSome (slot_with m self.old.slots)) }
         requires few { length ≤ 68157432 }
-        ensures same { self.new ≡ with_spare self.new.spare self.old }
-        ensures kept { self.old.spare ≤ self.new.spare }
-        ensures room { OnOk result (1 ≤ self.new.spare) }
+        ensures value { HasMoreRoom self.old self.new }
         ensures err { OnErr result (self.new ≡ self.old) }
-        ensures plan { IfOk result (IsPlan self.new) }
-        ensures asked { IfOk result (λ plan. IsFor n length plan) }
+        ensures planned { IfOk result (IsPlanned n length self.old self.new) }
         ensures spent { (result ≡ Err PlanFault.NumbersSpent) ↔ ((n ≡ None) × (next_number self.old ≡ 4294967295)) }
-        ensures full { result ≡ Err PlanFault.StoreFull → IsFull self.old (is_none n) length }
-        ensures fits { OnOk result (¬ IsFull self.old (is_none n) length) }
-        ensures placed { IfOk result (λ plan. placed n length self.old ≡ Some (placement_of plan)) }
-        ensures nowhere { result ≡ Err PlanFault.StoreFull → placed n length self.old ≡ None }
+        ensures full { result ≡ Err PlanFault.StoreFull → HasNoPlace n length self.old }
     {
         if self.is_spent(n) {
             return Err(PlanFault::NumbersSpent);
         }
         let spare = self.spare;
-        let Ok(()) = self.prepare(alloc) else {
-            return Err(PlanFault::NoMemory);
-        };
+        self.prepare(alloc)?;
         match self.plan_ready(alloc, n, length) {
             Ok(plan) => Ok(plan),
             Err(fault) => {

@@ -1,7 +1,7 @@
 //! Putting a package.
 
 ghost use Rattle.std.specs.Prelude.{◌≡◌, ℕ, ◌+◌, ◌<◌, ◌≤◌, IsTrue, true, false, length, IsSome, OnOk, OnErr, IfOk};
-ghost use Rattle.rpm_pkgdb.specs.Prelude.{Adds, AfterPut, Anything, CanGrowBy, Changes, DiskCause, find_in, grown, has_number, HoldsPage, IsPlan, IsPut, IsReady, IsReplaced, IsTarget, Keeps, moves_of, moving_cost, Pkg, pkg, PutStops, Quiet, slot_at, stopped, with_blob, with_plan, with_spare};
+ghost use Rattle.rpm_pkgdb.specs.Prelude.{Adds, AfterPut, Anything, CanGrowBy, find_in, grown, has_number, HoldsPage, IsPlan, IsPut, IsReady, IsReplaced, IsTarget, Keeps, moves_of, moving_cost, Pkg, pkg, PutStops, Quiet, slot_at, stopped, with_blob, with_plan, with_spare, Writes};
 
 use crate::freed_slot::FREE;
 use crate::new_blob::put_blob;
@@ -79,9 +79,7 @@ impl PkgDb {
             → IsPut D.Disk disk.old disk.new self.now (with_plan plan.now self.now) plan.now.target blob.now) }
         ensures stops { IsTrue D.tells → Quiet D.Disk disk.old self.now
             → PutStops D.Disk disk.old disk.new self.now plan.now.target blob.now }
-        ensures changes { Changes D.Disk Pkg Anything (moving_cost self.now.slots (moves_of plan.now.page)) disk.old
-            disk.new }
-        ensures cause { DiskCause D.Disk result disk.old disk.new }
+        ensures writes { Writes D.Disk Pkg Anything (moving_cost self.now.slots (moves_of plan.now.page)) result disk.old disk.new }
     {
         self.grow(disk, &plan.page)?;
         put_blob(disk, &plan.target, self.generation, old, blob)
@@ -141,9 +139,7 @@ impl PkgDb {
             → IsPut D.Disk disk.old disk.new self.old self.new plan.target blob.now) }
         ensures stops { IsTrue D.tells → Quiet D.Disk disk.old self.old
             → PutStops D.Disk disk.old disk.new self.old plan.target blob.now }
-        ensures changes { Changes D.Disk Pkg Anything (moving_cost self.old.slots (moves_of plan.page)) disk.old
-            disk.new }
-        ensures cause { DiskCause D.Disk result disk.old disk.new }
+        ensures writes { Writes D.Disk Pkg Anything (moving_cost self.old.slots (moves_of plan.page)) result disk.old disk.new }
     {
         let old = self.replaced(&plan.target);
         let Ok(()) = self.write_plan(disk, &plan, old, blob) else {

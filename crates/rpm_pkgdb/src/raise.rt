@@ -1,7 +1,7 @@
 //! The generation, one higher.
 
 ghost use Rattle.std.specs.Prelude.{◌≡◌, ◌+◌, ◌<◌, IsTrue, OnOk, OnErr};
-ghost use Rattle.rpm_pkgdb.specs.Prelude.{Changes, DiskCause, IsRaised, IsReady, Pkg, pkg, Quiet, RaisesTo, SameOutside, stopped, StopsIn, with_generation};
+ghost use Rattle.rpm_pkgdb.specs.Prelude.{IsRaised, IsReady, Pkg, pkg, Quiet, RaisesTo, SameOutside, stopped, StopsIn, with_generation, Writes};
 
 use crate::store::{DiskFault, PkgDb};
 use crate::units::head_unit;
@@ -25,8 +25,7 @@ impl PkgDb {
         ensures raised { OnOk result (IsTrue D.tells → IsRaised D.Disk disk.old disk.new self.old self.new) }
         ensures images { IsTrue D.tells → Quiet D.Disk disk.old self.old → StopsIn D.Disk disk.old disk.new
             (RaisesTo self.old (self.old.generation + 1) (pkg D.Disk disk.old)) }
-        ensures changes { Changes D.Disk Pkg (SameOutside 0 1) 0 disk.old disk.new }
-        ensures cause { DiskCause D.Disk result disk.old disk.new }
+        ensures writes { Writes D.Disk Pkg (SameOutside 0 1) 0 result disk.old disk.new }
     {
         let generation = self.generation + 1;
         let Ok(()) = write_one(disk, 0, &head_unit(generation, self.pages)) else {

@@ -1,14 +1,13 @@
 //! The slots of the pages, read piece by piece.
 
 ghost use Rattle.std.specs.Prelude.{◌≡◌, ℕ, ◌+◌, ◌-◌, ◌*◌, ◌/◌, ◌%◌, ◌^◌, ◌≤◌, ◌<◌, IsTrue, length, [], true, None, IfOk};
-ghost use Rattle.rpm_pkgdb.specs.Prelude.{added, AreNumbered, AreRead, Awaits, DiskCause, Files, is_used, IsInOrder, IsRead, Looks, own_reason, Pkg, slot_of, table, units_of};
+ghost use Rattle.rpm_pkgdb.specs.Prelude.{added, AreNumbered, ArePages, AreRead, Awaits, Files, is_used, IsInOrder, IsRead, own_reason, Pkg, Reads, slot_of, table, units_of};
 ghost use Rattle.rpm_pkgdb.specs.inner.Reading.{Adds};
 
 use crate::reads::{read_units, unit_in};
 use crate::rising::Rising;
 use crate::slot::{BLOCKS, Reason, SLOT, own_reason, slot_of};
-use crate::words::word;
-use rpm_outside::{Disk, Failed};
+use rpm_outside::{Disk, Failed, word};
 
 /// How many slots are read at a time.
 const PIECE: u32 = 1024;
@@ -46,8 +45,7 @@ fn is_next(rising: &Rising, pages: u32, units: u64, unit: &[u8]) -> bool
 #[inline(always)]
 fn add_unit(rising: &mut Rising, pages: u32, units: u64, unit: &[u8]) -> Option<Reason>
     requires unit { length unit.now ≡ 16 }
-    requires some { 1 ≤ pages }
-    requires pages { 256 * pages ≤ 2 ^ 28 }
+    requires pages { ArePages pages }
     requires few { length rising.old.slots.items < 2 ^ 28 }
     requires awaits { Awaits pages (length rising.old.slots.items + 1) rising.old }
     requires order { IsInOrder rising.old }
@@ -70,8 +68,7 @@ fn add_unit(rising: &mut Rising, pages: u32, units: u64, unit: &[u8]) -> Option<
 
 /// Adds the slots in these bytes.
 fn add_own(rising: Rising, pages: u32, units: u64, bytes: &[u8]) -> Reading
-    requires some { 1 ≤ pages }
-    requires pages { 256 * pages ≤ 2 ^ 28 }
+    requires pages { ArePages pages }
     requires few { length rising.slots.items + length bytes.now / 16 ≤ 2 ^ 28 }
     requires awaits { Awaits pages (length rising.slots.items + length bytes.now / 16) rising }
     requires order { IsInOrder rising }
@@ -102,8 +99,7 @@ fn read_piece<D: Disk>(
     units: u64,
     bytes: &mut [u8],
 ) -> Result<Reading, Failed>
-    requires some { 1 ≤ pages }
-    requires pages { 256 * pages ≤ 2 ^ 28 }
+    requires pages { ArePages pages }
     requires whole { length bytes.old % 16 ≡ 0 }
     requires few { length rising.slots.items + length bytes.old / 16 ≤ 256 * pages - 2 }
     requires within { IsTrue D.tells → 256 * pages ≤ length (D.files disk.old).pkg }
@@ -114,8 +110,7 @@ fn read_piece<D: Disk>(
         (length rising.slots.items + length bytes.old / 16) r) }
     ensures order { IfOk result (λ r. IsInOrder r.rising) }
     ensures awaits { IfOk result (λ r. (n : ℕ) → Awaits pages n rising → Awaits pages n r.rising) }
-    ensures looks { Looks D.Disk Pkg (length bytes.old) disk.old disk.new }
-    ensures cause { DiskCause D.Disk result disk.old disk.new }
+    ensures reads { Reads D.Disk Pkg (length bytes.old) result disk.old disk.new }
 {
     read_units(disk, 2 + rising.slots.len() as u64, bytes)?;
     Ok(add_own(rising, pages, units, bytes))
@@ -128,8 +123,7 @@ pub fn read_pieces<D: Disk>(
     pages: u32,
     units: u64,
 ) -> Result<Reading, Failed>
-    requires some { 1 ≤ pages }
-    requires pages { 256 * pages ≤ 2 ^ 28 }
+    requires pages { ArePages pages }
     requires within { IsTrue D.tells → 256 * pages ≤ length (D.files disk.old).pkg }
     requires empty { rising.slots.items ≡ [] }
     requires order { IsInOrder rising }
@@ -137,8 +131,7 @@ pub fn read_pieces<D: Disk>(
     ensures read { IfOk result (λ r. IsRead (IsTrue D.tells) pages units (table pages (D.files disk.old).pkg)
         (256 * pages - 2) r) }
     ensures order { IfOk result (λ r. IsInOrder r.rising) }
-    ensures looks { Looks D.Disk Pkg (16 * (256 * pages - 2)) disk.old disk.new }
-    ensures cause { DiskCause D.Disk result disk.old disk.new }
+    ensures reads { Reads D.Disk Pkg (16 * (256 * pages - 2)) result disk.old disk.new }
 {
     let count = 256 * pages - 2;
     let mut rising = rising;

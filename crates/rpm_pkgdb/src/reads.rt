@@ -1,7 +1,7 @@
 //! Units of the file.
 
 ghost use Rattle.std.specs.Prelude.{◌≡◌, ℕ, ◌+◌, ◌/◌, ◌%◌, ◌≤◌, ◌<◌, IsTrue, length, take, drop, OnOk, IfOk};
-ghost use Rattle.rpm_pkgdb.specs.Prelude.{bytes_of, DiskCause, Files, Looks, Pkg, unit_at, Units, units_of};
+ghost use Rattle.rpm_pkgdb.specs.Prelude.{bytes_of, Files, Pkg, Reads, unit_at, Units, units_of};
 
 use rpm_outside::{Disk, Failed, File};
 
@@ -13,8 +13,7 @@ pub fn read_units<D: Disk>(disk: &mut D, unit: u64, into: &mut [u8]) -> Result<(
         → units_of into.new ≡ take (length into.old / 16) (drop unit (D.files disk.old).pkg)) }
     ensures bytes { OnOk result (IsTrue D.tells
         → into.new ≡ bytes_of (take (length into.old / 16) (drop unit (D.files disk.old).pkg))) }
-    ensures looks { Looks D.Disk Pkg (length into.old) disk.old disk.new }
-    ensures cause { DiskCause D.Disk result disk.old disk.new }
+    ensures reads { Reads D.Disk Pkg (length into.old) result disk.old disk.new }
 {
     disk.read_at(File::Pkg, unit, into)?;
     Ok(())
@@ -33,8 +32,7 @@ pub fn unit_in(bytes: &[u8], k: usize) -> &[u8]
 pub fn read_unit<D: Disk>(disk: &mut D, at: u64) -> Result<[u8; 16], Failed>
     requires { IsTrue D.tells → at < length (D.files disk.old).pkg }
     ensures unit { IfOk result (λ unit. IsTrue D.tells → unit ≡ unit_at (D.files disk.old).pkg at) }
-    ensures looks { Looks D.Disk Pkg 16 disk.old disk.new }
-    ensures cause { DiskCause D.Disk result disk.old disk.new }
+    ensures reads { Reads D.Disk Pkg 16 result disk.old disk.new }
 {
     let mut unit = [0u8; 16];
     read_units(disk, at, &mut unit)?;

@@ -1,7 +1,7 @@
 //! Slots in the order of the file, with what shows whether two of them meet.
 
 ghost use Rattle.std.specs.Prelude.{◌≡◌, ℕ, ◌+◌, ◌-◌, ◌*◌, ◌^◌, ◌≤◌, ◌<◌, ◌∷◌, ◌++◌, [], true, length, IfOk};
-ghost use Rattle.rpm_pkgdb.specs.Prelude.{Awaits, is_used, IsInOrder};
+ghost use Rattle.rpm_pkgdb.specs.Prelude.{ArePages, Awaits, is_used, IsInOrder};
 
 use crate::slot::Slot;
 use std::alloc::{AllocError, Global};
@@ -33,8 +33,7 @@ fn still_rise(rise: bool, end: u64, key: u32) -> bool
 impl Rising {
     /// No slots, with room for those of so many pages: 20 bytes for each.
     pub fn before(alloc: Global, pages: u32) -> Result<Rising, AllocError>
-        requires some { 1 ≤ pages }
-        requires pages { 256 * pages ≤ 2 ^ 28 }
+        requires pages { ArePages pages }
         ensures none { IfOk result (λ r. r.slots.items ≡ []) }
         ensures order { IfOk result IsInOrder }
         ensures awaits { IfOk result (Awaits pages (256 * pages - 2)) }

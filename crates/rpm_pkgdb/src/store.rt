@@ -1,16 +1,15 @@
 //! The store in Packages.db.
 
 ghost use Rattle.std.specs.Prelude.{◌≡◌, ◌+◌, ◌-◌, ◌*◌, ◌/◌, ◌^◌, ◌≤◌, ◌<◌, ◌==◌, IsTrue, length, max, None, Some, Ok, Err, IfOk, IfErr, IsSome, is_some};
-ghost use Rattle.rpm_pkgdb.specs.Prelude.{blank_store, blobs, end_of, erased, HasSlot, head_reason, in_file, IsNext, IsPackageNumber, Keeps, Looks, next_number, opening_cost, OpenIs, Pkg, slot_with, store, store_of, unit_at, with_free, word};
-ghost use Rattle.rpm_outside.specs.Frame as frame;
+ghost use Rattle.rpm_pkgdb.specs.Prelude.{blank_store, blobs, end_of, erased, HasSlot, head_reason, in_file, IsNext, IsPackageNumber, Keeps, next_number, opening_cost, OpenIs, Pkg, ReadsOr, slot_with, store, store_of, unit_at, with_free, word};
 
 use crate::numbers::Numbers;
 use crate::reads::read_unit;
 use crate::slot::{BLOCKS, MAGIC, OpenFault, Reason, Slot, damage_at};
 use crate::table::read_table;
-use crate::words::{is_zeros, word};
+use crate::words::is_zeros;
 use rpm_blocks::Used;
-use rpm_outside::{Disk, File};
+use rpm_outside::{Disk, File, word};
 use std::alloc::Global;
 use std::marker::Model;
 
@@ -82,9 +81,7 @@ impl PkgDb {
         ensures blank { IfOk result (λ db. db ≡ blank_store) }
         ensures err { IfErr result (λ e. e ≡ OpenFault.NoMemory) }
     {
-        let Ok(slots) = Vec::with_capacity(alloc, 254) else {
-            return Err(OpenFault::NoMemory);
-        };
+        let slots = Vec::with_capacity(alloc, 254)?;
         Ok(PkgDb {
             generation: 0,
             pages: 0,
@@ -125,20 +122,15 @@ impl PkgDb {
         ensures kept { IfOk result (λ db. IsTrue D.tells → Keeps (D.files disk.new).pkg db) }
         ensures from_one { IfOk result (λ db. slot_with 0 db.slots ≡ None) }
         ensures fresh { IfOk result (λ db. db ≡ in_file db) }
-        ensures reads { IsTrue D.tells → D.bytes_read disk.new File.Pkg ≤ D.bytes_read disk.old File.Pkg + opening_cost
+        ensures cost { IsTrue D.tells → D.bytes_read disk.new File.Pkg ≤ D.bytes_read disk.old File.Pkg + opening_cost
             (D.files disk.old).pkg }
-        ensures looks { Looks D.Disk Pkg (2 ^ 32) disk.old disk.new }
-        ensures cause { frame.DiskFault D.Disk (result ≡ Err OpenFault.DiskFault) disk.old disk.new }
+        ensures reads { ReadsOr D.Disk Pkg (2 ^ 32) (result ≡ Err OpenFault.DiskFault) disk.old disk.new }
     {
-        let Ok(units) = disk.len(File::Pkg) else {
-            return Err(OpenFault::DiskFault);
-        };
+        let units = disk.len(File::Pkg)?;
         if units == 0 {
             return PkgDb::blank(alloc);
         }
-        let Ok(head) = read_unit(disk, 0) else {
-            return Err(OpenFault::DiskFault);
-        };
+        let head = read_unit(disk, 0)?;
         if is_zeros(&head) {
             return PkgDb::blank(alloc);
         }
@@ -162,17 +154,11 @@ impl PkgDb {
         ensures store { IsTrue D.tells → OpenIs (store_of (word 3 head.now) (D.files disk.old).pkg) result }
         ensures from_one { IfOk result (λ db. slot_with 0 db.slots ≡ None) }
         ensures fresh { IfOk result (λ db. db ≡ in_file db) }
-        ensures looks { Looks D.Disk Pkg (4096 * word 3 head.now - 16) disk.old disk.new }
-        ensures cause { frame.DiskFault D.Disk (result ≡ Err OpenFault.DiskFault) disk.old disk.new }
+        ensures reads { ReadsOr D.Disk Pkg (4096 * word 3 head.now - 16) (result ≡ Err OpenFault.DiskFault) disk.old disk.new }
     {
         let pages = word(head, 3);
-        let Ok(next) = read_unit(disk, 1) else {
-            return Err(OpenFault::DiskFault);
-        };
-        let table = match read_table(alloc, disk, pages, units) {
-            Ok(table) => table,
-            Err(fault) => return Err(fault),
-        };
+        let next = read_unit(disk, 1)?;
+        let table = read_table(alloc, disk, pages, units)?;
         Ok(PkgDb {
             generation: word(head, 2),
             pages,

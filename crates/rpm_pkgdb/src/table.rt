@@ -1,7 +1,7 @@
 //! The slots of the pages, each read once.
 
 ghost use Rattle.std.specs.Prelude.{◌≡◌, ℕ, ◌-◌, ◌*◌, ◌^◌, ◌≤◌, [], IsTrue, true, length, None, Err, IfOk, IfErr, OnOk};
-ghost use Rattle.rpm_pkgdb.specs.Prelude.{AreBounded, AreNumbered, ArePairs, AreRising, AreRisingTo, AreSound, DiskFault, fault_of, Files, find_in, HasPlaces, IsIndexed, IsInOrder, IsRead, Looks, meeting, Pkg, Says, SaysHere, slots_in, table, table_fault};
+ghost use Rattle.rpm_pkgdb.specs.Prelude.{AreBounded, AreNumbered, ArePages, ArePairs, AreRising, AreRisingTo, AreSound, fault_of, Files, find_in, HasPlaces, IsIndexed, IsInOrder, IsRead, meeting, Pkg, ReadsOr, Says, SaysHere, slots_in, table, table_fault};
 ghost use Rattle.rpm_pkgdb.specs.inner.Tables.{IsOutside};
 
 use crate::keys::{Order, numbers_if_apart};
@@ -33,14 +33,10 @@ fn exact_numbers(alloc: Global, slots: &[Slot]) -> Result<Numbers, OpenFault>
 {
     let mut opening = Opening::new(alloc);
     for k in 0..slots.len() {
-        if let Err(fault) = opening.add(slots[k]) {
-            return Err(fault);
-        }
+        opening.add(slots[k])?;
     }
-    match Numbers::from_map(alloc, opening.numbers) {
-        Ok(numbers) => Ok(numbers),
-        Err(_) => Err(OpenFault::NoMemory),
-    }
+    let numbers = Numbers::from_map(alloc, opening.numbers)?;
+    Ok(numbers)
 }
 
 /// The numbers of slots with their places, or the first slot that shares its number or a block with an earlier one.
@@ -62,10 +58,9 @@ fn numbers_of(
     ensures sound { OnOk result (meeting [] slots.now ≡ None) }
     ensures says { IfErr result (λ e. SaysHere e (meeting [] slots.now)) }
 {
-    match numbers_if_apart(alloc, slots, pairs, numbers_rise, blocks_rise) {
-        Err(_) => Err(OpenFault::NoMemory),
-        Ok(Some(numbers)) => Ok(numbers),
-        Ok(None) => exact_numbers(alloc, slots),
+    match numbers_if_apart(alloc, slots, pairs, numbers_rise, blocks_rise)? {
+        Some(numbers) => Ok(numbers),
+        None => exact_numbers(alloc, slots),
     }
 }
 
@@ -90,14 +85,12 @@ fn table_of(alloc: Global, rising: Rising) -> Result<Table, OpenFault>
         number: _,
         block: _,
     } = rising;
-    match numbers_of(alloc, &slots, pairs, numbers_rise, blocks_rise) {
-        Ok(numbers) => Ok(Table {
-            free_from: free.unwrap_or(slots.len() as u32),
-            slots,
-            numbers,
-        }),
-        Err(fault) => Err(fault),
-    }
+    let numbers = numbers_of(alloc, &slots, pairs, numbers_rise, blocks_rise)?;
+    Ok(Table {
+        free_from: free.unwrap_or(slots.len() as u32),
+        slots,
+        numbers,
+    })
 }
 
 /// The table of slots that were read, or its first damage.
@@ -114,10 +107,7 @@ fn table_read(alloc: Global, reading: Reading) -> Result<Table, OpenFault>
     ensures says { IfErr result (λ e. SaysHere e (fault_of reading)) }
 {
     let reason = reading.reason;
-    let table = match table_of(alloc, reading.rising) {
-        Ok(table) => table,
-        Err(fault) => return Err(fault),
-    };
+    let table = table_of(alloc, reading.rising)?;
     match reason {
         Some(reason) => {
             let place = 2 + table.slots.len() as u64;
@@ -134,23 +124,16 @@ fn read_slots<D: Disk>(
     pages: u32,
     units: u64,
 ) -> Result<Reading, OpenFault>
-    requires some { 1 ≤ pages }
-    requires pages { 256 * pages ≤ 2 ^ 28 }
+    requires pages { ArePages pages }
     requires within { IsTrue D.tells → 256 * pages ≤ length (D.files disk.old).pkg }
     ensures read { IfOk result (λ r. IsRead (IsTrue D.tells) pages units (table pages (D.files disk.old).pkg)
         (256 * pages - 2) r) }
     ensures order { IfOk result (λ r. IsInOrder r.rising) }
     ensures outside { IfErr result (λ e. IsOutside e) }
-    ensures looks { Looks D.Disk Pkg (16 * (256 * pages - 2)) disk.old disk.new }
-    ensures cause { DiskFault D.Disk (result ≡ Err OpenFault.DiskFault) disk.old disk.new }
+    ensures reads { ReadsOr D.Disk Pkg (16 * (256 * pages - 2)) (result ≡ Err OpenFault.DiskFault) disk.old disk.new }
 {
-    let Ok(rising) = Rising::before(alloc, pages) else {
-        return Err(OpenFault::NoMemory);
-    };
-    match read_pieces(disk, rising, pages, units) {
-        Ok(reading) => Ok(reading),
-        Err(_) => Err(OpenFault::DiskFault),
-    }
+    let rising = Rising::before(alloc, pages)?;
+    Ok(read_pieces(disk, rising, pages, units)?)
 }
 
 /// Reads all slots.
@@ -160,8 +143,7 @@ pub fn read_table<D: Disk>(
     pages: u32,
     units: u64,
 ) -> Result<Table, OpenFault>
-    requires some { 1 ≤ pages }
-    requires pages { 256 * pages ≤ 2 ^ 28 }
+    requires pages { ArePages pages }
     requires within { IsTrue D.tells → 256 * pages ≤ length (D.files disk.old).pkg }
     ensures indexed { IfOk result IsIndexed }
     ensures numbered { IfOk result (λ t. AreNumbered t.slots.items) }
@@ -171,11 +153,8 @@ pub fn read_table<D: Disk>(
     ensures sound { OnOk result (IsTrue D.tells → table_fault pages units (table pages (D.files disk.old).pkg) ≡ None) }
     ensures says { IfErr result (λ e. IsTrue D.tells
         → Says e (table_fault pages units (table pages (D.files disk.old).pkg))) }
-    ensures looks { Looks D.Disk Pkg (16 * (256 * pages - 2)) disk.old disk.new }
-    ensures cause { DiskFault D.Disk (result ≡ Err OpenFault.DiskFault) disk.old disk.new }
+    ensures reads { ReadsOr D.Disk Pkg (16 * (256 * pages - 2)) (result ≡ Err OpenFault.DiskFault) disk.old disk.new }
 {
-    match read_slots(alloc, disk, pages, units) {
-        Ok(reading) => table_read(alloc, reading),
-        Err(fault) => Err(fault),
-    }
+    let reading = read_slots(alloc, disk, pages, units)?;
+    table_read(alloc, reading)
 }

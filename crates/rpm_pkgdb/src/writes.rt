@@ -1,7 +1,7 @@
 //! Units of the file, written and settled.
 
 ghost use Rattle.std.specs.Prelude.{◌≡◌, ℕ, ◌+◌, ◌*◌, ◌/◌, ◌%◌, ◌^◌, ◌≤◌, ◌<◌, ◌∷◌, [], IsTrue, length, OnOk};
-ghost use Rattle.rpm_pkgdb.specs.Prelude.{blank, Changes, DiskCause, Files, IsSame, IsSettled, Pkg, put, SameOutside, Torn, unit_at, Units, units_of};
+ghost use Rattle.rpm_pkgdb.specs.Prelude.{blank, Files, IsSame, IsSettled, Pkg, put, SameOutside, Torn, unit_at, Units, units_of, Writes};
 
 use rpm_outside::{Disk, Failed, File};
 
@@ -12,8 +12,7 @@ pub fn write_units<D: Disk>(disk: &mut D, at: u64, bytes: &[u8]) -> Result<(), F
     requires room { at + length bytes.now / 16 ≤ 2 ^ 28 }
     ensures written { OnOk result (IsTrue D.tells
         → (D.files disk.new).pkg ≡ put at (units_of bytes.now) (D.files disk.old).pkg) }
-    ensures changes { Changes D.Disk Pkg (Torn at (units_of bytes.now)) 0 disk.old disk.new }
-    ensures cause { DiskCause D.Disk result disk.old disk.new }
+    ensures writes { Writes D.Disk Pkg (Torn at (units_of bytes.now)) 0 result disk.old disk.new }
 {
     disk.write_at(File::Pkg, at, bytes)
 }
@@ -21,8 +20,7 @@ pub fn write_units<D: Disk>(disk: &mut D, at: u64, bytes: &[u8]) -> Result<(), F
 /// Settles Packages.db.
 pub fn settle<D: Disk>(disk: &mut D) -> Result<(), Failed>
     ensures settled { OnOk result (IsTrue D.tells → IsSettled D.Disk Pkg disk.new) }
-    ensures changes { Changes D.Disk Pkg IsSame 0 disk.old disk.new }
-    ensures cause { DiskCause D.Disk result disk.old disk.new }
+    ensures writes { Writes D.Disk Pkg IsSame 0 result disk.old disk.new }
 {
     disk.sync(File::Pkg)
 }
@@ -33,8 +31,7 @@ pub fn write_one<D: Disk>(disk: &mut D, at: u64, unit: &[u8; 16]) -> Result<(), 
     ensures written { OnOk result (IsTrue D.tells
         → (D.files disk.new).pkg ≡ put at (unit.now ∷ []) (D.files disk.old).pkg) }
     ensures settled { OnOk result (IsTrue D.tells → IsSettled D.Disk Pkg disk.new) }
-    ensures changes { Changes D.Disk Pkg (Torn at (unit.now ∷ [])) 0 disk.old disk.new }
-    ensures cause { DiskCause D.Disk result disk.old disk.new }
+    ensures writes { Writes D.Disk Pkg (Torn at (unit.now ∷ [])) 0 result disk.old disk.new }
 {
     write_units(disk, at, unit)?;
     settle(disk)
@@ -45,8 +42,7 @@ pub fn write_zeros<D: Disk>(disk: &mut D, at: u32, count: u32) -> Result<(), Fai
     requires room { at + count ≤ 2 ^ 28 }
     ensures zeros { OnOk result (IsTrue D.tells → (i : ℕ) → at ≤ i → i < at + count
         → unit_at (D.files disk.new).pkg i ≡ blank) }
-    ensures changes { Changes D.Disk Pkg (SameOutside at count) 0 disk.old disk.new }
-    ensures cause { DiskCause D.Disk result disk.old disk.new }
+    ensures writes { Writes D.Disk Pkg (SameOutside at count) 0 result disk.old disk.new }
 {
     if count == 0 {
         return Ok(());

@@ -1,5 +1,5 @@
 -- Slots in the order of the file, with what shows whether two of them meet.
-use Rattle.std.specs.Prelude.{◌≡◌, ℕ, ◌*◌, ◌≤◌, List, length, Bool, true, Option, Some, None, vec_capacity}
+use Rattle.std.specs.Prelude.{◌≡◌, ℕ, ◌*◌, ◌^◌, ◌≤◌, List, length, Bool, true, Option, Some, None, vec_capacity}
 use Rattle.rpm_pkgdb.specs.declared.keys.Order.TheVariants.{Number}
 use Rattle.rpm_pkgdb.specs.declared.rising.Rising.{Rising}
 use Rattle.rpm_pkgdb.specs.declared.slot.Slot.{Slot}
@@ -21,6 +21,11 @@ pub record InOrder (slots : List Slot) (pairs : Pairs) (free : Option ℕ) (numb
 
 abbrev pub IsInOrder : Rising → Type 0
 IsInOrder r = InOrder r.slots.items r.pairs.items r.free r.numbers_rise r.blocks_rise r.number r.block
+
+-- so many slot pages as a store can have
+pub record ArePages (pages : ℕ) : Type 0 where
+  pub some : 1 ≤ pages
+  pub below : 256 * pages ≤ 2 ^ 28
 
 -- there is room for so many slots in all, and the next one's blocks are asked to be behind so many pages
 pub record Awaits (pages count : ℕ) (r : Rising) : Type 0 where

@@ -1,13 +1,12 @@
 use Rattle.rpm_outside.specs.declared.disk.File.TheVariants.{Pkg}
 use Rattle.std.proofs.Common.{◌≡◌, ℕ, ◌+◌, ◌*◌, [], ◌∷◌, List, sym, subst, refl, inl, IsTrue, arith}
 use Rattle.rpm_outside.specs.Files.{Units, put}
-use Rattle.rpm_outside.specs.Crash.{Torn}
 use Rattle.rpm_pkgdb.specs.Store.{Store, Keeps}
 use Rattle.rpm_pkgdb.specs.Undamaged.{IsHeadUnit}
 use Rattle.rpm_outside.specs.Changes.{IsSettled}
-use Rattle.rpm_pkgdb.proofs.Changing.{both_ok, changes_then, stops_from, stops_then}
+use Rattle.rpm_pkgdb.proofs.Changing.{both_ok, writes_then, stops_while, stops_next}
 use Rattle.rpm_pkgdb.specs.Stays.{SameOutside}
-use Rattle.rpm_pkgdb.specs.Quiet.{StandsAs, Anything, BeforeOrAfter}
+use Rattle.rpm_pkgdb.specs.Quiet.{StandsAs, BeforeOrAfter}
 use Rattle.rpm_pkgdb.proofs.Erases.{stands_by}
 use Rattle.rpm_pkgdb.specs.inner.Grows.{with_page, CanGrow, HasFreePage}
 use Rattle.rpm_pkgdb.proofs.GrowLaws.{while_page, grown_stands, while_grown}
@@ -33,12 +32,10 @@ mid_stands value can pages file from mid same stands changed =
 pub returns-in_err-write_free_page-clause-images : goal.returns-in_err-write_free_page-clause-images
 returns-in_err-write_free_page-clause-images g c = λ told value grows quiet.
     let can = grows.can in
-    let gen = grows.generation_is in
     let same = grows.pages_are in
     let D = g.D.Disk in
     let F0 = (D.files c.args.disk.now).pkg in
-    stops_from _ _ _ _ _ _ told (SameOutside (256 * c.args.pages) 256)
-    (BeforeOrAfter value (with_page value) F0) c.args.disk.now c.write_free_page.new.disk c.write_free_page.ensures.changes
+    stops_while g.D.Disk told (BeforeOrAfter value (with_page value) F0) c.write_free_page.ensures.writes
     (λ from image was changed. inl (mid_stands value can c.args.pages F0 from.pkg image.pkg same (quiet from was) changed))
 
 pub returns-clause-images : goal.returns-clause-images
@@ -49,17 +46,16 @@ returns-clause-images g c = λ told value grows quiet.
     let D = g.D.Disk in
     let F0 = (D.files c.args.disk.now).pkg in
     let F1 = (D.files c.write_free_page.new.disk).pkg in
-    let S = SameOutside (256 * c.args.pages) 256 in
     let P = BeforeOrAfter value (with_page value) F0 in
-    let first = c.write_free_page.ensures.changes in
+    let first = c.write_free_page.ensures.writes in
     let keeps : Keeps F0 value = (quiet (D.files c.args.disk.now) (g.met.D.Disk.as_read c.args.disk.now told)).keeps in
-    let mid : StandsAs value F0 F1 = mid_stands value can c.args.pages F0 F0 F1 same (here value F0 keeps) (first.pkg told) in
+    let mid : StandsAs value F0 F1 = mid_stands value can c.args.pages F0 F0 F1 same (here value F0 keeps) (first.changes.pkg told) in
     let page : HasFreePage value.pages F1 = subst (λ (q : ℕ). HasFreePage q F1) same (c.in_ok-write_free_page.ensures.page told) in
     let is = head_is c.head_unit.result c.args.generation c.args.pages value gen same c.head_unit.ensures in
-    stops_then _ _ _ _ _ _ told S P c.args.disk.now c.write_free_page.new.disk c.write_one.new.disk first
-    (stops_from _ _ _ _ _ _ told S P c.args.disk.now c.write_free_page.new.disk first
+    stops_next g.D.Disk told P first
+    (stops_while g.D.Disk told P first
     (λ from image was changed. inl (mid_stands value can c.args.pages F0 from.pkg image.pkg same (quiet from was) changed)))
-    (stops_from _ _ _ _ _ _ told (Torn 0 (c.head_unit.result ∷ [])) P c.write_free_page.new.disk c.write_one.new.disk c.write_one.ensures.changes
+    (stops_while g.D.Disk told P c.write_one.ensures.writes
     (λ from image was torn.
     let at = c.in_ok-write_free_page.ensures.settled told from was in
     while_grown value can c.head_unit.result is F0 from.pkg image.pkg (subst (StandsAs value F0) (sym at) mid)
@@ -74,11 +70,10 @@ grown value can unit generation pages F0 F1 F2 gen same is keeps changed page wr
     subst (StandsAs (with_page value) F0) (sym written)
     (grown_stands value can unit (head_is unit generation pages value gen same is) F0 F1 mid (subst (λ (q : ℕ). HasFreePage q F1) same page))
 
-pub returns-clause-changes : goal.returns-clause-changes
-returns-clause-changes g c =
-    changes_then _ _ _ _ _ _ g.met.D.Disk.follows_trans (SameOutside (256 * c.args.pages) 256)
-    (Torn 0 (c.head_unit.result ∷ [])) Anything c.args.disk.now c.write_free_page.new.disk c.write_one.new.disk (λ x y r. tt)
-    (λ x y z r s. tt) c.write_free_page.ensures.changes c.write_one.ensures.changes
+pub returns-clause-writes : goal.returns-clause-writes
+returns-clause-writes g c =
+    writes_then g.D.Disk g.met.D.Disk.follows_trans c.write_free_page.ensures.writes c.write_one.ensures.writes (omega arith) (λ x y r. tt)
+    (λ x y z r s. tt)
 
 pub returns-clause-added : goal.returns-clause-added
 returns-clause-added g c =
@@ -91,7 +86,7 @@ returns-clause-added g c =
     let next = D.files c.write_one.new.disk in
     let images = D.left_since c.write_one.new.disk (D.moment c.write_one.new.disk) in
     both_ok c.write_one.result (λ (written : IsTrue D.tells → next.pkg ≡ put 0 (unit ∷ []) F1) (settled : IsTrue D.tells → IsSettled Pkg next images) told.
-    let first = c.write_free_page.ensures.changes.pkg told in
+    let first = c.write_free_page.ensures.writes.changes.pkg told in
     let last = written told in
     let stands : (value : Store) → CanGrowFrom gen pages value → Keeps F0 value → StandsAs (with_page value) F0 next.pkg =
     λ value from keeps. grown value from.can unit gen pages F0 F1 next.pkg from.generation_is from.pages_are c.head_unit.ensures keeps first

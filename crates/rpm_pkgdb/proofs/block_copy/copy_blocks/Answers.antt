@@ -1,41 +1,31 @@
 use Rattle.std.proofs.Common.{◌≡◌, ℕ, ◌+◌, ◌*◌, ◌/◌, ◌≤◌, length, take, drop, ap, ◌∙◌, arith}
 use Rattle.rpm_outside.specs.Files.{Files, units_of}
-use Rattle.rpm_outside.specs.Crash.{Torn}
 use Rattle.rpm_outside.specs.inner.Cuts.{length-cut_up}
-use Rattle.rpm_outside.specs.declared.disk.File.TheVariants.{Pkg}
-use Rattle.rpm_outside.specs.inner.Looking.{looks_more}
 use Rattle.std.proofs.lemmas.List.{length-take}
 use Rattle.rpm_pkgdb.specs.Stays.{SameOutside}
 use Rattle.rpm_pkgdb.proofs.ClearLaws.{outside_refl, outside_then}
-use Rattle.rpm_pkgdb.proofs.Changing.{copies_from, copies_looks, copies_then}
+use Rattle.rpm_pkgdb.proofs.Changing.{writes_reads, writes_then, writes_failed}
 use Rattle.rpm_pkgdb.proofs.CopyParts.{part_count, copied_more, longer_more, part_within}
 use Rattle.rpm_pkgdb.proofs.block_copy.copy_blocks.Goals as goal
 
-pub returns-in_err-write_units-clause-copies : goal.returns-in_err-write_units-clause-copies
-returns-in_err-write_units-clause-copies g c =
+pub returns-in_err-write_units-clause-writes : goal.returns-in_err-write_units-clause-writes
+returns-in_err-write_units-clause-writes g c =
     let l = c.loop-done in
     let to = c.args.to in
     let count = c.args.count in
     let some = c.min-some.result in
     let us = units_of c.read_units.new.into in
-    let S = SameOutside to count in
     let small : some ≤ 256 = omega (arith, c.min-some.ensures) in
     let le : l.done + some ≤ count = omega (arith, c.min-some.ensures, l.invariant.to_end) in
     let n : length (take (16 * some) l.page) / 16 ≡ some = part_count some l.page c.min-some.array_long small in
     let part : length c.read_units.new.into ≡ length (take (16 * some) l.page) = c.read_units.auto.into in
     let few : length us ≤ some = omega (arith, length-cut_up (length c.read_units.new.into / 16) c.read_units.new.into, part, n) in
-    let wrote =
-    copies_from _ _ _ _ _ _ (Torn (to + l.done) us) S c.read_units.new.disk c.write_units.new.disk
-    (λ x y torn. part_within to count l.done some us x y few le torn) c.write_units.ensures.changes in
-    let read =
-    copies_looks _ _ _ _ _ _ S (outside_refl to count) (16 * some) l.disk c.read_units.new.disk
-    (looks_more _ _ _ _ _ _ Pkg (length (take (16 * some) l.page)) (16 * some) l.disk c.read_units.new.disk
-    (omega (arith, length-take (16 * some) l.page)) c.read_units.ensures.looks) in
-    let both =
-    copies_then _ _ _ _ _ _ g.met.D.Disk.follows_trans S S S (16 * some) 0 (16 * some) l.disk c.read_units.new.disk c.write_units.new.disk (omega arith)
-    (λ x y r. r) (outside_then to count) read wrote in
-    copies_then _ _ _ _ _ _ g.met.D.Disk.follows_trans S S S (16 * l.done) (16 * some) (16 * count) c.args.disk.now l.disk c.write_units.new.disk
-    (omega arith) (λ x y r. r) (outside_then to count) l.invariant.copies both
+    writes_failed g.D.Disk (writes_then g.D.Disk g.met.D.Disk.follows_trans
+    (writes_then g.D.Disk g.met.D.Disk.follows_trans {T = SameOutside to count} {most = 16 * count} l.invariant.writes
+    (writes_reads g.D.Disk c.read_units.ensures.reads (outside_refl to count)) (omega (arith, length-take (16 * some) l.page)) (λ x y r. r)
+    (outside_then to count))
+    c.in_err-write_units.ensures.writes (omega arith) (λ x y r. r)
+    (λ x y z r torn. outside_then to count x y z r (part_within to count l.done some us y z few le torn)))
 
 pub loop-done-preserved : goal.loop-done-preserved
 loop-done-preserved g c =
@@ -46,22 +36,11 @@ loop-done-preserved g c =
     let count = c.args.count in
     let some = c.min-some.result in
     let us = units_of c.read_units.new.into in
-    let S = SameOutside to count in
     let small : some ≤ 256 = omega (arith, c.min-some.ensures) in
     let le : l.done + some ≤ count = omega (arith, c.min-some.ensures, l.invariant.to_end) in
     let n : length (take (16 * some) l.page) / 16 ≡ some = part_count some l.page c.min-some.array_long small in
     let part : length c.read_units.new.into ≡ length (take (16 * some) l.page) = c.read_units.auto.into in
     let few : length us ≤ some = omega (arith, length-cut_up (length c.read_units.new.into / 16) c.read_units.new.into, part, n) in
-    let wrote =
-    copies_from _ _ _ _ _ _ (Torn (to + l.done) us) S c.read_units.new.disk c.write_units.new.disk
-    (λ x y torn. part_within to count l.done some us x y few le torn) c.write_units.ensures.changes in
-    let read =
-    copies_looks _ _ _ _ _ _ S (outside_refl to count) (16 * some) l.disk c.read_units.new.disk
-    (looks_more _ _ _ _ _ _ Pkg (length (take (16 * some) l.page)) (16 * some) l.disk c.read_units.new.disk
-    (omega (arith, length-take (16 * some) l.page)) c.read_units.ensures.looks) in
-    let both =
-    copies_then _ _ _ _ _ _ g.met.D.Disk.follows_trans S S S (16 * some) 0 (16 * some) l.disk c.read_units.new.disk c.write_units.new.disk (omega arith)
-    (λ x y r. r) (outside_then to count) read wrote in
     let F0 = (D.files c.args.disk.now).pkg in
     let F1 = (D.files l.disk).pkg in
     let F2 = (D.files c.read_units.new.disk).pkg in
@@ -69,17 +48,20 @@ loop-done-preserved g c =
     record {
       to_end = le;
       copied = λ told.
-          let same : F2 ≡ F1 = ap (λ (f : Files). f.pkg) (c.read_units.ensures.looks.untouched told).same in
+          let same : F2 ≡ F1 = ap (λ (f : Files). f.pkg) (c.read_units.ensures.reads.looks.untouched told).same in
           let is : us ≡ take some (drop (from + l.done) F1) = c.in_ok-read_units.ensures.units told ∙ ap (λ (k : ℕ). take k (drop (from + l.done) F1)) n in
-          copied_more from to count l.done some F0 F1 F2 us c.requires.apart (c.requires.within told) le (l.invariant.copies.pkg told) same is F3
+          copied_more from to count l.done some F0 F1 F2 us c.requires.apart (c.requires.within told) le (l.invariant.writes.changes.pkg told) same is F3
           (c.in_ok-write_units.ensures.written told) (l.invariant.copied told);
       long = λ told any.
-          let same : F2 ≡ F1 = ap (λ (f : Files). f.pkg) (c.read_units.ensures.looks.untouched told).same in
+          let same : F2 ≡ F1 = ap (λ (f : Files). f.pkg) (c.read_units.ensures.reads.looks.untouched told).same in
           let is : us ≡ take some (drop (from + l.done) F1) = c.in_ok-read_units.ensures.units told ∙ ap (λ (k : ℕ). take k (drop (from + l.done) F1)) n in
-          longer_more from to count l.done some F0 F1 F2 us c.requires.apart (c.requires.within told) le (l.invariant.copies.pkg told) same is F3
+          longer_more from to count l.done some F0 F1 F2 us c.requires.apart (c.requires.within told) le (l.invariant.writes.changes.pkg told) same is F3
           (c.in_ok-write_units.ensures.written told);
-      copies =
-          copies_then _ _ _ _ _ _ g.met.D.Disk.follows_trans S S S (16 * l.done) (16 * some)
-          (16 * (l.done + some)) c.args.disk.now l.disk c.write_units.new.disk (omega arith) (λ x y r. r) (outside_then to count) l.invariant.copies both;
-      faults = omega (arith, l.invariant.faults, c.read_units.ensures.cause.later, c.write_units.ensures.cause.later);
+      writes =
+          writes_then g.D.Disk g.met.D.Disk.follows_trans
+          (writes_then g.D.Disk g.met.D.Disk.follows_trans {T = SameOutside to count} {most = 16 * (l.done + some)} l.invariant.writes
+          (writes_reads g.D.Disk c.read_units.ensures.reads (outside_refl to count)) (omega (arith, length-take (16 * some) l.page)) (λ x y r. r)
+          (outside_then to count))
+          c.in_ok-write_units.ensures.writes (omega arith) (λ x y r. r)
+          (λ x y z r torn. outside_then to count x y z r (part_within to count l.done some us y z few le torn));
     }

@@ -1,7 +1,8 @@
 use Rattle.rpm_outside.specs.declared.disk.File.TheVariants.{Pkg}
 use Rattle.std.proofs.Common.{◌≡◌, ℕ, ◌-◌, ◌+◌, ◌*◌, ◌<◌, ◌≤◌, IsTrue, length}
 use Rattle.rpm_outside.specs.Files.{unit_at}
-use Rattle.rpm_outside.specs.Changes.{Changes}
+use Rattle.rpm_outside.specs.Frame.{Writes}
+use Rattle.rpm_pkgdb.proofs.Changing.{done}
 use Rattle.rpm_pkgdb.specs.Stays.{SameOutside}
 use Rattle.rpm_pkgdb.proofs.block_copy.copy_blocks.Given as goal
 
@@ -11,9 +12,7 @@ invariant-loop-done g l = record {
   copied : IsTrue g.D.Disk.tells → (i : ℕ) → i < l.done
       → unit_at (g.D.Disk.files l.disk).pkg (l.to + i) ≡ unit_at (g.D.Disk.files l.initial.disk).pkg (l.from + i);
   long : IsTrue g.D.Disk.tells → 0 < l.done → l.to + l.done ≤ length (g.D.Disk.files l.disk).pkg;
-  copies : Changes g.D.Disk.tells g.D.Disk.files g.D.Disk.left_since g.D.Disk.moment g.D.Disk.bytes_read g.D.Disk.follows Pkg (SameOutside l.to l.count)
-      (16 * l.done) l.initial.disk l.disk;
-  faults : g.D.Disk.faults l.initial.disk ≤ g.D.Disk.faults l.disk;
+  writes : Writes g.D.Disk Pkg (SameOutside l.to l.count) (16 * l.done) done l.initial.disk l.disk;
 }
 
 abbrev pub decreases-loop-done : goal.decreases-loop-done

@@ -1,23 +1,19 @@
 use Rattle.std.proofs.Common.{◌≡◌, ◌+◌, ◌-◌, ◌*◌, ◌/◌, length, take, refl, ap, arith, IsTrue}
 use Rattle.std.proofs.lemmas.List.{length-take}
 use Rattle.rpm_outside.specs.Files.{units_of, put}
-use Rattle.rpm_outside.specs.Crash.{Torn}
 use Rattle.rpm_outside.specs.inner.Puts.{length-put}
 use Rattle.rpm_pkgdb.specs.Blobs.{blocks_for}
-use Rattle.rpm_pkgdb.proofs.Changing.{map_ok, changes_weaker, changes_then}
+use Rattle.rpm_pkgdb.proofs.Changing.{map_ok, writes_weaker, writes_then, writes_failed}
 use Rattle.rpm_pkgdb.specs.Stays.{SameOutside}
 use Rattle.rpm_pkgdb.proofs.BlobWrites.{count-head, parts_written, head_within, front_within, last_within}
 use Rattle.rpm_pkgdb.proofs.frame.write_blob.Goals as goal
 
-pub returns-in_err-write_units-clause-changes : goal.returns-in_err-write_units-clause-changes
-returns-in_err-write_units-clause-changes g c =
+pub returns-in_err-write_units-clause-writes : goal.returns-in_err-write_units-clause-writes
+returns-in_err-write_units-clause-writes g c =
     let b = c.args.blob.now in
-    let head = c.blob_head-head.result in
-    let w = length b / 16 in
-    changes_weaker _ _ _ _ _ _ (Torn c.args.start (units_of head)) (SameOutside c.args.start (blocks_for (length b))) c.args.disk.now c.write_units.new.disk
-    (head_within c.args.number c.args.generation b head (take (16 * w) b)
-    (take c.last_units-end.result.1 c.last_units-end.result.0) c.blob_head-head.ensures refl c.last_units-end.ensures.bytes c.args.start c.requires.few)
-    c.write_units.ensures.changes
+    writes_failed g.D.Disk (writes_weaker g.D.Disk c.in_err-write_units.ensures.writes (omega arith)
+    (head_within c.args.number c.args.generation b c.blob_head-head.result (take (16 * (length b / 16)) b)
+    (take c.last_units-end.result.1 c.last_units-end.result.0) c.blob_head-head.ensures refl c.last_units-end.ensures.bytes c.args.start c.requires.few))
 
 pub write_some-requires-clause-inside : goal.write_some-requires-clause-inside
 write_some-requires-clause-inside g c = λ told.
@@ -28,42 +24,38 @@ write_some-requires-clause-inside g c = λ told.
     (take c.last_units-end.result.1 c.last_units-end.result.0) c.blob_head-head.ensures refl c.last_units-end.ensures.bytes in
     omega (arith, one, ap length (c.in_ok-write_units.ensures.written told), length-put c.args.start (units_of head) (g.D.Disk.files c.args.disk.now).pkg)
 
-pub returns-in_err-write_some-clause-changes : goal.returns-in_err-write_some-clause-changes
-returns-in_err-write_some-clause-changes g c =
+pub returns-in_err-write_some-clause-writes : goal.returns-in_err-write_some-clause-writes
+returns-in_err-write_some-clause-writes g c =
     let b = c.args.blob.now in
     let head = c.blob_head-head.result in
     let front = take (16 * (length b / 16)) b in
     let last = take c.last_units-end.result.1 c.last_units-end.result.0 in
-    let S = SameOutside c.args.start (blocks_for (length b)) in
     let one =
     head_within c.args.number c.args.generation b head front last c.blob_head-head.ensures refl c.last_units-end.ensures.bytes c.args.start
     c.requires.few in
-    changes_then _ _ _ _ _ _ g.met.D.Disk.follows_trans (Torn c.args.start (units_of head))
-    (SameOutside (c.args.start + 1) (length front / 16)) S c.args.disk.now c.write_units.new.disk c.write_some.new.disk one
+    writes_failed g.D.Disk (writes_then g.D.Disk g.met.D.Disk.follows_trans c.write_units.ensures.writes c.in_err-write_some.ensures.writes (omega arith) one
     (λ x y z torn next. front_within c.args.number c.args.generation b head front last c.blob_head-head.ensures refl c.last_units-end.ensures.bytes
-    c.args.start c.requires.few x y z (one x y torn) next) c.write_units.ensures.changes c.write_some.ensures.changes
+    c.args.start c.requires.few x y z (one x y torn) next))
 
-pub returns-clause-changes : goal.returns-clause-changes
-returns-clause-changes g c =
+pub returns-clause-writes : goal.returns-clause-writes
+returns-clause-writes g c =
     let b = c.args.blob.now in
     let head = c.blob_head-head.result in
     let front = take (16 * (length b / 16)) b in
     let last = take c.last_units-end.result.1 c.last_units-end.result.0 in
-    let S = SameOutside c.args.start (blocks_for (length b)) in
     let long : length last ≡ 16 * (blocks_for (length b) - 1 - length b / 16) =
     omega (arith, length-take c.last_units-end.result.1 c.last_units-end.result.0, c.last_units-end.ensures.end, c.last_units-end.ensures.room) in
     let one =
     head_within c.args.number c.args.generation b head front last c.blob_head-head.ensures refl c.last_units-end.ensures.bytes c.args.start
     c.requires.few in
-    changes_then _ _ _ _ _ _ g.met.D.Disk.follows_trans S
-    (Torn (c.args.start + 1 + length b / 16) (units_of last)) S c.args.disk.now c.write_some.new.disk c.write_units-2.new.disk (λ x y r. r)
+    writes_then g.D.Disk g.met.D.Disk.follows_trans
+    (writes_then g.D.Disk g.met.D.Disk.follows_trans {T = SameOutside c.args.start (blocks_for (length b))} {most = 0} c.write_units.ensures.writes
+    c.write_some.ensures.writes (omega arith) one
+    (λ x y z torn next. front_within c.args.number c.args.generation b head front last c.blob_head-head.ensures refl c.last_units-end.ensures.bytes
+    c.args.start c.requires.few x y z (one x y torn) next))
+    c.write_units-2.ensures.writes (omega arith) (λ x y r. r)
     (λ x y z so_far torn. last_within c.args.number c.args.generation b head front last c.blob_head-head.ensures refl c.last_units-end.ensures.bytes
     c.args.start c.requires.few x y z long so_far torn)
-    (changes_then _ _ _ _ _ _ g.met.D.Disk.follows_trans (Torn c.args.start (units_of head))
-    (SameOutside (c.args.start + 1) (length front / 16)) S c.args.disk.now c.write_units.new.disk c.write_some.new.disk one
-    (λ x y z torn next. front_within c.args.number c.args.generation b head front last c.blob_head-head.ensures refl c.last_units-end.ensures.bytes
-    c.args.start c.requires.few x y z (one x y torn) next) c.write_units.ensures.changes c.write_some.ensures.changes)
-    c.write_units-2.ensures.changes
 
 pub returns-clause-written : goal.returns-clause-written
 returns-clause-written g c =

@@ -2,9 +2,8 @@ use Rattle.std.proofs.Common.{◌≡◌, ℕ, ◌/◌, [], List, length, sym, ap
 use Rattle.std.proofs.lemmas.List.{nil_from_length}
 use Rattle.std.proofs.lemmas.Bool.Decides.{nat_tests}
 use Rattle.rpm_outside.specs.Files.{Units, units_of, put}
-use Rattle.rpm_outside.specs.Crash.{Torn}
 use Rattle.rpm_outside.specs.inner.Cuts.{length-cut_up}
-use Rattle.rpm_pkgdb.proofs.Changing.{changes_weaker}
+use Rattle.rpm_pkgdb.proofs.Changing.{writes_weaker}
 use Rattle.rpm_pkgdb.specs.Stays.{SameOutside}
 use Rattle.rpm_pkgdb.proofs.ClearLaws.{torn_outside}
 use Rattle.rpm_pkgdb.proofs.PutParts.{put_nothing}
@@ -19,9 +18,9 @@ returns-then-is_empty-clause-written g c = λ told.
     let none : length c.args.bytes.now ≡ 0 = grind (arith, nat_tests) in
     sym (ap (λ (us : Units). put c.args.at us file) (empty_units c.args.bytes.now none) ∙ put_nothing c.args.at file (c.requires.inside told))
 
-pub returns-clause-changes : goal.returns-clause-changes
-returns-clause-changes g c =
+pub returns-clause-writes : goal.returns-clause-writes
+returns-clause-writes g c =
     let us = units_of c.args.bytes.now in
     let n : length us ≡ length c.args.bytes.now / 16 = length-cut_up (length c.args.bytes.now / 16) c.args.bytes.now in
-    changes_weaker _ _ _ _ _ _ (Torn c.args.at us) (SameOutside c.args.at (length c.args.bytes.now / 16)) c.args.disk.now c.write_units.new.disk
-    (λ x y torn. subst (λ (m : ℕ). SameOutside c.args.at m x y) n (torn_outside c.args.at us x y torn)) c.write_units.ensures.changes
+    writes_weaker g.D.Disk c.write_units.ensures.writes (omega arith)
+    (λ x y torn. subst (λ (m : ℕ). SameOutside c.args.at m x y) n (torn_outside c.args.at us x y torn))

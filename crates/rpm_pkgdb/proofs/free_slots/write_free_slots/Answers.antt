@@ -1,8 +1,7 @@
 use Rattle.std.proofs.Common.{◌≡◌, ℕ, ◌*◌, length, take, arith, IsTrue, subst, ap}
 use Rattle.rpm_outside.specs.Files.{units_of, put}
-use Rattle.rpm_outside.specs.Crash.{Torn}
 use Rattle.rpm_outside.specs.inner.Puts.{length-put}
-use Rattle.rpm_pkgdb.proofs.Changing.{map_ok, changes_weaker}
+use Rattle.rpm_pkgdb.proofs.Changing.{map_ok, writes_weaker}
 use Rattle.rpm_pkgdb.specs.Stays.{SameOutside}
 use Rattle.rpm_pkgdb.proofs.ClearLaws.{torn_outside}
 use Rattle.rpm_pkgdb.proofs.FreePages.{front_count, slots_written}
@@ -18,14 +17,14 @@ returns-clause-slots g c =
     (g.D.Disk.files c.args.disk.now).pkg (g.D.Disk.files c.write_units.new.disk).pkg (written told))
     c.write_units.ensures.written
 
-pub returns-clause-changes : goal.returns-clause-changes
-returns-clause-changes g c =
+pub returns-clause-writes : goal.returns-clause-writes
+returns-clause-writes g c =
     let page = c.copy_units.new.into in
     let at = c.args.at in
     let us = units_of (take (16 * c.args.count) page) in
     let n : length us ≡ c.args.count = front_count page c.args.count c.copy_units.auto.into c.requires.few in
-    changes_weaker _ _ _ _ _ _ (Torn at us) (SameOutside at c.args.count) c.args.disk.now c.write_units.new.disk
-    (λ x y torn. subst (λ (m : ℕ). SameOutside at m x y) n (torn_outside at us x y torn)) c.write_units.ensures.changes
+    writes_weaker g.D.Disk c.write_units.ensures.writes (omega arith)
+    (λ x y torn. subst (λ (m : ℕ). SameOutside at m x y) n (torn_outside at us x y torn))
 
 pub returns-clause-long : goal.returns-clause-long
 returns-clause-long g c =

@@ -4,7 +4,7 @@ use Rattle.rpm_outside.specs.Files.{Units, unit_at, put}
 use Rattle.rpm_outside.specs.Crash.{Torn}
 use Rattle.rpm_pkgdb.specs.Store.{is_blank}
 use Rattle.rpm_outside.specs.Changes.{IsSettled}
-use Rattle.rpm_pkgdb.proofs.Changing.{map_ok, both_ok, changes_weaker, changes_then, stops_from, stops_then}
+use Rattle.rpm_pkgdb.proofs.Changing.{map_ok, both_ok, writes_weaker, writes_then, writes_failed, stops_while, stops_next}
 use Rattle.rpm_pkgdb.specs.Stays.{SameOutside}
 use Rattle.rpm_pkgdb.specs.Quiet.{IsFirstPage}
 use Rattle.rpm_pkgdb.specs.Written.{MakesTo}
@@ -14,20 +14,18 @@ use Rattle.rpm_pkgdb.proofs.make.write_new.Goals as goal
 
 pub returns-in_err-write_first_page-clause-images : goal.returns-in_err-write_first_page-clause-images
 returns-in_err-write_first_page-clause-images g c = λ told value none quiet.
-    stops_from _ _ _ _ _ _ told (SameOutside 1 255) MakesTo c.args.disk.now c.write_first_page.new.disk c.write_first_page.ensures.changes
+    stops_while g.D.Disk told MakesTo c.write_first_page.ensures.writes
     (λ from image was same. while_first from.pkg image.pkg (says_blank from.pkg value (quiet from was).keeps none) same)
 
 pub returns-clause-images : goal.returns-clause-images
 returns-clause-images g c = λ told value none quiet.
-    let D = g.D.Disk in
-    let T = Torn 0 (c.head_unit.result ∷ []) in
-    let first = c.write_first_page.ensures.changes in
-    stops_then _ _ _ _ _ _ told (SameOutside 1 255) MakesTo c.args.disk.now c.write_first_page.new.disk c.write_one.new.disk first
-    (stops_from _ _ _ _ _ _ told (SameOutside 1 255) MakesTo c.args.disk.now c.write_first_page.new.disk first
+    let first = c.write_first_page.ensures.writes in
+    stops_next g.D.Disk told MakesTo first
+    (stops_while g.D.Disk told MakesTo first
     (λ from image was same. while_first from.pkg image.pkg (says_blank from.pkg value (quiet from was).keeps none) same))
-    (stops_from _ _ _ _ _ _ told T MakesTo c.write_first_page.new.disk c.write_one.new.disk c.write_one.ensures.changes
+    (stops_while g.D.Disk told MakesTo c.write_one.ensures.writes
     (λ from image was torn.
-    let past = first.now told from was in
+    let past = first.changes.now told from was in
     let blank : is_blank from.pkg ≡ true = blank_after past.from.pkg from.pkg (says_blank past.from.pkg value (quiet past.from past.was).keeps none) past.pkg in
     let page : IsFirstPage from.pkg =
     subst IsFirstPage (sym (c.in_ok-write_first_page.ensures.settled told from was)) (c.in_ok-write_first_page.ensures.page told) in
@@ -62,16 +60,14 @@ then_head : (unit : List ℕ) (x y z : Units) → SameOutside 1 255 x y → Torn
 then_head unit x y z same torn =
     outside_then 0 256 x y z (first_page x y same) (outside_wider 0 1 0 256 y z (omega arith) (omega arith) (torn_outside 0 (unit ∷ []) y z torn))
 
-pub returns-in_err-write_first_page-clause-changes : goal.returns-in_err-write_first_page-clause-changes
-returns-in_err-write_first_page-clause-changes g c =
-    changes_weaker _ _ _ _ _ _ (SameOutside 1 255) (SameOutside 0 256) c.args.disk.now c.write_first_page.new.disk first_page
-    c.write_first_page.ensures.changes
+pub returns-in_err-write_first_page-clause-writes : goal.returns-in_err-write_first_page-clause-writes
+returns-in_err-write_first_page-clause-writes g c =
+    writes_failed g.D.Disk (writes_weaker g.D.Disk c.in_err-write_first_page.ensures.writes (omega arith) first_page)
 
-pub returns-clause-changes : goal.returns-clause-changes
-returns-clause-changes g c =
-    let unit = c.head_unit.result in
-    changes_then _ _ _ _ _ _ g.met.D.Disk.follows_trans (SameOutside 1 255) (Torn 0 (unit ∷ [])) (SameOutside 0 256) c.args.disk.now
-    c.write_first_page.new.disk c.write_one.new.disk first_page (then_head unit) c.write_first_page.ensures.changes c.write_one.ensures.changes
+pub returns-clause-writes : goal.returns-clause-writes
+returns-clause-writes g c =
+    writes_then g.D.Disk g.met.D.Disk.follows_trans c.write_first_page.ensures.writes c.write_one.ensures.writes (omega arith) first_page
+    (then_head c.head_unit.result)
 
 pub returns-clause-next : goal.returns-clause-next
 returns-clause-next g c =

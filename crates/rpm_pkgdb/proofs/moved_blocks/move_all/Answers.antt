@@ -1,21 +1,21 @@
 use Rattle.rpm_outside.specs.declared.disk.File.TheVariants.{Pkg}
-use Rattle.std.proofs.Common.{◌≡◌, ℕ, ◌+◌, ◌*◌, ◌<◌, IsTrue, List, length, take, Some, sym, ap, ◌∙◌, subst, arith, refl}
+use Rattle.std.proofs.Common.{◌≡◌, ℕ, ◌+◌, ◌<◌, IsTrue, List, length, take, sym, ap, ◌∙◌, subst, arith, refl}
 use Rattle.std.proofs.lemmas.List.{take_all}
 use Rattle.rpm_outside.specs.inner.Moments.{started}
 use Rattle.rpm_pkgdb.specs.declared.moved_blocks.Move.{Move}
 use Rattle.rpm_pkgdb.specs.Store.{Store, Keeps}
 use Rattle.rpm_pkgdb.specs.Blobs.{blobs}
-use Rattle.rpm_outside.specs.Changes.{Changes, Stops}
+use Rattle.rpm_outside.specs.Changes.{Stops}
+use Rattle.rpm_outside.specs.Frame.{Writes}
 use Rattle.rpm_outside.specs.declared.disk.Disk as disk
 use Rattle.rpm_pkgdb.specs.declared.slot.Slot.{Slot}
 use Rattle.rpm_pkgdb.specs.Frame.{pkg, Quiet, StopsIn}
 use Rattle.rpm_pkgdb.specs.inner.Moving.{AreMoved, CanMoveAll}
-use Rattle.rpm_pkgdb.proofs.Changing.{stops_weaker, copies_none, copies_then, copies_weaker, copies_stops_then}
+use Rattle.rpm_pkgdb.proofs.Changing.{done, stops_weaker, writes_none, writes_then, writes_weaker, writes_failed, stops_next}
 use Rattle.rpm_pkgdb.specs.inner.Still.{StandsStill}
 use Rattle.rpm_pkgdb.specs.inner.Settings.{CanMove, NoShorter, WhileMoved}
 use Rattle.rpm_pkgdb.proofs.LeftLaws.{stands_still, still_then, moves_to}
 use Rattle.rpm_pkgdb.proofs.Moves.{moved_map}
-use Rattle.rpm_pkgdb.specs.Growing.{moving_cost}
 use Rattle.rpm_pkgdb.specs.inner.MoveLists.{move_at}
 use Rattle.rpm_pkgdb.proofs.MoveSteps.{old_slot, cost_to, cost_more, cost_few, current, next, old, kept, can_move, then_after}
 use Rattle.rpm_pkgdb.proofs.FreedMoves.{freed_then}
@@ -48,28 +48,26 @@ loop-k-init g c =
                 refl;
             log = refl;
           });
-      copies =
-          copies_weaker _ _ _ _ _ _ NoShorter NoShorter 0 (cost_to c.args.slots.now c.args.moves.now 0) d d (omega arith) (λ x y r. r)
-          (copies_none _ _ _ _ _ _ g.met.D.Disk.follows_refl NoShorter (λ x. omega arith) d);
-      faults = omega arith;
+      writes =
+          writes_weaker D (writes_none D g.met.D.Disk.follows_refl d (λ x. omega arith)) (omega arith) (λ x y r. r);
     }
 
 -- what stops leave of one move more
 stops : {D : Type 0} (d : disk.Ghosts D) (a b e : D) (slots : List Slot) (moves : List Move) (k zeros_from : ℕ) → k < length moves → (told : IsTrue d.tells)
-    → Changes d.tells d.files d.left_since d.moment d.bytes_read d.follows Pkg NoShorter (cost_to slots moves k) a b
+    → Writes d Pkg NoShorter (cost_to slots moves k) done a b
     → AreMoved d a b slots moves (take k moves) zeros_from → (value : Store) → CanMoveAll slots moves value → Keeps (pkg d a) value → Quiet d a value
     → StopsIn d a b (StandsStill value (pkg d a))
     → ((u : Store) → CanMove u (move_at moves k).place (old_slot slots (move_at moves k)) (move_at moves k).to → Quiet d b u
     → StopsIn d b e (WhileMoved u (move_at moves k).place (old_slot slots (move_at moves k)) (move_at moves k).to (pkg d b)))
     → StopsIn d a e (StandsStill value (pkg d a))
-stops d a b e slots moves k zeros_from lt told copies so_far value all keeps quiet still more =
+stops d a b e slots moves k zeros_from lt told wrote so_far value all keeps quiet still more =
     let u = current value slots moves k all.some all.same all.are lt in
     let m = next value slots moves k all.some all.same all.are lt in
     let o = old value slots moves k all.some all.same all.are lt in
     let can = can_move value slots moves k all.some all.same all.are lt in
     let now = kept value slots moves k all.some all.same all.are lt in
     let P = StandsStill value (pkg d a) in
-    copies_stops_then _ _ _ _ _ _ told NoShorter P (cost_to slots moves k) a b e copies still
+    stops_next d told P wrote still
     (stops_weaker d.moment d.left_since (WhileMoved u m.place o m.to (pkg d b)) P b e
     (λ image w. still_then value u (pkg d a) (pkg d b) image now.generation_is now.field_is (so_far.blobs_are value all keeps) (so_far.others value all keeps)
     (moves_to u m.place o m.to can (pkg d b) (so_far.keeps value all keeps) image w))
@@ -81,19 +79,16 @@ returns-in_err-move_blocks-clause-images g c = λ told value all quiet.
     let l = c.loop-k in
     let d = c.args.disk.now in
     let keeps : Keeps (D.files d).pkg value = (quiet (D.files d) (g.met.D.Disk.as_read d told)).keeps in
-    stops D d l.disk c.move_blocks.new.disk c.args.slots.now c.args.moves.now l.k c.args.zeros_from c.loop-k-test.true told l.invariant.copies
+    stops D d l.disk c.move_blocks.new.disk c.args.slots.now c.args.moves.now l.k c.args.zeros_from c.loop-k-test.true told l.invariant.writes
     (l.invariant.moved told) value all keeps quiet (l.invariant.images told value all quiet) (c.move_blocks.ensures.images told)
 
-pub returns-in_err-move_blocks-clause-copies : goal.returns-in_err-move_blocks-clause-copies
-returns-in_err-move_blocks-clause-copies g c =
+pub returns-in_err-move_blocks-clause-writes : goal.returns-in_err-move_blocks-clause-writes
+returns-in_err-move_blocks-clause-writes g c =
     let l = c.loop-k in
-    let count = (old_slot c.args.slots.now (move_at c.args.moves.now l.k)).count in
     let slots = c.args.slots.now in
     let moves = c.args.moves.now in
-    copies_then _ _ _ _ _ _ g.met.D.Disk.follows_trans NoShorter NoShorter NoShorter (cost_to slots moves l.k) (16 * count)
-    (moving_cost slots (Some moves)) c.args.disk.now l.disk c.move_blocks.new.disk
-    (omega (arith, cost_more slots moves l.k c.loop-k-test.true, cost_few slots moves (l.k + 1)))
-    (λ x y r. r) (λ x y z r q. omega (arith, r, q)) l.invariant.copies c.move_blocks.ensures.copies
+    writes_failed g.D.Disk (writes_then g.D.Disk g.met.D.Disk.follows_trans l.invariant.writes c.in_err-move_blocks.ensures.writes
+    (omega (arith, cost_more slots moves l.k c.loop-k-test.true, cost_few slots moves (l.k + 1))) (λ x y r. r) (λ x y z r q. omega (arith, r, q)))
 
 pub loop-k-preserved : goal.loop-k-preserved
 loop-k-preserved g c =
@@ -108,7 +103,6 @@ loop-k-preserved g c =
     let F0 = (D.files d).pkg in
     let F1 = (D.files l.disk).pkg in
     let F2 = (D.files e).pkg in
-    let count = (old_slot slots (move_at moves k)).count in
     record {
       moved = λ told.
           let so_far = l.invariant.moved told in
@@ -148,14 +142,11 @@ loop-k-preserved g c =
           };
       images = λ told value all quiet.
           let keeps : Keeps F0 value = (quiet (D.files d) (g.met.D.Disk.as_read d told)).keeps in
-          stops D d l.disk e slots moves k c.args.zeros_from lt told l.invariant.copies (l.invariant.moved told) value all keeps quiet
+          stops D d l.disk e slots moves k c.args.zeros_from lt told l.invariant.writes (l.invariant.moved told) value all keeps quiet
           (l.invariant.images told value all quiet) (c.move_blocks.ensures.images told);
-      copies =
-          copies_then _ _ _ _ _ _ g.met.D.Disk.follows_trans NoShorter NoShorter NoShorter (cost_to slots moves k) (16 * count) (cost_to slots moves (k + 1))
-          d l.disk e
-          (omega (arith, cost_more slots moves k lt))
-          (λ x y r. r) (λ x y z r q. omega (arith, r, q)) l.invariant.copies c.move_blocks.ensures.copies;
-      faults = omega (arith, l.invariant.faults, c.move_blocks.ensures.cause.later);
+      writes =
+          writes_then D g.met.D.Disk.follows_trans l.invariant.writes c.in_ok-move_blocks.ensures.writes (omega (arith, cost_more slots moves k lt))
+          (λ x y r. r) (λ x y z r q. omega (arith, r, q));
     }
 
 pub returns-clause-moved : goal.returns-clause-moved
@@ -165,8 +156,7 @@ returns-clause-moved g c = λ told.
     let all : take l.k moves ≡ moves = take_all l.k moves (omega arith) in
     subst (λ (ms : List Move). AreMoved g.D.Disk c.args.disk.now l.disk c.args.slots.now moves ms c.args.zeros_from) all (l.invariant.moved told)
 
-pub returns-clause-copies : goal.returns-clause-copies
-returns-clause-copies g c =
+pub returns-clause-writes : goal.returns-clause-writes
+returns-clause-writes g c =
     let l = c.loop-k in
-    copies_weaker _ _ _ _ _ _ NoShorter NoShorter (cost_to c.args.slots.now c.args.moves.now l.k) (moving_cost c.args.slots.now (Some c.args.moves.now))
-    c.args.disk.now l.disk (cost_few c.args.slots.now c.args.moves.now l.k) (λ x y r. r) l.invariant.copies
+    writes_weaker g.D.Disk l.invariant.writes (cost_few c.args.slots.now c.args.moves.now l.k) (λ x y r. r)

@@ -1,6 +1,7 @@
 use Rattle.rpm_outside.specs.declared.disk.File.TheVariants.{Pkg}
-use Rattle.std.proofs.Common.{◌≤◌, IsTrue, take, Some}
-use Rattle.rpm_outside.specs.Changes.{Changes}
+use Rattle.std.proofs.Common.{IsTrue, take, Some}
+use Rattle.rpm_outside.specs.Frame.{Writes}
+use Rattle.rpm_pkgdb.proofs.Changing.{done}
 use Rattle.rpm_pkgdb.specs.Store.{Store}
 use Rattle.rpm_pkgdb.specs.Frame.{pkg, Quiet, StopsIn}
 use Rattle.rpm_pkgdb.specs.Growing.{moving_cost}
@@ -17,6 +18,5 @@ invariant-loop-k g l =
       moved : IsTrue D.tells → AreMoved D old l.disk l.slots l.moves (take l.k l.moves) l.zeros_from;
       images : IsTrue D.tells → (value : Store) → CanMoveAll l.slots l.moves value → Quiet D old value
           → StopsIn D old l.disk (StandsStill value (pkg D old));
-      copies : Changes D.tells D.files D.left_since D.moment D.bytes_read D.follows Pkg NoShorter (moving_cost l.slots (Some (take l.k l.moves))) old l.disk;
-      faults : D.faults old ≤ D.faults l.disk;
+      writes : Writes D Pkg NoShorter (moving_cost l.slots (Some (take l.k l.moves))) done old l.disk;
     }

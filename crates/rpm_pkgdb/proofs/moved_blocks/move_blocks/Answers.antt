@@ -2,10 +2,9 @@ use Rattle.std.proofs.Common.{◌≡◌, ℕ, IsTrue, inr, ◌+◌, ◌*◌, ◌
 use Rattle.rpm_outside.specs.Crash.{Torn}
 use Rattle.rpm_pkgdb.specs.Slots.{end_of}
 use Rattle.rpm_pkgdb.specs.Store.{Store, Keeps}
-use Rattle.rpm_pkgdb.proofs.Changing.{map_ok, stops_from, copies_from, copies_weaker, copies_then, copies_stops_from, copies_stops_then}
+use Rattle.rpm_pkgdb.proofs.Changing.{map_ok, writes_then, writes_weaker, writes_failed, stops_while, stops_next}
 use Rattle.rpm_pkgdb.proofs.FreedLaws.{moved_blank}
 use Rattle.rpm_outside.specs.Files.{unit_at, blank}
-use Rattle.rpm_pkgdb.specs.Stays.{SameOutside}
 use Rattle.rpm_pkgdb.specs.inner.Clear.{Holds}
 use Rattle.rpm_pkgdb.specs.Quiet.{Anything}
 use Rattle.rpm_pkgdb.specs.inner.Settings.{CanMove, NoShorter, WhileMoved, blocks_of}
@@ -19,8 +18,7 @@ returns-in_err-copy_settled-clause-images g c = λ told value can quiet.
     let old = c.args.old in
     let F0 = (D.files c.args.disk.now).pkg in
     let keeps : Keeps F0 value = (quiet (D.files c.args.disk.now) (g.met.D.Disk.as_read c.args.disk.now told)).keeps in
-    copies_stops_from _ _ _ _ _ _ told (SameOutside c.args.to old.count) (WhileMoved value c.args.place old c.args.to F0)
-    (16 * old.count) c.args.disk.now c.copy_settled.new.disk c.copy_settled.ensures.copies
+    stops_while g.D.Disk told (WhileMoved value c.args.place old c.args.to F0) c.copy_settled.ensures.writes
     (λ from image was same. while_copied value c.args.place old c.args.to can F0 keeps from.pkg image.pkg (quiet from was) same)
 
 pub returns-in_err-write_one-clause-images : goal.returns-in_err-write_one-clause-images
@@ -34,13 +32,11 @@ returns-in_err-write_one-clause-images g c = λ told value can quiet.
     let some : 0 < old.count = (move_set value c.args.place old c.args.to can F0 keeps).some in
     let holds : Holds F1 c.args.to (blocks_of old F0) =
     held_after value c.args.place old c.args.to can F0 keeps F1 (c.in_ok-copy_settled.ensures.long told some) (c.in_ok-copy_settled.ensures.copied told) in
-    copies_stops_then _ _ _ _ _ _ told (SameOutside c.args.to old.count) P
-    (16 * old.count) c.args.disk.now c.copy_settled.new.disk c.write_one.new.disk c.copy_settled.ensures.copies
-    (copies_stops_from _ _ _ _ _ _ told (SameOutside c.args.to old.count) P (16 * old.count) c.args.disk.now c.copy_settled.new.disk
-    c.copy_settled.ensures.copies (λ from image was same. while_copied value c.args.place old c.args.to can F0 keeps from.pkg image.pkg (quiet from was) same))
-    (stops_from _ _ _ _ _ _ told (Torn (2 + c.args.place) (c.slot_unit.result ∷ [])) P c.copy_settled.new.disk c.write_one.new.disk c.write_one.ensures.changes
+    stops_next g.D.Disk told P c.copy_settled.ensures.writes
+    (stops_while g.D.Disk told P c.copy_settled.ensures.writes (λ from image was same. while_copied value c.args.place old c.args.to can F0 keeps from.pkg image.pkg (quiet from was) same))
+    (stops_while g.D.Disk told P c.write_one.ensures.writes
     (λ from image was torn. while_slot_moved value c.args.place old c.args.to can F0 keeps c.slot_unit.result c.slot_unit.ensures F1 F1
-    (c.copy_settled.ensures.copies.pkg told) holds from.pkg image.pkg (c.in_ok-copy_settled.ensures.settled told from was) torn))
+    (c.copy_settled.ensures.writes.changes.pkg told) holds from.pkg image.pkg (c.in_ok-copy_settled.ensures.settled told from was) torn))
 
 pub returns-clause-images : goal.returns-clause-images
 returns-clause-images g c = λ told value can quiet.
@@ -54,57 +50,41 @@ returns-clause-images g c = λ told value can quiet.
     let F1 = (D.files c.copy_settled.new.disk).pkg in
     let F2 = (D.files c.write_one.new.disk).pkg in
     let P = WhileMoved value place old to F0 in
-    let S = SameOutside to old.count in
     let T = Torn (2 + place) (c.slot_unit.result ∷ []) in
     let keeps : Keeps F0 value = (quiet (D.files c.args.disk.now) (g.met.D.Disk.as_read c.args.disk.now told)).keeps in
     let some : 0 < old.count = (move_set value place old to can F0 keeps).some in
     let holds : Holds F1 to (blocks_of old F0) =
     held_after value place old to can F0 keeps F1 (c.in_ok-copy_settled.ensures.long told some) (c.in_ok-copy_settled.ensures.copied told) in
     let both =
-    copies_then D.tells D.files D.left_since D.moment D.bytes_read D.follows g.met.D.Disk.follows_trans S Anything Anything (16 * old.count) 0
-    (16 * old.count) c.args.disk.now c.copy_settled.new.disk c.write_one.new.disk (omega arith) (λ x y r. tt)
-    (λ x y z r s. tt) c.copy_settled.ensures.copies
-    (copies_from D.tells D.files D.left_since D.moment D.bytes_read D.follows T Anything c.copy_settled.new.disk c.write_one.new.disk
-    (λ x y r. tt) c.write_one.ensures.changes) in
-    copies_stops_then _ _ _ _ _ _ told Anything P (16 * old.count) c.args.disk.now c.write_one.new.disk c.write_zeros.new.disk both
-    (copies_stops_then _ _ _ _ _ _ told S P (16 * old.count) c.args.disk.now c.copy_settled.new.disk c.write_one.new.disk c.copy_settled.ensures.copies
-    (copies_stops_from _ _ _ _ _ _ told S P (16 * old.count) c.args.disk.now c.copy_settled.new.disk c.copy_settled.ensures.copies
+    writes_then g.D.Disk g.met.D.Disk.follows_trans {T = Anything} {most = 16 * old.count} c.copy_settled.ensures.writes c.write_one.ensures.writes
+    (omega arith) (λ x y r. tt) (λ x y z r s. tt) in
+    stops_next g.D.Disk told P both
+    (stops_next g.D.Disk told P c.copy_settled.ensures.writes
+    (stops_while g.D.Disk told P c.copy_settled.ensures.writes
     (λ from image was same. while_copied value place old to can F0 keeps from.pkg image.pkg (quiet from was) same))
-    (stops_from _ _ _ _ _ _ told T P c.copy_settled.new.disk c.write_one.new.disk c.write_one.ensures.changes
+    (stops_while g.D.Disk told P c.write_one.ensures.writes
     (λ from image was torn. while_slot_moved value place old to can F0 keeps c.slot_unit.result c.slot_unit.ensures F1 F1
-    (c.copy_settled.ensures.copies.pkg told) holds from.pkg image.pkg (c.in_ok-copy_settled.ensures.settled told from was) torn)))
-    (stops_from _ _ _ _ _ _ told (SameOutside at n) P c.write_one.new.disk c.write_zeros.new.disk c.write_zeros.ensures.changes
+    (c.copy_settled.ensures.writes.changes.pkg told) holds from.pkg image.pkg (c.in_ok-copy_settled.ensures.settled told from was) torn)))
+    (stops_while g.D.Disk told P c.write_zeros.ensures.writes
     (λ from image was same. inr (while_old_zeroed value place old to can F0 keeps c.slot_unit.result c.slot_unit.ensures F1 F2
-    (c.copy_settled.ensures.copies.pkg told) holds (c.in_ok-write_one.ensures.written told) at n (omega (arith, c.min-at.ensures, c.max.ensures))
+    (c.copy_settled.ensures.writes.changes.pkg told) holds (c.in_ok-write_one.ensures.written told) at n (omega (arith, c.min-at.ensures, c.max.ensures))
     (omega (arith, c.min-at.ensures, c.max.ensures)) from.pkg image.pkg (c.in_ok-write_one.ensures.settled told from was) same)))
 
-pub returns-in_err-copy_settled-clause-copies : goal.returns-in_err-copy_settled-clause-copies
-returns-in_err-copy_settled-clause-copies g c =
-    let most = 16 * c.args.old.count in
-    copies_weaker _ _ _ _ _ _ (SameOutside c.args.to c.args.old.count) NoShorter most most c.args.disk.now c.copy_settled.new.disk (omega arith)
-    (λ x y r. r.no_shorter) c.copy_settled.ensures.copies
+pub returns-in_err-copy_settled-clause-writes : goal.returns-in_err-copy_settled-clause-writes
+returns-in_err-copy_settled-clause-writes g c =
+    writes_failed g.D.Disk (writes_weaker g.D.Disk c.in_err-copy_settled.ensures.writes (omega arith) (λ x y r. r.no_shorter))
 
-pub returns-in_err-write_one-clause-copies : goal.returns-in_err-write_one-clause-copies
-returns-in_err-write_one-clause-copies g c =
-    let most = 16 * c.args.old.count in
-    copies_then _ _ _ _ _ _ g.met.D.Disk.follows_trans
-    (SameOutside c.args.to c.args.old.count) NoShorter NoShorter most 0 most c.args.disk.now c.copy_settled.new.disk c.write_one.new.disk (omega arith)
-    (λ x y r. r.no_shorter) (λ x y z r q. omega (arith, r.no_shorter, q)) c.copy_settled.ensures.copies
-    (copies_from _ _ _ _ _ _ (Torn (2 + c.args.place) (c.slot_unit.result ∷ [])) NoShorter c.copy_settled.new.disk c.write_one.new.disk
-    (λ x y r. r.no_shorter) c.write_one.ensures.changes)
+pub returns-in_err-write_one-clause-writes : goal.returns-in_err-write_one-clause-writes
+returns-in_err-write_one-clause-writes g c =
+    writes_failed g.D.Disk (writes_then g.D.Disk g.met.D.Disk.follows_trans c.copy_settled.ensures.writes c.in_err-write_one.ensures.writes (omega arith)
+    (λ x y r. r.no_shorter) (λ x y z r q. omega (arith, r.no_shorter, q.no_shorter)))
 
-pub returns-clause-copies : goal.returns-clause-copies
-returns-clause-copies g c =
-    let most = 16 * c.args.old.count in
-    copies_then _ _ _ _ _ _ g.met.D.Disk.follows_trans NoShorter NoShorter NoShorter most 0 most c.args.disk.now c.write_one.new.disk c.write_zeros.new.disk
-    (omega arith) (λ x y r. r) (λ x y z r q. omega (arith, r, q))
-    (copies_then _ _ _ _ _ _ g.met.D.Disk.follows_trans
-    (SameOutside c.args.to c.args.old.count) NoShorter NoShorter most 0 most c.args.disk.now c.copy_settled.new.disk c.write_one.new.disk (omega arith)
-    (λ x y r. r.no_shorter) (λ x y z r q. omega (arith, r.no_shorter, q)) c.copy_settled.ensures.copies
-    (copies_from _ _ _ _ _ _ (Torn (2 + c.args.place) (c.slot_unit.result ∷ [])) NoShorter c.copy_settled.new.disk c.write_one.new.disk
-    (λ x y r. r.no_shorter) c.write_one.ensures.changes))
-    (copies_from _ _ _ _ _ _ (SameOutside c.min-at.result (end_of c.args.old - c.min-at.result)) NoShorter c.write_one.new.disk c.write_zeros.new.disk
-    (λ x y r. r.no_shorter) c.write_zeros.ensures.changes)
+pub returns-clause-writes : goal.returns-clause-writes
+returns-clause-writes g c =
+    writes_then g.D.Disk g.met.D.Disk.follows_trans
+    (writes_then g.D.Disk g.met.D.Disk.follows_trans {T = NoShorter} {most = 16 * c.args.old.count} c.copy_settled.ensures.writes c.write_one.ensures.writes
+    (omega arith) (λ x y r. r.no_shorter) (λ x y z r q. omega (arith, r.no_shorter, q.no_shorter)))
+    c.write_zeros.ensures.writes (omega arith) (λ x y r. r) (λ x y z r q. omega (arith, r, q.no_shorter))
 
 pub returns-clause-moved : goal.returns-clause-moved
 returns-clause-moved g c =
@@ -122,9 +102,9 @@ returns-clause-moved g c =
     let low : old.offset ≤ at = omega (arith, c.min-at.ensures, c.max.ensures) in
     let high : at + n ≤ end_of old = omega (arith, c.min-at.ensures, c.max.ensures) in
     map_ok c.write_zeros.result (λ (zeros : IsTrue D.tells → (i : ℕ) → at ≤ i → i < at + n → unit_at F3 i ≡ blank) told.
-    let first = c.copy_settled.ensures.copies.pkg told in
+    let first = c.copy_settled.ensures.writes.changes.pkg told in
     let second = c.in_ok-write_one.ensures.written told in
-    let same = c.write_zeros.ensures.changes.pkg told in
+    let same = c.write_zeros.ensures.writes.changes.pkg told in
     let holds : (value : Store) → CanMove value place old to → Keeps F0 value → Holds F1 to (blocks_of old F0) =
     λ value can keeps. held_after value place old to can F0 keeps F1
     (c.in_ok-copy_settled.ensures.long told (move_set value place old to can F0 keeps).some) (c.in_ok-copy_settled.ensures.copied told) in
@@ -132,7 +112,7 @@ returns-clause-moved g c =
       stands = λ value can keeps.
           while_old_zeroed value place old to can F0 keeps unit c.slot_unit.ensures F1 F2 first (holds value can keeps) second at n low high F2 F3 refl same;
       quiet = λ value can keeps image here.
-          let past = c.write_zeros.ensures.changes.now told image here in
+          let past = c.write_zeros.ensures.writes.changes.now told image here in
           let third = while_old_zeroed value place old to can F0 keeps unit c.slot_unit.ensures F1 F2 first (holds value can keeps) second at n low high in
           moved_alike value place old to can F0 keeps F3 image.pkg (third F2 F3 refl same)
           (third past.from.pkg image.pkg (c.in_ok-write_one.ensures.settled told past.from past.was) past.pkg);

@@ -11,11 +11,10 @@ use Rattle.rpm_pkgdb.specs.Framing.{framed, next_unit}
 use Rattle.rpm_pkgdb.proofs.ClearLaws.{put_elsewhere}
 use Rattle.rpm_pkgdb.proofs.FramingLaws.{count-framed}
 use Rattle.rpm_pkgdb.proofs.FreedLaws.{put_blank_all}
-use Rattle.rpm_pkgdb.proofs.Changing.{map_ok, changes_then, stops_from, stops_then}
-use Rattle.rpm_pkgdb.specs.Stays.{SameOutside}
+use Rattle.rpm_pkgdb.proofs.Changing.{map_ok, writes_then, writes_failed, stops_while, stops_next}
 use Rattle.rpm_pkgdb.specs.Quiet.{Anything}
 use Rattle.rpm_pkgdb.specs.Plans.{slot_for}
-use Rattle.rpm_pkgdb.specs.inner.Puts.{BlobTorn, WhilePut}
+use Rattle.rpm_pkgdb.specs.inner.Puts.{WhilePut}
 use Rattle.rpm_pkgdb.specs.Written.{next_field}
 use Rattle.rpm_pkgdb.specs.inner.Puts.WhilePut.{After}
 use Rattle.rpm_pkgdb.proofs.Reaching.{unit_ends, outside_ends, blob_ends}
@@ -31,8 +30,7 @@ returns-in_err-write_first-clause-images g c = λ told value can quiet.
     let target = c.args.target.now in
     let blob = c.args.blob.now in
     let F0 = (D.files c.args.disk.now).pkg in
-    let R = BlobTorn target.start (blocks_for (length blob)) (next_field target) in
-    stops_from _ _ _ _ _ _ told R (WhilePut value target c.args.generation blob F0) c.args.disk.now c.write_first.new.disk c.write_first.ensures.changes
+    stops_while g.D.Disk told (WhilePut value target c.args.generation blob F0) c.write_first.ensures.writes
     (λ from image was torn. while_blob value target c.args.generation c.args.old blob can F0 from.pkg image.pkg (quiet from was) torn)
 
 pub returns-in_err-write_one-clause-images : goal.returns-in_err-write_one-clause-images
@@ -42,14 +40,13 @@ returns-in_err-write_one-clause-images g c = λ told value can quiet.
     let blob = c.args.blob.now in
     let F0 = (D.files c.args.disk.now).pkg in
     let F1 = (D.files c.write_first.new.disk).pkg in
-    let R = BlobTorn target.start (blocks_for (length blob)) (next_field target) in
     let P = WhilePut value target c.args.generation blob F0 in
     let keeps : Keeps F0 value = (quiet (D.files c.args.disk.now) (g.met.D.Disk.as_read c.args.disk.now told)).keeps in
     let is = slot_is c.slot_unit.result target c.slot.result c.slot.ensures c.slot_unit.ensures in
-    stops_then _ _ _ _ _ _ told R P c.args.disk.now c.write_first.new.disk c.write_one.new.disk c.write_first.ensures.changes
-    (stops_from _ _ _ _ _ _ told R P c.args.disk.now c.write_first.new.disk c.write_first.ensures.changes
+    stops_next g.D.Disk told P c.write_first.ensures.writes
+    (stops_while g.D.Disk told P c.write_first.ensures.writes
     (λ from image was torn. while_blob value target c.args.generation c.args.old blob can F0 from.pkg image.pkg (quiet from was) torn))
-    (stops_from _ _ _ _ _ _ told (Torn (2 + target.place) (c.slot_unit.result ∷ [])) P c.write_first.new.disk c.write_one.new.disk c.write_one.ensures.changes
+    (stops_while g.D.Disk told P c.write_one.ensures.writes
     (λ from image was torn. second_phase value target c.args.generation c.args.old blob can c.slot_unit.result is F0 F1 F1 keeps
     (c.in_ok-write_first.ensures.written told) from.pkg image.pkg (c.in_ok-write_first.ensures.settled told from was) torn))
 
@@ -61,46 +58,36 @@ returns-clause-images g c = λ told value can quiet.
     let F0 = (D.files c.args.disk.now).pkg in
     let F1 = (D.files c.write_first.new.disk).pkg in
     let F2 = (D.files c.write_one.new.disk).pkg in
-    let R = BlobTorn target.start (blocks_for (length blob)) (next_field target) in
     let T = Torn (2 + target.place) (c.slot_unit.result ∷ []) in
     let P = WhilePut value target c.args.generation blob F0 in
     let keeps : Keeps F0 value = (quiet (D.files c.args.disk.now) (g.met.D.Disk.as_read c.args.disk.now told)).keeps in
     let is = slot_is c.slot_unit.result target c.slot.result c.slot.ensures c.slot_unit.ensures in
     let both =
-    changes_then D.tells D.files D.left_since D.moment D.bytes_read D.follows g.met.D.Disk.follows_trans R T Anything c.args.disk.now
-    c.write_first.new.disk c.write_one.new.disk (λ x y r. tt) (λ x y z r s. tt) c.write_first.ensures.changes c.write_one.ensures.changes in
-    stops_then _ _ _ _ _ _ told Anything P c.args.disk.now c.write_one.new.disk c.write_zeros.new.disk both
-    (stops_then _ _ _ _ _ _ told R P c.args.disk.now c.write_first.new.disk c.write_one.new.disk c.write_first.ensures.changes
-    (stops_from _ _ _ _ _ _ told R P c.args.disk.now c.write_first.new.disk c.write_first.ensures.changes
+    writes_then g.D.Disk g.met.D.Disk.follows_trans {T = Anything} {most = 0} c.write_first.ensures.writes c.write_one.ensures.writes (omega arith)
+    (λ x y r. tt) (λ x y z r s. tt) in
+    stops_next g.D.Disk told P both
+    (stops_next g.D.Disk told P c.write_first.ensures.writes
+    (stops_while g.D.Disk told P c.write_first.ensures.writes
     (λ from image was torn. while_blob value target c.args.generation c.args.old blob can F0 from.pkg image.pkg (quiet from was) torn))
-    (stops_from _ _ _ _ _ _ told T P c.write_first.new.disk c.write_one.new.disk c.write_one.ensures.changes
+    (stops_while g.D.Disk told P c.write_one.ensures.writes
     (λ from image was torn. second_phase value target c.args.generation c.args.old blob can c.slot_unit.result is F0 F1 F1 keeps
     (c.in_ok-write_first.ensures.written told) from.pkg image.pkg (c.in_ok-write_first.ensures.settled told from was) torn)))
-    (stops_from _ _ _ _ _ _ told (SameOutside c.args.old.offset c.args.old.count) P c.write_one.new.disk c.write_zeros.new.disk c.write_zeros.ensures.changes
+    (stops_while g.D.Disk told P c.write_zeros.ensures.writes
     (λ from image was same. After (third_phase value target c.args.generation c.args.old blob can c.slot_unit.result is F0 F1 F2 keeps
     (c.in_ok-write_first.ensures.written told) (c.in_ok-write_one.ensures.written told) from.pkg image.pkg
     (c.in_ok-write_one.ensures.settled told from was) same)))
 
-pub returns-clause-changes : goal.returns-clause-changes
-returns-clause-changes g c =
-    let D = g.D.Disk in
-    let target = c.args.target.now in
-    let R = BlobTorn target.start (blocks_for (length c.args.blob.now)) (next_field target) in
-    let T = Torn (2 + target.place) (c.slot_unit.result ∷ []) in
-    changes_then _ _ _ _ _ _ g.met.D.Disk.follows_trans Anything
-    (SameOutside c.args.old.offset c.args.old.count) Anything c.args.disk.now c.write_one.new.disk c.write_zeros.new.disk (λ x y r. tt)
-    (λ x y z r s. tt)
-    (changes_then _ _ _ _ _ _ g.met.D.Disk.follows_trans R T Anything c.args.disk.now c.write_first.new.disk c.write_one.new.disk (λ x y r. tt)
-    (λ x y z r s. tt) c.write_first.ensures.changes c.write_one.ensures.changes)
-    c.write_zeros.ensures.changes
+pub returns-clause-writes : goal.returns-clause-writes
+returns-clause-writes g c =
+    writes_then g.D.Disk g.met.D.Disk.follows_trans
+    (writes_then g.D.Disk g.met.D.Disk.follows_trans {T = Anything} {most = 0} c.write_first.ensures.writes c.write_one.ensures.writes (omega arith)
+    (λ x y r. tt) (λ x y z r s. tt))
+    c.write_zeros.ensures.writes (omega arith) (λ x y r. tt) (λ x y z r s. tt)
 
-pub returns-in_err-write_one-clause-changes : goal.returns-in_err-write_one-clause-changes
-returns-in_err-write_one-clause-changes g c =
-    let target = c.args.target.now in
-    let R = BlobTorn target.start (blocks_for (length c.args.blob.now)) (next_field target) in
-    changes_then _ _ _ _ _ _ g.met.D.Disk.follows_trans R
-    (Torn (2 + target.place) (c.slot_unit.result ∷ [])) Anything c.args.disk.now c.write_first.new.disk c.write_one.new.disk (λ x y r. tt)
-    (λ x y z r s. tt) c.write_first.ensures.changes c.write_one.ensures.changes
+pub returns-in_err-write_one-clause-writes : goal.returns-in_err-write_one-clause-writes
+returns-in_err-write_one-clause-writes g c =
+    writes_failed g.D.Disk (writes_then g.D.Disk g.met.D.Disk.follows_trans c.write_first.ensures.writes c.in_err-write_one.ensures.writes (omega arith) (λ x y r. tt)
+    (λ x y z r s. tt))
 
 pub returns-clause-put : goal.returns-clause-put
 returns-clause-put g c =
@@ -119,11 +106,11 @@ returns-clause-put g c =
     map_ok c.write_zeros.result (λ (zeros : IsTrue D.tells → (i : ℕ) → old.offset ≤ i → i < end_of old → unit_at F3 i ≡ blank) told.
     let first = c.in_ok-write_first.ensures.written told in
     let second = c.in_ok-write_one.ensures.written told in
-    let same = c.write_zeros.ensures.changes.pkg told in
+    let same = c.write_zeros.ensures.writes.changes.pkg told in
     record {
       stands = λ value can keeps. third_phase value target gen old blob can unit is F0 F1 F2 keeps first second F2 F3 refl same;
       quiet = λ value can keeps image here.
-          let past = c.write_zeros.ensures.changes.now told image here in
+          let past = c.write_zeros.ensures.writes.changes.now told image here in
           stand_alike value target gen old blob can F0 F3 image.pkg keeps
           (third_phase value target gen old blob can unit is F0 F1 F2 keeps first second F2 F3 refl same)
           (third_phase value target gen old blob can unit is F0 F1 F2 keeps first second past.from.pkg image.pkg

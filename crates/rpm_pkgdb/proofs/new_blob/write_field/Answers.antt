@@ -2,19 +2,19 @@ use Rattle.std.proofs.Common.{◌≡◌, ℕ, [], ◌∷◌, Option, IfSome, IsT
 use Rattle.rpm_outside.specs.Files.{Units, units_of, unit_at, put}
 use Rattle.rpm_outside.specs.Crash.{Torn}
 use Rattle.rpm_outside.specs.inner.Cuts.{cut_up_one}
-use Rattle.rpm_pkgdb.proofs.Changing.{map_ok, changes_weaker}
+use Rattle.rpm_pkgdb.proofs.Changing.{map_ok, writes_weaker}
 use Rattle.rpm_pkgdb.specs.Framing.{next_unit}
 use Rattle.rpm_pkgdb.specs.inner.Puts.{FieldTorn}
 use Rattle.rpm_pkgdb.proofs.ClearLaws.{put_here}
 use Rattle.rpm_pkgdb.proofs.new_blob.write_field.Goals as goal
 
-pub returns-in-Some-clause-changes : goal.returns-in-Some-clause-changes
-returns-in-Some-clause-changes g c =
+pub returns-in-Some-clause-writes : goal.returns-in-Some-clause-writes
+returns-in-Some-clause-writes g c =
     let unit = c.next_unit.result in
     let e : units_of unit ≡ unit ∷ [] = cut_up_one unit (omega arith) in
-    changes_weaker _ _ _ _ _ _ (Torn 1 (units_of unit)) (FieldTorn c.args.next) c.args.disk.now c.write_units.new.disk
+    writes_weaker g.D.Disk c.write_units.ensures.writes (omega arith)
     (λ x y torn. subst (λ (o : Option ℕ). FieldTorn o x y) (sym c.in-Some.is)
-    (inr (unit, c.next_unit.ensures.word, subst (λ (us : Units). Torn 1 us x y) e torn))) c.write_units.ensures.changes
+    (inr (unit, c.next_unit.ensures.word, subst (λ (us : Units). Torn 1 us x y) e torn)))
 
 pub returns-in-Some-clause-bytes : goal.returns-in-Some-clause-bytes
 returns-in-Some-clause-bytes g c =

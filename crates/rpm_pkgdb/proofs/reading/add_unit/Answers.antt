@@ -1,4 +1,4 @@
-use Rattle.std.proofs.Common.{◌≡◌, ℕ, Bool, true, false, not, Option, None, Some, is_some, sym, ap, ◌∙◌, subst, arith}
+use Rattle.std.proofs.Common.{◌≡◌, Bool, true, false, not, Option, None, Some, is_some, sym, ap, ◌∙◌, subst, arith}
 use Rattle.rpm_pkgdb.specs.Slots.{is_used}
 use Rattle.rpm_pkgdb.specs.Damages.{own_reason}
 use Rattle.rpm_pkgdb.specs.inner.Tables.{AreNumbered}

@@ -8,10 +8,10 @@ use Rattle.rpm_pkgdb.proofs.reading.read_piece.Goals as goal
 
 pub read_units-requires-clause-within : goal.read_units-requires-clause-within
 read_units-requires-clause-within g c = λ told.
-    omega (arith, c.requires.within told, c.requires.few, c.requires.some, c.len.ensures, c.args.rising.slots.ok.0)
+    omega (arith, c.requires.within told, c.requires.few, c.requires.pages.some, c.len.ensures, c.args.rising.slots.ok.0)
 
 pub add_own-requires-clause-few : goal.add_own-requires-clause-few
-add_own-requires-clause-few g c = omega (arith, c.requires.few, c.requires.pages, c.read_units.auto.into)
+add_own-requires-clause-few g c = omega (arith, c.requires.few, c.requires.pages.below, c.read_units.auto.into)
 
 pub add_own-requires-clause-awaits : goal.add_own-requires-clause-awaits
 add_own-requires-clause-awaits g c =

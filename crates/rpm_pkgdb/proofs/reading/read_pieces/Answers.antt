@@ -2,7 +2,8 @@ use Rattle.std.proofs.Common.{◌≡◌, ◌*◌, ◌-◌, IsTrue, length, take,
 use Rattle.std.proofs.lemmas.List.{length-take}
 use Rattle.rpm_outside.specs.declared.disk.File.TheVariants.{Pkg}
 use Rattle.rpm_outside.specs.Files.{Files}
-use Rattle.rpm_outside.specs.inner.Looking.{looks_more, looks_none, looks_then}
+use Rattle.rpm_outside.specs.inner.Looking.{looks_more, looks_none}
+use Rattle.rpm_pkgdb.proofs.Changing.{reads_on, reads_then}
 use Rattle.rpm_pkgdb.specs.Damages.{table}
 use Rattle.rpm_pkgdb.proofs.ReadingLaws.{nothing_read, read_of, read_count}
 use Rattle.rpm_pkgdb.proofs.TableLaws.{none_of}
@@ -14,8 +15,10 @@ loop-k-init g c = record {
   count = omega (arith, ap length c.requires.empty);
   order = c.requires.order;
   awaits = c.requires.awaits;
-  looks = looks_more _ _ _ _ _ _ Pkg 0 _ _ _ (omega arith) (looks_none _ _ _ _ _ _ Pkg g.met.D.Disk.follows_refl c.args.disk.now);
-  faults = omega arith;
+  reads = record {
+    looks = looks_more _ _ _ _ _ _ Pkg 0 _ _ _ (omega arith) (looks_none _ _ _ _ _ _ Pkg g.met.D.Disk.follows_refl c.args.disk.now);
+    cause = record { later = omega arith; failed = tt };
+  };
 }
 
 pub loop-k-preserved : goal.loop-k-preserved
@@ -31,11 +34,9 @@ loop-k-preserved g c =
     record {
       read = read_of (IsTrue g.D.Disk.tells) pages c.args.units (table pages (g.D.Disk.files c.loop-k.disk).pkg)
           (table pages (g.D.Disk.files c.args.disk.now).pkg) c.in_ok-reading.reading.rising.slots.items
-          (λ told. ap (λ (f : Files). table pages f.pkg) (was.looks.untouched told).same) done.read.slots;
+          (λ told. ap (λ (f : Files). table pages f.pkg) (was.reads.looks.untouched told).same) done.read.slots;
       count = omega (arith, was.count, all, part, c.min-more.ensures, c.loop-k-test.true);
       order = done.order;
       awaits = done.awaits (256 * pages - 2) was.awaits;
-      looks = looks_then _ _ _ _ _ _ Pkg g.met.D.Disk.follows_trans (16 * length c.loop-k.rising.slots.items) (length (take (16 * more) buffer)) _
-          c.args.disk.now c.loop-k.disk c.read_piece.new.disk (omega (arith, all, part)) was.looks done.looks;
-      faults = omega (arith, was.faults, done.cause.later);
+      reads = reads_on g.D.Disk (reads_then g.D.Disk g.met.D.Disk.follows_trans was.reads done.reads (omega (arith, all, part)));
     }

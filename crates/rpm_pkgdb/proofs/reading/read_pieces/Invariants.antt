@@ -1,5 +1,6 @@
-use Rattle.std.proofs.Common.{◌≡◌, ◌-◌, ◌*◌, ◌≤◌, IsTrue, length, min}
-use Rattle.rpm_outside.specs.Looks.{Looks}
+use Rattle.std.proofs.Common.{◌≡◌, ◌-◌, ◌*◌, IsTrue, length, min}
+use Rattle.rpm_outside.specs.Frame.{Reads}
+use Rattle.rpm_pkgdb.proofs.Changing.{done}
 use Rattle.rpm_outside.specs.declared.disk.File.TheVariants.{Pkg}
 use Rattle.rpm_pkgdb.specs.Damages.{table}
 use Rattle.rpm_pkgdb.specs.inner.Reading.{AreRead}
@@ -12,7 +13,5 @@ invariant-loop-k g l = record {
   count : length l.rising.slots.items ≡ min (1024 * l.k) (256 * l.pages - 2);
   order : IsInOrder l.rising;
   awaits : Awaits l.pages (256 * l.pages - 2) l.rising;
-  looks : Looks g.D.Disk.tells g.D.Disk.files g.D.Disk.left_since g.D.Disk.moment g.D.Disk.bytes_read g.D.Disk.follows Pkg (16 * length l.rising.slots.items)
-      l.initial.disk l.disk;
-  faults : g.D.Disk.faults l.initial.disk ≤ g.D.Disk.faults l.disk;
+  reads : Reads g.D.Disk Pkg (16 * length l.rising.slots.items) done l.initial.disk l.disk;
 }

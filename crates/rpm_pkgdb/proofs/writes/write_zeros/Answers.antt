@@ -5,7 +5,7 @@ use Rattle.rpm_outside.specs.Crash.{Torn}
 use Rattle.rpm_outside.specs.inner.Cuts.{length-cut_up}
 use Rattle.rpm_pkgdb.specs.Stays.{SameOutside}
 use Rattle.rpm_pkgdb.proofs.ClearLaws.{torn_outside, outside_then, outside_wider}
-use Rattle.rpm_pkgdb.proofs.Changing.{changes_then}
+use Rattle.rpm_pkgdb.proofs.Changing.{writes_then, writes_failed}
 use Rattle.rpm_pkgdb.proofs.Zeros.{zeros, zeros_more}
 use Rattle.rpm_pkgdb.proofs.writes.write_zeros.Goals as goal
 
@@ -22,25 +22,21 @@ within at count next some a b le from to torn =
     let bytes = take (16 * some) (zeros 4096) in
     outside_wider next (length (units_of bytes)) at count a b from (omega (arith, units_count some le)) (torn_outside next (units_of bytes) a b torn)
 
-pub returns-in_err-write_units-clause-changes : goal.returns-in_err-write_units-clause-changes
-returns-in_err-write_units-clause-changes g c =
+pub returns-in_err-write_units-clause-writes : goal.returns-in_err-write_units-clause-writes
+returns-in_err-write_units-clause-writes g c =
     let at = c.args.at in
     let l = c.loop-next in
     let some = c.min-some.result in
-    let S = SameOutside at c.args.count in
     let le : some ≤ 256 = omega (arith, c.min-some.ensures) in
     let to : l.next + some ≤ at + c.args.count = omega (arith, c.min-some.ensures, l.invariant.to) in
-    changes_then _ _ _ _ _ _ g.met.D.Disk.follows_trans S
-    (Torn l.next (units_of (take (16 * some) (zeros 4096)))) S c.args.disk.now l.disk c.write_units.new.disk (λ x y r. r)
-    (λ x y z r t. outside_then at c.args.count x y z r (within at c.args.count l.next some y z le l.invariant.from to t)) l.invariant.changes
-    c.write_units.ensures.changes
+    writes_failed g.D.Disk (writes_then g.D.Disk g.met.D.Disk.follows_trans l.invariant.writes c.in_err-write_units.ensures.writes (omega arith) (λ x y r. r)
+    (λ x y z r t. outside_then at c.args.count x y z r (within at c.args.count l.next some y z le l.invariant.from to t)))
 
 pub loop-next-preserved : goal.loop-next-preserved
 loop-next-preserved g c =
     let at = c.args.at in
     let l = c.loop-next in
     let some = c.min-some.result in
-    let S = SameOutside at c.args.count in
     let le : some ≤ 256 = omega (arith, c.min-some.ensures) in
     let to : l.next + some ≤ at + c.args.count = omega (arith, c.min-some.ensures, l.invariant.to) in
     record {
@@ -49,10 +45,7 @@ loop-next-preserved g c =
       zeros =
           λ told. zeros_more some 4096 l.next at (g.D.Disk.files l.disk).pkg (g.D.Disk.files c.write_units.new.disk).pkg (omega arith)
           (c.in_ok-write_units.ensures.written told) (l.invariant.zeros told);
-      changes =
-          changes_then _ _ _ _ _ _ g.met.D.Disk.follows_trans S
-          (Torn l.next (units_of (take (16 * some) (zeros 4096)))) S c.args.disk.now l.disk c.write_units.new.disk (λ x y r. r)
-          (λ x y z r t. outside_then at c.args.count x y z r (within at c.args.count l.next some y z le l.invariant.from to t)) l.invariant.changes
-          c.write_units.ensures.changes;
-      faults = omega (arith, l.invariant.faults, c.write_units.ensures.cause.later);
+      writes =
+          writes_then g.D.Disk g.met.D.Disk.follows_trans l.invariant.writes c.in_ok-write_units.ensures.writes (omega arith) (λ x y r. r)
+          (λ x y z r t. outside_then at c.args.count x y z r (within at c.args.count l.next some y z le l.invariant.from to t));
     }

@@ -87,8 +87,8 @@ returns-clause-planning c = λ slots planning.
     let least = least_of pages p r place end to c.at-slot.result.count c.requires.first.used (ap (λ (t : Slot). t.count) is) c.in-Some.ensures.least in
     let more = planning_more slots end p.moves.items p.slots.items pages place to r.sound planning.moves planning.slots_are c.requires.first least in
     record {
-      moves = subst (AreMoves slots end) (sym c.in-Ok-push.ensures.items) more.are;
-      slots_are = ap (λ (t : Slot). set p.slots.items place (moved t to)) is ∙ more.slots_are ∙ ap (after_moves slots) (sym c.in-Ok-push.ensures.items);
+      moves = subst (AreMoves slots end) (sym c.in_ok-push.ensures.items) more.are;
+      slots_are = ap (λ (t : Slot). set p.slots.items place (moved t to)) is ∙ more.slots_are ∙ ap (after_moves slots) (sym c.in_ok-push.ensures.items);
     }
 
 pub returns-clause-moved : goal.returns-clause-moved

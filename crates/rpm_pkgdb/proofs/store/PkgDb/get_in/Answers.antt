@@ -1,13 +1,19 @@
 use Rattle.std.proofs.Common.{ℕ, List, Some, sym, ap, ◌∙◌}
-use Rattle.rpm_pkgdb.specs.Answers.{frame_in, given}
+use Rattle.rpm_pkgdb.specs.Answers.{AnswerIs, frame_in, given}
+use Rattle.std.specs.FinMap as finite
+use Rattle.rpm_pkgdb.specs.Blobs.{blobs}
+use Rattle.rpm_pkgdb.proofs.Changing.{err_given}
 use Rattle.rpm_pkgdb.proofs.Told.{at_frames, fault_told}
 use Rattle.rpm_pkgdb.proofs.store.PkgDb.get_in.Goals as goal
 
-pub returns-in-Err-clause-told : goal.returns-in-Err-clause-told
-returns-in-Err-clause-told g c = λ told.
-    fault_told (g.D.Disk.files c.args.disk.now).pkg c.args.self.now c.args.n given c.in-Err.fault (c.in-Err.ensures.told told)
+pub returns-in_err-blocks-clause-told : goal.returns-in_err-blocks-clause-told
+returns-in_err-blocks-clause-told g c = λ told.
+    let file = (g.D.Disk.files c.args.disk.now).pkg in
+    let st = c.args.self.now in
+    err_given (AnswerIs given (finite.get (blobs file st) c.args.n)) _ c.from_residual.result c.from_residual.ensures
+    (fault_told file st c.args.n given _ (c.in_err-blocks.ensures.told told))
 
-pub returns-in-Ok-clause-told : goal.returns-in-Ok-clause-told
-returns-in-Ok-clause-told g c = λ told.
-    at_frames (g.D.Disk.files c.args.disk.now).pkg c.args.self.now c.args.n (Some (Some (frame_in c.in-Ok.blocks))) (c.in-Ok.ensures.told told)
+pub returns-clause-told : goal.returns-clause-told
+returns-clause-told g c = λ told.
+    at_frames (g.D.Disk.files c.args.disk.now).pkg c.args.self.now c.args.n (Some (Some (frame_in c.in_ok-blocks.blocks))) (c.in_ok-blocks.ensures.told told)
     ∙ ap (λ (bytes : List ℕ). Some (Some bytes)) (sym c.into_blob.ensures)

@@ -1,6 +1,7 @@
 use Rattle.rpm_outside.specs.declared.disk.File.TheVariants.{Pkg}
 use Rattle.std.proofs.Common.{◌≡◌, List, Option, Some, OnOk, refl, sym, ap, ◌∙◌, subst, IsTrue}
-use Rattle.rpm_outside.specs.Changes.{Stops, Changes}
+use Rattle.rpm_outside.specs.Changes.{Stops}
+use Rattle.rpm_outside.specs.Frame.{Writes}
 use Rattle.rpm_outside.specs.inner.Moments.{started}
 use Rattle.rpm_pkgdb.specs.declared.moved_blocks.Move.{Move}
 use Rattle.rpm_pkgdb.specs.Growing.{moving_cost}
@@ -9,7 +10,7 @@ use Rattle.rpm_pkgdb.specs.inner.MoveLists.{CanGrowBy}
 use Rattle.rpm_pkgdb.specs.declared.page_plan.Page.{Page}
 use Rattle.rpm_pkgdb.specs.Quiet.{Anything}
 use Rattle.rpm_pkgdb.specs.inner.Still.{StandsStill}
-use Rattle.rpm_pkgdb.proofs.Changing.{copies_none}
+use Rattle.rpm_pkgdb.proofs.Changing.{done, writes_none}
 use Rattle.rpm_pkgdb.proofs.LeftLaws.{stands_still}
 use Rattle.rpm_pkgdb.specs.inner.Moving.{IsGrown}
 use Rattle.rpm_pkgdb.proofs.store.PkgDb.grow.Goals as goal
@@ -29,28 +30,22 @@ returns-in-None-clause-images g c = λ told quiet.
       log = refl;
     })
 
-pub returns-in-None-clause-changes : goal.returns-in-None-clause-changes
-returns-in-None-clause-changes g c =
-    let D = g.D.Disk in
+pub returns-in-None-clause-writes : goal.returns-in-None-clause-writes
+returns-in-None-clause-writes g c =
     let d = c.args.disk.now in
-    subst (λ (o : Option Page). Changes D.tells D.files D.left_since D.moment D.bytes_read D.follows Pkg Anything
-    (moving_cost c.args.self.now.slots (moves_of o)) d d)
-    (sym c.in-None.is) (copies_none _ _ _ _ _ _ g.met.D.Disk.follows_refl Anything (λ x. tt) d)
+    subst (λ (o : Option Page). Writes g.D.Disk Pkg Anything (moving_cost c.args.self.now.slots (moves_of o)) done d d)
+    (sym c.in-None.is) (writes_none g.D.Disk g.met.D.Disk.follows_refl d (λ x. tt))
 
 pub grow_by-requires-clause-can : goal.grow_by-requires-clause-can
 grow_by-requires-clause-can g c =
     let whole : Some c.deref.result.now ≡ moves_of c.args.page.now = ap Some c.deref.ensures.value ∙ ap moves_of (sym c.in-Some.is) in
     subst (CanGrowBy c.args.self.now) (sym whole) c.requires.can
 
-pub returns-in-Some-clause-changes : goal.returns-in-Some-clause-changes
-returns-in-Some-clause-changes g c =
-    let D = g.D.Disk in
-    let v = c.args.self.now in
-    let d = c.args.disk.now in
-    let e = c.grow_by.new.disk in
+pub returns-in-Some-clause-writes : goal.returns-in-Some-clause-writes
+returns-in-Some-clause-writes g c =
     let whole : Some c.deref.result.now ≡ moves_of c.args.page.now = ap Some c.deref.ensures.value ∙ ap moves_of (sym c.in-Some.is) in
-    subst (λ (m : Option (List Move)). Changes D.tells D.files D.left_since D.moment D.bytes_read D.follows Pkg Anything (moving_cost v.slots m) d e) whole
-    c.grow_by.ensures.changes
+    subst (λ (m : Option (List Move)). Writes g.D.Disk Pkg Anything (moving_cost c.args.self.now.slots m) c.grow_by.result c.args.disk.now
+    c.grow_by.new.disk) whole c.grow_by.ensures.writes
 
 pub returns-in-None-clause-grown : goal.returns-in-None-clause-grown
 returns-in-None-clause-grown g c = λ told.

@@ -5,13 +5,12 @@ use Rattle.rpm_pkgdb.specs.Store.{Store}
 use Rattle.rpm_pkgdb.specs.Growing.{moving_cost, next_end}
 use Rattle.rpm_pkgdb.specs.Freed.{KeepsBlank}
 use Rattle.rpm_pkgdb.proofs.FreedLaws.{freed_page}
-use Rattle.rpm_pkgdb.specs.Quiet.{Anything, BeforeOrAfter}
+use Rattle.rpm_pkgdb.specs.Quiet.{BeforeOrAfter}
 use Rattle.rpm_pkgdb.specs.inner.Still.{StandsStill}
 use Rattle.rpm_pkgdb.specs.inner.Keeping.{IsKept}
-use Rattle.rpm_pkgdb.specs.inner.Settings.{NoShorter}
 use Rattle.rpm_pkgdb.specs.inner.Grows.{CanGrow, with_page}
 use Rattle.rpm_pkgdb.specs.inner.MoveLists.{IsMovable, move_at, with_moves}
-use Rattle.rpm_pkgdb.proofs.Changing.{map_ok, copies_then, copies_weaker, copies_stops_then, stops_weaker}
+use Rattle.rpm_pkgdb.proofs.Changing.{map_ok, stops_weaker, writes_then, writes_weaker, writes_failed, stops_next}
 use Rattle.rpm_pkgdb.proofs.GrowLaws.{grown_map}
 use Rattle.rpm_pkgdb.proofs.GrowSteps.{movable, moved_within}
 use Rattle.rpm_pkgdb.proofs.LeftLaws.{still_then, grows_to}
@@ -44,23 +43,18 @@ returns-in_err-move_all-clause-images g c = λ told quiet.
     let same : v.slots ≡ c.deref.result.now = ap (λ (x : Store). x.slots) (sym c.self.view_is) ∙ sym c.deref.ensures.value in
     c.move_all.ensures.images told v (record { some = c.requires.made; same = same; are = c.requires.can.are }) quiet
 
-pub returns-in_err-move_all-clause-changes : goal.returns-in_err-move_all-clause-changes
-returns-in_err-move_all-clause-changes g c =
-    let v = c.args.self.now in
+pub returns-in_err-move_all-clause-writes : goal.returns-in_err-move_all-clause-writes
+returns-in_err-move_all-clause-writes g c =
     let moves = c.args.moves.now in
-    let same : c.deref.result.now ≡ v.slots = c.deref.ensures.value ∙ ap (λ (x : Store). x.slots) c.self.view_is in
-    copies_weaker _ _ _ _ _ _ NoShorter Anything (moving_cost c.deref.result.now (Some moves)) (moving_cost v.slots (Some moves)) c.args.disk.now
-    c.move_all.new.disk (omega (arith, ap (λ (l : List Slot). moving_cost l (Some moves)) same)) (λ x y r. tt) c.move_all.ensures.copies
+    let same : c.deref.result.now ≡ c.args.self.now.slots = c.deref.ensures.value ∙ ap (λ (x : Store). x.slots) c.self.view_is in
+    writes_failed g.D.Disk (writes_weaker g.D.Disk c.in_err-move_all.ensures.writes (omega (arith, ap (λ (l : List Slot). moving_cost l (Some moves)) same)) (λ x y r. tt))
 
-pub returns-clause-changes : goal.returns-clause-changes
-returns-clause-changes g c =
-    let v = c.args.self.now in
+pub returns-clause-writes : goal.returns-clause-writes
+returns-clause-writes g c =
     let moves = c.args.moves.now in
-    let same : c.deref.result.now ≡ v.slots = c.deref.ensures.value ∙ ap (λ (x : Store). x.slots) c.self.view_is in
-    copies_then _ _ _ _ _ _ g.met.D.Disk.follows_trans NoShorter Anything Anything (moving_cost c.deref.result.now (Some moves)) 0
-    (moving_cost v.slots (Some moves)) c.args.disk.now c.move_all.new.disk c.add_page.new.disk
-    (omega (arith, ap (λ (l : List Slot). moving_cost l (Some moves)) same)) (λ x y r. tt) (λ x y z r s. tt) c.move_all.ensures.copies
-    c.add_page.ensures.changes
+    let same : c.deref.result.now ≡ c.args.self.now.slots = c.deref.ensures.value ∙ ap (λ (x : Store). x.slots) c.self.view_is in
+    writes_then g.D.Disk g.met.D.Disk.follows_trans c.move_all.ensures.writes c.add_page.ensures.writes
+    (omega (arith, ap (λ (l : List Slot). moving_cost l (Some moves)) same)) (λ x y r. tt) (λ x y z r s. tt)
 
 pub returns-clause-images : goal.returns-clause-images
 returns-clause-images g c = λ told quiet.
@@ -80,8 +74,7 @@ returns-clause-images g c = λ told quiet.
     let P = StandsStill v F0 in
     let m = c.in_ok-move_all.ensures.moved told in
     let before = c.requires.keeps told in
-    copies_stops_then _ _ _ _ _ _ told NoShorter P (moving_cost c.deref.result.now (Some moves)) d c.move_all.new.disk c.add_page.new.disk
-    c.move_all.ensures.copies (c.move_all.ensures.images told v all quiet)
+    stops_next g.D.Disk told P c.move_all.ensures.writes (c.move_all.ensures.images told v all quiet)
     (stops_weaker D.moment D.left_since (BeforeOrAfter mid (with_page mid) F1) P c.move_all.new.disk c.add_page.new.disk
     (λ image w. still_then v mid F0 F1 image refl refl (m.blobs_are v all before) (m.others v all before)
     (grows_to mid can F1 (m.keeps v all before) image w))

@@ -41,5 +41,5 @@ returns-clause-made g c = λ told.
           (written D next one finite.empty (omega arith) (c.in-Ok.ensures.keeps told one) (c.in-Ok.ensures.quiet told one)
           (new_map one (D.files next).pkg refl));
       next = c.in-Ok.ensures.next told;
-      reach = omega (arith, (c.write_new.ensures.changes.pkg told).no_longer);
+      reach = omega (arith, (c.write_new.ensures.writes.changes.pkg told).no_longer);
     }

@@ -6,26 +6,29 @@ use Rattle.rpm_pkgdb.specs.Growing.{next_end, AreBehind}
 use Rattle.rpm_pkgdb.specs.Planned.{CantMove}
 use Rattle.rpm_pkgdb.specs.inner.Pages.{IsFirstBefore, AllMoved}
 use Rattle.rpm_pkgdb.specs.Placing.{count_before}
+use Rattle.rpm_pkgdb.proofs.Changing.{err_given}
 use Rattle.rpm_pkgdb.proofs.PageLaws.{cant_move, all_moved, fewer_before}
 use Rattle.rpm_pkgdb.proofs.store.PkgDb.plan_moves.Goals as goal
 
-pub returns-in-Err-clause-full : goal.returns-in-Err-clause-full
-returns-in-Err-clause-full c = λ full.
+pub returns-in_err-add_move-clause-full : goal.returns-in_err-add_move-clause-full
+returns-in_err-add_move-clause-full c =
     let st = c.args.self.now in
     let l = c.loop-place in
-    let fault : c.in-Err.fault ≡ StoreFull = cc in
     let end = 256 * (c.self.inside.pages + 1) in
     let same : end ≡ next_end st = ap (λ (v : Store). next_end v) c.self.view_is in
+    let given = c.from_residual-in_err-add_move in
+    err_given (λ r. r ≡ Err StoreFull → CantMove st.slots (next_end st)) _ given.result given.ensures (λ full.
+    let fault : c.in_err-add_move.field-0.0 ≡ StoreFull = cc in
     subst (CantMove st.slots) same
     (cant_move st.slots end l.page l.invariant.planning c.in-Some.place
     (subst (λ (s : List Slot). IsFirstBefore s end c.in-Some.place) c.deref-in-loop-place.ensures.value c.in-Some.ensures)
-    (c.in-Err.ensures.full (ap Err fault)))
+    (c.in_err-add_move.ensures.full (ap Err fault))))
 
 pub loop-place-smaller : goal.loop-place-smaller
 loop-place-smaller c =
     let end = 256 * (c.self.inside.pages + 1) in
     let slots = c.loop-place.page.slots.items in
-    let m = c.in_default-add_move.ensures.moved in
+    let m = c.in_ok-add_move.ensures.moved in
     subst (λ (l : List Slot). count_before end l < count_before end slots) (sym m.2)
     (fewer_before slots end c.in-Some.place m.0 (subst (λ (l : List Slot). IsFirstBefore l end c.in-Some.place) c.deref-in-loop-place.ensures.value
     c.in-Some.ensures) m.1)
@@ -38,4 +41,4 @@ returns-clause-page c =
     let same : end ≡ next_end st = ap (λ (v : Store). next_end v) c.self.view_is in
     subst (λ (n : ℕ). AllMoved st.slots n l.page) same
     (all_moved st.slots end l.page l.invariant.planning (subst (λ (s : List Slot). AreBehind s end) c.deref-in-loop-place.ensures.value
-    c.in_default-first_before.ensures))
+    c.in_default.ensures))

@@ -46,13 +46,13 @@ pub returns-clause-page : goal.returns-clause-page
 returns-clause-page c =
     let v = c.args.self.now in
     let kept = subst (λ (x : Store). IsKept c.self.inside.numbers.pairs x.pages x.slots) c.self.view_is c.self.invariant.kept in
-    let old = c.in-Ok.page in
+    let old = c.in_ok-page.page in
     let new = c.add_slots.new.self in
-    let e = c.in-Ok-add_slots.ensures in (
-      (refl, now_can v c.requires.all _ kept c.requires.made old new c.in-Ok.ensures.page c.in-Ok.ensures.ranged e.moves e.slots e.ranges),
+    let e = c.in_ok-add_slots.ensures in (
+      (refl, now_can v c.requires.all _ kept c.requires.made old new c.in_ok-page.ensures.page c.in_ok-page.ensures.ranged e.moves e.slots e.ranges),
       (
-        now_slots_too v c.requires.all _ kept c.requires.made old new c.in-Ok.ensures.page c.in-Ok.ensures.ranged e.moves e.slots e.ranges,
-        now_ranges v c.requires.all _ kept c.requires.made old new c.in-Ok.ensures.page c.in-Ok.ensures.ranged e.moves e.slots e.ranges,
+        now_slots_too v c.requires.all _ kept c.requires.made old new c.in_ok-page.ensures.page c.in_ok-page.ensures.ranged e.moves e.slots e.ranges,
+        now_ranges v c.requires.all _ kept c.requires.made old new c.in_ok-page.ensures.page c.in_ok-page.ensures.ranged e.moves e.slots e.ranges,
         e.room,
       ),
     )
@@ -61,5 +61,5 @@ pub returns-clause-ranged : goal.returns-clause-ranged
 returns-clause-ranged c =
     let v = c.args.self.now in
     let kept = subst (λ (x : Store). IsKept c.self.inside.numbers.pairs x.pages x.slots) c.self.view_is c.self.invariant.kept in
-    let e = c.in-Ok-add_slots.ensures in
-    now_ranged v c.requires.all _ kept c.requires.made c.in-Ok.page c.add_slots.new.self c.in-Ok.ensures.page c.in-Ok.ensures.ranged e.moves e.slots e.ranges
+    let e = c.in_ok-add_slots.ensures in
+    now_ranged v c.requires.all _ kept c.requires.made c.in_ok-page.page c.add_slots.new.self c.in_ok-page.ensures.page c.in_ok-page.ensures.ranged e.moves e.slots e.ranges

@@ -1,11 +1,10 @@
-use Rattle.std.proofs.Common.{ℕ, List, ◌+◌, [], ◌∷◌, length, sym, ap, subst, arith}
+use Rattle.std.proofs.Common.{ℕ, List, ◌+◌, [], ◌∷◌, length, sym, ap, subst, arith, rules}
 use Rattle.rpm_pkgdb.specs.Stays.{SameOutside}
 use Rattle.rpm_pkgdb.proofs.ClearLaws.{torn_outside}
 use Rattle.rpm_pkgdb.proofs.StayLaws.{raised_stay}
-use Rattle.rpm_outside.specs.Crash.{Torn}
 use Rattle.rpm_pkgdb.specs.Store.{Store}
 use Rattle.rpm_pkgdb.specs.Blobs.{blobs}
-use Rattle.rpm_pkgdb.proofs.Changing.{changes_weaker, stops_from}
+use Rattle.rpm_pkgdb.proofs.Changing.{writes_weaker, stops_while}
 use Rattle.rpm_pkgdb.proofs.Made.{made}
 use Rattle.rpm_pkgdb.proofs.Reaching.{unit_ends}
 use Rattle.rpm_pkgdb.proofs.Raises.{while_raised, raised, raised_map, raises_to, raised_quiet}
@@ -28,7 +27,7 @@ returns-in_default-clause-images g c = λ told quiet.
     let unit = c.head_unit.result in
     let is = subst (IsHigher unit) c.self.view_is c.head_unit.ensures in
     let F0 = (D.files c.args.disk.now).pkg in
-    stops_from _ _ _ _ _ _ told (Torn 0 (unit ∷ [])) (RaisesTo st (st.generation + 1) F0) c.args.disk.now c.write_one.new.disk c.write_one.ensures.changes
+    stops_while g.D.Disk told (RaisesTo st (st.generation + 1) F0) c.write_one.ensures.writes
     (λ from image was torn. raises_to st c.requires.ready.made unit (st.generation + 1) is F0 image.pkg (c.requires.ready.keeps told)
     (while_raised st c.requires.ready.made unit (st.generation + 1) is F0 from.pkg image.pkg (quiet from was) torn))
 
@@ -39,21 +38,23 @@ returns-clause-images g c = λ told quiet.
     let unit = c.head_unit.result in
     let is = subst (IsHigher unit) c.self.view_is c.head_unit.ensures in
     let F0 = (D.files c.args.disk.now).pkg in
-    stops_from _ _ _ _ _ _ told (Torn 0 (unit ∷ [])) (RaisesTo st (st.generation + 1) F0) c.args.disk.now c.write_one.new.disk c.write_one.ensures.changes
+    stops_while g.D.Disk told (RaisesTo st (st.generation + 1) F0) c.write_one.ensures.writes
     (λ from image was torn. raises_to st c.requires.ready.made unit (st.generation + 1) is F0 image.pkg (c.requires.ready.keeps told)
     (while_raised st c.requires.ready.made unit (st.generation + 1) is F0 from.pkg image.pkg (quiet from was) torn))
 
-pub returns-in_default-clause-changes : goal.returns-in_default-clause-changes
-returns-in_default-clause-changes g c =
-    let unit = c.head_unit.result in
-    changes_weaker _ _ _ _ _ _ (Torn 0 (unit ∷ [])) (SameOutside 0 1) c.args.disk.now c.write_one.new.disk (λ x y torn. torn_outside 0 (unit ∷ []) x y torn)
-    c.write_one.ensures.changes
+pub returns-in_default-clause-writes : goal.returns-in_default-clause-writes
+returns-in_default-clause-writes g c =
+    record {
+      changes = (writes_weaker g.D.Disk {S = SameOutside 0 1} {n = 0} c.write_one.ensures.writes (omega arith) (torn_outside 0 (c.head_unit.result ∷ []))).changes;
+      cause = search rules;
+    }
 
-pub returns-clause-changes : goal.returns-clause-changes
-returns-clause-changes g c =
-    let unit = c.head_unit.result in
-    changes_weaker _ _ _ _ _ _ (Torn 0 (unit ∷ [])) (SameOutside 0 1) c.args.disk.now c.write_one.new.disk (λ x y torn. torn_outside 0 (unit ∷ []) x y torn)
-    c.write_one.ensures.changes
+pub returns-clause-writes : goal.returns-clause-writes
+returns-clause-writes g c =
+    record {
+      changes = (writes_weaker g.D.Disk {S = SameOutside 0 1} {n = 0} c.write_one.ensures.writes (omega arith) (torn_outside 0 (c.head_unit.result ∷ []))).changes;
+      cause = search rules;
+    }
 
 pub returns-clause-raised : goal.returns-clause-raised
 returns-clause-raised g c = λ told.

@@ -4,16 +4,15 @@ use Rattle.rpm_outside.specs.Files.{Units, units_of, unit_at}
 use Rattle.rpm_pkgdb.specs.Store.{Store}
 use Rattle.rpm_pkgdb.specs.Blobs.{blocks_for}
 use Rattle.rpm_pkgdb.specs.Framing.{framed, next_unit}
-use Rattle.rpm_pkgdb.specs.Growing.{moving_cost}
 use Rattle.rpm_pkgdb.specs.Planned.{moves_of}
-use Rattle.rpm_pkgdb.specs.Quiet.{BlobMap, Anything}
+use Rattle.rpm_pkgdb.specs.Quiet.{BlobMap}
 use Rattle.rpm_pkgdb.specs.Stays.{StaysBut}
 use Rattle.rpm_pkgdb.specs.inner.Still.{StandsStill}
 use Rattle.rpm_pkgdb.specs.Written.{PutsTo, next_field, with_plan}
 use Rattle.rpm_pkgdb.specs.Reaches.{store_end}
 use Rattle.rpm_pkgdb.specs.inner.Keeping.{IsKept}
 use Rattle.rpm_pkgdb.specs.inner.Puts.{WhilePut}
-use Rattle.rpm_pkgdb.proofs.Changing.{map_ok, copies_then, copies_stops_then, stops_weaker}
+use Rattle.rpm_pkgdb.proofs.Changing.{map_ok, stops_weaker, writes_then, stops_next}
 use Rattle.rpm_pkgdb.proofs.FramingLaws.{count-framed}
 use Rattle.rpm_pkgdb.proofs.PlannedLaws.{may_grow}
 use Rattle.rpm_pkgdb.proofs.PutEnds.{whole_part, replaced_zeros}
@@ -33,11 +32,9 @@ grow-requires-clause-can g c =
     let plan = c.args.plan.now in
     may_grow c.args.self.now plan.target.is_new (moves_of plan.page) c.requires.plan.page
 
-pub returns-clause-changes : goal.returns-clause-changes
-returns-clause-changes g c =
-    let cost = moving_cost c.args.self.now.slots (moves_of c.args.plan.now.page) in
-    copies_then _ _ _ _ _ _ g.met.D.Disk.follows_trans Anything Anything Anything cost 0 cost c.args.disk.now c.grow.new.disk c.put_blob.new.disk
-    (omega arith) (λ x y r. tt) (λ x y z r s. tt) c.grow.ensures.changes c.put_blob.ensures.changes
+pub returns-clause-writes : goal.returns-clause-writes
+returns-clause-writes g c =
+    writes_then g.D.Disk g.met.D.Disk.follows_trans c.grow.ensures.writes c.put_blob.ensures.writes (omega arith) (λ x y r. tt) (λ x y z r s. tt)
 
 pub put_blob-requires : goal.put_blob-requires
 put_blob-requires g c =
@@ -90,7 +87,6 @@ returns-clause-stops g c = λ told quiet.
     let F1 = (D.files b).pkg in
     let mid = after v plan is c.requires.made in
     let these : Option Units = Some (units_of (framed n v.generation blob)) in
-    let cost = moving_cost v.slots (moves_of plan.page) in
     let page = c.in_ok-grow.ensures.grown told in
     let still = c.grow.ensures.images told quiet in
     let second = c.put_blob.ensures.images told mid can (page.quiet quiet) in
@@ -98,13 +94,13 @@ returns-clause-stops g c = λ told quiet.
     let B = StaysBut n these v F0 in
     record {
       images =
-          copies_stops_then _ _ _ _ _ _ told Anything P cost a b e c.grow.ensures.changes
+          stops_next g.D.Disk told P c.grow.ensures.writes
           (stops_weaker D.moment D.left_since (StandsStill v F0) P a b (λ image s. inl s.stands) still)
           (stops_weaker D.moment D.left_since (WhilePut mid plan.target gen blob F1) P b e
           (λ image w. puts_from v plan is c.requires.made blob c.requires.length F0 F1 image page.blobs_are
           (puts_to mid plan.target gen old blob can F1 image page.kept w)) second);
       left =
-          copies_stops_then _ _ _ _ _ _ told Anything B cost a b e c.grow.ensures.changes
+          stops_next g.D.Disk told B c.grow.ensures.writes
           (stops_weaker D.moment D.left_since (StandsStill v F0) B a b (still_but n these v F0) still)
           (stops_weaker D.moment D.left_since (WhilePut mid plan.target gen blob F1) B b e
           (λ image w. subst (λ (g : ℕ). StaysBut n (Some (units_of (framed n g blob))) v F0 image) gen_is
