@@ -23,7 +23,7 @@ use Rattle.rpm_hindex.proofs.Seals.{image_held}
 use Rattle.rpm_hindex.proofs.Counts.{times-append}
 use Rattle.rpm_hindex.proofs.Same.{units_same_rows, length_same_rows}
 use Rattle.rpm_hindex.proofs.Scratch.{image_size}
-use Rattle.rpm_hindex.proofs.UnitWords.{word_3}
+use Rattle.rpm_outside.specs.inner.UnitLaws.{word_3}
 use Rattle.rpm_hindex.specs.inner.Changes.{kept_below, IsScratchOf, IsWorkOf, HasLess, IsOther, IsTooLarge}
 use Rattle.rpm_hindex.specs.Refusals.{IsTooLargeFor}
 use Rattle.rpm_hindex.specs.declared.faults.PrepareFault.{PrepareFault}

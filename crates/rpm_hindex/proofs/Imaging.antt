@@ -14,7 +14,7 @@ use Rattle.rpm_hindex.specs.Index.{Index, index_in, places_of}
 use Rattle.rpm_hindex.specs.Whole.{IsWhole}
 use Rattle.rpm_hindex.specs.inner.Drafts.{draft_index, IsDraft, IsImage, IsMade, Holds}
 use Rattle.rpm_hindex.proofs.Padding.{padded_then, adds_same}
-use Rattle.rpm_hindex.proofs.UnitWords.{length-unit, word_0, word_1, word_2, word_3}
+use Rattle.rpm_outside.specs.inner.UnitLaws.{length-unit, word_0, word_1, word_2, word_3}
 use Rattle.rpm_hindex.proofs.FollowedLinks.{within}
 use Rattle.rpm_hindex.proofs.Wholes.{has_chains}
 use Rattle.rpm_hindex.proofs.Extends.{Extends, rows_same, whole_same}

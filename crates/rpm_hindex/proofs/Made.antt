@@ -12,7 +12,7 @@ use Rattle.rpm_hindex.specs.Sizes.{key_units, record_units}
 use Rattle.rpm_hindex.specs.inner.Making.{record_of, padding}
 use Rattle.rpm_hindex.specs.Index.{next_at, length_at, row_at, key_at, run}
 use Rattle.rpm_hindex.specs.Padding.{IsPadded, past_key}
-use Rattle.rpm_hindex.proofs.UnitWords.{length-unit, word_0, word_1, word_2, word_3}
+use Rattle.rpm_outside.specs.inner.UnitLaws.{length-unit, word_0, word_1, word_2, word_3}
 
 -- bytes after whole units
 pub cut_up-append : (n m : ℕ) (a b : List ℕ) → length a ≡ 16 * n → cut_up (n + m) (a ++ b) ≡ cut_up n a ++ cut_up m b

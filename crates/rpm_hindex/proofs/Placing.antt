@@ -30,7 +30,7 @@ use Rattle.rpm_hindex.proofs.Extends.{Extends, whole_same, rows_same, has_same, 
 use Rattle.rpm_hindex.proofs.Padding.{adds_then, adds_same}
 use Rattle.rpm_hindex.proofs.Cutting.{stays_then, stays_same}
 use Rattle.rpm_hindex.proofs.Wholes.{has_chains, places_are, in_all}
-use Rattle.rpm_hindex.proofs.UnitWords.{word_0, word_1, word_2}
+use Rattle.rpm_outside.specs.inner.UnitLaws.{word_0, word_1, word_2}
 use Rattle.rpm_hindex.proofs.Going.{nat_exact}
 
 abbrev Entries : Type 0

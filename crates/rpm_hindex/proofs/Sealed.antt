@@ -7,7 +7,8 @@ use Rattle.rpm_outside.specs.Words.{word}
 use Rattle.rpm_hindex.specs.State.{sealed, is_headed, buckets_of, seal_unit, magic}
 use Rattle.rpm_hindex.specs.Whole.{IsWellFormed}
 use Rattle.rpm_hindex.specs.Images.{IsSealed}
-use Rattle.rpm_hindex.proofs.UnitWords.{headed, word_2, word_3}
+use Rattle.rpm_outside.specs.inner.UnitLaws.{word_2, word_3}
+use Rattle.rpm_hindex.proofs.UnitWords.{headed}
 use Rattle.rpm_hindex.proofs.Seals.{front_behind, whole_behind, records_behind}
 
 -- a file that gets the unit of a seal in front

@@ -1,7 +1,7 @@
 //! Writing a change of the index.
 
-ghost use Rattle.std.specs.Prelude.{◌≡◌, ℕ, ◌+◌, ◌*◌, ◌/◌, ◌%◌, ◌^◌, ◌≤◌, ◌<◌, ◌∷◌, [], List, IsTrue, true, length, max, OnOk, IfOk, IfErr};
-ghost use Rattle.rpm_hindex.specs.Prelude.{after, after_tail, after_units, ArePatches, buckets_after, CanWrite, Changes, DiskCause, Files, Idx, index_in, is_ordered, IsChanged, IsPaddedPlan, IsPlanFor, IsSettled, Keeps, LeavesOrder, patch_at, put, records, Row, SameSeal, second_after, State, unit_at, Units, units_after, units_of, VoidOrSameSeal, WritesPadded};
+ghost use Rattle.std.specs.Prelude.{◌≡◌, ℕ, ◌+◌, ◌/◌, ◌%◌, ◌^◌, ◌≤◌, ◌<◌, ◌∷◌, [], List, IsTrue, true, length, max, OnOk};
+ghost use Rattle.rpm_hindex.specs.Prelude.{after, after_tail, after_units, ArePatches, buckets_after, CanWrite, Idx, index_in, is_ordered, IsChanged, IsPaddedPlan, IsPlanFor, IsSettled, Keeps, LeavesOrder, patch_at, put, records, Row, SameSeal, second_after, units_after, VoidOrSameSeal, Writes, WritesPadded};
 
 use crate::faults::IndexDiskFault;
 use crate::index::Hindex;
@@ -15,8 +15,7 @@ fn write_patch<D: Disk>(disk: &mut D, patch: Patch) -> Result<(), IndexDiskFault
     requires room { patch.unit < 2 ^ 28 }
     ensures written { OnOk result (IsTrue D.tells
         → (D.files disk.new).idx ≡ put patch.unit (patch.words ∷ []) (D.files disk.old).idx) }
-    ensures changes { Changes D.Disk Idx SameSeal 0 disk.old disk.new }
-    ensures cause { DiskCause D.Disk result disk.old disk.new }
+    ensures writes { Writes D.Disk Idx SameSeal 0 result disk.old disk.new }
 {
     write_units(disk, patch.unit as u64, &patch.words)
 }
@@ -27,13 +26,10 @@ fn write_patches<D: Disk>(disk: &mut D, patches: &[Patch]) -> Result<(), IndexDi
         × ((patch_at patches.now k).unit < 2 ^ 28) }
     ensures written { OnOk result (IsTrue D.tells
         → (D.files disk.new).idx ≡ after_units patches.now (D.files disk.old).idx) }
-    ensures changes { Changes D.Disk Idx SameSeal 0 disk.old disk.new }
-    ensures cause { DiskCause D.Disk result disk.old disk.new }
+    ensures writes { Writes D.Disk Idx SameSeal 0 result disk.old disk.new }
 {
     for k in 0..patches.len() {
-        let Ok(()) = write_patch(disk, patches[k]) else {
-            return Err(IndexDiskFault);
-        };
+        write_patch(disk, patches[k])?;
     }
     Ok(())
 }
@@ -45,8 +41,7 @@ fn write_tail<D: Disk>(disk: &mut D, used: u32, tail: &[u8]) -> Result<(), Index
     requires room { used + length tail.now / 16 ≤ 2 ^ 28 }
     ensures written { OnOk result (IsTrue D.tells
         → (D.files disk.new).idx ≡ after_tail used tail.now (D.files disk.old).idx) }
-    ensures changes { Changes D.Disk Idx SameSeal 0 disk.old disk.new }
-    ensures cause { DiskCause D.Disk result disk.old disk.new }
+    ensures writes { Writes D.Disk Idx SameSeal 0 result disk.old disk.new }
 {
     if tail.is_empty() {
         return Ok(());
@@ -67,12 +62,9 @@ fn write_records<D: Disk>(disk: &mut D, patches: &Patches) -> Result<(), IndexDi
     ensures written { OnOk result (IsTrue D.tells
         → (D.files disk.new).idx ≡ after_tail patches.now.used patches.now.tail.items
         (after_units patches.now.units.items (D.files disk.old).idx)) }
-    ensures changes { Changes D.Disk Idx SameSeal 0 disk.old disk.new }
-    ensures cause { DiskCause D.Disk result disk.old disk.new }
+    ensures writes { Writes D.Disk Idx SameSeal 0 result disk.old disk.new }
 {
-    let Ok(()) = write_tail(disk, patches.used, &patches.tail) else {
-        return Err(IndexDiskFault);
-    };
+    write_tail(disk, patches.used, &patches.tail)?;
     write_patches(disk, &patches.units)
 }
 
@@ -81,16 +73,13 @@ fn write_counts<D: Disk>(disk: &mut D, second: [u8; 16]) -> Result<(), IndexDisk
     ensures written { OnOk result (IsTrue D.tells
         → (D.files disk.new).idx ≡ put 1 (second ∷ []) (D.files disk.old).idx) }
     ensures settled { OnOk result (IsTrue D.tells → IsSettled D.Disk Idx disk.new) }
-    ensures changes { Changes D.Disk Idx SameSeal 0 disk.old disk.new }
-    ensures cause { DiskCause D.Disk result disk.old disk.new }
+    ensures writes { Writes D.Disk Idx SameSeal 0 result disk.old disk.new }
 {
     let patch = Patch {
         unit: 1,
         words: second,
     };
-    let Ok(()) = write_patch(disk, patch) else {
-        return Err(IndexDiskFault);
-    };
+    write_patch(disk, patch)?;
     sync(disk)
 }
 
@@ -110,15 +99,10 @@ impl Hindex {
             (after_tail patches.now.used patches.now.tail.items
             (after_units patches.now.units.items (D.files disk.old).idx))) }
         ensures settled { OnOk result (IsTrue D.tells → IsSettled D.Disk Idx disk.new) }
-        ensures changes { Changes D.Disk Idx SameSeal 0 disk.old disk.new }
-        ensures cause { DiskCause D.Disk result disk.old disk.new }
+        ensures writes { Writes D.Disk Idx SameSeal 0 result disk.old disk.new }
     {
-        let Ok(()) = write_records(disk, patches) else {
-            return Err(IndexDiskFault);
-        };
-        let Ok(()) = write_counts(disk, patches.second) else {
-            return Err(IndexDiskFault);
-        };
+        write_records(disk, patches)?;
+        write_counts(disk, patches.second)?;
         self.second = patches.second;
         self.units = self
             .units
@@ -156,8 +140,7 @@ impl Hindex {
             → WritesPadded plan.work (index_in buckets (D.files disk.old).idx)
             (index_in (buckets_after plan.work) (D.files disk.new).idx)) }
         ensures settled { OnOk result (IsTrue D.tells → IsSettled D.Disk Idx disk.new) }
-        ensures changes { Changes D.Disk Idx VoidOrSameSeal 0 disk.old disk.new }
-        ensures cause { DiskCause D.Disk result disk.old disk.new }
+        ensures writes { Writes D.Disk Idx VoidOrSameSeal 0 result disk.old disk.new }
     {
         match &plan.work {
             Work::InPlace(patches) => self.patch(disk, patches),

@@ -1,6 +1,6 @@
 //! The bucket of a key.
 
-ghost use Rattle.std.specs.Prelude.{◌≡◌, ℕ, ◌<◌, ◌%◌};
+ghost use Rattle.std.specs.Prelude.{◌≡◌, ◌<◌, ◌%◌};
 ghost use Rattle.rpm_hindex.specs.Prelude.{fnv, hash_of};
 
 /// 32-bit FNV-1a, carried on.

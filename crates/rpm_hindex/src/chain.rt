@@ -1,7 +1,7 @@
 //! The chain of a bucket.
 
-ghost use Rattle.std.specs.Prelude.{◌≡◌, ℕ, ◌+◌, ◌-◌, ◌*◌, ◌/◌, ◌%◌, ◌^◌, ◌≤◌, ◌<◌, ◌==◌, IsTrue, true, length, map, List, Result, IfOk, IfErr, OnOk, Ok, Err};
-ghost use Rattle.rpm_hindex.specs.Prelude.{AddsHit, AreHits, AsOften, bucket_unit, buckets_of, chain, ChainCosts, DiskFault, File, Files, FindIs, first_record, follow, has_key, hash_of, Idx, Index, index_in, is_in_order, is_link, is_placed, IsFaultOf, IsNext, IsOpen, IsRising, IsWellFormed, Keeps, length_at, Looks, LooksAt, next_at, records, Row, row_at, State, sum_by, times_hit, unit_at, Units, units_at, word};
+ghost use Rattle.std.specs.Prelude.{◌≡◌, ℕ, ◌+◌, ◌%◌, ◌^◌, ◌≤◌, ◌<◌, IsTrue, true, length, map, List, IfOk, IfErr, OnOk, Err};
+ghost use Rattle.rpm_hindex.specs.Prelude.{AddsHit, AreHits, AsOften, bucket_unit, buckets_of, CanRead, chain, ChainCosts, File, FindIs, follow, has_key, hash_of, Idx, Index, index_at, index_in, is_in_order, is_link, is_placed, IsFaultOf, IsNext, IsRising, IsWellFormed, Keeps, ReadsAtOr, ReadsChain, ReadsOr, records, Row, row_at, times_hit, unit_at, units_at, word};
 
 use crate::bucket::bucket_of;
 use crate::faults::FindFault;
@@ -49,19 +49,15 @@ pub fn is_placed(extent: Extent, at: u32, head: &[u8]) -> bool
 
 /// The word of a bucket.
 pub fn read_bucket<D: Disk>(disk: &mut D, extent: Extent, bucket: u32) -> Result<Bucket, FindFault>
-    requires few { extent.buckets ≤ 2 ^ 28 }
     requires bucket { bucket < extent.buckets }
-    requires open { IsTrue D.tells → IsOpen extent (D.files disk.old).idx }
+    requires open { CanRead D.Disk disk.old extent }
     ensures words { IfOk result (λ b. IsTrue D.tells → b.words ≡ unit_at (D.files disk.old).idx (bucket_unit bucket)) }
-    ensures word { IfOk result (λ b. IsTrue D.tells
-        → (b.at ≡ (index_in extent.buckets (D.files disk.old).idx).head bucket)
-        × (is_link (index_in extent.buckets (D.files disk.old).idx) b.at ≡ true)) }
-    ensures within { IfOk result (λ b. 0 < b.at → b.at < extent.used) }
+    ensures word { IfOk result (λ b. IsTrue D.tells → (b.at ≡ (index_at D.Disk disk.old extent).head bucket)
+        × (is_link (index_at D.Disk disk.old extent) b.at ≡ true)) }
     ensures linked { IfOk result (λ b. IsNext extent.buckets extent.used b.at) }
     ensures fault { IfErr result (λ e. IsTrue D.tells
-        → IsFaultOf (chain (index_in extent.buckets (D.files disk.old).idx) bucket) e) }
-    ensures looks { Looks D.Disk Idx 16 disk.old disk.new }
-    ensures cause { DiskFault D.Disk (result ≡ Err FindFault.DiskFault) disk.old disk.new }
+        → IsFaultOf (chain (index_at D.Disk disk.old extent) bucket) e) }
+    ensures reads { ReadsOr D.Disk Idx 16 (result ≡ Err FindFault.DiskFault) disk.old disk.new }
 {
     let unit = 2 + bucket as u64 / 4;
     let Ok(words) = read_unit(disk, unit) else {
@@ -103,32 +99,24 @@ fn collect<D: Disk>(
     kind: u8,
     key: &[u8],
 ) -> Result<Vec<Hit>, FindFault>
-    requires few { extent.buckets ≤ 2 ^ 28 }
     requires some { 0 < extent.buckets }
-    requires open { IsTrue D.tells → IsOpen extent (D.files disk.old).idx }
+    requires open { CanRead D.Disk disk.old extent }
     requires within { 0 < from → from < extent.used }
     ensures told { IsTrue D.tells → FindIs (λ places hits. AsOften kind key.now
         (map (row_at (unit_at (D.files disk.old).idx)) places) hits.items)
-        (follow (index_in extent.buckets (D.files disk.old).idx) (hash_of kind key.now % extent.buckets) from from)
-        result }
-    ensures cost { IsTrue D.tells → ChainCosts
-        (follow (index_in extent.buckets (D.files disk.old).idx) (hash_of kind key.now % extent.buckets) from from)
-        (units_at (unit_at (D.files disk.old).idx)) (D.bytes_read disk.old File.Idx) (D.bytes_read disk.new File.Idx) }
-    ensures looks { LooksAt D.Disk Idx disk.old disk.new }
-    ensures cause { DiskFault D.Disk (result ≡ Err FindFault.DiskFault) disk.old disk.new }
+        (follow (index_at D.Disk disk.old extent) (hash_of kind key.now % extent.buckets) from from) result }
+    ensures cost { IsTrue D.tells → ChainCosts (follow (index_at D.Disk disk.old extent)
+        (hash_of kind key.now % extent.buckets) from from) (units_at (unit_at (D.files disk.old).idx))
+        (D.bytes_read disk.old File.Idx) (D.bytes_read disk.new File.Idx) }
+    ensures reads { ReadsAtOr D.Disk Idx (result ≡ Err FindFault.DiskFault) disk.old disk.new }
 {
     let bucket = bucket_of(kind, key, extent.buckets);
     let mut hits = Vec::new(alloc);
     let mut buffer = Vec::new(alloc);
     let mut at = from;
     while at != 0 {
-        let met = match meet(disk, extent, bucket, at, kind, key, None, &mut buffer) {
-            Ok(met) => met,
-            Err(fault) => return Err(fault),
-        };
-        if let Err(fault) = push_hit(&mut hits, met) {
-            return Err(fault);
-        }
+        let met = meet(disk, extent, bucket, at, kind, key, None, &mut buffer)?;
+        push_hit(&mut hits, met)?;
         at = met.next;
     }
     Ok(hits)
@@ -142,24 +130,17 @@ fn gather<D: Disk>(
     kind: u8,
     key: &[u8],
 ) -> Result<Vec<Hit>, FindFault>
-    requires few { extent.buckets ≤ 2 ^ 28 }
     requires some { 0 < extent.buckets }
-    requires open { IsTrue D.tells → IsOpen extent (D.files disk.old).idx }
+    requires open { CanRead D.Disk disk.old extent }
     ensures told { IsTrue D.tells → FindIs (λ places hits. AsOften kind key.now
         (map (row_at (unit_at (D.files disk.old).idx)) places) hits.items)
-        (chain (index_in extent.buckets (D.files disk.old).idx) (hash_of kind key.now % extent.buckets)) result }
-    ensures cost { IsTrue D.tells → ChainCosts
-        (chain (index_in extent.buckets (D.files disk.old).idx) (hash_of kind key.now % extent.buckets))
-        (units_at (unit_at (D.files disk.old).idx)) (D.bytes_read disk.old File.Idx + 16)
-        (D.bytes_read disk.new File.Idx) }
-    ensures looks { LooksAt D.Disk Idx disk.old disk.new }
-    ensures cause { DiskFault D.Disk (result ≡ Err FindFault.DiskFault) disk.old disk.new }
+        (chain (index_at D.Disk disk.old extent) (hash_of kind key.now % extent.buckets)) result }
+    ensures cost { ReadsChain D.Disk extent (hash_of kind key.now % extent.buckets) disk.old disk.new }
+    ensures reads { ReadsAtOr D.Disk Idx (result ≡ Err FindFault.DiskFault) disk.old disk.new }
 {
     let bucket = bucket_of(kind, key, extent.buckets);
-    match read_bucket(disk, extent, bucket) {
-        Ok(found) => collect(alloc, disk, extent, found.at, kind, key),
-        Err(fault) => Err(fault),
-    }
+    let found = read_bucket(disk, extent, bucket)?;
+    collect(alloc, disk, extent, found.at, kind, key)
 }
 
 /// The same hits, by rising number and place.
@@ -214,12 +195,9 @@ impl Hindex {
             (chain (index_in (buckets_of self.now.first) (D.files disk.old).idx)
             (hash_of kind key.now % buckets_of self.now.first)) (units_at (unit_at (D.files disk.old).idx))
             (D.bytes_read disk.old File.Idx + 16) (D.bytes_read disk.new File.Idx) }
-        ensures looks { LooksAt D.Disk Idx disk.old disk.new }
-        ensures cause { DiskFault D.Disk (result ≡ Err FindFault.DiskFault) disk.old disk.new }
+        ensures reads { ReadsAtOr D.Disk Idx (result ≡ Err FindFault.DiskFault) disk.old disk.new }
     {
-        match gather(alloc, disk, self.extent(), kind, key) {
-            Ok(hits) => Ok(sorted(hits)),
-            Err(fault) => Err(fault),
-        }
+        let hits = gather(alloc, disk, self.extent(), kind, key)?;
+        Ok(sorted(hits))
     }
 }

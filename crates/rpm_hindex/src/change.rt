@@ -1,7 +1,7 @@
 //! A change that is being worked out.
 
-ghost use Rattle.std.specs.Prelude.{◌≡◌, ℕ, ◌+◌, ◌*◌, ◌/◌, ◌%◌, ◌^◌, ◌≤◌, ◌<◌, IsTrue, true, length, [], ◌∷◌, None, List, Result, OnOk, IfOk, IfErr, Err};
-ghost use Rattle.rpm_hindex.specs.Prelude.{CanGo, CanStart, chain, ChainCosts, contains, DiskFault, Drops, DropsRows, first_record, get, GoesOn, Grows, HasAdded, hash_of, Idx, index_in, is_kept, IsChainFault, IsDropFault, IsFaultOf, IsFaulty, IsHonest, IsOpen, IsOther, Looks, LooksAt, nat_cmp, one_row, Puts, record_units, row_nth, unit_at, units_at};
+ghost use Rattle.std.specs.Prelude.{◌≡◌, ℕ, ◌+◌, ◌*◌, ◌/◌, ◌%◌, ◌^◌, ◌≤◌, ◌<◌, IsTrue, length, List, Result, OnOk, IfErr, Err};
+ghost use Rattle.rpm_hindex.specs.Prelude.{Begins, CanBegin, CanGo, CanStart, contains, Drops, DropsRows, get, GoesOn, Grows, HasAdded, hash_of, Idx, is_kept, IsChainFault, IsDropFault, IsFaultOf, IsFaulty, IsHonest, IsOpen, IsOther, nat_cmp, one_row, Puts, ReadsAtOr, ReadsChain, ReadsOr, record_units, row_nth};
 
 use crate::bucket::bucket_of;
 use crate::chain::{Extent, is_link};
@@ -72,20 +72,9 @@ fn put_start(starts: &mut BTreeMap<u32, Start>, bucket: u32, spot: Spot) -> Resu
 impl Change {
     /// Nothing changes yet.
     pub fn new(alloc: Global, extent: Extent, records: u32, live: u32) -> Change
-        requires fours { extent.buckets % 4 ≡ 0 }
-        requires some { 0 < extent.buckets }
-        requires few { extent.buckets ≤ 2 ^ 27 }
-        requires front { first_record extent.buckets ≤ extent.used }
-        requires room { extent.used ≤ 2 ^ 28 }
-        requires live { first_record extent.buckets + live ≤ extent.used }
-        requires records { records ≤ 2 * extent.buckets }
+        requires { CanBegin extent records live }
         ensures go { CanGo result }
-        ensures extent { result.extent ≡ extent }
-        ensures tail { result.tail.items ≡ [] }
-        ensures units { (q : ℕ) → get nat_cmp result.units q ≡ None }
-        ensures records { result.records ≡ records }
-        ensures live { result.live ≡ live }
-        ensures dropped { (p : ℕ) → is_kept (λ q. contains nat_cmp result.dropped q) p ≡ true }
+        ensures begins { Begins extent records live result }
     {
         Change {
             extent,
@@ -118,12 +107,9 @@ impl Change {
             (one_row row.entry.kind row.entry.key.now row.entry.number row.entry.place) self.old self.new) }
         ensures refused { IfErr result (λ e. IsTrue D.tells → IsDropFault (D.files disk.old).idx
             (one_row row.entry.kind row.entry.key.now row.entry.number row.entry.place) self.old e) }
-        ensures cost { IsTrue D.tells → ChainCosts
-            (chain (index_in self.old.extent.buckets (D.files disk.old).idx)
-            (hash_of row.entry.kind row.entry.key.now % self.old.extent.buckets))
-            (units_at (unit_at (D.files disk.old).idx)) (D.bytes_read disk.old Idx + 16) (D.bytes_read disk.new Idx) }
-        ensures looks { LooksAt D.Disk Idx disk.old disk.new }
-        ensures cause { DiskFault D.Disk (result ≡ Err PrepareFault.DiskFault) disk.old disk.new }
+        ensures cost { ReadsChain D.Disk self.old.extent
+            (hash_of row.entry.kind row.entry.key.now % self.old.extent.buckets) disk.old disk.new }
+        ensures reads { ReadsAtOr D.Disk Idx (result ≡ Err PrepareFault.DiskFault) disk.old disk.new }
     {
         let bucket = bucket_of(row.kind, row.key, self.extent.buckets);
         let found = match find_row(alloc, disk, self.extent, bucket, &self.dropped, starts, row) {
@@ -138,12 +124,8 @@ impl Change {
         if self.records == 0 || self.live < units {
             return Err(PrepareFault::BadIndex { unit: 1 });
         }
-        if let Err(fault) = unlink(&mut self.units, &found.words, self.extent, bucket, spot) {
-            return Err(fault);
-        }
-        if let Err(fault) = put_start(starts, bucket, spot) {
-            return Err(fault);
-        }
+        unlink(&mut self.units, &found.words, self.extent, bucket, spot)?;
+        put_start(starts, bucket, spot)?;
         self.records -= 1;
         self.live -= units;
         put_dropped(&mut self.dropped, spot.at)
@@ -172,14 +154,10 @@ impl Change {
             (one_row row.entry.kind row.entry.key.now row.entry.number row.entry.place) self.old self.new) }
         ensures bad { IfErr result (λ e. IsTrue D.tells → IsHonest self.old (D.files disk.old).idx
             → IsFaulty self.old.extent.buckets (D.files disk.old).idx e) }
-        ensures looks { Looks D.Disk Idx 16 disk.old disk.new }
-        ensures cause { DiskFault D.Disk (result ≡ Err PrepareFault.DiskFault) disk.old disk.new }
+        ensures reads { ReadsOr D.Disk Idx 16 (result ≡ Err PrepareFault.DiskFault) disk.old disk.new }
     {
         let bucket = bucket_of(row.kind, row.key, self.extent.buckets);
-        let words = match words_of(&self.units, disk, bucket) {
-            Ok(words) => words,
-            Err(fault) => return Err(fault),
-        };
+        let words = words_of(&self.units, disk, bucket)?;
         let used = self.used();
         let next = word(&words, (bucket % 4) as usize);
         let extent = Extent {

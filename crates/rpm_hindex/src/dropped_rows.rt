@@ -1,7 +1,7 @@
 //! The rows that a change drops.
 
-ghost use Rattle.std.specs.Prelude.{◌≡◌, ◌+◌, ◌*◌, ◌/◌, ◌%◌, ◌^◌, ◌≤◌, ◌<◌, IsTrue, true, false, length, ◌++◌, OnOk, IfErr, Err};
-ghost use Rattle.rpm_hindex.specs.Prelude.{CanGo, chains_bytes, DiskFault, DropsRows, GoesOn, HasFault, HasNoFault, Idx, index_in, IsBad, IsBadFor, IsDropFault, IsFresh, IsHonest, IsOpen, IsOther, IsWellFormed, LooksAt};
+ghost use Rattle.std.specs.Prelude.{◌≡◌, ◌+◌, ◌≤◌, IsTrue, true, false, length, OnOk, IfErr, Err};
+ghost use Rattle.rpm_hindex.specs.Prelude.{CanGo, CanRead, chains_bytes, DropsRows, GoesOn, HasFault, HasNoFault, Idx, index_at, index_in, IsBad, IsBadFor, IsDropFault, IsFresh, IsHonest, IsOpen, IsOther, IsWellFormed, ReadsAtOr};
 
 use crate::chain::Extent;
 use crate::change::{Change, prepare_fault, row_ref};
@@ -30,34 +30,27 @@ fn drop_each<D: Disk>(
     ensures cost { IsTrue D.tells → IsWellFormed change.old.extent.buckets (D.files disk.old).idx
         → D.bytes_read disk.new Idx ≤ D.bytes_read disk.old Idx + chains_bytes
         (index_in change.old.extent.buckets (D.files disk.old).idx) rows.now }
-    ensures looks { LooksAt D.Disk Idx disk.old disk.new }
-    ensures cause { DiskFault D.Disk (result ≡ Err PrepareFault.DiskFault) disk.old disk.new }
+    ensures reads { ReadsAtOr D.Disk Idx (result ≡ Err PrepareFault.DiskFault) disk.old disk.new }
 {
     let mut starts = BTreeMap::new(alloc);
     let mut left = rows.len();
     while left > 0 {
         left -= 1;
-        if let Err(fault) = change.drop_row(alloc, disk, &mut starts, row_ref(rows, left)) {
-            return Err(fault);
-        }
+        change.drop_row(alloc, disk, &mut starts, row_ref(rows, left))?;
     }
     Ok(())
 }
 
 /// Goes over the chains of all buckets.
 fn check_chains<D: Disk>(alloc: Global, disk: &mut D, extent: Extent) -> Result<(), FindFault>
-    requires few { extent.buckets ≤ 2 ^ 28 }
-    requires open { IsTrue D.tells → IsOpen extent (D.files disk.old).idx }
-    ensures none { OnOk result (IsTrue D.tells → HasNoFault (index_in extent.buckets (D.files disk.old).idx)) }
-    ensures fault { IfErr result (λ e. IsTrue D.tells → HasFault (index_in extent.buckets (D.files disk.old).idx) e) }
-    ensures looks { LooksAt D.Disk Idx disk.old disk.new }
-    ensures cause { DiskFault D.Disk (result ≡ Err FindFault.DiskFault) disk.old disk.new }
+    requires open { CanRead D.Disk disk.old extent }
+    ensures none { OnOk result (IsTrue D.tells → HasNoFault (index_at D.Disk disk.old extent)) }
+    ensures fault { IfErr result (λ e. IsTrue D.tells → HasFault (index_at D.Disk disk.old extent) e) }
+    ensures reads { ReadsAtOr D.Disk Idx (result ≡ Err FindFault.DiskFault) disk.old disk.new }
 {
     let mut buffer = Vec::new(alloc);
     for bucket in 0..extent.buckets {
-        if let Err(fault) = check_chain(alloc, disk, extent, bucket, &mut buffer) {
-            return Err(fault);
-        }
+        check_chain(alloc, disk, extent, bucket, &mut buffer)?;
     }
     Ok(())
 }
@@ -96,8 +89,7 @@ pub fn drop_rows<D: Disk>(
         → IsHonest change.old (D.files disk.old).idx
         → D.bytes_read disk.new Idx ≤ D.bytes_read disk.old Idx + chains_bytes
         (index_in change.old.extent.buckets (D.files disk.old).idx) rows.now }
-    ensures looks { LooksAt D.Disk Idx disk.old disk.new }
-    ensures cause { DiskFault D.Disk (result ≡ Err PrepareFault.DiskFault) disk.old disk.new }
+    ensures reads { ReadsAtOr D.Disk Idx (result ≡ Err PrepareFault.DiskFault) disk.old disk.new }
 {
     let extent = change.extent;
     let Err(fault) = drop_each(alloc, disk, change, rows) else {

@@ -1,7 +1,7 @@
 //! The first unit of a record, and whether the record is looked for.
 
-ghost use Rattle.std.specs.Prelude.{◌≡◌, ℕ, ◌+◌, ◌*◌, ◌/◌, ◌%◌, ◌^◌, ◌≤◌, ◌<◌, ◌⊎◌, IsTrue, true, false, length, IfOk, IfErr, Ok, Err, Some, None, if◌then◌else◌};
-ghost use Rattle.rpm_hindex.specs.Prelude.{DiskFault, FallsTo, follow, has_key, hash_of, Idx, index_in, is_placed, is_sound, is_wanted, IsAhead, IsFaultOf, IsHead, IsMet, IsOpen, length_at, Looks, LooksAt, row_at, unit_at, units_at};
+ghost use Rattle.std.specs.Prelude.{◌≡◌, ℕ, ◌+◌, ◌*◌, ◌/◌, ◌%◌, ◌^◌, ◌≤◌, ◌<◌, ◌⊎◌, IsTrue, true, false, length, IfOk, IfErr, Err, Some, None};
+ghost use Rattle.rpm_hindex.specs.Prelude.{CanRead, FallsTo, follow, has_key, hash_of, Idx, index_at, is_placed, is_sound, is_wanted, IsAhead, IsFaultOf, IsHead, IsMet, length_at, ReadsAtOr, ReadsOr, row_at, unit_at, units_at};
 
 use crate::bucket::bucket_of;
 use crate::chain::{Extent, is_placed};
@@ -36,17 +36,15 @@ pub struct Met {
 
 /// Reads the first unit of the record at a unit that a link names.
 pub fn read_head<D: Disk>(disk: &mut D, extent: Extent, at: u32) -> Result<Ahead, FindFault>
-    requires few { extent.buckets ≤ 2 ^ 28 }
-    requires open { IsTrue D.tells → IsOpen extent (D.files disk.old).idx }
+    requires open { CanRead D.Disk disk.old extent }
     requires some_at { 0 < at }
     requires within { at < extent.used }
     ensures here { IfOk result (λ a. a.head.at ≡ at) }
     ensures next { IfOk result (λ a. FallsTo extent.buckets extent.used at a.next) }
-    ensures ahead { IfOk result (λ a. IsTrue D.tells → IsAhead (index_in extent.buckets (D.files disk.old).idx) at a) }
+    ensures ahead { IfOk result (λ a. IsTrue D.tells → IsAhead (index_at D.Disk disk.old extent) at a) }
     ensures fault { IfErr result (λ e. IsTrue D.tells → (b : ℕ)
-        → IsFaultOf (follow (index_in extent.buckets (D.files disk.old).idx) b at at) e) }
-    ensures looks { Looks D.Disk Idx 16 disk.old disk.new }
-    ensures cause { DiskFault D.Disk (result ≡ Err FindFault.DiskFault) disk.old disk.new }
+        → IsFaultOf (follow (index_at D.Disk disk.old extent) b at at) e) }
+    ensures reads { ReadsOr D.Disk Idx 16 (result ≡ Err FindFault.DiskFault) disk.old disk.new }
 {
     let Ok(unit) = read_unit(disk, at as u64) else {
         return Err(FindFault::DiskFault);
@@ -103,28 +101,25 @@ pub fn meets_key<D: Disk>(
     key: &[u8],
     buffer: &mut Vec<u8>,
 ) -> Result<bool, FindFault>
-    requires few { extent.buckets ≤ 2 ^ 28 }
     requires some { 0 < extent.buckets }
-    requires open { IsTrue D.tells → IsOpen extent (D.files disk.old).idx }
+    requires open { CanRead D.Disk disk.old extent }
     requires some_at { 0 < head.at }
-    requires placed { IsTrue D.tells → is_placed (index_in extent.buckets (D.files disk.old).idx) head.at ≡ true }
+    requires placed { IsTrue D.tells → is_placed (index_at D.Disk disk.old extent) head.at ≡ true }
     requires head { IsTrue D.tells → IsHead (unit_at (D.files disk.old).idx) head }
     requires bucket { hash_of kind key.now % extent.buckets ≡ bucket }
     ensures same { IfOk result (λ is. IsTrue D.tells
         → is ≡ has_key kind key.now (row_at (unit_at (D.files disk.old).idx) head.at)) }
     ensures sound { IfOk result (λ is. IsTrue D.tells
-        → is_sound (index_in extent.buckets (D.files disk.old).idx) bucket head.at ≡ true) }
+        → is_sound (index_at D.Disk disk.old extent) bucket head.at ≡ true) }
     ensures long { IfOk result (λ is. IsTrue D.tells → length (row_at (unit_at (D.files disk.old).idx) head.at).key
         ≡ length_at (unit_at (D.files disk.old).idx) head.at) }
     ensures fault { IfErr result (λ e. IsTrue D.tells
-        → IsFaultOf (follow (index_in extent.buckets (D.files disk.old).idx) bucket head.at head.at) e) }
-    ensures looks { Looks D.Disk Idx (16 * ((head.size % 2 ^ 28 + 15) / 16)) disk.old disk.new }
-    ensures cause { DiskFault D.Disk (result ≡ Err FindFault.DiskFault) disk.old disk.new }
+        → IsFaultOf (follow (index_at D.Disk disk.old extent) bucket head.at head.at) e) }
+    ensures reads { ReadsOr D.Disk Idx (16 * ((head.size % 2 ^ 28 + 15) / 16))
+        (result ≡ Err FindFault.DiskFault) disk.old disk.new }
 {
     let length = head.size % 268_435_456;
-    if let Err(fault) = read_key_into(disk, head.at as u64 + 1, length, buffer) {
-        return Err(fault);
-    }
+    read_key_into(disk, head.at as u64 + 1, length, buffer)?;
     let found_kind = (head.size / 268_435_456) as u8;
     let found = &buffer[..length as usize];
     if !is_of_bucket(found_kind, found, kind, key, extent.buckets, bucket) {
@@ -161,29 +156,24 @@ pub fn meet<D: Disk>(
     only: Option<Hit>,
     buffer: &mut Vec<u8>,
 ) -> Result<Met, FindFault>
-    requires few { extent.buckets ≤ 2 ^ 28 }
     requires some { 0 < extent.buckets }
-    requires open { IsTrue D.tells → IsOpen extent (D.files disk.old).idx }
+    requires open { CanRead D.Disk disk.old extent }
     requires some_at { 0 < at }
     requires within { at < extent.used }
     requires bucket { hash_of kind key.now % extent.buckets ≡ bucket }
     ensures here { IfOk result (λ m. m.head.at ≡ at) }
     ensures next { IfOk result (λ m. FallsTo extent.buckets extent.used at m.next) }
     ensures met { IfOk result (λ m. IsTrue D.tells
-        → IsMet (index_in extent.buckets (D.files disk.old).idx) at (is_wanted kind key.now only) m) }
+        → IsMet (index_at D.Disk disk.old extent) at (is_wanted kind key.now only) m) }
     ensures sound { IfOk result (λ m. IsTrue D.tells → (only ≡ None) ⊎ (m.is_wanted ≡ true)
-        → is_sound (index_in extent.buckets (D.files disk.old).idx) bucket at ≡ true) }
+        → is_sound (index_at D.Disk disk.old extent) bucket at ≡ true) }
     ensures fault { IfErr result (λ e. IsTrue D.tells
-        → IsFaultOf (follow (index_in extent.buckets (D.files disk.old).idx) bucket at at) e) }
-    ensures cost { IsTrue D.tells → is_sound (index_in extent.buckets (D.files disk.old).idx) bucket at ≡ true
+        → IsFaultOf (follow (index_at D.Disk disk.old extent) bucket at at) e) }
+    ensures cost { IsTrue D.tells → is_sound (index_at D.Disk disk.old extent) bucket at ≡ true
         → D.bytes_read disk.new Idx ≤ D.bytes_read disk.old Idx + 16 * units_at (unit_at (D.files disk.old).idx) at }
-    ensures looks { LooksAt D.Disk Idx disk.old disk.new }
-    ensures cause { DiskFault D.Disk (result ≡ Err FindFault.DiskFault) disk.old disk.new }
+    ensures reads { ReadsAtOr D.Disk Idx (result ≡ Err FindFault.DiskFault) disk.old disk.new }
 {
-    let Ahead { next, head } = match read_head(disk, extent, at) {
-        Ok(ahead) => ahead,
-        Err(fault) => return Err(fault),
-    };
+    let Ahead { next, head } = read_head(disk, extent, at)?;
     if !may_be(head, only) {
         return Ok(Met {
             next,
@@ -191,12 +181,10 @@ pub fn meet<D: Disk>(
             is_wanted: false,
         });
     }
-    match meets_key(disk, extent, bucket, head, kind, key, buffer) {
-        Ok(is_wanted) => Ok(Met {
-            next,
-            head,
-            is_wanted,
-        }),
-        Err(fault) => Err(fault),
-    }
+    let is_wanted = meets_key(disk, extent, bucket, head, kind, key, buffer)?;
+    Ok(Met {
+        next,
+        head,
+        is_wanted,
+    })
 }

@@ -1,6 +1,6 @@
 //! What is found of a key.
 
-ghost use Rattle.std.specs.Prelude.{◌≡◌, ℕ, ◌<◌, length, slice_index_or};
+ghost use Rattle.std.specs.Prelude.{◌≡◌, ◌<◌, length};
 ghost use Rattle.rpm_hindex.specs.Prelude.{hit_at};
 
 use std::marker::Model;

@@ -1,6 +1,6 @@
 //! An index made from scratch in memory.
 
-ghost use Rattle.std.specs.Prelude.{◌≡◌, ℕ, ◌+◌, ◌*◌, ◌/◌, ◌%◌, ◌^◌, ◌≤◌, ◌<◌, ◌++◌, ◌∷◌, [], List, length, drop, take, true, OnOk, IfOk};
+ghost use Rattle.std.specs.Prelude.{◌≡◌, ◌+◌, ◌*◌, ◌/◌, ◌%◌, ◌^◌, ◌≤◌, ◌<◌, ◌++◌, ◌∷◌, [], List, length, drop, true, OnOk, IfOk};
 ghost use Rattle.rpm_hindex.specs.Prelude.{bytes_of_word, first_record, flat_map, is_bucket_count, IsDraft, IsImage, live_of, record_units, Row, unit_of_words};
 
 use crate::bucket::bucket_of;

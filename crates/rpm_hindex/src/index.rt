@@ -1,7 +1,7 @@
 //! The index in Hindex.db.
 
-ghost use Rattle.std.specs.Prelude.{◌≡◌, ℕ, ◌+◌, ◌-◌, ◌*◌, ◌^◌, ◌≤◌, ◌<◌, IsTrue, true, IfOk, OnOk, Err, length};
-ghost use Rattle.rpm_hindex.specs.Prelude.{buckets_of, DiskCause, Files, first_record, Idx, is_current, is_headed, is_in_order, is_ordered, Keeps, Looks, State, state_of, unit_at, word};
+ghost use Rattle.std.specs.Prelude.{◌≡◌, ◌≤◌, ◌<◌, IsTrue, IfOk, length};
+ghost use Rattle.rpm_hindex.specs.Prelude.{Idx, is_current, is_headed, is_in_order, is_ordered, Keeps, Reads, State, state_of};
 
 use crate::faults::IndexDiskFault;
 use crate::reads::unit_or_zeros;
@@ -70,8 +70,7 @@ impl Hindex {
         ensures state { IfOk result (λ index. IsTrue D.tells → index ≡ state_of (D.files disk.old).idx) }
         ensures kept { IfOk result (λ index. IsTrue D.tells → Keeps (D.files disk.new).idx index) }
         ensures nothing_pending { IfOk result (λ index. index.pending ≡ 0) }
-        ensures looks { Looks D.Disk Idx 32 disk.old disk.new }
-        ensures cause { DiskCause D.Disk result disk.old disk.new }
+        ensures reads { Reads D.Disk Idx 32 result disk.old disk.new }
     {
         let Ok(units) = disk.len(File::Idx) else {
             return Err(IndexDiskFault);

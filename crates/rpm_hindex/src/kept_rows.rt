@@ -1,7 +1,7 @@
 //! The rows of a chain that a change keeps.
 
-ghost use Rattle.std.specs.Prelude.{◌≡◌, ℕ, ◌+◌, ◌*◌, ◌/◌, ◌%◌, ◌^◌, ◌≤◌, ◌<◌, ◌++◌, ◌∷◌, [], IsTrue, true, map, length, IsOk, OnOk, IfErr, Err, if◌then◌else◌};
-ghost use Rattle.rpm_hindex.specs.Prelude.{chain, contains, DiskFault, filter, FindIs, follow, Idx, index_in, is_kept, is_placed, is_sound, IsFaultOf, IsHead, IsNext, IsOpen, Looks, LooksAt, nat_cmp, row_at, unit_at};
+ghost use Rattle.std.specs.Prelude.{◌≡◌, ◌+◌, ◌*◌, ◌/◌, ◌%◌, ◌^◌, ◌<◌, ◌++◌, ◌∷◌, [], IsTrue, true, map, IsOk, OnOk, IfErr, Err, if◌then◌else◌};
+ghost use Rattle.rpm_hindex.specs.Prelude.{CanRead, chain, contains, filter, FindIs, follow, Idx, index_at, is_kept, is_placed, is_sound, IsFaultOf, IsHead, IsNext, nat_cmp, ReadsAtOr, ReadsOr, row_at, unit_at};
 
 use crate::bucket::bucket_of;
 use crate::chain::{Extent, read_bucket};
@@ -23,26 +23,22 @@ fn push_row<D: Disk>(
     rows: &mut Rows,
     buffer: &mut Vec<u8>,
 ) -> Result<(), FindFault>
-    requires few { extent.buckets ≤ 2 ^ 28 }
     requires some { 0 < extent.buckets }
-    requires open { IsTrue D.tells → IsOpen extent (D.files disk.old).idx }
+    requires open { CanRead D.Disk disk.old extent }
     requires some_at { 0 < head.at }
-    requires placed { IsTrue D.tells → is_placed (index_in extent.buckets (D.files disk.old).idx) head.at ≡ true }
+    requires placed { IsTrue D.tells → is_placed (index_at D.Disk disk.old extent) head.at ≡ true }
     requires head { IsTrue D.tells → IsHead (unit_at (D.files disk.old).idx) head }
     ensures row { OnOk result (IsTrue D.tells
         → rows.new ≡ (if is_kept then rows.old ++ row_at (unit_at (D.files disk.old).idx) head.at ∷ [] else
         rows.old)) }
-    ensures sound { OnOk result (IsTrue D.tells
-        → is_sound (index_in extent.buckets (D.files disk.old).idx) bucket head.at ≡ true) }
+    ensures sound { OnOk result (IsTrue D.tells → is_sound (index_at D.Disk disk.old extent) bucket head.at ≡ true) }
     ensures fault { IfErr result (λ e. IsTrue D.tells
-        → IsFaultOf (follow (index_in extent.buckets (D.files disk.old).idx) bucket head.at head.at) e) }
-    ensures looks { Looks D.Disk Idx (16 * ((head.size % 2 ^ 28 + 15) / 16)) disk.old disk.new }
-    ensures cause { DiskFault D.Disk (result ≡ Err FindFault.DiskFault) disk.old disk.new }
+        → IsFaultOf (follow (index_at D.Disk disk.old extent) bucket head.at head.at) e) }
+    ensures reads { ReadsOr D.Disk Idx (16 * ((head.size % 2 ^ 28 + 15) / 16))
+        (result ≡ Err FindFault.DiskFault) disk.old disk.new }
 {
     let length = head.size % 268_435_456;
-    if let Err(fault) = read_key_into(disk, head.at as u64 + 1, length, buffer) {
-        return Err(fault);
-    }
+    read_key_into(disk, head.at as u64 + 1, length, buffer)?;
     let kind = (head.size / 268_435_456) as u8;
     let key = &buffer[..length as usize];
     if bucket_of(kind, key, extent.buckets) != bucket {
@@ -69,26 +65,19 @@ fn push_from<D: Disk>(
     rows: &mut Rows,
     buffer: &mut Vec<u8>,
 ) -> Result<(), FindFault>
-    requires few { extent.buckets ≤ 2 ^ 28 }
     requires some { 0 < extent.buckets }
-    requires open { IsTrue D.tells → IsOpen extent (D.files disk.old).idx }
+    requires open { CanRead D.Disk disk.old extent }
     requires linked { IsNext extent.buckets extent.used from }
     ensures told { IsTrue D.tells → FindIs (λ places done. rows.new ≡ rows.old ++ map
         (row_at (unit_at (D.files disk.old).idx)) (filter (is_kept (λ p. contains nat_cmp dropped.now p)) places))
-        (follow (index_in extent.buckets (D.files disk.old).idx) bucket from from) result }
-    ensures looks { LooksAt D.Disk Idx disk.old disk.new }
-    ensures cause { DiskFault D.Disk (result ≡ Err FindFault.DiskFault) disk.old disk.new }
+        (follow (index_at D.Disk disk.old extent) bucket from from) result }
+    ensures reads { ReadsAtOr D.Disk Idx (result ≡ Err FindFault.DiskFault) disk.old disk.new }
 {
     let mut at = from;
     while at != 0 {
-        let Ahead { next, head } = match read_head(disk, extent, at) {
-            Ok(ahead) => ahead,
-            Err(fault) => return Err(fault),
-        };
+        let Ahead { next, head } = read_head(disk, extent, at)?;
         let is_kept = !dropped.contains(&at);
-        if let Err(fault) = push_row(disk, extent, bucket, head, is_kept, rows, buffer) {
-            return Err(fault);
-        }
+        push_row(disk, extent, bucket, head, is_kept, rows, buffer)?;
         at = next;
     }
     Ok(())
@@ -104,19 +93,15 @@ pub fn push_chain<D: Disk>(
     rows: &mut Rows,
     buffer: &mut Vec<u8>,
 ) -> Result<(), FindFault>
-    requires few { extent.buckets ≤ 2 ^ 28 }
     requires bucket { bucket < extent.buckets }
-    requires open { IsTrue D.tells → IsOpen extent (D.files disk.old).idx }
+    requires open { CanRead D.Disk disk.old extent }
     ensures told { IsTrue D.tells → FindIs (λ places done. rows.new ≡ rows.old ++ map
         (row_at (unit_at (D.files disk.old).idx)) (filter (is_kept (λ p. contains nat_cmp dropped.now p)) places))
-        (chain (index_in extent.buckets (D.files disk.old).idx) bucket) result }
-    ensures looks { LooksAt D.Disk Idx disk.old disk.new }
-    ensures cause { DiskFault D.Disk (result ≡ Err FindFault.DiskFault) disk.old disk.new }
+        (chain (index_at D.Disk disk.old extent) bucket) result }
+    ensures reads { ReadsAtOr D.Disk Idx (result ≡ Err FindFault.DiskFault) disk.old disk.new }
 {
-    match read_bucket(disk, extent, bucket) {
-        Ok(found) => push_from(disk, extent, bucket, found.at, dropped, rows, buffer),
-        Err(fault) => Err(fault),
-    }
+    let found = read_bucket(disk, extent, bucket)?;
+    push_from(disk, extent, bucket, found.at, dropped, rows, buffer)
 }
 
 /// Goes over a bucket's chain, and tells its first fault.
@@ -127,14 +112,12 @@ pub fn check_chain<D: Disk>(
     bucket: u32,
     buffer: &mut Vec<u8>,
 ) -> Result<(), FindFault>
-    requires few { extent.buckets ≤ 2 ^ 28 }
     requires bucket { bucket < extent.buckets }
-    requires open { IsTrue D.tells → IsOpen extent (D.files disk.old).idx }
-    ensures none { OnOk result (IsTrue D.tells → IsOk (chain (index_in extent.buckets (D.files disk.old).idx) bucket)) }
+    requires open { CanRead D.Disk disk.old extent }
+    ensures none { OnOk result (IsTrue D.tells → IsOk (chain (index_at D.Disk disk.old extent) bucket)) }
     ensures fault { IfErr result (λ e. IsTrue D.tells
-        → IsFaultOf (chain (index_in extent.buckets (D.files disk.old).idx) bucket) e) }
-    ensures looks { LooksAt D.Disk Idx disk.old disk.new }
-    ensures cause { DiskFault D.Disk (result ≡ Err FindFault.DiskFault) disk.old disk.new }
+        → IsFaultOf (chain (index_at D.Disk disk.old extent) bucket) e) }
+    ensures reads { ReadsAtOr D.Disk Idx (result ≡ Err FindFault.DiskFault) disk.old disk.new }
 {
     let dropped = BTreeSet::new(alloc);
     let mut rows = Rows::new(alloc);

@@ -1,7 +1,7 @@
 //! Units that a change writes anew.
 
-ghost use Rattle.std.specs.Prelude.{◌≡◌, ℕ, ◌+◌, ◌*◌, ◌/◌, ◌%◌, ◌^◌, ◌≤◌, ◌<◌, IsTrue, true, List, length, unwrap_or, if◌then◌else◌, ◌==◌, OnOk, IfOk, IfErr, Err};
-ghost use Rattle.rpm_hindex.specs.Prelude.{bucket_unit, DiskFault, get, HasWord, Idx, IsHeadWithin, IsOther, IsWithout, Looks, nat_cmp, Puts, PutsOne, PutsWithin, SetsBucket, SetsNext, unit_after, unit_at, Units, Unlinks, word};
+ghost use Rattle.std.specs.Prelude.{◌≡◌, ◌+◌, ◌*◌, ◌≤◌, ◌<◌, IsTrue, length, unwrap_or, if◌then◌else◌, ◌==◌, OnOk, IfOk, IfErr, Err};
+ghost use Rattle.rpm_hindex.specs.Prelude.{bucket_unit, get, HasWord, Idx, IsHeadWithin, nat_cmp, Puts, PutsOne, PutsWithin, ReadsOr, SetsBucket, SetsNext, unit_after, unit_at, Units, Unlinks, word};
 
 use crate::chain::Extent;
 use crate::faults::PrepareFault;
@@ -58,8 +58,7 @@ pub fn words_of<D: Disk>(
     ensures words { IfOk result (λ w. IsTrue D.tells
         → w ≡ unit_after (λ q. get nat_cmp units.now q) (D.files disk.old).idx (bucket_unit bucket)) }
     ensures fault { IfErr result (λ e. e ≡ PrepareFault.DiskFault) }
-    ensures looks { Looks D.Disk Idx 16 disk.old disk.new }
-    ensures cause { DiskFault D.Disk (result ≡ Err PrepareFault.DiskFault) disk.old disk.new }
+    ensures reads { ReadsOr D.Disk Idx 16 (result ≡ Err PrepareFault.DiskFault) disk.old disk.new }
 {
     let unit = 2 + bucket / 4;
     if let Some(words) = units.get(&unit) {

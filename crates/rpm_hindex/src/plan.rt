@@ -1,7 +1,7 @@
 //! What a change of the index will write.
 
-ghost use Rattle.std.specs.Prelude.{◌≡◌, ℕ, ◌+◌, ◌*◌, ◌/◌, ◌%◌, ◌^◌, ◌≤◌, ◌<◌, IsTrue, true, length, map, reverse, ◌++◌, OnOk, IfOk, IfErr, Err};
-ghost use Rattle.rpm_hindex.specs.Prelude.{CanGo, CanWrite, contains, DiskFault, first_record, Grows, HasAdded, Idx, index_in, is_kept, IsFaulty, IsHonest, IsOpen, IsOther, IsScratchOf, IsStrictlySortedBy, IsTooLarge, IsWorkOf, kept_of, keys, LeavesWhole, live_of, Looks, LooksAt, nat_cmp, patch_of};
+ghost use Rattle.std.specs.Prelude.{◌≡◌, ℕ, ◌+◌, ◌*◌, ◌^◌, ◌≤◌, IsTrue, true, length, map, reverse, ◌++◌, OnOk, IfOk, IfErr, Err};
+ghost use Rattle.rpm_hindex.specs.Prelude.{CanGo, CanRead, CanWrite, contains, first_record, Grows, HasAdded, Idx, index_at, index_in, is_kept, IsFaulty, IsHonest, IsOpen, IsOther, IsScratchOf, IsStrictlySortedBy, IsTooLarge, IsWorkOf, kept_of, keys, LeavesWhole, live_of, nat_cmp, patch_of, ReadsAtOr, ReadsOr};
 
 use crate::chain::Extent;
 use crate::change::{Change, prepare_fault, row_ref};
@@ -56,13 +56,10 @@ pub fn add_rows<D: Disk>(disk: &mut D, change: &mut Change, rows: &Rows) -> Resu
     ensures added { OnOk result (IsTrue D.tells → HasAdded (D.files disk.old).idx rows.now change.old change.new) }
     ensures bad { IfErr result (λ e. IsTrue D.tells → IsHonest change.old (D.files disk.old).idx
         → IsFaulty change.old.extent.buckets (D.files disk.old).idx e) }
-    ensures looks { Looks D.Disk Idx (16 * length rows.now) disk.old disk.new }
-    ensures cause { DiskFault D.Disk (result ≡ Err PrepareFault.DiskFault) disk.old disk.new }
+    ensures reads { ReadsOr D.Disk Idx (16 * length rows.now) (result ≡ Err PrepareFault.DiskFault) disk.old disk.new }
 {
     for i in 0..rows.len() {
-        if let Err(fault) = change.add_row(disk, row_ref(rows, i)) {
-            return Err(fault);
-        }
+        change.add_row(disk, row_ref(rows, i))?;
     }
     Ok(())
 }
@@ -145,14 +142,12 @@ fn kept_rows<D: Disk>(
     extent: Extent,
     dropped: &BTreeSet<u32>,
 ) -> Result<Rows, PrepareFault>
-    requires few { extent.buckets ≤ 2 ^ 28 }
-    requires open { IsTrue D.tells → IsOpen extent (D.files disk.old).idx }
+    requires open { CanRead D.Disk disk.old extent }
     ensures other { IfErr result (λ e. IsOther e) }
-    ensures rows { IfOk result (λ rows. IsTrue D.tells → rows ≡ kept_of (index_in extent.buckets (D.files disk.old).idx)
-        (is_kept (λ p. contains nat_cmp dropped.now p))) }
+    ensures rows { IfOk result (λ rows. IsTrue D.tells
+        → rows ≡ kept_of (index_at D.Disk disk.old extent) (is_kept (λ p. contains nat_cmp dropped.now p))) }
     ensures bad { IfErr result (λ e. IsTrue D.tells → IsFaulty extent.buckets (D.files disk.old).idx e) }
-    ensures looks { LooksAt D.Disk Idx disk.old disk.new }
-    ensures cause { DiskFault D.Disk (result ≡ Err PrepareFault.DiskFault) disk.old disk.new }
+    ensures reads { ReadsAtOr D.Disk Idx (result ≡ Err PrepareFault.DiskFault) disk.old disk.new }
 {
     let mut rows = Rows::new(alloc);
     let mut buffer = Vec::new(alloc);
@@ -183,8 +178,7 @@ pub fn from_scratch<D: Disk>(
     change: &Change,
     adds: &Rows,
 ) -> Result<IndexPlan, PrepareFault>
-    requires few { change.now.extent.buckets ≤ 2 ^ 28 }
-    requires open { IsTrue D.tells → IsOpen change.now.extent (D.files disk.old).idx }
+    requires open { CanRead D.Disk disk.old change.now.extent }
     ensures leaves { IfOk result (λ plan. LeavesWhole plan.work) }
     ensures full { IfErr result (λ e. IsTrue D.tells → IsTooLarge (reverse (kept_of (index_in change.now.extent.buckets
         (D.files disk.old).idx) (is_kept (λ p. contains nat_cmp change.now.dropped p))) ++ adds.now) e) }
@@ -192,13 +186,9 @@ pub fn from_scratch<D: Disk>(
         → IsScratchOf (reverse (kept_of (index_in change.now.extent.buckets (D.files disk.old).idx)
         (is_kept (λ p. contains nat_cmp change.now.dropped p))) ++ adds.now) plan.work) }
     ensures bad { IfErr result (λ e. IsTrue D.tells → IsFaulty change.now.extent.buckets (D.files disk.old).idx e) }
-    ensures looks { LooksAt D.Disk Idx disk.old disk.new }
-    ensures cause { DiskFault D.Disk (result ≡ Err PrepareFault.DiskFault) disk.old disk.new }
+    ensures reads { ReadsAtOr D.Disk Idx (result ≡ Err PrepareFault.DiskFault) disk.old disk.new }
 {
-    let mut rows = match kept_rows(alloc, disk, change.extent, &change.dropped) {
-        Ok(rows) => rows,
-        Err(fault) => return Err(fault),
-    };
+    let mut rows = kept_rows(alloc, disk, change.extent, &change.dropped)?;
     rows.reverse();
     let Ok(()) = append_rows(&mut rows, adds) else {
         return Err(PrepareFault::NoMemory);

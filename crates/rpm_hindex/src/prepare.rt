@@ -1,7 +1,7 @@
 //! Working out a change of the index.
 
-ghost use Rattle.std.specs.Prelude.{◌≡◌, ℕ, ◌+◌, ◌*◌, ◌/◌, ◌%◌, ◌^◌, ◌≤◌, ◌<◌, IsTrue, true, length, map, [], ◌++◌, OnOk, IfOk, IfErr, Err};
-ghost use Rattle.rpm_hindex.specs.Prelude.{buckets_of, CanGo, CanWrite, chains_bytes, contains, DiskFault, HasRoomFor, Idx, index_in, is_bucket_count, is_in_order, is_kept, IsFresh, IsHonest, IsOpen, IsPrepared, IsStarted, IsUnprepared, IsWellFormed, Keeps, LooksAt, nat_cmp, records, StaysInPlace, StaysWithin, Units};
+ghost use Rattle.std.specs.Prelude.{◌≡◌, ℕ, ◌+◌, ◌*◌, ◌^◌, ◌≤◌, IsTrue, true, length, [], IfOk, IfErr, Err};
+ghost use Rattle.rpm_hindex.specs.Prelude.{buckets_of, CanGo, CanWrite, chains_bytes, contains, HasRoomFor, Idx, index_in, is_bucket_count, is_in_order, is_kept, IsFresh, IsHonest, IsOpen, IsPrepared, IsStarted, IsUnprepared, IsWellFormed, Keeps, nat_cmp, ReadsAtOr, records, StaysInPlace, StaysWithin, Units};
 
 use crate::change::Change;
 use crate::dropped_rows::drop_rows;
@@ -68,19 +68,14 @@ impl Hindex {
             → StaysWithin limit drops.now adds.now (buckets_of self.now.first) (D.files disk.old).idx
             → D.bytes_read disk.new Idx ≤ D.bytes_read disk.old Idx + chains_bytes
             (index_in (buckets_of self.now.first) (D.files disk.old).idx) drops.now + 16 * length adds.now }
-        ensures looks { LooksAt D.Disk Idx disk.old disk.new }
-        ensures cause { DiskFault D.Disk (result ≡ Err PrepareFault.DiskFault) disk.old disk.new }
+        ensures reads { ReadsAtOr D.Disk Idx (result ≡ Err PrepareFault.DiskFault) disk.old disk.new }
     {
         let mut change = self.start(alloc);
-        if let Err(fault) = drop_rows(alloc, disk, &mut change, drops) {
-            return Err(fault);
-        }
+        drop_rows(alloc, disk, &mut change, drops)?;
         if !has_room(&change, adds, limit) {
             return from_scratch(alloc, disk, &change, adds);
         }
-        if let Err(fault) = add_rows(disk, &mut change, adds) {
-            return Err(fault);
-        }
+        add_rows(disk, &mut change, adds)?;
         in_place(alloc, change)
     }
 
@@ -122,8 +117,7 @@ impl Hindex {
             → StaysInPlace drops.now adds.now (buckets_of self.now.first) (D.files disk.old).idx
             → D.bytes_read disk.new Idx ≤ D.bytes_read disk.old Idx + chains_bytes
             (index_in (buckets_of self.now.first) (D.files disk.old).idx) drops.now + 16 * length adds.now }
-        ensures looks { LooksAt D.Disk Idx disk.old disk.new }
-        ensures cause { DiskFault D.Disk (result ≡ Err PrepareFault.DiskFault) disk.old disk.new }
+        ensures reads { ReadsAtOr D.Disk Idx (result ≡ Err PrepareFault.DiskFault) disk.old disk.new }
     {
         self.prepare_within(alloc, disk, drops, adds, UNITS)
     }

@@ -1,6 +1,6 @@
 //! Records that are to be written.
 
-ghost use Rattle.std.specs.Prelude.{◌≡◌, ℕ, ◌+◌, ◌*◌, ◌/◌, ◌%◌, ◌^◌, ◌≤◌, ◌<◌, ◌++◌, length, take, drop, replicate, OnOk};
+ghost use Rattle.std.specs.Prelude.{◌≡◌, ◌^◌, ◌<◌, ◌++◌, length, OnOk};
 ghost use Rattle.rpm_hindex.specs.Prelude.{bytes_of, padding, record_of};
 
 use rpm_outside::unit_of_words;

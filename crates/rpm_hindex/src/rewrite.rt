@@ -1,7 +1,7 @@
 //! Making the index from scratch.
 
-ghost use Rattle.std.specs.Prelude.{◌≡◌, ℕ, ◌+◌, ◌*◌, ◌/◌, ◌%◌, ◌^◌, ◌≤◌, ◌<◌, ◌++◌, ◌∷◌, [], IsTrue, true, length, take, max, ◌≢◌, Err, OnOk, IfOk, IfErr};
-ghost use Rattle.rpm_hindex.specs.Prelude.{ArePadded, blank, bucket_count, Changes, DiskCause, DiskFault, Files, Holds, Idx, index_in, is_ordered, IsFull, IsImage, IsRefused, IsReplaced, IsRewritten, IsSettled, IsWellFormed, Keeps, put, records, Row, SameRows, SameSeal, State, unit_at, Units, units_for, units_of, VoidOrSame};
+ghost use Rattle.std.specs.Prelude.{◌≡◌, ◌+◌, ◌/◌, ◌%◌, ◌^◌, ◌≤◌, ◌∷◌, [], IsTrue, true, length, take, max, ◌≢◌, Err, OnOk, IfOk, IfErr};
+ghost use Rattle.rpm_hindex.specs.Prelude.{ArePadded, blank, bucket_count, Holds, Idx, index_in, is_ordered, IsFull, IsImage, IsRefused, IsReplaced, IsRewritten, IsSettled, IsWellFormed, Keeps, put, records, SameRows, SameSeal, units_for, units_of, VoidOrSame, Writes, WritesOr};
 
 use crate::faults::{IndexDiskFault, RewriteFault};
 use crate::image::Image;
@@ -61,13 +61,9 @@ impl Hindex {
         ensures padded { OnOk result (IsTrue D.tells → ArePadded (index_in self.new.pending (D.files disk.new).idx)) }
         ensures settled { OnOk result (IsTrue D.tells → IsSettled D.Disk Idx disk.new) }
         ensures refused { IfErr result (λ e. IsRefused e → (self.new ≡ self.old) × (disk.new ≡ disk.old)) }
-        ensures changes { Changes D.Disk Idx VoidOrSame 0 disk.old disk.new }
-        ensures cause { DiskFault D.Disk (result ≡ Err RewriteFault.DiskFault) disk.old disk.new }
+        ensures writes { WritesOr D.Disk Idx VoidOrSame 0 (result ≡ Err RewriteFault.DiskFault) disk.old disk.new }
     {
-        let image = match image_of(alloc, rows) {
-            Ok(image) => image,
-            Err(fault) => return Err(fault),
-        };
+        let image = image_of(alloc, rows)?;
         let Ok(()) = self.replace(disk, &image) else {
             return Err(RewriteFault::DiskFault);
         };
@@ -86,15 +82,10 @@ impl Hindex {
             (put 0 (blank ∷ []) (D.files disk.old).idx)) }
         ensures held { OnOk result (IsTrue D.tells → Holds (units_of image.now.bytes.items) (D.files disk.new).idx) }
         ensures settled { OnOk result (IsTrue D.tells → IsSettled D.Disk Idx disk.new) }
-        ensures changes { Changes D.Disk Idx VoidOrSame 0 disk.old disk.new }
-        ensures cause { DiskCause D.Disk result disk.old disk.new }
+        ensures writes { Writes D.Disk Idx VoidOrSame 0 result disk.old disk.new }
     {
-        let Ok(()) = self.void(disk) else {
-            return Err(IndexDiskFault);
-        };
-        let Ok(()) = self.write_image(disk, image) else {
-            return Err(IndexDiskFault);
-        };
+        self.void(disk)?;
+        self.write_image(disk, image)?;
         Ok(())
     }
 
@@ -114,12 +105,9 @@ impl Hindex {
         ensures written { OnOk result (IsTrue D.tells
             → (D.files disk.new).idx ≡ put 1 (units_of image.now.bytes.items) (D.files disk.old).idx) }
         ensures settled { OnOk result (IsTrue D.tells → IsSettled D.Disk Idx disk.new) }
-        ensures changes { Changes D.Disk Idx SameSeal 0 disk.old disk.new }
-        ensures cause { DiskCause D.Disk result disk.old disk.new }
+        ensures writes { Writes D.Disk Idx SameSeal 0 result disk.old disk.new }
     {
-        let Ok(()) = write_synced(disk, 1, &image.bytes) else {
-            return Err(IndexDiskFault);
-        };
+        write_synced(disk, 1, &image.bytes)?;
         self.second = first_unit(&image.bytes);
         self.units = self.units.max(1 + image.bytes.len() as u64 / 16);
         self.pending = image.buckets;

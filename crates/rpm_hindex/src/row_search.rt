@@ -1,7 +1,7 @@
 //! A row's record in its bucket's chain.
 
-ghost use Rattle.std.specs.Prelude.{◌≡◌, ℕ, ◌+◌, ◌*◌, ◌/◌, ◌%◌, ◌^◌, ◌≤◌, ◌<◌, IsTrue, List, IfOk, IfErr, Ok, Err, None, Some, Option};
-ghost use Rattle.rpm_hindex.specs.Prelude.{bucket_unit, CanStart, chain, ChainCosts, contains, DiskFault, follow, get, hash_of, Idx, index_in, is_kept, IsFaultOf, IsFound, IsFoundFrom, IsLinked, IsNext, IsOpen, IsOutside, IsPath, IsSoundSpot, IsStart, IsWithin, LooksAt, nat_cmp, PathCosts, StandsWithin, StandWithin, unit_at, units_at};
+ghost use Rattle.std.specs.Prelude.{◌≡◌, ℕ, ◌%◌, ◌<◌, IsTrue, List, IfOk, IfErr, Ok, Err, Some};
+ghost use Rattle.rpm_hindex.specs.Prelude.{CanRead, CanStart, chain, contains, FindsFrom, FindsRow, get, hash_of, Idx, index_at, is_kept, IsFaultOf, IsNext, IsOutside, IsPath, IsStart, nat_cmp, ReadsAtOr, ReadsChain, ReadsPath, row_with, StandsWithin, StandWithin};
 
 use crate::chain::{Extent, read_bucket};
 use crate::faults::FindFault;
@@ -40,37 +40,24 @@ fn find_around<D: Disk>(
     start: Start,
     row: RowRef<'_>,
 ) -> Result<Option<Spot>, FindFault>
-    requires few { extent.buckets ≤ 2 ^ 28 }
     requires some { 0 < extent.buckets }
-    requires open { IsTrue D.tells → IsOpen extent (D.files disk.old).idx }
+    requires open { CanRead D.Disk disk.old extent }
     requires linked { IsNext extent.buckets extent.used first }
     requires stands { StandsWithin extent.buckets extent.used start }
     requires start { IsTrue D.tells → (places : List ℕ)
-        → IsPath (index_in extent.buckets (D.files disk.old).idx) bucket first places 0
-        → IsStart (index_in extent.buckets (D.files disk.old).idx) bucket first
+        → IsPath (index_at D.Disk disk.old extent) bucket first places 0
+        → IsStart (index_at D.Disk disk.old extent) bucket first
         (is_kept (λ p. contains nat_cmp dropped.now p)) start }
     requires bucket { hash_of row.kind row.key.now % extent.buckets ≡ bucket }
-    ensures within { IfOk result (IsWithin extent.used) }
-    ensures linked { IfOk result (IsLinked extent.buckets extent.used) }
-    ensures sound { IfOk result (λ spot. IsTrue D.tells
-        → IsSoundSpot (index_in extent.buckets (D.files disk.old).idx) bucket spot) }
-    ensures found { IfOk result (λ spot. IsTrue D.tells → (places : List ℕ)
-        → IsPath (index_in extent.buckets (D.files disk.old).idx) bucket first places 0
-        → IsFoundFrom (index_in extent.buckets (D.files disk.old).idx) bucket first 0
+    ensures found { IfOk result (FindsFrom D.Disk disk.old extent bucket first 0
         (is_kept (λ p. contains nat_cmp dropped.now p))
-        (record { kind = row.entry.kind; key = row.entry.key.now; number = row.entry.number; place = row.entry.place })
-        spot) }
+        (row_with row.entry.kind row.entry.key.now row.entry.number row.entry.place)) }
     ensures fault { IfErr result (λ e. IsTrue D.tells → (places : List ℕ)
-        → IsPath (index_in extent.buckets (D.files disk.old).idx) bucket first places 0 → IsOutside e) }
-    ensures cost { IsTrue D.tells → PathCosts (index_in extent.buckets (D.files disk.old).idx) bucket first 0
-        (D.bytes_read disk.old Idx) (D.bytes_read disk.new Idx) }
-    ensures looks { LooksAt D.Disk Idx disk.old disk.new }
-    ensures cause { DiskFault D.Disk (result ≡ Err FindFault.DiskFault) disk.old disk.new }
+        → IsPath (index_at D.Disk disk.old extent) bucket first places 0 → IsOutside e) }
+    ensures cost { ReadsPath D.Disk extent bucket first 0 disk.old disk.new }
+    ensures reads { ReadsAtOr D.Disk Idx (result ≡ Err FindFault.DiskFault) disk.old disk.new }
 {
-    let found = match find_spot(alloc, disk, extent, bucket, start.at, 0, dropped, row) {
-        Ok(found) => found,
-        Err(fault) => return Err(fault),
-    };
+    let found = find_spot(alloc, disk, extent, bucket, start.at, 0, dropped, row)?;
     match found {
         Some(spot) => Ok(Some(Spot {
             before: spot.before.or(start.before),
@@ -93,33 +80,22 @@ fn find_from<D: Disk>(
     starts: &BTreeMap<u32, Start>,
     row: RowRef<'_>,
 ) -> Result<Option<Spot>, FindFault>
-    requires few { extent.buckets ≤ 2 ^ 28 }
     requires some { 0 < extent.buckets }
-    requires open { IsTrue D.tells → IsOpen extent (D.files disk.old).idx }
+    requires open { CanRead D.Disk disk.old extent }
     requires linked { IsNext extent.buckets extent.used first }
     requires stand { StandWithin extent.buckets extent.used (λ b. get nat_cmp starts.now b) }
     requires starts { IsTrue D.tells → (places : List ℕ)
-        → IsPath (index_in extent.buckets (D.files disk.old).idx) bucket first places 0 → (s : Start)
+        → IsPath (index_at D.Disk disk.old extent) bucket first places 0 → (s : Start)
         → get nat_cmp starts.now bucket ≡ Some s
-        → IsStart (index_in extent.buckets (D.files disk.old).idx) bucket first
-        (is_kept (λ p. contains nat_cmp dropped.now p)) s }
+        → IsStart (index_at D.Disk disk.old extent) bucket first (is_kept (λ p. contains nat_cmp dropped.now p)) s }
     requires bucket { hash_of row.kind row.key.now % extent.buckets ≡ bucket }
-    ensures within { IfOk result (IsWithin extent.used) }
-    ensures linked { IfOk result (IsLinked extent.buckets extent.used) }
-    ensures sound { IfOk result (λ spot. IsTrue D.tells
-        → IsSoundSpot (index_in extent.buckets (D.files disk.old).idx) bucket spot) }
-    ensures found { IfOk result (λ spot. IsTrue D.tells → (places : List ℕ)
-        → IsPath (index_in extent.buckets (D.files disk.old).idx) bucket first places 0
-        → IsFoundFrom (index_in extent.buckets (D.files disk.old).idx) bucket first 0
+    ensures found { IfOk result (FindsFrom D.Disk disk.old extent bucket first 0
         (is_kept (λ p. contains nat_cmp dropped.now p))
-        (record { kind = row.entry.kind; key = row.entry.key.now; number = row.entry.number; place = row.entry.place })
-        spot) }
+        (row_with row.entry.kind row.entry.key.now row.entry.number row.entry.place)) }
     ensures fault { IfErr result (λ e. IsTrue D.tells → (places : List ℕ)
-        → IsPath (index_in extent.buckets (D.files disk.old).idx) bucket first places 0 → IsOutside e) }
-    ensures cost { IsTrue D.tells → PathCosts (index_in extent.buckets (D.files disk.old).idx) bucket first 0
-        (D.bytes_read disk.old Idx) (D.bytes_read disk.new Idx) }
-    ensures looks { LooksAt D.Disk Idx disk.old disk.new }
-    ensures cause { DiskFault D.Disk (result ≡ Err FindFault.DiskFault) disk.old disk.new }
+        → IsPath (index_at D.Disk disk.old extent) bucket first places 0 → IsOutside e) }
+    ensures cost { ReadsPath D.Disk extent bucket first 0 disk.old disk.new }
+    ensures reads { ReadsAtOr D.Disk Idx (result ≡ Err FindFault.DiskFault) disk.old disk.new }
 {
     match starts.get(&bucket) {
         Some(start) => find_around(alloc, disk, extent, bucket, first, dropped, *start, row),
@@ -135,14 +111,12 @@ fn first_fault<D: Disk>(
     bucket: u32,
     unit: u64,
 ) -> FindFault
-    requires few { extent.buckets ≤ 2 ^ 28 }
     requires bucket { bucket < extent.buckets }
-    requires open { IsTrue D.tells → IsOpen extent (D.files disk.old).idx }
-    requires bad { IsTrue D.tells → (places : List ℕ)
-        → chain (index_in extent.buckets (D.files disk.old).idx) bucket ≡ Ok places → ⊥ }
-    ensures fault { IsTrue D.tells → IsFaultOf (chain (index_in extent.buckets (D.files disk.old).idx) bucket) result }
-    ensures looks { LooksAt D.Disk Idx disk.old disk.new }
-    ensures cause { DiskFault D.Disk (result ≡ FindFault.DiskFault) disk.old disk.new }
+    requires open { CanRead D.Disk disk.old extent }
+    requires bad { IsTrue D.tells → (places : List ℕ) → chain (index_at D.Disk disk.old extent) bucket ≡ Ok places
+        → ⊥ }
+    ensures fault { IsTrue D.tells → IsFaultOf (chain (index_at D.Disk disk.old extent) bucket) result }
+    ensures reads { ReadsAtOr D.Disk Idx (result ≡ FindFault.DiskFault) disk.old disk.new }
 {
     let mut buffer = Vec::new(alloc);
     match check_chain(alloc, disk, extent, bucket, &mut buffer) {
@@ -161,33 +135,20 @@ pub fn find_row<D: Disk>(
     starts: &BTreeMap<u32, Start>,
     row: RowRef<'_>,
 ) -> Result<Found, FindFault>
-    requires few { extent.buckets ≤ 2 ^ 28 }
     requires bucket { bucket < extent.buckets }
-    requires open { IsTrue D.tells → IsOpen extent (D.files disk.old).idx }
+    requires open { CanRead D.Disk disk.old extent }
     requires starts { CanStart D.Disk disk.old extent (is_kept (λ p. contains nat_cmp dropped.now p))
         (λ b. get nat_cmp starts.now b) }
     requires mine { hash_of row.kind row.key.now % extent.buckets ≡ bucket }
-    ensures words { IfOk result (λ f. IsTrue D.tells → f.words ≡ unit_at (D.files disk.old).idx (bucket_unit bucket)) }
-    ensures within { IfOk result (λ f. IsWithin extent.used f.spot) }
-    ensures linked { IfOk result (λ f. IsLinked extent.buckets extent.used f.spot) }
-    ensures sound { IfOk result (λ f. IsTrue D.tells
-        → IsSoundSpot (index_in extent.buckets (D.files disk.old).idx) bucket f.spot) }
-    ensures found { IfOk result (λ f. IsTrue D.tells
-        → IsFound (index_in extent.buckets (D.files disk.old).idx) bucket
+    ensures found { IfOk result (FindsRow D.Disk disk.old extent bucket
         (is_kept (λ p. contains nat_cmp dropped.now p))
-        (record { kind = row.entry.kind; key = row.entry.key.now; number = row.entry.number; place = row.entry.place })
-        f.spot) }
+        (row_with row.entry.kind row.entry.key.now row.entry.number row.entry.place)) }
     ensures fault { IfErr result (λ e. IsTrue D.tells
-        → IsFaultOf (chain (index_in extent.buckets (D.files disk.old).idx) bucket) e) }
-    ensures cost { IsTrue D.tells → ChainCosts (chain (index_in extent.buckets (D.files disk.old).idx) bucket)
-        (units_at (unit_at (D.files disk.old).idx)) (D.bytes_read disk.old Idx + 16) (D.bytes_read disk.new Idx) }
-    ensures looks { LooksAt D.Disk Idx disk.old disk.new }
-    ensures cause { DiskFault D.Disk (result ≡ Err FindFault.DiskFault) disk.old disk.new }
+        → IsFaultOf (chain (index_at D.Disk disk.old extent) bucket) e) }
+    ensures cost { ReadsChain D.Disk extent bucket disk.old disk.new }
+    ensures reads { ReadsAtOr D.Disk Idx (result ≡ Err FindFault.DiskFault) disk.old disk.new }
 {
-    let head = match read_bucket(disk, extent, bucket) {
-        Ok(head) => head,
-        Err(fault) => return Err(fault),
-    };
+    let head = read_bucket(disk, extent, bucket)?;
     let words = head.words;
     match find_from(alloc, disk, extent, bucket, head.at, dropped, starts, row) {
         Ok(spot) => Ok(Found { words, spot }),

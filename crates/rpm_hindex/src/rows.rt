@@ -1,7 +1,7 @@
 //! Rows that an index is made of.
 
-ghost use Rattle.std.specs.Prelude.{◌≡◌, ℕ, ◌+◌, ◌≤◌, ◌<◌, ◌^◌, ◌++◌, ◌∷◌, [], length, take, drop, reverse, IfOk, OnOk, OnErr, slice_index_or};
-ghost use Rattle.rpm_hindex.specs.Prelude.{live_of, Row, row_in, row_nth};
+ghost use Rattle.std.specs.Prelude.{◌≡◌, ◌≤◌, ◌<◌, ◌^◌, ◌++◌, ◌∷◌, [], length, reverse, IfOk, OnOk, OnErr};
+ghost use Rattle.rpm_hindex.specs.Prelude.{live_of, Row, row_nth};
 
 use crate::sizes::record_units;
 use std::alloc::{AllocError, Global};

@@ -1,7 +1,7 @@
 //! How large an index is.
 
-ghost use Rattle.std.specs.Prelude.{◌≡◌, ℕ, ◌+◌, ◌*◌, ◌/◌, ◌^◌, ◌≤◌, ◌<◌};
-ghost use Rattle.rpm_hindex.specs.Prelude.{bucket_count, first_record, index_units, is_bucket_count, record_units};
+ghost use Rattle.std.specs.Prelude.{◌≡◌, ◌^◌, ◌≤◌, ◌<◌};
+ghost use Rattle.rpm_hindex.specs.Prelude.{bucket_count, index_units, is_bucket_count, record_units};
 
 /// The most units that an index has: 4 GiB.
 pub const UNITS: u64 = 268_435_456;

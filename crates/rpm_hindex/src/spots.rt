@@ -1,7 +1,7 @@
 //! Where a row's record stands in its chain.
 
-ghost use Rattle.std.specs.Prelude.{◌≡◌, ℕ, ◌+◌, ◌*◌, ◌/◌, ◌%◌, ◌^◌, ◌≤◌, ◌<◌, ◌&&◌, IsTrue, false, List, IfOk, IfErr, Ok, Err, Some, if◌then◌else◌, Option};
-ghost use Rattle.rpm_hindex.specs.Prelude.{contains, DiskFault, hash_of, Idx, index_in, is_kept, IsFoundFrom, IsLinked, IsNext, IsOpen, IsOutside, IsPath, IsSoundSpot, IsWithin, LooksAt, nat_cmp, OnWay, PathCosts, SkipsTo};
+ghost use Rattle.std.specs.Prelude.{◌≡◌, ℕ, ◌%◌, ◌≤◌, ◌<◌, ◌&&◌, IsTrue, false, List, IfOk, IfErr, Err, Some, if◌then◌else◌};
+ghost use Rattle.rpm_hindex.specs.Prelude.{CanRead, contains, FindsFrom, hash_of, Idx, index_at, is_kept, IsNext, IsOutside, IsPath, nat_cmp, OnWay, PathCosts, ReadsAtOr, ReadsPath, row_with, SkipsTo};
 
 use crate::chain::Extent;
 use crate::faults::FindFault;
@@ -30,27 +30,22 @@ fn skip_dropped<D: Disk>(
     end: u32,
     dropped: &BTreeSet<u32>,
 ) -> Result<u32, FindFault>
-    requires few { extent.buckets ≤ 2 ^ 28 }
-    requires open { IsTrue D.tells → IsOpen extent (D.files disk.old).idx }
+    requires open { CanRead D.Disk disk.old extent }
     requires linked { IsNext extent.buckets extent.used from }
     ensures linked { IfOk result (IsNext extent.buckets extent.used) }
     ensures skips { IfOk result (λ to. IsTrue D.tells → (b : ℕ) (front : List ℕ)
-        → IsPath (index_in extent.buckets (D.files disk.old).idx) b from front end
-        → SkipsTo (index_in extent.buckets (D.files disk.old).idx) b end
-        (is_kept (λ p. contains nat_cmp dropped.now p)) from to) }
+        → IsPath (index_at D.Disk disk.old extent) b from front end
+        → SkipsTo (index_at D.Disk disk.old extent) b end (is_kept (λ p. contains nat_cmp dropped.now p)) from to) }
     ensures fault { IfErr result (λ e. IsTrue D.tells → (b : ℕ)
-        → OnWay (index_in extent.buckets (D.files disk.old).idx) b from end (IsOutside e)) }
-    ensures cost { IsTrue D.tells → (b : ℕ) → PathCosts (index_in extent.buckets (D.files disk.old).idx) b from end
-        (D.bytes_read disk.old Idx) (D.bytes_read disk.new Idx) }
-    ensures looks { LooksAt D.Disk Idx disk.old disk.new }
-    ensures cause { DiskFault D.Disk (result ≡ Err FindFault.DiskFault) disk.old disk.new }
+        → OnWay (index_at D.Disk disk.old extent) b from end (IsOutside e)) }
+    ensures cost { IsTrue D.tells → (b : ℕ)
+        → PathCosts (index_at D.Disk disk.old extent) b from end (D.bytes_read disk.old Idx)
+        (D.bytes_read disk.new Idx) }
+    ensures reads { ReadsAtOr D.Disk Idx (result ≡ Err FindFault.DiskFault) disk.old disk.new }
 {
     let mut at = from;
     while at > end && dropped.contains(&at) {
-        let ahead = match read_head(disk, extent, at) {
-            Ok(ahead) => ahead,
-            Err(fault) => return Err(fault),
-        };
+        let ahead = read_head(disk, extent, at)?;
         at = ahead.next;
     }
     Ok(at)
@@ -115,27 +110,17 @@ pub fn find_spot<D: Disk>(
     dropped: &BTreeSet<u32>,
     row: RowRef<'_>,
 ) -> Result<Option<Spot>, FindFault>
-    requires few { extent.buckets ≤ 2 ^ 28 }
     requires some { 0 < extent.buckets }
-    requires open { IsTrue D.tells → IsOpen extent (D.files disk.old).idx }
+    requires open { CanRead D.Disk disk.old extent }
     requires linked { IsNext extent.buckets extent.used from }
     requires bucket { hash_of row.kind row.key.now % extent.buckets ≡ bucket }
-    ensures within { IfOk result (IsWithin extent.used) }
-    ensures linked { IfOk result (IsLinked extent.buckets extent.used) }
-    ensures sound { IfOk result (λ spot. IsTrue D.tells
-        → IsSoundSpot (index_in extent.buckets (D.files disk.old).idx) bucket spot) }
-    ensures found { IfOk result (λ spot. IsTrue D.tells → (front : List ℕ)
-        → IsPath (index_in extent.buckets (D.files disk.old).idx) bucket from front end
-        → IsFoundFrom (index_in extent.buckets (D.files disk.old).idx) bucket from end
+    ensures found { IfOk result (FindsFrom D.Disk disk.old extent bucket from end
         (is_kept (λ p. contains nat_cmp dropped.now p))
-        (record { kind = row.entry.kind; key = row.entry.key.now; number = row.entry.number; place = row.entry.place })
-        spot) }
+        (row_with row.entry.kind row.entry.key.now row.entry.number row.entry.place)) }
     ensures fault { IfErr result (λ e. IsTrue D.tells
-        → OnWay (index_in extent.buckets (D.files disk.old).idx) bucket from end (IsOutside e)) }
-    ensures cost { IsTrue D.tells → PathCosts (index_in extent.buckets (D.files disk.old).idx) bucket from end
-        (D.bytes_read disk.old Idx) (D.bytes_read disk.new Idx) }
-    ensures looks { LooksAt D.Disk Idx disk.old disk.new }
-    ensures cause { DiskFault D.Disk (result ≡ Err FindFault.DiskFault) disk.old disk.new }
+        → OnWay (index_at D.Disk disk.old extent) bucket from end (IsOutside e)) }
+    ensures cost { ReadsPath D.Disk extent bucket from end disk.old disk.new }
+    ensures reads { ReadsAtOr D.Disk Idx (result ≡ Err FindFault.DiskFault) disk.old disk.new }
 {
     let mut buffer = Vec::new(alloc);
     let mut before = None;
@@ -146,7 +131,7 @@ pub fn find_spot<D: Disk>(
             number: row.number,
             place: row.place,
         });
-        let met = match meet(
+        let met = meet(
             disk,
             extent,
             bucket,
@@ -155,15 +140,9 @@ pub fn find_spot<D: Disk>(
             row.key,
             only,
             &mut buffer,
-        ) {
-            Ok(met) => met,
-            Err(fault) => return Err(fault),
-        };
+        )?;
         if is_hit(dropped, met) {
-            let behind = match skip_dropped(disk, extent, met.next, end, dropped) {
-                Ok(behind) => behind,
-                Err(fault) => return Err(fault),
-            };
+            let behind = skip_dropped(disk, extent, met.next, end, dropped)?;
             return Ok(Some(Spot { before, at, behind }));
         }
         before = last_kept(dropped, last, before, met.head);

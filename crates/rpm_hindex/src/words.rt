@@ -1,6 +1,6 @@
 //! Numbers and units among bytes.
 
-ghost use Rattle.std.specs.Prelude.{◌≡◌, ℕ, ◌≤◌, ◌++◌, length, take, OnOk, OnErr};
+ghost use Rattle.std.specs.Prelude.{◌≡◌, ◌≤◌, ◌++◌, length, take, OnOk, OnErr};
 ghost use Rattle.rpm_hindex.specs.Prelude.{bytes_of_word};
 
 use rpm_outside::bytes_of_word;

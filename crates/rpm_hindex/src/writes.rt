@@ -1,7 +1,7 @@
 //! Writing the index.
 
-ghost use Rattle.std.specs.Prelude.{◌≡◌, ℕ, ◌+◌, ◌*◌, ◌/◌, ◌%◌, ◌^◌, ◌≤◌, ◌<◌, ◌++◌, ◌∷◌, [], IsTrue, true, length, max, OnOk, IfOk, IfErr};
-ghost use Rattle.rpm_hindex.specs.Prelude.{AddsPadded, blank, Changes, DiskCause, Files, Idx, index_in, is_current, is_ordered, IsSame, IsSealed, IsSettled, IsWellFormed, Keeps, put, records, seal_unit, SealedOrSame, State, Torn, unit_at, Units, units_of, VoidOrSame};
+ghost use Rattle.std.specs.Prelude.{◌≡◌, ◌+◌, ◌/◌, ◌%◌, ◌^◌, ◌≤◌, ◌<◌, ◌∷◌, [], IsTrue, true, length, max, OnOk};
+ghost use Rattle.rpm_hindex.specs.Prelude.{AddsPadded, blank, Idx, index_in, is_current, is_ordered, IsSame, IsSealed, IsSettled, IsWellFormed, Keeps, put, records, seal_unit, SealedOrSame, Torn, units_of, VoidOrSame, Writes};
 
 use crate::faults::IndexDiskFault;
 use crate::index::{Hindex, MAGIC};
@@ -14,8 +14,7 @@ pub fn write_units<D: Disk>(disk: &mut D, unit: u64, bytes: &[u8]) -> Result<(),
     requires room { unit + length bytes.now / 16 ≤ 2 ^ 28 }
     ensures written { OnOk result (IsTrue D.tells
         → (D.files disk.new).idx ≡ put unit (units_of bytes.now) (D.files disk.old).idx) }
-    ensures changes { Changes D.Disk Idx (Torn unit (units_of bytes.now)) 0 disk.old disk.new }
-    ensures cause { DiskCause D.Disk result disk.old disk.new }
+    ensures writes { Writes D.Disk Idx (Torn unit (units_of bytes.now)) 0 result disk.old disk.new }
 {
     let Ok(()) = disk.write_at(File::Idx, unit, bytes) else {
         return Err(IndexDiskFault);
@@ -27,8 +26,7 @@ pub fn write_units<D: Disk>(disk: &mut D, unit: u64, bytes: &[u8]) -> Result<(),
 pub fn sync<D: Disk>(disk: &mut D) -> Result<(), IndexDiskFault>
     ensures same { IsTrue D.tells → (D.files disk.new).idx ≡ (D.files disk.old).idx }
     ensures settled { OnOk result (IsTrue D.tells → IsSettled D.Disk Idx disk.new) }
-    ensures changes { Changes D.Disk Idx IsSame 0 disk.old disk.new }
-    ensures cause { DiskCause D.Disk result disk.old disk.new }
+    ensures writes { Writes D.Disk Idx IsSame 0 result disk.old disk.new }
 {
     let Ok(()) = disk.sync(File::Idx) else {
         return Err(IndexDiskFault);
@@ -44,16 +42,10 @@ pub fn write_synced<D: Disk>(disk: &mut D, unit: u64, bytes: &[u8]) -> Result<()
     ensures written { OnOk result (IsTrue D.tells
         → (D.files disk.new).idx ≡ put unit (units_of bytes.now) (D.files disk.old).idx) }
     ensures settled { OnOk result (IsTrue D.tells → IsSettled D.Disk Idx disk.new) }
-    ensures changes { Changes D.Disk Idx (Torn unit (units_of bytes.now)) 0 disk.old disk.new }
-    ensures cause { DiskCause D.Disk result disk.old disk.new }
+    ensures writes { Writes D.Disk Idx (Torn unit (units_of bytes.now)) 0 result disk.old disk.new }
 {
-    let Ok(()) = write_units(disk, unit, bytes) else {
-        return Err(IndexDiskFault);
-    };
-    let Ok(()) = sync(disk) else {
-        return Err(IndexDiskFault);
-    };
-    Ok(())
+    write_units(disk, unit, bytes)?;
+    sync(disk)
 }
 
 impl Hindex {
@@ -72,12 +64,9 @@ impl Hindex {
         ensures voided { OnOk result (IsTrue D.tells
             → (D.files disk.new).idx ≡ put 0 (blank ∷ []) (D.files disk.old).idx) }
         ensures settled { OnOk result (IsTrue D.tells → IsSettled D.Disk Idx disk.new) }
-        ensures changes { Changes D.Disk Idx VoidOrSame 0 disk.old disk.new }
-        ensures cause { DiskCause D.Disk result disk.old disk.new }
+        ensures writes { Writes D.Disk Idx VoidOrSame 0 result disk.old disk.new }
     {
-        let Ok(()) = write_synced(disk, 0, &[0; 16]) else {
-            return Err(IndexDiskFault);
-        };
+        write_synced(disk, 0, &[0; 16])?;
         self.first = [0; 16];
         self.units = self.units.max(1);
         self.pending = 0;
@@ -114,14 +103,11 @@ impl Hindex {
             → IsSealed generation self.old.pending (D.files disk.old).idx
             (put 0 (seal_unit generation self.old.pending ∷ []) (D.files disk.old).idx) }
         ensures settled { OnOk result (IsTrue D.tells → IsSettled D.Disk Idx disk.new) }
-        ensures changes { Changes D.Disk Idx (SealedOrSame (seal_unit generation self.old.pending)) 0 disk.old
-            disk.new }
-        ensures cause { DiskCause D.Disk result disk.old disk.new }
+        ensures writes { Writes D.Disk Idx (SealedOrSame (seal_unit generation self.old.pending)) 0
+            result disk.old disk.new }
     {
         let first = unit_of_words(MAGIC, 2, generation, self.pending);
-        let Ok(()) = write_synced(disk, 0, &first) else {
-            return Err(IndexDiskFault);
-        };
+        write_synced(disk, 0, &first)?;
         self.first = first;
         self.pending = 0;
         Ok(())

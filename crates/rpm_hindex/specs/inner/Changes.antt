@@ -1,10 +1,11 @@
 -- A change that is being worked out, as the index that it would leave.
-use Rattle.std.specs.Prelude.{◌≡◌, ℕ, ◌+◌, ◌-◌, ◌*◌, ◌/◌, ◌%◌, ◌^◌, ◌<◌, ◌≤◌, ◌⊎◌, List, length, map, Bool, not, if◌then◌else◌, nat_lt, Option, Some, None, unwrap_or, true, Err, Result, IsOk}
+use Rattle.std.specs.Prelude.{◌≡◌, ℕ, ◌+◌, ◌-◌, ◌*◌, ◌/◌, ◌%◌, ◌^◌, ◌<◌, ◌≤◌, ◌⊎◌, List, [], length, map, Bool, not, if◌then◌else◌, nat_lt, Option, Some, None, unwrap_or, true, Err, Result, IsOk}
 use Rattle.std.specs.Ordering.{nat_cmp}
 use Rattle.std.specs.BTreeMap.{get}
 use Rattle.std.specs.BTreeSet.{contains}
 use Rattle.std.specs.List.{filter, Contains, flat_map, range_with_len, sum_by}
 use Rattle.rpm_outside.specs.Files.{Units, units_of, unit_at}
+use Rattle.rpm_hindex.specs.declared.chain.Extent.{Extent}
 use Rattle.rpm_hindex.specs.declared.change.Change.{Change}
 use Rattle.rpm_hindex.specs.declared.heads.Head.{Head}
 use Rattle.rpm_hindex.specs.declared.plan.Patch.{Patch}
@@ -83,6 +84,26 @@ Unlinks file old new bucket (Some h) n = SetsNext old new h n
 abbrev pub IsBehind : {X : Type 0} → ℕ → (ℕ → Option X) → Type 0
 IsBehind {X} used units = (key : ℕ) (value : X) → units key ≡ Some value → (1 ≤ key) × (key < used)
 
+-- a change can begin with this extent, where unit 1 counts so many records of so many units
+pub record CanBegin (extent : Extent) (count units : ℕ) : Type 0 where
+  pub fours : extent.buckets % 4 ≡ 0
+  pub some : 0 < extent.buckets
+  pub few : extent.buckets ≤ 2 ^ 27
+  pub front : first_record extent.buckets ≤ extent.used
+  pub room : extent.used ≤ 2 ^ 28
+  pub live : first_record extent.buckets + units ≤ extent.used
+  pub records : count ≤ 2 * extent.buckets
+
+-- a change that changes nothing yet, of an index of so many records of so many units
+pub record Begins (here : Extent) (count size : ℕ) (c : Change) : Type 0 where
+  pub extent : c.extent ≡ here
+  pub tail : c.tail.items ≡ []
+  pub units : (q : ℕ) → get nat_cmp c.units q ≡ None
+  pub records : c.records ≡ count
+  pub live : c.live ≡ size
+  pub dropped : (p : ℕ) → is_kept (λ q. contains nat_cmp c.dropped q) p ≡ true
+
+-- a change that can go on
 pub record CanGo (c : Change) : Type 0 where
   pub fours : c.extent.buckets % 4 ≡ 0
   pub some : 0 < c.extent.buckets

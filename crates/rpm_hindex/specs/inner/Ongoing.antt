@@ -29,9 +29,13 @@ pub record Grows (old new : Change) (count units : ℕ) : Type 0 where
   pub records : new.records ≡ old.records + count
   pub live : new.live ≡ old.live + units
 
--- the one row of these parts
+-- the row of these parts
+abbrev pub row_with : ℕ → List ℕ → ℕ → ℕ → Row
+row_with kind key number place = record { kind = kind; key = key; number = number; place = place }
+
+-- that one alone
 abbrev pub one_row : ℕ → List ℕ → ℕ → ℕ → List Row
-one_row kind key number place = record { kind = kind; key = key; number = number; place = place } ∷ []
+one_row kind key number place = row_with kind key number place ∷ []
 
 -- the index of the file that a change is of
 abbrev pub index_of : Change → Units → Index

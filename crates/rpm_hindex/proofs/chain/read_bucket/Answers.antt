@@ -9,18 +9,13 @@ pub returns-then-not-is_link-clause-fault : goal.returns-then-not-is_link-clause
 returns-then-not-is_link-clause-fault g c = λ told.
     let x : Index = index_in c.args.extent.buckets (g.D.Disk.files c.args.disk.now).idx in
     let at = c.word-at.ensures ∙ ap (word (c.args.bucket % 4)) (c.in-Ok.ensures.unit told) in
-    chain_bad x c.args.bucket (ap (is_link x) (sym at) ∙ sym (c.is_link.ensures x refl ((c.requires.open told).used)) ∙ c.if-not-is_link.true)
+    chain_bad x c.args.bucket (ap (is_link x) (sym at) ∙ sym (c.is_link.ensures x refl ((c.requires.open.is_open told).used)) ∙ c.if-not-is_link.true)
 
 pub returns-clause-word : goal.returns-clause-word
 returns-clause-word g c = λ told.
     let x : Index = index_in c.args.extent.buckets (g.D.Disk.files c.args.disk.now).idx in
     let at = c.word-at.ensures ∙ ap (word (c.args.bucket % 4)) (c.in-Ok.ensures.unit told) in
-    (at, sym (c.is_link.ensures x refl ((c.requires.open told).used)) ∙ c.if-not-is_link.false)
-
-pub returns-clause-within : goal.returns-clause-within
-returns-clause-within g c =
-    let x : Index = record { buckets = c.args.extent.buckets; used = c.args.extent.used; head = λ b. 0; unit = λ i. [] } in
-    within x c.word-at.result (sym (c.is_link.ensures x refl refl) ∙ c.if-not-is_link.false)
+    (at, sym (c.is_link.ensures x refl ((c.requires.open.is_open told).used)) ∙ c.if-not-is_link.false)
 
 pub returns-clause-linked : goal.returns-clause-linked
 returns-clause-linked g c = λ some.

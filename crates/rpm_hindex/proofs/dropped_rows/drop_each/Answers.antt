@@ -21,6 +21,7 @@ use Rattle.std.specs.Map.{lookup}
 use Rattle.std.proofs.lemmas.List.{drop_all}
 use Rattle.rpm_hindex.specs.declared.row_search.Start.{Start}
 use Rattle.rpm_hindex.specs.inner.Starts.{AreStarts, StandWithin}
+use Rattle.rpm_hindex.proofs.Results.{handed_on}
 use Rattle.rpm_hindex.proofs.dropped_rows.drop_each.Goals as goal
 
 pub loop-left-init : goal.loop-left-init
@@ -92,16 +93,16 @@ loop-left-preserved g c =
     let lt : i < length rows = omega (arith, c.loop-left-test.true, l.invariant.few) in
     let next : l.left ≡ i + 1 = omega (arith, c.loop-left-test.true) in
     record {
-      go = c.in_default.ensures.keeps.go;
-      extent = c.in_default.ensures.keeps.extent ∙ l.invariant.extent;
-      tail = c.in_default.ensures.keeps.tail ∙ l.invariant.tail;
+      go = c.in_ok-drop_row.ensures.keeps.go;
+      extent = c.in_ok-drop_row.ensures.keeps.extent ∙ l.invariant.extent;
+      tail = c.in_ok-drop_row.ensures.keeps.tail ∙ l.invariant.tail;
       few = omega (arith, lt);
       none = λ e. absurd (omega (arith, e, lt));
       stand = subst (λ (e : Extent). StandWithin e.buckets e.used (λ b. get nat_cmp c.drop_row.new.starts b)) l.invariant.extent
-          c.in_default.ensures.starts.stand;
+          c.in_ok-drop_row.ensures.starts.stand;
       starts = λ told. starts_here g.D.Disk.files l.disk c.args.disk.now l.change.extent c.args.change.now.extent
           (is_kept (λ p. contains nat_cmp c.drop_row.new.self.dropped p)) (λ b. get nat_cmp c.drop_row.new.starts b)
-          ((l.invariant.looks.untouched told).same) l.invariant.extent (c.in_default.ensures.starts.chained told);
+          ((l.invariant.looks.untouched told).same) l.invariant.extent (c.in_ok-drop_row.ensures.starts.chained told);
       less = λ told whole.
           let first : Change = c.args.change.now in
           let file : Files = g.D.Disk.files c.args.disk.now in
@@ -111,7 +112,7 @@ loop-left-preserved g c =
           (of f l.change.extent l.change) (of f l.change.extent c.drop_row.new.self)) same
           (subst (λ (r : Row). IsWellFormed l.change.extent.buckets (g.D.Disk.files l.disk).idx → HasLess (r ∷ [])
           (of (g.D.Disk.files l.disk) l.change.extent l.change) (of (g.D.Disk.files l.disk) l.change.extent c.drop_row.new.self))
-          c.row_ref.ensures.row (c.in_default.ensures.dropped told).less) in
+          c.row_ref.ensures.row (c.in_ok-drop_row.ensures.dropped told).less) in
           let there = subst (λ (e : Extent). IsWellFormed e.buckets file.idx → HasLess (row_nth rows i ∷ []) (of file e l.change)
           (of file e c.drop_row.new.self)) l.invariant.extent here in
           subst (λ (rs : List Row). HasLess rs (of file first.extent first) (of file first.extent c.drop_row.new.self)) (sym (rows_from rows i l.left lt next))
@@ -123,28 +124,28 @@ loop-left-preserved g c =
           (index_here g.D.Disk.files l.disk c.args.disk.now l.change.extent first.extent ((l.invariant.looks.untouched told).same) l.invariant.extent)
           (subst (λ (r : Row). HasNoFault (index_in l.change.extent.buckets (g.D.Disk.files l.disk).idx)
           → HasGone (r ∷ []) l.change last (index_in l.change.extent.buckets (g.D.Disk.files l.disk).idx)) c.row_ref.ensures.row
-          (c.in_default.ensures.dropped told).gone) in
+          (c.in_ok-drop_row.ensures.dropped told).gone) in
           let x : Index = index_in first.extent.buckets (g.D.Disk.files c.args.disk.now).idx in
           subst (λ (rs : List Row). HasGone rs first last x) (sym (rows_from rows i l.left lt next))
           (gone_before (row_nth rows i) (drop l.left rows) first l.change last x (l.invariant.gone told none) (here none));
       cuts = λ told whole none cut.
           let same = (l.invariant.looks.untouched told).same in
           let here = subst (λ (f : Files). IsWellFormed l.change.extent.buckets f.idx → length l.change.tail.items ≡ 0 → IsCut l.change f.idx
-          → IsCut c.drop_row.new.self f.idx) same (c.in_default.ensures.dropped told).cuts in
+          → IsCut c.drop_row.new.self f.idx) same (c.in_ok-drop_row.ensures.dropped told).cuts in
           let wells = subst (λ (e : Extent). IsWellFormed e.buckets (g.D.Disk.files c.args.disk.now).idx) (sym l.invariant.extent) whole in
           here wells (ap (λ (t : Vec ℕ Global). length t.items) l.invariant.tail ∙ none) (l.invariant.cuts told whole none cut);
       honest = λ told is. subst (λ (f : Files). IsHonest l.change f.idx → IsHonest c.drop_row.new.self f.idx)
-          ((l.invariant.looks.untouched told).same) (c.in_default.ensures.dropped told).honest (l.invariant.honest told is);
+          ((l.invariant.looks.untouched told).same) (c.in_ok-drop_row.ensures.dropped told).honest (l.invariant.honest told is);
       cost = λ told whole. chain_more c.args.change.now.extent.buckets (g.D.Disk.files c.args.disk.now).idx whole c.requires.go.some rows i l.left _ _ _ lt next
           (l.invariant.cost told whole)
           (cost_here g.D.Disk.files l.disk c.args.disk.now l.change.extent c.args.change.now.extent _ (row_nth rows i) _ _
-          ((l.invariant.looks.untouched told).same) l.invariant.extent c.row_ref.ensures.row (c.in_default.ensures.cost told));
-      looks = looks_at_then _ _ _ _ _ _ Idx g.met.D.Disk.follows_trans _ _ _ l.invariant.looks c.drop_row.ensures.looks;
-      faults = omega (arith, l.invariant.faults, c.drop_row.ensures.cause.later);
+          ((l.invariant.looks.untouched told).same) l.invariant.extent c.row_ref.ensures.row (c.in_ok-drop_row.ensures.cost told));
+      looks = looks_at_then _ _ _ _ _ _ Idx g.met.D.Disk.follows_trans _ _ _ l.invariant.looks c.drop_row.ensures.reads.looks;
+      faults = omega (arith, l.invariant.faults, c.drop_row.ensures.reads.cause.later);
     }
 
-pub returns-in-Err-clause-cost : goal.returns-in-Err-clause-cost
-returns-in-Err-clause-cost g c = λ told whole.
+pub returns-in_err-drop_row-clause-cost : goal.returns-in_err-drop_row-clause-cost
+returns-in_err-drop_row-clause-cost g c = λ told whole.
     let l = c.loop-left in
     let rows = c.args.rows.now in
     let i = l.left - 1 in
@@ -154,11 +155,12 @@ returns-in-Err-clause-cost g c = λ told whole.
     let file = (g.D.Disk.files c.args.disk.now).idx in
     let more = chain_more B file whole c.requires.go.some rows i l.left _ _ _ lt next (l.invariant.cost told whole)
     (cost_here g.D.Disk.files l.disk c.args.disk.now l.change.extent c.args.change.now.extent _ (row_nth rows i) _ _
-    ((l.invariant.looks.untouched told).same) l.invariant.extent c.row_ref.ensures.row (c.in-Err.ensures.cost told)) in
+    ((l.invariant.looks.untouched told).same) l.invariant.extent c.row_ref.ensures.row (c.in_err-drop_row.ensures.cost told)) in
     omega (arith, more, chains_drop B file whole c.requires.go.some rows i)
 
-pub returns-in-Err-clause-refused : goal.returns-in-Err-clause-refused
-returns-in-Err-clause-refused g c = λ told.
+pub returns-in_err-drop_row-clause-refused : goal.returns-in_err-drop_row-clause-refused
+returns-in_err-drop_row-clause-refused g c =
+    handed_on c.from_residual.result c.in_err-drop_row.field-0.0 _ c.from_residual.ensures.1 (λ told.
     let l = c.loop-left in
     let rows = c.args.rows.now in
     let i = l.left - 1 in
@@ -166,22 +168,22 @@ returns-in-Err-clause-refused g c = λ told.
     let next : l.left ≡ i + 1 = omega (arith, c.loop-left-test.true) in
     let first : Change = c.args.change.now in
     let x : Index = index_in first.extent.buckets (g.D.Disk.files c.args.disk.now).idx in
-    let fault = c.in-Err.ensures.refused told in
+    let fault = c.in_err-drop_row.ensures.refused told in
     record {
       short = λ none.
-          let here = subst (λ (y : Index). HasNoFault y → IsShort (row_nth rows i ∷ []) l.change y c.in-Err.fault)
+          let here = subst (λ (y : Index). HasNoFault y → IsShort (row_nth rows i ∷ []) l.change y c.in_err-drop_row.field-0.0)
           (index_here g.D.Disk.files l.disk c.args.disk.now l.change.extent first.extent ((l.invariant.looks.untouched told).same) l.invariant.extent)
           (subst (λ (r : Row). HasNoFault (index_in l.change.extent.buckets (g.D.Disk.files l.disk).idx)
-          → IsShort (r ∷ []) l.change (index_in l.change.extent.buckets (g.D.Disk.files l.disk).idx) c.in-Err.fault) c.row_ref.ensures.row
+          → IsShort (r ∷ []) l.change (index_in l.change.extent.buckets (g.D.Disk.files l.disk).idx) c.in_err-drop_row.field-0.0) c.row_ref.ensures.row
           fault.short) in
           short_before (row_nth rows i) (drop l.left rows) rows first l.change x
           (λ r. omega (arith, times_drop r rows i, ap (times r) (rows_from rows i l.left lt next)))
-          (l.invariant.gone told none) c.in-Err.fault (here none);
+          (l.invariant.gone told none) c.in_err-drop_row.field-0.0 (here none);
       bad = λ is.
-          let here = subst (λ (f : Files). IsHonest l.change f.idx → IsBadSoFar l.change.extent.buckets f.idx c.in-Err.fault)
+          let here = subst (λ (f : Files). IsHonest l.change f.idx → IsBadSoFar l.change.extent.buckets f.idx c.in_err-drop_row.field-0.0)
           ((l.invariant.looks.untouched told).same) fault.bad (l.invariant.honest told is) in
-          subst (λ (e : Extent). IsBadSoFar e.buckets (g.D.Disk.files c.args.disk.now).idx c.in-Err.fault) l.invariant.extent here;
-    }
+          subst (λ (e : Extent). IsBadSoFar e.buckets (g.D.Disk.files c.args.disk.now).idx c.in_err-drop_row.field-0.0) l.invariant.extent here;
+    })
 
 pub returns-clause-keeps : goal.returns-clause-keeps
 returns-clause-keeps g c =

@@ -1,4 +1,4 @@
-use Rattle.std.proofs.Common.{subst}
+use Rattle.std.proofs.Common.{subst, rules}
 use Rattle.rpm_outside.specs.Files.{Files}
 use Rattle.rpm_outside.specs.declared.disk.File.TheVariants.{Idx}
 use Rattle.rpm_outside.specs.inner.Looking.{looks_at_then}
@@ -26,14 +26,14 @@ pub returns-in-Ok-clause-bad : goal.returns-in-Ok-clause-bad
 returns-in-Ok-clause-bad g c = λ told honest.
     let B = c.args.change.now.extent.buckets in
     let file : Files = g.D.Disk.files c.args.disk.now in
-    let none = subst (λ (f : Files). HasNoFault (index_in B f.idx)) ((c.drop_each.ensures.looks.untouched told).same) (c.in-Ok.ensures.none told) in
+    let none = subst (λ (f : Files). HasNoFault (index_in B f.idx)) ((c.drop_each.ensures.reads.looks.untouched told).same) (c.in-Ok.ensures.none told) in
     bad_so_far B file.idx c.in-Err.fault none ((c.in-Err.ensures.refused told).bad honest)
 
 pub returns-in-Err-check_chains-clause-bad : goal.returns-in-Err-check_chains-clause-bad
 returns-in-Err-check_chains-clause-bad g c = λ told honest.
     let B = c.args.change.now.extent.buckets in
     let file : Files = g.D.Disk.files c.args.disk.now in
-    let f = subst (λ (f : Files). HasFault (index_in B f.idx) c.in-Err-check_chains.first) ((c.drop_each.ensures.looks.untouched told).same)
+    let f = subst (λ (f : Files). HasFault (index_in B f.idx) c.in-Err-check_chains.first) ((c.drop_each.ensures.reads.looks.untouched told).same)
     (c.in-Err-check_chains.ensures.fault told) in
     faulty_bad B file.idx c.prepare_fault.result (bad_chain B file.idx c.prepare_fault.result f.0 f.1 (c.prepare_fault.ensures.fault _ f.2))
 
@@ -41,7 +41,7 @@ pub returns-in-Err-check_chains-clause-counts : goal.returns-in-Err-check_chains
 returns-in-Err-check_chains-clause-counts g c = λ told fresh honest.
     let B = c.args.change.now.extent.buckets in
     let file : Files = g.D.Disk.files c.args.disk.now in
-    let f = subst (λ (f : Files). HasFault (index_in B f.idx) c.in-Err-check_chains.first) ((c.drop_each.ensures.looks.untouched told).same)
+    let f = subst (λ (f : Files). HasFault (index_in B f.idx) c.in-Err-check_chains.first) ((c.drop_each.ensures.reads.looks.untouched told).same)
     (c.in-Err-check_chains.ensures.fault told) in
     faulty_for c.args.rows.now B file.idx c.prepare_fault.result
     (bad_chain B file.idx c.prepare_fault.result f.0 f.1 (c.prepare_fault.ensures.fault _ f.2))
@@ -50,19 +50,25 @@ pub returns-in-Ok-clause-counts : goal.returns-in-Ok-clause-counts
 returns-in-Ok-clause-counts g c = λ told fresh honest.
     let B = c.args.change.now.extent.buckets in
     let file : Files = g.D.Disk.files c.args.disk.now in
-    let none = subst (λ (f : Files). HasNoFault (index_in B f.idx)) ((c.drop_each.ensures.looks.untouched told).same) (c.in-Ok.ensures.none told) in
+    let none = subst (λ (f : Files). HasNoFault (index_in B f.idx)) ((c.drop_each.ensures.reads.looks.untouched told).same) (c.in-Ok.ensures.none told) in
     bad_for c.args.rows.now c.args.change.now file.idx c.in-Err.fault (c.is_count_fault.ensures.yes c.if-not-is_count_fault.false) fresh
     ((c.in-Err.ensures.refused told).short none)
 
-pub returns-in-Err-check_chains-clause-looks : goal.returns-in-Err-check_chains-clause-looks
-returns-in-Err-check_chains-clause-looks g c =
-    looks_at_then _ _ _ _ _ _ Idx g.met.D.Disk.follows_trans c.args.disk.now c.drop_each.new.disk c.check_chains.new.disk c.drop_each.ensures.looks
-    c.check_chains.ensures.looks
+pub returns-in-Err-check_chains-clause-reads : goal.returns-in-Err-check_chains-clause-reads
+returns-in-Err-check_chains-clause-reads g c = record {
+  looks =
+      looks_at_then _ _ _ _ _ _ Idx g.met.D.Disk.follows_trans c.args.disk.now c.drop_each.new.disk c.check_chains.new.disk c.drop_each.ensures.reads.looks
+      c.check_chains.ensures.reads.looks;
+  cause = search rules;
+}
 
-pub returns-in-Ok-clause-looks : goal.returns-in-Ok-clause-looks
-returns-in-Ok-clause-looks g c =
-    looks_at_then _ _ _ _ _ _ Idx g.met.D.Disk.follows_trans c.args.disk.now c.drop_each.new.disk c.check_chains.new.disk c.drop_each.ensures.looks
-    c.check_chains.ensures.looks
+pub returns-in-Ok-clause-reads : goal.returns-in-Ok-clause-reads
+returns-in-Ok-clause-reads g c = record {
+  looks =
+      looks_at_then _ _ _ _ _ _ Idx g.met.D.Disk.follows_trans c.args.disk.now c.drop_each.new.disk c.check_chains.new.disk c.drop_each.ensures.reads.looks
+      c.check_chains.ensures.reads.looks;
+  cause = search rules;
+}
 
 pub returns-in-Ok-clause-cost : goal.returns-in-Ok-clause-cost
 returns-in-Ok-clause-cost g c = λ told whole honest.

@@ -7,17 +7,19 @@ use Rattle.rpm_hindex.specs.Index.{index_in, is_sound, row_at, length_at}
 use Rattle.rpm_hindex.specs.Answers.{has_key, is_wanted, row_of_hit}
 use Rattle.rpm_hindex.proofs.Steps.{moved, other_row, wanted_by_key, number_at, place_at}
 use Rattle.rpm_hindex.proofs.Meets.{placed_still, head_still, fault_from, both_read}
+use Rattle.rpm_hindex.proofs.Results.{handed_on}
 use Rattle.rpm_hindex.proofs.heads.meet.Goals as goal
 
-pub returns-in-Err-clause-fault : goal.returns-in-Err-clause-fault
-returns-in-Err-clause-fault g c = λ told. c.in-Err.ensures.fault told c.args.bucket
+pub returns-in_err-next-clause-fault : goal.returns-in_err-next-clause-fault
+returns-in_err-next-clause-fault g c =
+    handed_on c.from_residual.result c.in_err-next.field-0.0 _ c.from_residual.ensures.1 (λ told. c.in_err-next.ensures.fault told c.args.bucket)
 
 pub returns-then-not-may_be-clause-met : goal.returns-then-not-may_be-clause-met
 returns-then-not-may_be-clause-met g c = λ told.
-    let a = c.in-Ok.ensures.ahead told in
+    let a = c.in_ok-next.ensures.ahead told in
     let unit = unit_at (g.D.Disk.files c.args.disk.now).idx in
     let at = c.args.at in
-    let here = c.in-Ok.ensures.here in
+    let here = c.in_ok-next.ensures.here in
     let other = c.may_be.ensures.no c.if-not-may_be.true in
     record {
       next = a.next;
@@ -31,47 +33,51 @@ returns-then-not-may_be-clause-met g c = λ told.
 
 pub meets_key-requires-clause-placed : goal.meets_key-requires-clause-placed
 meets_key-requires-clause-placed g c = λ told.
-    placed_still c.args.extent.buckets c.args.at (g.D.Disk.files c.args.disk.now) (g.D.Disk.files c.read_head.new.disk) c.in-Ok.ahead
-    ((c.in-Ok.ensures.looks.untouched told).same) c.in-Ok.ensures.here (c.in-Ok.ensures.ahead told)
+    placed_still c.args.extent.buckets c.args.at (g.D.Disk.files c.args.disk.now) (g.D.Disk.files c.read_head.new.disk) c.in_ok-next.field-0
+    ((c.in_ok-next.ensures.reads.looks.untouched told).same) c.in_ok-next.ensures.here (c.in_ok-next.ensures.ahead told)
 
 pub meets_key-requires-clause-head : goal.meets_key-requires-clause-head
 meets_key-requires-clause-head g c = λ told.
-    head_still c.args.extent.buckets c.args.at (g.D.Disk.files c.args.disk.now) (g.D.Disk.files c.read_head.new.disk) c.in-Ok.ahead
-    ((c.in-Ok.ensures.looks.untouched told).same) c.in-Ok.ensures.here (c.in-Ok.ensures.ahead told)
+    head_still c.args.extent.buckets c.args.at (g.D.Disk.files c.args.disk.now) (g.D.Disk.files c.read_head.new.disk) c.in_ok-next.field-0
+    ((c.in_ok-next.ensures.reads.looks.untouched told).same) c.in_ok-next.ensures.here (c.in_ok-next.ensures.ahead told)
 
-pub returns-in-Err-meets_key-clause-fault : goal.returns-in-Err-meets_key-clause-fault
-returns-in-Err-meets_key-clause-fault g c = λ told.
-    fault_from c.args.extent.buckets c.args.at (g.D.Disk.files c.args.disk.now) (g.D.Disk.files c.read_head.new.disk) c.in-Ok.ahead
-    ((c.in-Ok.ensures.looks.untouched told).same) c.in-Ok.ensures.here c.args.bucket c.in-Err-meets_key.fault (c.in-Err-meets_key.ensures.fault told)
+pub returns-in_err-is_wanted-clause-fault : goal.returns-in_err-is_wanted-clause-fault
+returns-in_err-is_wanted-clause-fault g c =
+    handed_on c.from_residual-in_err-is_wanted.result c.in_err-is_wanted.field-0.0 _ c.from_residual-in_err-is_wanted.ensures.1 (λ told.
+    fault_from c.args.extent.buckets c.args.at (g.D.Disk.files c.args.disk.now) (g.D.Disk.files c.read_head.new.disk) c.in_ok-next.field-0
+    ((c.in_ok-next.ensures.reads.looks.untouched told).same) c.in_ok-next.ensures.here c.args.bucket c.in_err-is_wanted.field-0.0
+    (c.in_err-is_wanted.ensures.fault told))
 
-pub returns-in-Err-meets_key-clause-cost : goal.returns-in-Err-meets_key-clause-cost
-returns-in-Err-meets_key-clause-cost g c = λ told sound.
-    both_read c.args.extent.buckets c.args.at (g.D.Disk.files c.args.disk.now) (g.D.Disk.files c.read_head.new.disk) c.in-Ok.ahead
-    ((c.in-Ok.ensures.looks.untouched told).same) c.in-Ok.ensures.here _ _ _ (c.in-Ok.ensures.ahead told) c.in-Ok.ensures.looks.reads.idx
-    c.in-Err-meets_key.ensures.looks.reads.idx
+pub returns-in_err-is_wanted-clause-cost : goal.returns-in_err-is_wanted-clause-cost
+returns-in_err-is_wanted-clause-cost g c = λ told sound.
+    both_read c.args.extent.buckets c.args.at (g.D.Disk.files c.args.disk.now) (g.D.Disk.files c.read_head.new.disk) c.in_ok-next.field-0
+    ((c.in_ok-next.ensures.reads.looks.untouched told).same) c.in_ok-next.ensures.here _ _ _ (c.in_ok-next.ensures.ahead told)
+    c.in_ok-next.ensures.reads.looks.reads.idx
+    c.in_err-is_wanted.ensures.reads.looks.reads.idx
 
-pub returns-in-Ok-meets_key-clause-cost : goal.returns-in-Ok-meets_key-clause-cost
-returns-in-Ok-meets_key-clause-cost g c = λ told sound.
-    both_read c.args.extent.buckets c.args.at (g.D.Disk.files c.args.disk.now) (g.D.Disk.files c.read_head.new.disk) c.in-Ok.ahead
-    ((c.in-Ok.ensures.looks.untouched told).same) c.in-Ok.ensures.here _ _ _ (c.in-Ok.ensures.ahead told) c.in-Ok.ensures.looks.reads.idx
-    c.in-Ok-meets_key.ensures.looks.reads.idx
+pub returns-clause-cost : goal.returns-clause-cost
+returns-clause-cost g c = λ told sound.
+    both_read c.args.extent.buckets c.args.at (g.D.Disk.files c.args.disk.now) (g.D.Disk.files c.read_head.new.disk) c.in_ok-next.field-0
+    ((c.in_ok-next.ensures.reads.looks.untouched told).same) c.in_ok-next.ensures.here _ _ _ (c.in_ok-next.ensures.ahead told)
+    c.in_ok-next.ensures.reads.looks.reads.idx
+    c.in_ok-is_wanted.ensures.reads.looks.reads.idx
 
-pub returns-in-Ok-meets_key-clause-met : goal.returns-in-Ok-meets_key-clause-met
-returns-in-Ok-meets_key-clause-met g c = λ told.
-    let a = c.in-Ok.ensures.ahead told in
+pub returns-clause-met : goal.returns-clause-met
+returns-clause-met g c = λ told.
+    let a = c.in_ok-next.ensures.ahead told in
     let file : Files = g.D.Disk.files c.args.disk.now in
     let later : Files = g.D.Disk.files c.read_head.new.disk in
     let unit = unit_at file.idx in
     let at = c.args.at in
-    let here = c.in-Ok.ensures.here in
-    let same = (c.in-Ok.ensures.looks.untouched told).same in
+    let here = c.in_ok-next.ensures.here in
+    let same = (c.in_ok-next.ensures.reads.looks.untouched told).same in
     record {
       next = a.next;
       head = a.head;
       long = λ is. moved (λ (f : Files) (p : ℕ). length (row_at (unit_at f.idx) p).key ≡ length_at (unit_at f.idx) p) later file
-          c.in-Ok.ahead.head.at at same here (c.in-Ok-meets_key.ensures.long told);
-      same = moved (λ (f : Files) (p : ℕ). c.in-Ok-meets_key.is_wanted ≡ has_key c.args.kind c.args.key.now (row_at (unit_at f.idx) p)) later file
-          c.in-Ok.ahead.head.at at same here (c.in-Ok-meets_key.ensures.same told)
+          c.in_ok-next.field-0.head.at at same here (c.in_ok-is_wanted.ensures.long told);
+      same = moved (λ (f : Files) (p : ℕ). c.in_ok-is_wanted.is_wanted ≡ has_key c.args.kind c.args.key.now (row_at (unit_at f.idx) p)) later file
+          c.in_ok-next.field-0.head.at at same here (c.in_ok-is_wanted.ensures.same told)
           ∙ wanted_by_key c.args.kind c.args.key.now c.args.only (row_at unit at) (λ hit is. let yes = c.may_be.ensures.yes c.if-not-may_be.false hit is in (
             yes.0 ∙ sym a.head.number ∙ ap (λ (q : ℕ). word 2 (unit q)) here ∙ sym (number_at unit at),
             yes.1 ∙ sym a.head.«in» ∙ ap (λ (q : ℕ). word 3 (unit q)) here ∙ sym (place_at unit at),
@@ -86,8 +92,8 @@ returns-then-not-may_be-clause-sound g c = λ told is.
       | inr wanted ↦ absurd (let wrong : ⊥ = cc in wrong)
     ]
 
-pub returns-in-Ok-meets_key-clause-sound : goal.returns-in-Ok-meets_key-clause-sound
-returns-in-Ok-meets_key-clause-sound g c = λ told is.
+pub returns-clause-sound : goal.returns-clause-sound
+returns-clause-sound g c = λ told is.
     moved (λ (f : Files) (p : ℕ). is_sound (index_in c.args.extent.buckets f.idx) c.args.bucket p ≡ true) (g.D.Disk.files c.read_head.new.disk)
-    (g.D.Disk.files c.args.disk.now) c.in-Ok.ahead.head.at c.args.at ((c.in-Ok.ensures.looks.untouched told).same) c.in-Ok.ensures.here
-    (c.in-Ok-meets_key.ensures.sound told)
+    (g.D.Disk.files c.args.disk.now) c.in_ok-next.field-0.head.at c.args.at ((c.in_ok-next.ensures.reads.looks.untouched told).same) c.in_ok-next.ensures.here
+    (c.in_ok-is_wanted.ensures.sound told)

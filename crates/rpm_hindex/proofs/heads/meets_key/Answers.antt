@@ -14,7 +14,7 @@ read_key_into-requires-clause-within g c = λ told.
     let x : Index = index_in c.args.extent.buckets (g.D.Disk.files c.args.disk.now).idx in
     let placed = placed_parts x c.args.head.at (c.requires.placed told) in
     let sized = ap (λ (n : ℕ). n % 2 ^ 28) (c.requires.head told).packed in
-    let open' = c.requires.open told in
+    let open' = c.requires.open.is_open told in
     omega (arith, placed.ends, open'.used, open'.within, sized)
 
 -- the bucket of what was read
@@ -31,7 +31,7 @@ returns-then-not-is_of_bucket-clause-fault g c = λ told.
     let size = sym (c.requires.head told).packed in
     let found = take (c.args.head.size % 268435456) c.deref.result.now in
     let key = key_read file file at c.args.head.size found refl size
-    (ap (take (c.args.head.size % 268435456)) c.deref.ensures.value ∙ c.in_default.ensures.bytes told) in
+    (ap (take (c.args.head.size % 268435456)) c.deref.ensures.value ∙ c.in_ok-read_key_into.ensures.bytes told) in
     let bucket = bucket_same x.unit at c.args.extent.buckets c.args.head.size found size key in
     follow_bad x c.args.bucket at at c.requires.some_at (omega arith) (unsound_bucket x c.args.bucket at
     (λ e. c.is_of_bucket.ensures.no c.if-not-is_of_bucket.true (bucket ∙ e)))
@@ -44,7 +44,7 @@ returns-clause-sound g c = λ told.
     let size = sym (c.requires.head told).packed in
     let found = take (c.args.head.size % 268435456) c.deref.result.now in
     let key = key_read file file at c.args.head.size found refl size
-    (ap (take (c.args.head.size % 268435456)) c.deref.ensures.value ∙ c.in_default.ensures.bytes told) in
+    (ap (take (c.args.head.size % 268435456)) c.deref.ensures.value ∙ c.in_ok-read_key_into.ensures.bytes told) in
     let bucket = bucket_same x.unit at c.args.extent.buckets c.args.head.size found size key in
     sound_from x c.args.bucket at (c.requires.placed told) (sym bucket ∙ c.is_of_bucket.ensures.yes c.if-not-is_of_bucket.false)
 
@@ -56,7 +56,7 @@ returns-clause-same g c = λ told.
     let size = sym (c.requires.head told).packed in
     let found = take (c.args.head.size % 268435456) c.deref.result.now in
     let key = key_read file file at c.args.head.size found refl size
-    (ap (take (c.args.head.size % 268435456)) c.deref.ensures.value ∙ c.in_default.ensures.bytes told) in
+    (ap (take (c.args.head.size % 268435456)) c.deref.ensures.value ∙ c.in_ok-read_key_into.ensures.bytes told) in
     let number : ℕ = word 2 (x.unit at) in
     let place : ℕ = word 3 (x.unit at) in
     c.is_key.ensures number place ∙ ap (has_key c.args.kind c.args.key.now) (sym (row_read x.unit at c.args.head.size number place found size key refl refl))
@@ -70,7 +70,7 @@ returns-clause-long g c = λ told.
     let long = c.args.head.size % 268435456 in
     let found = take long c.deref.result.now in
     let key = key_read file file at c.args.head.size found refl size
-    (ap (take long) c.deref.ensures.value ∙ c.in_default.ensures.bytes told) in
+    (ap (take long) c.deref.ensures.value ∙ c.in_ok-read_key_into.ensures.bytes told) in
     let row = row_read x.unit at c.args.head.size (word 2 (x.unit at)) (word 3 (x.unit at)) found size key refl refl in
-    let enough : long ≤ length c.deref.result.now = omega (arith, c.in_default.ensures.long, ap length c.deref.ensures.value) in
+    let enough : long ≤ length c.deref.result.now = omega (arith, c.in_ok-read_key_into.ensures.long, ap length c.deref.ensures.value) in
     ap (λ (r : Row). length r.key) row ∙ length-take-le long c.deref.result.now enough ∙ ap (λ (n : ℕ). n % 2 ^ 28) size

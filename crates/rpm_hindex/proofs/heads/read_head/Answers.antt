@@ -9,7 +9,7 @@ use Rattle.rpm_hindex.proofs.heads.read_head.Goals as goal
 pub returns-then-not-is_placed-clause-fault : goal.returns-then-not-is_placed-clause-fault
 returns-then-not-is_placed-clause-fault g c = λ told b.
     let x : Index = index_in c.args.extent.buckets (g.D.Disk.files c.args.disk.now).idx in
-    let bad = sym (c.is_placed.ensures x refl (c.requires.open told).used (c.in-Ok.ensures.unit told)) ∙ c.if-not-is_placed.true in
+    let bad = sym (c.is_placed.ensures x refl (c.requires.open.is_open told).used (c.in-Ok.ensures.unit told)) ∙ c.if-not-is_placed.true in
     follow_bad x b c.args.at c.args.at c.requires.some_at (omega arith) (unsound_place x b c.args.at bad)
 
 pub returns-clause-next : goal.returns-clause-next
@@ -29,7 +29,7 @@ returns-clause-ahead g c = λ told.
     let x : Index = index_in c.args.extent.buckets (g.D.Disk.files c.args.disk.now).idx in
     let first = c.in-Ok.ensures.unit told in
     record {
-      placed = sym (c.is_placed.ensures x refl (c.requires.open told).used first) ∙ c.if-not-is_placed.false;
+      placed = sym (c.is_placed.ensures x refl (c.requires.open.is_open told).used first) ∙ c.if-not-is_placed.false;
       next = c.word-4.ensures ∙ ap (word 0) first;
       head = record {
         packed = sym (c.word.ensures ∙ ap (word 1) first);

@@ -9,14 +9,14 @@ use Rattle.rpm_hindex.specs.inner.Changes.{is_kept}
 use Rattle.rpm_hindex.proofs.Ways.{chain_is}
 use Rattle.rpm_hindex.proofs.kept_rows.push_chain.Goals as goal
 
-pub returns-in-Ok-clause-told : goal.returns-in-Ok-clause-told
-returns-in-Ok-clause-told g c = λ told.
+pub returns-clause-told : goal.returns-clause-told
+returns-clause-told g c = λ told.
     let B = c.args.extent.buckets in
     let file : Files = g.D.Disk.files c.args.disk.now in
-    let at = c.in-Ok.found.at in
-    let word = c.in-Ok.ensures.word told in
+    let at = c.in_ok-found.found.at in
+    let word = c.in_ok-found.ensures.word told in
     let P : Files → List ℕ → Unit {0} → Type 0 = λ f places done. c.push_from.new.rows ≡ c.args.rows.now ++ map (row_at (unit_at f.idx))
     (filter (is_kept (λ p. contains nat_cmp c.args.dropped.now p)) places) in
     let here = subst (λ (f : Files). FindIs (P f) (follow (index_in B f.idx) c.args.bucket at at) c.push_from.result)
-    ((c.in-Ok.ensures.looks.untouched told).same) (c.push_from.ensures.told told) in
+    ((c.in_ok-found.ensures.reads.looks.untouched told).same) (c.push_from.ensures.told told) in
     subst (λ (s : _). FindIs (P file) s c.push_from.result) (sym (chain_is (index_in B file.idx) c.args.bucket at word.0 word.1)) here

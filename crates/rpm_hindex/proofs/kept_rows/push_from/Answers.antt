@@ -1,4 +1,5 @@
-use Rattle.std.proofs.Common.{◌≡◌, ◌+◌, ◌*◌, ◌/◌, ◌%◌, ◌^◌, ℕ, List, [], ◌∷◌, ◌++◌, map, cond, not, Bool, true, ap, ◌∙◌, sym, arith, subst}
+use Rattle.std.proofs.Common.{◌≡◌, ◌+◌, ◌*◌, ◌/◌, ◌%◌, ◌^◌, ℕ, List, [], ◌∷◌, ◌++◌, map, cond, not, Bool, true, ap, ◌∙◌, sym, arith, subst, rules}
+use Rattle.std.proofs.lemmas.Result.{err_from_is_err_and}
 use Rattle.std.specs.Ordering.{nat_cmp}
 use Rattle.std.specs.BTreeSet.{contains}
 use Rattle.std.specs.List.{filter}
@@ -23,37 +24,44 @@ returns-clause-told g c = λ told.
     at_end (index_in B file.idx) c.args.bucket c.args.from s.0 l.at s.2 (λ (places : List ℕ) (done : Unit {0}). l.rows
     ≡ c.args.rows.now ++ map (row_at (unit_at file.idx)) (filter kept places)) tt c.loop-at-test.false s.1
 
-pub returns-in-Err-clause-told : goal.returns-in-Err-clause-told
-returns-in-Err-clause-told g c = λ told.
+pub returns-in_err-next-clause-told : goal.returns-in_err-next-clause-told
+returns-in_err-next-clause-told g c = λ told.
     let l = c.loop-at in
     let B = c.args.extent.buckets in
     let file : Files = g.D.Disk.files c.args.disk.now in
     let s = l.invariant.so_far told in
-    let fault = subst (λ (f : Files). IsFaultOf (follow (index_in B f.idx) c.args.bucket l.at l.at) c.in-Err.fault)
-    ((l.invariant.looks.untouched told).same) (c.in-Err.ensures.fault told c.args.bucket) in
-    at_fault (index_in B file.idx) c.args.bucket c.args.from s.0 l.at s.2 c.in-Err.fault fault
+    let fault = subst (λ (f : Files). IsFaultOf (follow (index_in B f.idx) c.args.bucket l.at l.at) c.in_err-next.field-0.0)
+    ((l.invariant.looks.untouched told).same) (c.in_err-next.ensures.fault told c.args.bucket) in
+    let left = err_from_is_err_and c.from_residual.result c.from_residual.ensures.1 in
+    rw (left.1, left.2) (at_fault (index_in B file.idx) c.args.bucket c.args.from s.0 l.at s.2 c.in_err-next.field-0.0 fault)
 
-pub returns-in-Err-push_row-clause-looks : goal.returns-in-Err-push_row-clause-looks
-returns-in-Err-push_row-clause-looks g c =
-    let l = c.loop-at in
-    let looks = looks_at_then _ _ _ _ _ _ Idx g.met.D.Disk.follows_trans c.args.disk.now l.disk c.read_head.new.disk l.invariant.looks
-    (looks_at_from _ _ _ _ _ _ Idx 16 l.disk c.read_head.new.disk c.read_head.ensures.looks) in
-    looks_at_then _ _ _ _ _ _ Idx g.met.D.Disk.follows_trans c.args.disk.now c.read_head.new.disk c.push_row.new.disk looks
-    (looks_at_from _ _ _ _ _ _ Idx (16 * ((c.in-Ok.ahead.head.size % 2 ^ 28 + 15) / 16)) c.read_head.new.disk c.push_row.new.disk c.push_row.ensures.looks)
+pub returns-in_err-push_row-clause-reads : goal.returns-in_err-push_row-clause-reads
+returns-in_err-push_row-clause-reads g c = record {
+  looks =
+      let l = c.loop-at in
+      let looks = looks_at_then _ _ _ _ _ _ Idx g.met.D.Disk.follows_trans c.args.disk.now l.disk c.read_head.new.disk l.invariant.looks
+      (looks_at_from _ _ _ _ _ _ Idx 16 l.disk c.read_head.new.disk c.read_head.ensures.reads.looks) in
+      looks_at_then _ _ _ _ _ _ Idx g.met.D.Disk.follows_trans c.args.disk.now c.read_head.new.disk c.push_row.new.disk looks
+      (looks_at_from _ _ _ _ _ _ Idx (16 * ((c.in_ok-next.field-0.head.size % 2 ^ 28 + 15) / 16)) c.read_head.new.disk c.push_row.new.disk
+      c.push_row.ensures.reads.looks);
+  cause = search rules;
+}
 
-pub returns-in-Err-push_row-clause-told : goal.returns-in-Err-push_row-clause-told
-returns-in-Err-push_row-clause-told g c = λ told.
+pub returns-in_err-push_row-clause-told : goal.returns-in_err-push_row-clause-told
+returns-in_err-push_row-clause-told g c = λ told.
     let l = c.loop-at in
     let B = c.args.extent.buckets in
     let b = c.args.bucket in
     let file : Files = g.D.Disk.files c.args.disk.now in
     let s = l.invariant.so_far told in
     let looks = looks_at_then _ _ _ _ _ _ Idx g.met.D.Disk.follows_trans c.args.disk.now l.disk c.read_head.new.disk l.invariant.looks
-    (looks_at_from _ _ _ _ _ _ Idx 16 l.disk c.read_head.new.disk c.read_head.ensures.looks) in
-    let fault = subst (λ (f : Files). IsFaultOf (follow (index_in B f.idx) b c.in-Ok.ahead.head.at c.in-Ok.ahead.head.at) c.in-Err-push_row.fault)
-    ((looks.untouched told).same) (c.in-Err-push_row.ensures.fault told) in
-    at_fault (index_in B file.idx) b c.args.from s.0 l.at s.2 c.in-Err-push_row.fault
-    (subst (λ (q : ℕ). IsFaultOf (follow (index_in B file.idx) b q q) c.in-Err-push_row.fault) c.in-Ok.ensures.here fault)
+    (looks_at_from _ _ _ _ _ _ Idx 16 l.disk c.read_head.new.disk c.read_head.ensures.reads.looks) in
+    let fault = subst (λ (f : Files). IsFaultOf (follow (index_in B f.idx) b c.in_ok-next.field-0.head.at c.in_ok-next.field-0.head.at)
+    c.in_err-push_row.field-0.0)
+    ((looks.untouched told).same) (c.in_err-push_row.ensures.fault told) in
+    let left = err_from_is_err_and c.from_residual-in_err-push_row.result c.from_residual-in_err-push_row.ensures.1 in
+    rw (left.1, left.2) (at_fault (index_in B file.idx) b c.args.from s.0 l.at s.2 c.in_err-push_row.field-0.0
+    (subst (λ (q : ℕ). IsFaultOf (follow (index_in B file.idx) b q q) c.in_err-push_row.field-0.0) c.in_ok-next.ensures.here fault))
 
 pub loop-at-preserved : goal.loop-at-preserved
 loop-at-preserved g c =
@@ -64,38 +72,40 @@ loop-at-preserved g c =
     let x : Index = index_in B file.idx in
     let kept = is_kept (λ p. contains nat_cmp c.args.dropped.now p) in
     let looks = looks_at_then _ _ _ _ _ _ Idx g.met.D.Disk.follows_trans c.args.disk.now l.disk c.read_head.new.disk l.invariant.looks
-    (looks_at_from _ _ _ _ _ _ Idx 16 l.disk c.read_head.new.disk c.read_head.ensures.looks) in
+    (looks_at_from _ _ _ _ _ _ Idx 16 l.disk c.read_head.new.disk c.read_head.ensures.reads.looks) in
     record {
-      linked = c.in-Ok.ensures.next.linked;
+      linked = c.in_ok-next.ensures.next.linked;
       looks = looks_at_then _ _ _ _ _ _ Idx g.met.D.Disk.follows_trans c.args.disk.now c.read_head.new.disk c.push_row.new.disk looks
-          (looks_at_from _ _ _ _ _ _ Idx (16 * ((c.in-Ok.ahead.head.size % 2 ^ 28 + 15) / 16)) c.read_head.new.disk c.push_row.new.disk
-          c.push_row.ensures.looks);
-      faults = omega (arith, l.invariant.faults, c.read_head.ensures.cause.later, c.push_row.ensures.cause.later);
+          (looks_at_from _ _ _ _ _ _ Idx (16 * ((c.in_ok-next.field-0.head.size % 2 ^ 28 + 15) / 16)) c.read_head.new.disk c.push_row.new.disk
+          c.push_row.ensures.reads.looks);
+      faults = omega (arith, l.invariant.faults, c.read_head.ensures.reads.cause.later, c.push_row.ensures.reads.cause.later);
       so_far = λ told.
           let s = l.invariant.so_far told in
-          let ahead = subst (λ (f : Files). IsAhead (index_in B f.idx) l.at c.in-Ok.ahead) ((l.invariant.looks.untouched told).same)
-          (c.in-Ok.ensures.ahead told) in
-          let sound = subst (λ (f : Files). is_sound (index_in B f.idx) b c.in-Ok.ahead.head.at ≡ true) ((looks.untouched told).same)
-          (c.in_default.ensures.sound told) in
-          let here = subst (λ (q : ℕ). is_sound x b q ≡ true) c.in-Ok.ensures.here sound in
+          let ahead = subst (λ (f : Files). IsAhead (index_in B f.idx) l.at c.in_ok-next.field-0) ((l.invariant.looks.untouched told).same)
+          (c.in_ok-next.ensures.ahead told) in
+          let sound = subst (λ (f : Files). is_sound (index_in B f.idx) b c.in_ok-next.field-0.head.at ≡ true) ((looks.untouched told).same)
+          (c.in_ok-push_row.ensures.sound told) in
+          let here = subst (λ (q : ℕ). is_sound x b q ≡ true) c.in_ok-next.ensures.here sound in
           let held = c.contains-is_kept.result in
-          let row = subst (λ (f : Files). c.push_row.new.rows ≡ cond (not held) (l.rows ++ row_at (unit_at f.idx) c.in-Ok.ahead.head.at ∷ []) l.rows)
-          ((looks.untouched told).same) (c.in_default.ensures.row told) in
-          let row_here = subst (λ (q : ℕ). c.push_row.new.rows ≡ cond (not held) (l.rows ++ row_at (unit_at file.idx) q ∷ []) l.rows) c.in-Ok.ensures.here row
+          let row = subst (λ (f : Files). c.push_row.new.rows ≡ cond (not held) (l.rows ++ row_at (unit_at f.idx) c.in_ok-next.field-0.head.at ∷ []) l.rows)
+          ((looks.untouched told).same) (c.in_ok-push_row.ensures.row told) in
+          let row_here = subst (λ (q : ℕ). c.push_row.new.rows ≡ cond (not held) (l.rows ++ row_at (unit_at file.idx) q ∷ []) l.rows)
+          c.in_ok-next.ensures.here row
           ∙ ap (λ (is : Bool). cond (not is) (l.rows ++ row_at (unit_at file.idx) l.at ∷ []) l.rows) c.contains-is_kept.ensures in (
             s.0 ++ l.at ∷ [],
             kept_more (row_at (unit_at file.idx)) kept s.0 l.at c.args.rows.now l.rows c.push_row.new.rows s.1 row_here,
-            one_more x b c.args.from s.0 l.at s.2 c.in-Ok.ahead.next (omega (arith, c.loop-at-test.true)) here ahead.next,
+            one_more x b c.args.from s.0 l.at s.2 c.in_ok-next.field-0.next (omega (arith, c.loop-at-test.true)) here ahead.next,
           );
     }
 
 pub push_row-requires-clause-placed : goal.push_row-requires-clause-placed
 push_row-requires-clause-placed g c = λ told.
     let B = c.args.extent.buckets in
-    subst (λ (q : ℕ). is_placed (index_in B (g.D.Disk.files c.read_head.new.disk).idx) q ≡ true) (sym c.in-Ok.ensures.here)
-    (subst (λ (f : Files). is_placed (index_in B f.idx) c.loop-at.at ≡ true) (sym ((c.in-Ok.ensures.looks.untouched told).same))
-    (c.in-Ok.ensures.ahead told).placed)
+    subst (λ (q : ℕ). is_placed (index_in B (g.D.Disk.files c.read_head.new.disk).idx) q ≡ true) (sym c.in_ok-next.ensures.here)
+    (subst (λ (f : Files). is_placed (index_in B f.idx) c.loop-at.at ≡ true) (sym ((c.in_ok-next.ensures.reads.looks.untouched told).same))
+    (c.in_ok-next.ensures.ahead told).placed)
 
 pub push_row-requires-clause-head : goal.push_row-requires-clause-head
 push_row-requires-clause-head g c = λ told.
-    subst (λ (f : Files). IsHead (unit_at f.idx) c.in-Ok.ahead.head) (sym ((c.in-Ok.ensures.looks.untouched told).same)) (c.in-Ok.ensures.ahead told).head
+    subst (λ (f : Files). IsHead (unit_at f.idx) c.in_ok-next.field-0.head) (sym ((c.in_ok-next.ensures.reads.looks.untouched told).same))
+    (c.in_ok-next.ensures.ahead told).head

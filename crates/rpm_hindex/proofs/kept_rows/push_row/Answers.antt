@@ -13,7 +13,7 @@ read_key_into-requires-clause-within g c = λ told.
     let x : Index = index_in c.args.extent.buckets (g.D.Disk.files c.args.disk.now).idx in
     let placed = placed_parts x c.args.head.at (c.requires.placed told) in
     let sized = ap (λ (n : ℕ). n % 2 ^ 28) (c.requires.head told).packed in
-    let open' = c.requires.open told in
+    let open' = c.requires.open.is_open told in
     omega (arith, placed.ends, open'.used, open'.within, sized)
 
 -- the bucket of what was read
@@ -30,7 +30,7 @@ returns-then-bucket_of-bucket-clause-fault g c = λ told.
     let size = sym (c.requires.head told).packed in
     let found = take (c.args.head.size % 268435456) c.deref.result.now in
     let key = key_read file file at c.args.head.size found refl size
-    (ap (take (c.args.head.size % 268435456)) c.deref.ensures.value ∙ c.in_default.ensures.bytes told) in
+    (ap (take (c.args.head.size % 268435456)) c.deref.ensures.value ∙ c.in_ok-read_key_into.ensures.bytes told) in
     let bucket = bucket_read x.unit at c.args.extent.buckets c.args.head.size c.bucket_of.result found size key c.bucket_of.ensures.bucket in
     follow_bad x c.args.bucket at at c.requires.some_at (omega arith) (unsound_bucket x c.args.bucket at (λ e. c.if-bucket_of-bucket.true (bucket ∙ e)))
 
@@ -42,7 +42,7 @@ returns-then-not-is_kept-clause-sound g c = λ told.
     let size = sym (c.requires.head told).packed in
     let found = take (c.args.head.size % 268435456) c.deref.result.now in
     let key = key_read file file at c.args.head.size found refl size
-    (ap (take (c.args.head.size % 268435456)) c.deref.ensures.value ∙ c.in_default.ensures.bytes told) in
+    (ap (take (c.args.head.size % 268435456)) c.deref.ensures.value ∙ c.in_ok-read_key_into.ensures.bytes told) in
     let bucket = bucket_read x.unit at c.args.extent.buckets c.args.head.size c.bucket_of.result found size key c.bucket_of.ensures.bucket in
     sound_from x c.args.bucket at (c.requires.placed told) (sym bucket ∙ c.if-bucket_of-bucket.false)
 
@@ -54,7 +54,7 @@ returns-clause-sound g c = λ told.
     let size = sym (c.requires.head told).packed in
     let found = take (c.args.head.size % 268435456) c.deref.result.now in
     let key = key_read file file at c.args.head.size found refl size
-    (ap (take (c.args.head.size % 268435456)) c.deref.ensures.value ∙ c.in_default.ensures.bytes told) in
+    (ap (take (c.args.head.size % 268435456)) c.deref.ensures.value ∙ c.in_ok-read_key_into.ensures.bytes told) in
     let bucket = bucket_read x.unit at c.args.extent.buckets c.args.head.size c.bucket_of.result found size key c.bucket_of.ensures.bucket in
     sound_from x c.args.bucket at (c.requires.placed told) (sym bucket ∙ c.if-bucket_of-bucket.false)
 
@@ -67,7 +67,7 @@ returns-clause-row g c = λ told.
     let size = sym head.packed in
     let found = take (c.args.head.size % 268435456) c.deref.result.now in
     let key = key_read file file at c.args.head.size found refl size
-    (ap (take (c.args.head.size % 268435456)) c.deref.ensures.value ∙ c.in_default.ensures.bytes told) in
+    (ap (take (c.args.head.size % 268435456)) c.deref.ensures.value ∙ c.in_ok-read_key_into.ensures.bytes told) in
     let row = row_read unit at c.args.head.size c.args.head.number c.args.head.place found size key (sym head.number) (sym head.«in») in
     c.in-Ok.ensures.ok
     ∙ ap (λ (r : Row). c.args.rows.now ++ r ∷ []) (sym row)

@@ -18,7 +18,7 @@ returns-clause-bytes g c = λ told.
     let held = c.lengthen.new.buffer in
     let into = c.read_front.new.into in
     let whole : length into ≡ length held.items = c.read_front.auto.into ∙ ap length c.deref_mut.ensures.value in
-    let enough : size ≤ length into = omega (arith, whole, c.in_default.ensures.long) in
+    let enough : size ≤ length into = omega (arith, whole, c.in_ok-lengthen.ensures.long) in
     let within : size ≤ held.len = omega (arith, whole, enough, c.deref_mut.ensures.len, ap length c.deref_mut.ensures.value) in
     let units : long / 16 ≡ (size + 15) / 16 = omega arith in
     take_fewer size held.len (into ++ drop (length into) held.items) within

@@ -12,6 +12,7 @@ use Rattle.rpm_hindex.specs.inner.Spots.{IsAhead, IsPath}
 use Rattle.rpm_hindex.proofs.Passing.{fault_outside, cost_within, next_left, left_more}
 use Rattle.rpm_hindex.proofs.Paths.{path_ends}
 use Rattle.rpm_hindex.proofs.Ways.{path_more, filter_same}
+use Rattle.rpm_hindex.proofs.Results.{handed_on}
 use Rattle.rpm_hindex.proofs.spots.skip_dropped.Goals as goal
 
 pub loop-at-init : goal.loop-at-init
@@ -22,21 +23,23 @@ loop-at-init g c = record {
   so_far = λ told b front path. ([], front, refl, refl, path, refl, omega arith);
 }
 
-pub returns-in-Err-clause-fault : goal.returns-in-Err-clause-fault
-returns-in-Err-clause-fault g c = λ told b front rest path more.
+pub returns-in_err-ahead-clause-fault : goal.returns-in_err-ahead-clause-fault
+returns-in_err-ahead-clause-fault g c =
+    handed_on c.from_residual.result c.in_err-ahead.field-0.0 _ c.from_residual.ensures.1 (λ told b front rest path more.
     let l = c.loop-at in
     let s = l.invariant.so_far told b front path in
     fault_outside c.args.extent.buckets b c.args.from l.at c.args.end (g.D.Disk.files c.args.disk.now) (g.D.Disk.files l.disk) s.0 s.1
-    ((l.invariant.looks.untouched told).same) s.3 s.4 (omega (arith, c.loop-at-test.true)) rest more c.in-Err.fault (c.in-Err.ensures.fault told b)
+    ((l.invariant.looks.untouched told).same) s.3 s.4 (omega (arith, c.loop-at-test.true)) rest more c.in_err-ahead.field-0.0
+    (c.in_err-ahead.ensures.fault told b))
 
-pub returns-in-Err-clause-cost : goal.returns-in-Err-clause-cost
-returns-in-Err-clause-cost g c = λ told b front path.
+pub returns-in_err-ahead-clause-cost : goal.returns-in_err-ahead-clause-cost
+returns-in_err-ahead-clause-cost g c = λ told b front path.
     let l = c.loop-at in
     let file : Files = g.D.Disk.files c.args.disk.now in
     let s = l.invariant.so_far told b front path in
     let within = cost_within c.args.extent.buckets b c.args.from l.at c.args.end file file s.0 s.1 refl s.3 s.4 (omega (arith, c.loop-at-test.true))
     (g.D.Disk.bytes_read c.args.disk.now Idx) (g.D.Disk.bytes_read l.disk Idx) (g.D.Disk.bytes_read c.read_head.new.disk Idx) s.6
-    (λ sound. omega (arith, c.in-Err.ensures.looks.reads.idx)) in
+    (λ sound. omega (arith, c.in_err-ahead.ensures.reads.looks.reads.idx)) in
     omega (arith, within, ap (sum_by (units_at (unit_at file.idx))) s.2)
 
 pub returns-else-contains-clause-skips : goal.returns-else-contains-clause-skips
@@ -74,23 +77,23 @@ loop-at-preserved g c =
     let B = c.args.extent.buckets in
     let file : Files = g.D.Disk.files c.args.disk.now in
     record {
-      linked = c.in-Ok.ensures.next.linked;
+      linked = c.in_ok-ahead.ensures.next.linked;
       looks = looks_at_then _ _ _ _ _ _ Idx g.met.D.Disk.follows_trans c.args.disk.now l.disk c.read_head.new.disk l.invariant.looks
-          (looks_at_from _ _ _ _ _ _ Idx 16 l.disk c.read_head.new.disk c.read_head.ensures.looks);
-      faults = omega (arith, l.invariant.faults, c.read_head.ensures.cause.later);
+          (looks_at_from _ _ _ _ _ _ Idx 16 l.disk c.read_head.new.disk c.read_head.ensures.reads.looks);
+      faults = omega (arith, l.invariant.faults, c.read_head.ensures.reads.cause.later);
       so_far = λ told b front path.
           let s = l.invariant.so_far told b front path in
           let x : Index = index_in B file.idx in
           let next = next_left B b c.args.from l.at c.args.end file file s.0 s.1 refl s.3 s.4 (omega (arith, c.loop-at-test.true)) in
-          let a = subst (λ (f : Files). IsAhead (index_in B f.idx) l.at c.in-Ok.ahead) ((l.invariant.looks.untouched told).same)
-          (c.in-Ok.ensures.ahead told) in
+          let a = subst (λ (f : Files). IsAhead (index_in B f.idx) l.at c.in_ok-ahead.ahead) ((l.invariant.looks.untouched told).same)
+          (c.in_ok-ahead.ensures.ahead told) in
           let gone = ap not (sym c.contains.ensures ∙ c.if-contains.true) in (
             s.0 ++ l.at ∷ [],
             next.0,
             left_more front s.0 s.1 next.0 l.at s.2 next.1,
-            path_more x b c.args.from l.at c.in-Ok.ahead.next s.0 s.3 (omega (arith, c.loop-at-test.true)) next.2 a.next,
+            path_more x b c.args.from l.at c.in_ok-ahead.ahead.next s.0 s.3 (omega (arith, c.loop-at-test.true)) next.2 a.next,
             subst (λ (n : ℕ). IsPath x b n next.0 c.args.end) (sym a.next) next.3,
             filter_same (is_kept (λ p. contains nat_cmp c.args.dropped.now p)) s.0 l.at gone ∙ s.5,
-            omega (arith, c.read_head.ensures.looks.reads.idx, s.6, sum_by_push (units_at (unit_at file.idx)) s.0 l.at),
+            omega (arith, c.read_head.ensures.reads.looks.reads.idx, s.6, sum_by_push (units_at (unit_at file.idx)) s.0 l.at),
           );
     }

@@ -1,4 +1,4 @@
-use Rattle.std.proofs.Common.{sym, subst, arith}
+use Rattle.std.proofs.Common.{sym, subst, arith, rules}
 use Rattle.rpm_outside.specs.declared.disk.File.TheVariants.{Idx}
 use Rattle.rpm_outside.specs.Files.{units_of}
 use Rattle.rpm_outside.specs.Crash.{Torn}
@@ -6,8 +6,11 @@ use Rattle.rpm_outside.specs.Changes.{IsSame}
 use Rattle.rpm_outside.specs.inner.Changing.{changes_then}
 use Rattle.rpm_hindex.proofs.writes.write_synced.Goals as goal
 
-pub returns-clause-changes : goal.returns-clause-changes
-returns-clause-changes g c =
-    let R = Torn c.args.unit (units_of c.args.bytes.now) in
-    changes_then _ _ _ _ _ _ Idx g.met.D.Disk.follows_trans R IsSame R 0 0 0 c.args.disk.now c.write_units.new.disk c.sync.new.disk (omega arith)
-    (λ x y r. r) (λ x y z r is. subst (R x) (sym is) r) c.in-Ok.ensures.changes c.sync.ensures.changes
+pub returns-clause-writes : goal.returns-clause-writes
+returns-clause-writes g c = record {
+  changes =
+      let R = Torn c.args.unit (units_of c.args.bytes.now) in
+      changes_then _ _ _ _ _ _ Idx g.met.D.Disk.follows_trans R IsSame R 0 0 0 c.args.disk.now c.write_units.new.disk c.sync.new.disk (omega arith)
+      (λ x y r. r) (λ x y z r is. subst (R x) (sym is) r) c.in_ok-write_units.ensures.writes.changes c.sync.ensures.writes.changes;
+  cause = search rules;
+}

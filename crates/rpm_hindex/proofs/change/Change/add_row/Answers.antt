@@ -16,7 +16,7 @@ returns-clause-grows g c =
     let s = c.args.self.now in
     let go = c.requires.go in
     let row = c.args.row in
-    let long = ap length c.in-Ok-push_record.ensures
+    let long = ap length c.in-Ok.ensures
     ∙ length-append s.tail.items _
     ∙ ap (λ (n : ℕ). length s.tail.items + n) (length-bytes c.word-next.result row.kind row.key.now row.number row.place) in
     let d : Change = record {
@@ -50,20 +50,21 @@ returns-clause-added g c = on_ok c.put_unit.result _ _ (λ put told.
       records = s.records + 1;
       live = s.live + c.record_units.result;
     } in
-    let long = ap length c.in-Ok-push_record.ensures
+    let long = ap length c.in-Ok.ensures
     ∙ length-append s.tail.items _
     ∙ ap (λ (n : ℕ). length s.tail.items + n) (length-bytes c.word-next.result row.kind row.key.now row.number row.place) in
     let longer : length s.tail.items / 16 < length c.push_record.new.bytes.items / 16 = omega (arith, long, c.requires.go.whole) in
     record {
       rows = λ whole. row_added s d file.idx c.requires.go row.kind row.key.now row.number row.place c.bucket_of-bucket.result
-          c.used-used.result c.word-next.result c.in-Ok.words c.with_word.result
-          c.bucket_of-bucket.ensures.bucket c.bucket_of-bucket.ensures.within (c.in-Ok.ensures.words told) c.used-used.ensures c.with_word.ensures put
+          c.used-used.result c.word-next.result c.in_ok-words.words c.with_word.result
+          c.bucket_of-bucket.ensures.bucket c.bucket_of-bucket.ensures.within (c.in_ok-words.ensures.words told) c.used-used.ensures c.with_word.ensures put
           c.word-next.ensures
-          c.in-Ok-push_record.ensures refl refl (ap (λ (n : ℕ). s.live + n) c.record_units.ensures) c.requires.kind c.requires.short
+          c.in-Ok.ensures refl refl (ap (λ (n : ℕ). s.live + n) c.record_units.ensures) c.requires.kind c.requires.short
           (omega (arith, c.ranges.row)) (omega (arith, c.ranges.row)) whole;
       honest = λ honest. adds_honest s file.idx c.requires.go c.bucket_of-bucket.result c.bucket_of-bucket.ensures.within c.put_unit.new.units
           c.push_record.new.bytes c.record_units.result
-          c.in-Ok.words c.with_word.result c.used-used.result (c.in-Ok.ensures.words told) c.used-used.ensures c.with_word.ensures put longer honest;
+          c.in_ok-words.words c.with_word.result c.used-used.result (c.in_ok-words.ensures.words told) c.used-used.ensures c.with_word.ensures put longer
+          honest;
     }) c.put_unit.ensures.put
 
 pub returns-clause-bad : goal.returns-clause-bad
@@ -78,4 +79,4 @@ returns-then-not-is_link-clause-bad g c = λ told honest.
     let at : c.used-used.result ≡ s.extent.used + length s.tail.items / 16 = c.used-used.ensures in
     let no' : is_link (changing s file.idx) c.word-next.result ≡ false = sym (c.is_link.ensures (changing s file.idx) refl (sym at)) ∙ c.if-not-is_link.true in
     bad_head s file.idx (c.requires.open told) honest b c.word-next.result c.bucket_of-bucket.ensures.within (c.word-next.ensures ∙ ap (word (b % 4))
-    (c.in-Ok.ensures.words told)) no'
+    (c.in_ok-words.ensures.words told)) no'

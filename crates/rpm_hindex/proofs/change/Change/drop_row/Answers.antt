@@ -23,7 +23,7 @@ use Rattle.rpm_hindex.proofs.Wholes.{has_chains}
 use Rattle.rpm_hindex.proofs.Gone.{gone_none, gone_one, counts_one, short_chain, drop_memory}
 use Rattle.rpm_hindex.proofs.Cuts.{drop_cuts}
 use Rattle.rpm_hindex.proofs.Honest.{fault_so_far, drops_more, drops_honest}
-use Rattle.rpm_hindex.proofs.Results.{on_ok, ok_of, if_err}
+use Rattle.rpm_hindex.proofs.Results.{handed_on, on_ok, ok_of, if_err}
 use Rattle.rpm_hindex.proofs.change.Change.drop_row.Goals as goal
 use Rattle.rpm_hindex.proofs.change.Change.drop_row.Goals.{then-self-eq0-via-then-self-eq0, then-self-eq0-via-else-self-eq0+then-self-units}
 
@@ -43,7 +43,7 @@ returns-clause-keeps g c =
       live = s.live - c.record_units-units.result;
     } in
     ok_of c.put_dropped.result _ (record {
-      go = go_on s d go refl c.in_default.ensures.puts go.whole go.room (omega (arith, go.live)) (omega (arith, go.records));
+      go = go_on s d go refl c.in_ok-unlink.ensures.puts go.whole go.room (omega (arith, go.live)) (omega (arith, go.records));
       extent = refl;
       tail = refl;
     })
@@ -60,7 +60,7 @@ returns-in-None-clause-dropped g c = λ told.
     let x : Index = index_in s.extent.buckets (g.D.Disk.files c.args.disk.now).idx in
     let b = c.bucket_of-bucket.result in
     let row : Row = record { kind = c.args.row.kind; key = c.args.row.key.now; number = c.args.row.number; place = c.args.row.place } in
-    let f = subst (λ (o : Option Spot). IsFound x b (is_kept (λ p. contains nat_cmp s.dropped p)) row o) c.in-None.is (c.in-Ok.ensures.found told) in
+    let f = subst (λ (o : Option Spot). IsFound x b (is_kept (λ p. contains nat_cmp s.dropped p)) row o) c.in-None.is (c.in-Ok.ensures.found.found told) in
     record {
       less = λ whole.
           let found = f.found (places_of x b) (chain_are x b (whole.chains b c.bucket_of-bucket.ensures.within)) in
@@ -79,9 +79,9 @@ returns-clause-dropped g c = on_ok c.put_dropped.result _ _ (λ put told.
     let b = c.bucket_of-bucket.result in
     let below = c.bucket_of-bucket.ensures.within in
     let row : Row = record { kind = c.args.row.kind; key = c.args.row.key.now; number = c.args.row.number; place = c.args.row.place } in
-    let f = subst (λ (o : Option Spot). IsFound x b (is_kept (λ p. contains nat_cmp s.dropped p)) row o) c.in-Some.is (c.in-Ok.ensures.found told) in
-    let linked = subst (IsLinked s.extent.buckets s.extent.used) c.in-Some.is c.in-Ok.ensures.linked in
-    let sets = c.in_default.ensures.sets file.idx (c.in-Ok.ensures.words told) in
+    let f = subst (λ (o : Option Spot). IsFound x b (is_kept (λ p. contains nat_cmp s.dropped p)) row o) c.in-Some.is (c.in-Ok.ensures.found.found told) in
+    let linked = subst (IsLinked s.extent.buckets s.extent.used) c.in-Some.is c.in-Ok.ensures.found.linked in
+    let sets = c.in_ok-unlink.ensures.sets file.idx (c.in-Ok.ensures.found.words told) in
     record {
       less = λ whole. drops_one x _ _ whole row (λ p. contains nat_cmp s.dropped p) b below c.bucket_of-bucket.ensures.bucket c.in-Some.spot _
           f.link (f.found (places_of x b) (chain_are x b (whole.chains b below))) put;
@@ -132,8 +132,8 @@ returns-then-self-eq0-clause-refused g c = λ told.
     let b = c.bucket_of-bucket.result in
     let below = c.bucket_of-bucket.ensures.within in
     let row : Row = record { kind = c.args.row.kind; key = c.args.row.key.now; number = c.args.row.number; place = c.args.row.place } in
-    let f = subst (λ (o : Option Spot). IsFound x b (is_kept (λ p. contains nat_cmp s.dropped p)) row o) c.in-Some.is (c.in-Ok.ensures.found told) in
-    let linked = subst (IsLinked s.extent.buckets s.extent.used) c.in-Some.is c.in-Ok.ensures.linked in
+    let f = subst (λ (o : Option Spot). IsFound x b (is_kept (λ p. contains nat_cmp s.dropped p)) row o) c.in-Some.is (c.in-Ok.ensures.found.found told) in
+    let linked = subst (IsLinked s.extent.buckets s.extent.used) c.in-Some.is c.in-Ok.ensures.found.linked in
     let fewer : (s.records ≡ 0) ⊎ (s.live < c.record_units-units.result) =
     elim c.then-self-eq0.branch [
       | then-self-eq0-via-then-self-eq0 w ↦ inl (omega (arith, w.if-self-eq0))
@@ -154,15 +154,17 @@ returns-then-self-eq0-clause-refused g c = λ told.
       );
     }
 
-pub returns-in-Err-unlink-clause-refused : goal.returns-in-Err-unlink-clause-refused
-returns-in-Err-unlink-clause-refused g c = λ told.
+pub returns-in_err-unlink-clause-refused : goal.returns-in_err-unlink-clause-refused
+returns-in_err-unlink-clause-refused g c =
+    handed_on c.from_residual.result c.in_err-unlink.field-0.0 _ c.from_residual.ensures.1 (λ told.
     let row : Row = record { kind = c.args.row.kind; key = c.args.row.key.now; number = c.args.row.number; place = c.args.row.place } in
-    drop_memory (g.D.Disk.files c.args.disk.now).idx (row ∷ []) c.args.self.now c.in-Err-unlink.fault c.in-Err-unlink.ensures.memory
+    drop_memory (g.D.Disk.files c.args.disk.now).idx (row ∷ []) c.args.self.now c.in_err-unlink.field-0.0 c.in_err-unlink.ensures.memory)
 
-pub returns-in-Err-put_start-clause-refused : goal.returns-in-Err-put_start-clause-refused
-returns-in-Err-put_start-clause-refused g c = λ told.
+pub returns-in_err-put_start-clause-refused : goal.returns-in_err-put_start-clause-refused
+returns-in_err-put_start-clause-refused g c =
+    handed_on c.from_residual-in_err-put_start.result c.in_err-put_start.field-0.0 _ c.from_residual-in_err-put_start.ensures.1 (λ told.
     let row : Row = record { kind = c.args.row.kind; key = c.args.row.key.now; number = c.args.row.number; place = c.args.row.place } in
-    drop_memory (g.D.Disk.files c.args.disk.now).idx (row ∷ []) c.args.self.now c.in-Err-put_start.fault c.in-Err-put_start.ensures.memory
+    drop_memory (g.D.Disk.files c.args.disk.now).idx (row ∷ []) c.args.self.now c.in_err-put_start.field-0.0 c.in_err-put_start.ensures.memory)
 
 pub returns-clause-refused : goal.returns-clause-refused
 returns-clause-refused g c = if_err c.put_dropped.result _ _ (λ e is told.
@@ -173,20 +175,20 @@ pub returns-clause-starts : goal.returns-clause-starts
 returns-clause-starts g c = on_ok c.put_dropped.result _ _ (λ put.
     let s = c.args.self.now in
     let b = c.bucket_of-bucket.result in
-    let linked = subst (IsLinked s.extent.buckets s.extent.used) c.in-Some.is c.in-Ok.ensures.linked in
-    let within = subst (IsWithin s.extent.used) c.in-Some.is c.in-Ok.ensures.within in
+    let linked = subst (IsLinked s.extent.buckets s.extent.used) c.in-Some.is c.in-Ok.ensures.found.linked in
+    let within = subst (IsWithin s.extent.used) c.in-Some.is c.in-Ok.ensures.found.within in
     record {
       stand = puts_each (λ (a : ℕ) (t : Start). StandsWithin s.extent.buckets s.extent.used t) (λ a. get nat_cmp c.args.starts.now a)
           (λ a. get nat_cmp c.put_start.new.starts a) b (record { before = c.in-Some.spot.before; at = c.in-Some.spot.behind })
-          c.in_default-put_start.ensures.put (record { linked = linked.0; within = within; front = linked.1 })
+          c.in_ok-put_start.ensures.put (record { linked = linked.0; within = within; front = linked.1 })
           (λ a t other is. c.requires.starts.stand a t is);
       chained = λ told.
           let x : Index = index_in s.extent.buckets (g.D.Disk.files c.args.disk.now).idx in
           let row : Row = record { kind = c.args.row.kind; key = c.args.row.key.now; number = c.args.row.number; place = c.args.row.place } in
           let f = subst (λ (o : Option Spot). IsFound x b (is_kept (λ p. contains nat_cmp s.dropped p)) row o) c.in-Some.is
-          (c.in-Ok.ensures.found told) in
+          (c.in-Ok.ensures.found.found told) in
           starts_next x b (is_kept (λ p. contains nat_cmp s.dropped p)) (is_kept (λ p. contains nat_cmp c.put_dropped.new.dropped p)) row c.in-Some.spot
           (λ a. get nat_cmp c.args.starts.now a) (λ a. get nat_cmp c.put_start.new.starts a)
           (loses (λ p. contains nat_cmp s.dropped p) (λ p. contains nat_cmp c.put_dropped.new.dropped p) c.in-Some.spot.at put)
-          (subst (IsSoundSpot x b) c.in-Some.is (c.in-Ok.ensures.sound told)) f.found c.in_default-put_start.ensures.put (c.requires.starts.chained told);
+          (subst (IsSoundSpot x b) c.in-Some.is (c.in-Ok.ensures.found.sound told)) f.found c.in_ok-put_start.ensures.put (c.requires.starts.chained told);
     }) c.put_dropped.ensures.put

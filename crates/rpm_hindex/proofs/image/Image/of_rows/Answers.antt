@@ -5,7 +5,7 @@ use Rattle.rpm_hindex.specs.Sizes.{first_record, live_of}
 use Rattle.rpm_hindex.proofs.Orders.{few, Few}
 use Rattle.rpm_hindex.proofs.Drafting.{length-le-live}
 use Rattle.rpm_hindex.proofs.Imaging.{image_made, length_words}
-use Rattle.rpm_hindex.proofs.UnitWords.{length-unit}
+use Rattle.rpm_outside.specs.inner.UnitLaws.{length-unit}
 use Rattle.rpm_hindex.proofs.image.Image.of_rows.Goals as goal
 
 pub add_records-requires-clause-some : goal.add_records-requires-clause-some

@@ -13,13 +13,6 @@ use Rattle.rpm_hindex.proofs.Orders.{few, open_from, order_parts, ordered_parts,
 use Rattle.rpm_hindex.proofs.Founds.{often_in_all}
 use Rattle.rpm_hindex.proofs.index.Hindex.find.Goals as goal
 
-pub gather-requires-clause-few : goal.gather-requires-clause-few
-gather-requires-clause-few g c =
-    let s = c.args.self.now in
-    let f : Few (buckets_of s.first) = few (buckets_of s.first) (ordered_parts (buckets_of s.first) s.second s.units
-    (order_parts s c.requires.order).1).count in
-    omega (arith, f.most, ap (λ (e : Extent). e.buckets) c.extent.ensures)
-
 pub gather-requires-clause-some : goal.gather-requires-clause-some
 gather-requires-clause-some g c =
     let s = c.args.self.now in
@@ -28,17 +21,23 @@ gather-requires-clause-some g c =
     omega (arith, f.some, ap (λ (e : Extent). e.buckets) c.extent.ensures)
 
 pub gather-requires-clause-open : goal.gather-requires-clause-open
-gather-requires-clause-open g c = λ told.
+gather-requires-clause-open g c =
+    let s = c.args.self.now in
+    let f : Few (buckets_of s.first) = few (buckets_of s.first) (ordered_parts (buckets_of s.first) s.second s.units
+    (order_parts s c.requires.order).1).count in
     let file : Files = g.D.Disk.files c.args.disk.now in
-    subst (λ (e : Extent). IsOpen e file.idx) (sym c.extent.ensures) (open_from c.args.self.now file.idx c.requires.order (c.requires.keeps told))
+    record {
+      few = omega (arith, f.most, ap (λ (e : Extent). e.buckets) c.extent.ensures);
+      is_open = λ told. subst (λ (e : Extent). IsOpen e file.idx) (sym c.extent.ensures) (open_from s file.idx c.requires.order (c.requires.keeps told));
+    }
 
 -- the hits of the chain, in the words of the value
 chained : {H : Type 0} (P : List ℕ → H → Type 0) (said : Result (List ℕ) ℕ) (hits : H) → IsOk said → HitsAre P said hits → P (places_in said) hits
 chained P (Ok places) hits isok h = h
 chained P (Err unit) hits isok h = absurd h
 
-pub returns-in-Ok-clause-rows : goal.returns-in-Ok-clause-rows
-returns-in-Ok-clause-rows g c = λ told whole.
+pub returns-clause-rows : goal.returns-clause-rows
+returns-clause-rows g c = λ told whole.
     let s = c.args.self.now in
     let B = buckets_of s.first in
     let file : Files = g.D.Disk.files c.args.disk.now in
@@ -47,9 +46,9 @@ returns-in-Ok-clause-rows g c = λ told whole.
     let f : Few B = few B (ordered_parts B s.second s.units (order_parts s c.requires.order).1).count in
     let below : b < B = omega (arith, f.some) in
     let P : List ℕ → Vec Hit Global → Type 0 = λ places hits. AsOften c.args.kind c.args.key.now (map (row_at (unit_at file.idx)) places) hits.items in
-    let here = subst (λ (e : Extent). HitsAre P (chain (index_in e.buckets file.idx) (hash_of c.args.kind c.args.key.now % e.buckets)) c.in-Ok.hits)
-    c.extent.ensures (c.in-Ok.ensures.told told) in
-    let often = chained P (chain x b) c.in-Ok.hits (whole.chains b below) here in
-    let all = often_in_all _ _ c.args.kind c.args.key.now x (places_in (chain x b)) c.in-Ok.hits.items whole below
+    let here = subst (λ (e : Extent). HitsAre P (chain (index_in e.buckets file.idx) (hash_of c.args.kind c.args.key.now % e.buckets)) c.in_ok-hits.hits)
+    c.extent.ensures (c.in_ok-hits.ensures.told told) in
+    let often = chained P (chain x b) c.in_ok-hits.hits (whole.chains b below) here in
+    let all = often_in_all _ _ c.args.kind c.args.key.now x (places_in (chain x b)) c.in_ok-hits.hits.items whole below
     (ok_places (chain x b) (whole.chains b below)) often in
     record { rising = c.sorted.ensures.rising; each = λ h. c.sorted.ensures.same h ∙ all h }

@@ -1,16 +1,24 @@
-use Rattle.std.proofs.Common.{◌≡◌, ℕ, ◌+◌, ◌/◌, ◌∷◌, [], List, length, max, ap, sym, ◌∙◌, subst, arith}
+use Rattle.std.proofs.Common.{◌≡◌, ℕ, ◌+◌, ◌/◌, ◌∷◌, [], List, length, max, ap, sym, ◌∙◌, subst, arith, rules}
 use Rattle.rpm_outside.specs.Files.{Units, put}
 use Rattle.rpm_hindex.specs.State.{State, Keeps}
 use Rattle.rpm_hindex.proofs.TornWrites.{seal_then}
 use Rattle.rpm_hindex.proofs.Patched.{patched_kept}
 use Rattle.rpm_hindex.proofs.index.Hindex.patch.Goals as goal
 
-pub returns-in_default-write_counts-clause-changes : goal.returns-in_default-write_counts-clause-changes
-returns-in_default-write_counts-clause-changes g c = seal_then _ _ _ _ _ _ g.met.D.Disk.follows_trans _ _ _ c.in-Ok.ensures.changes
-    c.in_default-write_counts.ensures.changes
+pub returns-in_err-write_counts-clause-writes : goal.returns-in_err-write_counts-clause-writes
+returns-in_err-write_counts-clause-writes g c = record {
+  changes =
+      seal_then _ _ _ _ _ _ g.met.D.Disk.follows_trans _ _ _ c.in_ok-write_records.ensures.writes.changes
+      c.in_err-write_counts.ensures.writes.changes;
+  cause = search rules;
+}
 
-pub returns-clause-changes : goal.returns-clause-changes
-returns-clause-changes g c = seal_then _ _ _ _ _ _ g.met.D.Disk.follows_trans _ _ _ c.in-Ok.ensures.changes c.in-Ok-write_counts.ensures.changes
+pub returns-clause-writes : goal.returns-clause-writes
+returns-clause-writes g c = record {
+  changes =
+      seal_then _ _ _ _ _ _ g.met.D.Disk.follows_trans _ _ _ c.in_ok-write_records.ensures.writes.changes c.in_ok-write_counts.ensures.writes.changes;
+  cause = search rules;
+}
 
 pub returns-clause-kept : goal.returns-clause-kept
 returns-clause-kept g c = λ told.
@@ -24,7 +32,7 @@ returns-clause-kept g c = λ told.
     (record { first = f; second = p.second; units = c.max-self-inside.result; pending = p.buckets })) (sym first)
     (patched_kept p s c.max-self-inside.result p.buckets (g.D.Disk.files c.args.disk.now).idx (g.D.Disk.files c.write_counts.new.disk).idx
     c.requires.patches (c.requires.keeps told)
-    (c.in-Ok-write_counts.ensures.written told ∙ ap (λ (f : Units). put 1 (p.second ∷ []) f) (c.in-Ok.ensures.written told)) units)
+    (c.in_ok-write_counts.ensures.written told ∙ ap (λ (f : Units). put 1 (p.second ∷ []) f) (c.in_ok-write_records.ensures.written told)) units)
 
 pub write_records-requires-clause-fits : goal.write_records-requires-clause-fits
 write_records-requires-clause-fits g c = λ told. omega (arith, c.requires.patches.fits, (c.requires.keeps told).units)

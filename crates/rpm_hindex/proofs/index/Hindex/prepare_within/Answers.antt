@@ -18,7 +18,7 @@ use Rattle.rpm_hindex.proofs.Honest.{faulty_bad, faulty_for, bad_memory}
 use Rattle.rpm_hindex.proofs.Fitting.{plan_fits, changed_least}
 use Rattle.rpm_hindex.proofs.RowsLeft.{rows_kept_by, rows_less, has_dropped, drops_cost, other_large}
 use Rattle.rpm_hindex.proofs.Keeping.{less_reversed}
-use Rattle.rpm_hindex.proofs.Results.{if_ok, if_ok_two, if_err, if_err_two}
+use Rattle.rpm_hindex.proofs.Results.{handed_on, if_ok, if_ok_two, if_err, if_err_two}
 use Rattle.rpm_hindex.proofs.index.Hindex.prepare_within.Goals as goal
 
 pub returns-then-not-has_room-clause-can : goal.returns-then-not-has_room-clause-can
@@ -32,15 +32,16 @@ returns-then-not-has_room-clause-prepared g c = if_ok_two c.from_scratch.result 
     let adds = c.args.adds.now in
     let first : Change = c.start-change.result in
     let new : Change = c.drop_rows.new.change in
-    let same = ap (λ (e : Extent). e.buckets) c.in_default.ensures.keeps.extent ∙ c.start-change.ensures.buckets in
+    let same = ap (λ (e : Extent). e.buckets) c.in_ok-drop_rows.ensures.keeps.extent ∙ c.start-change.ensures.buckets in
     record {
       ordered = is.ordered;
       zero = is.zero;
       change = λ told whole.
           let all = less_reversed drops (records B file.idx) (rows_kept_by B file.idx new)
-          (rows_less B file.idx drops first new c.start-change.ensures.buckets c.start-change.ensures.dropped (c.in_default.ensures.dropped told).less whole) in
+          (rows_less B file.idx drops first new c.start-change.ensures.buckets c.start-change.ensures.dropped
+          (c.in_ok-drop_rows.ensures.dropped told).less whole) in
           let at_file = subst (λ (f : Files). IsScratchOf (reverse (rows_kept_by new.extent.buckets f.idx new) ++ adds) plan.work)
-          ((c.drop_rows.ensures.looks.untouched told).same) (made told) in
+          ((c.drop_rows.ensures.reads.looks.untouched told).same) (made told) in
           let scratch = subst (λ (n : ℕ). IsScratchOf (reverse (rows_kept_by n file.idx new) ++ adds) plan.work) same at_file in
           let makes = scratch_plan drops adds (reverse (rows_kept_by B file.idx new)) B file.idx plan.work scratch all in
           record {
@@ -59,19 +60,20 @@ returns-then-not-has_room-clause-refused g c = if_err_two c.from_scratch.result 
     let drops = c.args.drops.now in
     let first : Change = c.start-change.result in
     let new : Change = c.drop_rows.new.change in
-    let same = ap (λ (e : Extent). e.buckets) c.in_default.ensures.keeps.extent ∙ c.start-change.ensures.buckets in
+    let same = ap (λ (e : Extent). e.buckets) c.in_ok-drop_rows.ensures.keeps.extent ∙ c.start-change.ensures.buckets in
     record {
       full = λ told whole.
           let all = less_reversed drops (records B file.idx) (rows_kept_by B file.idx new)
-          (rows_less B file.idx drops first new c.start-change.ensures.buckets c.start-change.ensures.dropped (c.in_default.ensures.dropped told).less whole) in
+          (rows_less B file.idx drops first new c.start-change.ensures.buckets c.start-change.ensures.dropped
+          (c.in_ok-drop_rows.ensures.dropped told).less whole) in
           let at_file = subst (λ (f : Files). IsTooLarge (reverse (rows_kept_by new.extent.buckets f.idx new) ++ c.args.adds.now) e)
-          ((c.drop_rows.ensures.looks.untouched told).same) (large told) in
+          ((c.drop_rows.ensures.reads.looks.untouched told).same) (large told) in
           large_for drops c.args.adds.now (reverse (rows_kept_by B file.idx new)) (records B file.idx) e all
           (subst (λ (n : ℕ). IsTooLarge (reverse (rows_kept_by n file.idx new) ++ c.args.adds.now) e) same at_file);
       bad = λ told. faulty_bad B file.idx e (subst (λ (n : ℕ). IsFaulty n file.idx e) same (subst (λ (f : Files). IsFaulty new.extent.buckets f.idx e)
-          ((c.drop_rows.ensures.looks.untouched told).same) (bad told)));
+          ((c.drop_rows.ensures.reads.looks.untouched told).same) (bad told)));
       counts = λ told. faulty_for drops B file.idx e (subst (λ (n : ℕ). IsFaulty n file.idx e) same
-          (subst (λ (f : Files). IsFaulty new.extent.buckets f.idx e) ((c.drop_rows.ensures.looks.untouched told).same) (bad told)));
+          (subst (λ (f : Files). IsFaulty new.extent.buckets f.idx e) ((c.drop_rows.ensures.reads.looks.untouched told).same) (bad told)));
     }) c.from_scratch.ensures.full c.from_scratch.ensures.bad
 
 pub returns-clause-prepared : goal.returns-clause-prepared
@@ -83,8 +85,8 @@ returns-clause-prepared g c = if_ok_two c.in_place.result _ _ _ (λ plan can mad
     let first = c.start-change.ensures in
     let mid : Change = c.drop_rows.new.change in
     let last : Change = c.add_rows.new.change in
-    let keeps = c.in_default.ensures.keeps in
-    let add = c.in_default-add_rows.ensures.grows in
+    let keeps = c.in_ok-drop_rows.ensures.keeps in
+    let add = c.in_ok-add_rows.ensures.grows in
     let used = ap (λ (e : Extent). e.used) add.extent in
     let empty = ap (λ (t : Vec ℕ Global). length t.items) keeps.tail ∙ first.tail in
     let first_is = ap (λ (e : Extent). is_bucket_count e.buckets) (add.extent ∙ keeps.extent) ∙ first.count in
@@ -96,15 +98,15 @@ returns-clause-prepared g c = if_ok_two c.in_place.result _ _ _ (λ plan can mad
       ordered = ordered;
       zero = place_zero last plan.work made;
       change = λ told whole.
-          let less = rows_less B file.idx drops c.start-change.result mid first.buckets first.dropped (c.in_default.ensures.dropped told).less whole in
+          let less = rows_less B file.idx drops c.start-change.result mid first.buckets first.dropped (c.in_ok-drop_rows.ensures.dropped told).less whole in
           let left = has_dropped B file.idx drops c.start-change.result mid first.buckets keeps.extent keeps.tail first.tail
           (first.«open» file.idx (c.requires.keeps told)) (first.whole file.idx (c.requires.keeps told) whole).cut
-          (c.in_default.ensures.dropped told).cuts less whole in
+          (c.in_ok-drop_rows.ensures.dropped told).cuts less whole in
           let last_is : last.extent.buckets ≡ B = ap (λ (e : Extent). e.buckets) add.extent ∙ left.buckets in
           let all : HasLess drops (records last.extent.buckets file.idx) (rows_of (changing mid file.idx)) = λ r.
           left.rows' r ∙ ap (λ (n : ℕ). times r (records n file.idx) - times r drops) (sym last_is) in
           let more = subst (λ (f : Files). IsWhole mid.records mid.live (changing mid f.idx) → AddsRows mid last f.idx adds)
-          ((c.drop_rows.ensures.looks.untouched told).same) (c.in_default-add_rows.ensures.added told).rows in
+          ((c.drop_rows.ensures.reads.looks.untouched told).same) (c.in_ok-add_rows.ensures.added told).rows in
           let plan_is = place_plan mid last drops adds file.idx plan.work add.go c.in_place.ensures.ordered made (more left.cut.whole) all
           (omega (arith, add.go.records, add.go.few)) (omega (arith, add.go.live, add.go.room)) in
           let makes = subst (λ (n : ℕ). IsPlanFor drops adds n file.idx plan.work) last_is plan_is in
@@ -132,58 +134,59 @@ returns-clause-refused g c = if_err c.in_place.result _ _ (λ e is.
       counts = λ told. faulty_for drops B file.idx e (bad_memory B file.idx e is);
     }) c.in_place.ensures.memory
 
-pub returns-in-Err-clause-refused : goal.returns-in-Err-clause-refused
-returns-in-Err-clause-refused g c =
-    let B = buckets_of c.args.self.now.first in
+pub returns-in_err-drop_rows-clause-refused : goal.returns-in_err-drop_rows-clause-refused
+returns-in_err-drop_rows-clause-refused g c =
+    handed_on c.from_residual.result c.in_err-drop_rows.field-0.0 _ c.from_residual.ensures.1 (let B = buckets_of c.args.self.now.first in
     let file : Files = g.D.Disk.files c.args.disk.now in
     let drops = c.args.drops.now in
     let start = c.start-change.ensures in
     record {
-      full = λ told whole. other_large drops c.args.adds.now (records B file.idx) c.in-Err.fault c.in-Err.ensures.other;
-      bad = λ told. subst (λ (n : ℕ). IsBad n file.idx c.in-Err.fault) start.buckets
-          (c.in-Err.ensures.bad told (start.honest file.idx (c.requires.keeps told)));
+      full = λ told whole. other_large drops c.args.adds.now (records B file.idx) c.in_err-drop_rows.field-0.0 c.in_err-drop_rows.ensures.other;
+      bad = λ told. subst (λ (n : ℕ). IsBad n file.idx c.in_err-drop_rows.field-0.0) start.buckets
+          (c.in_err-drop_rows.ensures.bad told (start.honest file.idx (c.requires.keeps told)));
       counts = λ told.
           let keeps = c.requires.keeps told in
-          subst (λ (n : ℕ). IsBadFor drops n file.idx c.in-Err.fault) start.buckets
-          (c.in-Err.ensures.counts told (start.fresh file.idx keeps) (start.honest file.idx keeps));
-    }
+          subst (λ (n : ℕ). IsBadFor drops n file.idx c.in_err-drop_rows.field-0.0) start.buckets
+          (c.in_err-drop_rows.ensures.counts told (start.fresh file.idx keeps) (start.honest file.idx keeps));
+    })
 
-pub returns-in-Err-add_rows-clause-refused : goal.returns-in-Err-add_rows-clause-refused
-returns-in-Err-add_rows-clause-refused g c =
-    let B = buckets_of c.args.self.now.first in
+pub returns-in_err-add_rows-clause-refused : goal.returns-in_err-add_rows-clause-refused
+returns-in_err-add_rows-clause-refused g c =
+    handed_on c.from_residual-in_err-add_rows.result c.in_err-add_rows.field-0.0 _ c.from_residual-in_err-add_rows.ensures.1
+    (let B = buckets_of c.args.self.now.first in
     let file : Files = g.D.Disk.files c.args.disk.now in
     let drops = c.args.drops.now in
     let new : Change = c.drop_rows.new.change in
-    let e = c.in-Err-add_rows.fault in
-    let same = ap (λ (x : Extent). x.buckets) c.in_default.ensures.keeps.extent ∙ c.start-change.ensures.buckets in
+    let e = c.in_err-add_rows.field-0.0 in
+    let same = ap (λ (x : Extent). x.buckets) c.in_ok-drop_rows.ensures.keeps.extent ∙ c.start-change.ensures.buckets in
     let faulty : IsTrue g.D.Disk.tells → IsFaulty B file.idx e = λ told.
-    let honest = (c.in_default.ensures.dropped told).honest (c.start-change.ensures.honest file.idx (c.requires.keeps told)) in
+    let honest = (c.in_ok-drop_rows.ensures.dropped told).honest (c.start-change.ensures.honest file.idx (c.requires.keeps told)) in
     subst (λ (n : ℕ). IsFaulty n file.idx e) same
     (subst (λ (f : Files). IsHonest new f.idx → IsFaulty new.extent.buckets f.idx e)
-    ((c.drop_rows.ensures.looks.untouched told).same) (c.in-Err-add_rows.ensures.bad told) honest) in
+    ((c.drop_rows.ensures.reads.looks.untouched told).same) (c.in_err-add_rows.ensures.bad told) honest) in
     record {
-      full = λ told whole. other_large drops c.args.adds.now (records B file.idx) e c.in-Err-add_rows.ensures.other;
+      full = λ told whole. other_large drops c.args.adds.now (records B file.idx) e c.in_err-add_rows.ensures.other;
       bad = λ told. faulty_bad B file.idx e (faulty told);
       counts = λ told. faulty_for drops B file.idx e (faulty told);
-    }
+    })
 
-pub returns-in-Err-clause-cost : goal.returns-in-Err-clause-cost
-returns-in-Err-clause-cost g c = λ told whole stays.
+pub returns-in_err-drop_rows-clause-cost : goal.returns-in_err-drop_rows-clause-cost
+returns-in_err-drop_rows-clause-cost g c = λ told whole stays.
     let dropped = drops_cost c.args.drops.now (g.D.Disk.files c.args.disk.now).idx _ _ _ _ c.start-change.ensures.buckets whole
-    (λ w. c.in-Err.ensures.cost told w (c.start-change.ensures.honest (g.D.Disk.files c.args.disk.now).idx (c.requires.keeps told))) in
+    (λ w. c.in_err-drop_rows.ensures.cost told w (c.start-change.ensures.honest (g.D.Disk.files c.args.disk.now).idx (c.requires.keeps told))) in
     omega (arith, dropped)
 
-pub returns-in-Err-add_rows-clause-cost : goal.returns-in-Err-add_rows-clause-cost
-returns-in-Err-add_rows-clause-cost g c = λ told whole stays.
+pub returns-in_err-add_rows-clause-cost : goal.returns-in_err-add_rows-clause-cost
+returns-in_err-add_rows-clause-cost g c = λ told whole stays.
     let dropped = drops_cost c.args.drops.now (g.D.Disk.files c.args.disk.now).idx _ _ _ _ c.start-change.ensures.buckets whole
-    (λ w. c.in_default.ensures.cost told w (c.start-change.ensures.honest (g.D.Disk.files c.args.disk.now).idx (c.requires.keeps told))) in
-    omega (arith, dropped, c.in-Err-add_rows.ensures.looks.reads.idx)
+    (λ w. c.in_ok-drop_rows.ensures.cost told w (c.start-change.ensures.honest (g.D.Disk.files c.args.disk.now).idx (c.requires.keeps told))) in
+    omega (arith, dropped, c.in_err-add_rows.ensures.reads.looks.reads.idx)
 
 pub returns-clause-cost : goal.returns-clause-cost
 returns-clause-cost g c = λ told whole stays.
     let dropped = drops_cost c.args.drops.now (g.D.Disk.files c.args.disk.now).idx _ _ _ _ c.start-change.ensures.buckets whole
-    (λ w. c.in_default.ensures.cost told w (c.start-change.ensures.honest (g.D.Disk.files c.args.disk.now).idx (c.requires.keeps told))) in
-    omega (arith, dropped, c.in_default-add_rows.ensures.looks.reads.idx)
+    (λ w. c.in_ok-drop_rows.ensures.cost told w (c.start-change.ensures.honest (g.D.Disk.files c.args.disk.now).idx (c.requires.keeps told))) in
+    omega (arith, dropped, c.in_ok-add_rows.ensures.reads.looks.reads.idx)
 
 pub returns-then-not-has_room-clause-cost : goal.returns-then-not-has_room-clause-cost
 returns-then-not-has_room-clause-cost g c = λ told whole stays.
@@ -192,10 +195,11 @@ returns-then-not-has_room-clause-cost g c = λ told whole stays.
     let drops = c.args.drops.now in
     let first = c.start-change.ensures in
     let mid : Change = c.drop_rows.new.change in
-    let less = rows_less B file.idx drops c.start-change.result mid first.buckets first.dropped (c.in_default.ensures.dropped told).less whole in
-    let left = has_dropped B file.idx drops c.start-change.result mid first.buckets c.in_default.ensures.keeps.extent c.in_default.ensures.keeps.tail first.tail
+    let less = rows_less B file.idx drops c.start-change.result mid first.buckets first.dropped (c.in_ok-drop_rows.ensures.dropped told).less whole in
+    let left = has_dropped B file.idx drops c.start-change.result mid first.buckets c.in_ok-drop_rows.ensures.keeps.extent
+    c.in_ok-drop_rows.ensures.keeps.tail first.tail
     (first.«open» file.idx (c.requires.keeps told)) (first.whole file.idx (c.requires.keeps told) whole).cut
-    (c.in_default.ensures.dropped told).cuts less whole in
+    (c.in_ok-drop_rows.ensures.dropped told).cuts less whole in
     let most = changed_least (changing mid file.idx) mid.records mid.live drops c.args.adds.now (records B file.idx) stays.rows left.cut.whole left.rows'
     stays.changed in
     let room : c.has_room.result ≡ true = c.has_room.ensures.least (omega (arith, most.0, stays.few, left.buckets))

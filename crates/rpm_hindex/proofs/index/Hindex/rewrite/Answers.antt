@@ -15,21 +15,21 @@ pub returns-clause-ordered : goal.returns-clause-ordered
 returns-clause-ordered g c =
     let rows = c.args.rows.now in
     let B = bucket_count (length rows) in
-    let room : first_record B + live_of rows ≤ 2 ^ 28 = omega (arith, c.in-Ok.ensures.full) in
+    let room : first_record B + live_of rows ≤ 2 ^ 28 = omega (arith, c.in_ok-image.ensures.full) in
     let few_rows : length rows ≤ 2 ^ 28 = omega (arith, length-le-live rows, room) in
-    let pending = c.in-Ok-replace.ensures.value.pending ∙ c.in-Ok.ensures.buckets in
+    let pending = c.in-Ok.ensures.value.pending ∙ c.in_ok-image.ensures.buckets in
     ap (λ (b : ℕ). is_ordered b c.replace.new.self.second c.replace.new.self.units) pending
-    ∙ ap (λ (u : List ℕ). is_ordered B u c.replace.new.self.units) c.in-Ok-replace.ensures.value.second
-    ∙ image_ordered rows c.in-Ok.image.bytes.items c.replace.new.self.units c.in-Ok.ensures.made room few_rows c.in-Ok-replace.ensures.value.units
+    ∙ ap (λ (u : List ℕ). is_ordered B u c.replace.new.self.units) c.in-Ok.ensures.value.second
+    ∙ image_ordered rows c.in_ok-image.image.bytes.items c.replace.new.self.units c.in_ok-image.ensures.made room few_rows c.in-Ok.ensures.value.units
 
 pub returns-clause-value : goal.returns-clause-value
 returns-clause-value g c =
     let rows = c.args.rows.now in
-    let bytes = c.in-Ok.image.bytes.items in
-    let made = c.in-Ok.ensures.made in
-    let value = c.in-Ok-replace.ensures.value in
+    let bytes = c.in_ok-image.image.bytes.items in
+    let made = c.in_ok-image.ensures.made in
+    let value = c.in-Ok.ensures.value in
     record {
-      pending = value.pending ∙ c.in-Ok.ensures.buckets;
+      pending = value.pending ∙ c.in_ok-image.ensures.buckets;
       voided = value.voided;
       size = ap (word 0) value.second ∙ image_size rows bytes made;
       zero = subst EndsInZero (sym value.second) (image_zero rows (bucket_count (length rows)) bytes made);
@@ -38,22 +38,22 @@ returns-clause-value g c =
 pub returns-clause-padded : goal.returns-clause-padded
 returns-clause-padded g c = λ told.
     let file : Units = (g.D.Disk.files c.replace.new.disk).idx in
-    let pending = c.in-Ok-replace.ensures.value.pending ∙ c.in-Ok.ensures.buckets in
-    let made = c.in-Ok.ensures.made.made file (c.in-Ok-replace.ensures.held told) in
+    let pending = c.in-Ok.ensures.value.pending ∙ c.in_ok-image.ensures.buckets in
+    let made = c.in_ok-image.ensures.made.made file (c.in-Ok.ensures.held told) in
     subst (λ (n : ℕ). ArePadded (index_in n file)) (sym pending) made.padded
 
 pub returns-clause-grows : goal.returns-clause-grows
-returns-clause-grows g c = omega (arith, c.in-Ok-replace.ensures.value.grows, c.in-Ok.ensures.made.long)
+returns-clause-grows g c = omega (arith, c.in-Ok.ensures.value.grows, c.in_ok-image.ensures.made.long)
 
 pub returns-clause-whole : goal.returns-clause-whole
 returns-clause-whole g c = λ told.
     let file : Units = (g.D.Disk.files c.replace.new.disk).idx in
-    let pending = c.in-Ok-replace.ensures.value.pending ∙ c.in-Ok.ensures.buckets in
-    subst (λ (n : ℕ). IsWellFormed n file) (sym pending) (c.in-Ok.ensures.made.made file (c.in-Ok-replace.ensures.held told)).whole
+    let pending = c.in-Ok.ensures.value.pending ∙ c.in_ok-image.ensures.buckets in
+    subst (λ (n : ℕ). IsWellFormed n file) (sym pending) (c.in_ok-image.ensures.made.made file (c.in-Ok.ensures.held told)).whole
 
 pub returns-clause-rows : goal.returns-clause-rows
 returns-clause-rows g c = λ told.
     let file : Units = (g.D.Disk.files c.replace.new.disk).idx in
-    let pending = c.in-Ok-replace.ensures.value.pending ∙ c.in-Ok.ensures.buckets in
+    let pending = c.in-Ok.ensures.value.pending ∙ c.in_ok-image.ensures.buckets in
     subst (λ (n : ℕ). SameRows c.args.rows.now (records n file)) (sym pending)
-    (c.in-Ok.ensures.made.made file (c.in-Ok-replace.ensures.held told)).same
+    (c.in_ok-image.ensures.made.made file (c.in-Ok.ensures.held told)).same

@@ -1,4 +1,4 @@
-use Rattle.std.proofs.Common.{◌≡◌, ℕ, ◌≤◌, ◌∷◌, [], List, ap, sym, ◌∙◌, arith, subst}
+use Rattle.std.proofs.Common.{◌≡◌, ℕ, ◌≤◌, ◌∷◌, [], List, ap, sym, ◌∙◌, arith, subst, rules}
 use Rattle.std.specs.Prelude.{IsTrue}
 use Rattle.rpm_outside.specs.Files.{Units, units_of, unit_at, put}
 use Rattle.rpm_outside.specs.inner.Cuts.{cut_up_one}
@@ -7,7 +7,8 @@ use Rattle.rpm_outside.specs.declared.disk.File.TheVariants.{Idx}
 use Rattle.rpm_outside.specs.inner.Changing.{changes_weaker}
 use Rattle.rpm_hindex.specs.Images.{SealedOrSame}
 use Rattle.rpm_hindex.specs.State.{State, Keeps, seal_unit, magic, is_current}
-use Rattle.rpm_hindex.proofs.UnitWords.{length-unit, current}
+use Rattle.rpm_outside.specs.inner.UnitLaws.{length-unit}
+use Rattle.rpm_hindex.proofs.UnitWords.{current}
 use Rattle.rpm_hindex.proofs.TornWrites.{torn_seal}
 use Rattle.rpm_hindex.proofs.Seals.{front_kept, front_behind, whole_behind, records_behind, padded_behind, state, same_state}
 use Rattle.rpm_hindex.proofs.Sealed.{sealed_file}
@@ -21,19 +22,25 @@ one g buckets unit is = ap units_of is ∙ cut_up_one (seal_unit g buckets) (len
 weaker : (g buckets : ℕ) (unit : List ℕ) → unit ≡ seal_unit g buckets → (a b : Units) → Torn 0 (units_of unit) a b → SealedOrSame (seal_unit g buckets) a b
 weaker g buckets unit is a b t = torn_seal (seal_unit g buckets) a b (subst (λ (us : Units). Torn 0 us a b) (one g buckets unit is) t)
 
-pub returns-in_default-clause-changes : goal.returns-in_default-clause-changes
-returns-in_default-clause-changes g c =
-    let pending = ap (λ (s : State). s.pending) c.self.view_is in
-    let is = c.unit_of_words-first.ensures ∙ ap (seal_unit c.args.generation) pending in
-    changes_weaker _ _ _ _ _ _ Idx _ (SealedOrSame (seal_unit c.args.generation c.args.self.now.pending)) 0 0 _ _ (omega arith)
-    (weaker c.args.generation c.args.self.now.pending c.unit_of_words-first.result is) c.in_default.ensures.changes
+pub returns-in_err-write_synced-clause-writes : goal.returns-in_err-write_synced-clause-writes
+returns-in_err-write_synced-clause-writes g c = record {
+  changes =
+      let pending = ap (λ (s : State). s.pending) c.self.view_is in
+      let is = c.unit_of_words-first.ensures ∙ ap (seal_unit c.args.generation) pending in
+      changes_weaker _ _ _ _ _ _ Idx _ (SealedOrSame (seal_unit c.args.generation c.args.self.now.pending)) 0 0 _ _ (omega arith)
+      (weaker c.args.generation c.args.self.now.pending c.unit_of_words-first.result is) c.in_err-write_synced.ensures.writes.changes;
+  cause = search rules;
+}
 
-pub returns-clause-changes : goal.returns-clause-changes
-returns-clause-changes g c =
-    let pending = ap (λ (s : State). s.pending) c.self.view_is in
-    let is = c.unit_of_words-first.ensures ∙ ap (seal_unit c.args.generation) pending in
-    changes_weaker _ _ _ _ _ _ Idx _ (SealedOrSame (seal_unit c.args.generation c.args.self.now.pending)) 0 0 _ _ (omega arith)
-    (weaker c.args.generation c.args.self.now.pending c.unit_of_words-first.result is) c.in-Ok.ensures.changes
+pub returns-clause-writes : goal.returns-clause-writes
+returns-clause-writes g c = record {
+  changes =
+      let pending = ap (λ (s : State). s.pending) c.self.view_is in
+      let is = c.unit_of_words-first.ensures ∙ ap (seal_unit c.args.generation) pending in
+      changes_weaker _ _ _ _ _ _ Idx _ (SealedOrSame (seal_unit c.args.generation c.args.self.now.pending)) 0 0 _ _ (omega arith)
+      (weaker c.args.generation c.args.self.now.pending c.unit_of_words-first.result is) c.in_ok-write_synced.ensures.writes.changes;
+  cause = search rules;
+}
 
 -- the first unit that was written, and the new file
 module _ (g : Over) (c : goal.After-self-2-1 g) where
@@ -47,7 +54,7 @@ module _ (g : Over) (c : goal.After-self-2-1 g) where
   state_is = same_state _ _ _ _ _ _ first_is (ap (λ (s : State). s.second) c.self.view_is) (ap (λ (s : State). s.units) c.self.view_is)
 
   file_is : IsTrue g.D.Disk.tells → (g.D.Disk.files c.write_synced.new.disk).idx ≡ put 0 (unit ∷ []) (g.D.Disk.files c.args.disk.now).idx
-  file_is told = c.in-Ok.ensures.written told ∙ ap (λ (us : Units). put 0 us (g.D.Disk.files c.args.disk.now).idx)
+  file_is told = c.in_ok-write_synced.ensures.written told ∙ ap (λ (us : Units). put 0 us (g.D.Disk.files c.args.disk.now).idx)
       (one c.args.generation c.args.self.now.pending c.unit_of_words-first.result first_is)
 
   behind : (told : IsTrue g.D.Disk.tells) (i : ℕ) → 1 ≤ i → unit_at (g.D.Disk.files c.write_synced.new.disk).idx i
@@ -78,8 +85,8 @@ returns-clause-records g c = λ told whole. records_behind c.args.self.now.pendi
 pub returns-clause-padded : goal.returns-clause-padded
 returns-clause-padded g c = λ told whole. padded_behind c.args.self.now.pending _ _ (behind g c told) whole
 
-pub returns-in_default-clause-whichever : goal.returns-in_default-clause-whichever
-returns-in_default-clause-whichever g c = λ told whole. sealed_file c.args.generation c.args.self.now.pending (g.D.Disk.files c.args.disk.now).idx
+pub returns-in_err-write_synced-clause-whichever : goal.returns-in_err-write_synced-clause-whichever
+returns-in_err-write_synced-clause-whichever g c = λ told whole. sealed_file c.args.generation c.args.self.now.pending (g.D.Disk.files c.args.disk.now).idx
     (omega arith) (omega (arith, ap (λ (s : State). s.pending) c.self.view_is)) whole
 
 pub returns-clause-whichever : goal.returns-clause-whichever

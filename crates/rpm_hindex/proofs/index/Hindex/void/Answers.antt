@@ -1,4 +1,4 @@
-use Rattle.std.proofs.Common.{arith, ap, sym, ◌∙◌, refl, subst, ℕ, max}
+use Rattle.std.proofs.Common.{arith, ap, sym, ◌∙◌, refl, subst, ℕ, max, rules}
 use Rattle.rpm_outside.specs.Files.{blank}
 use Rattle.rpm_outside.specs.declared.disk.File.TheVariants.{Idx}
 use Rattle.rpm_outside.specs.inner.Changing.{changes_weaker}
@@ -8,14 +8,22 @@ use Rattle.rpm_hindex.proofs.Seals.{front_kept, same_state}
 use Rattle.rpm_hindex.specs.State.{State, Keeps}
 use Rattle.rpm_hindex.proofs.index.Hindex.void.Goals as goal
 
-pub returns-in_default-clause-changes : goal.returns-in_default-clause-changes
+pub returns-in_err-write_synced-clause-writes : goal.returns-in_err-write_synced-clause-writes
 unfolding blank
-returns-in_default-clause-changes g c = changes_weaker _ _ _ _ _ _ Idx _ VoidOrSame 0 0 _ _ (omega arith) (λ a b t. torn_void blank a b t refl)
-    c.in_default.ensures.changes
+returns-in_err-write_synced-clause-writes g c = record {
+  changes =
+      changes_weaker _ _ _ _ _ _ Idx _ VoidOrSame 0 0 _ _ (omega arith) (λ a b t. torn_void blank a b t refl)
+      c.in_err-write_synced.ensures.writes.changes;
+  cause = search rules;
+}
 
-pub returns-clause-changes : goal.returns-clause-changes
+pub returns-clause-writes : goal.returns-clause-writes
 unfolding blank
-returns-clause-changes g c = changes_weaker _ _ _ _ _ _ Idx _ VoidOrSame 0 0 _ _ (omega arith) (λ a b t. torn_void blank a b t refl) c.in-Ok.ensures.changes
+returns-clause-writes g c = record {
+  changes =
+      changes_weaker _ _ _ _ _ _ Idx _ VoidOrSame 0 0 _ _ (omega arith) (λ a b t. torn_void blank a b t refl) c.in_ok-write_synced.ensures.writes.changes;
+  cause = search rules;
+}
 
 pub returns-clause-state : goal.returns-clause-state
 unfolding blank
@@ -28,9 +36,10 @@ returns-clause-kept g c = λ told.
     let units = ap (λ (s : State). s.units) c.self.view_is in
     subst (Keeps (g.D.Disk.files c.write_synced.new.disk).idx) (sym (same_state _ blank _ c.args.self.now.second _ (max c.args.self.now.units 1) refl
     second (c.max-self-inside.ensures ∙ ap (λ (n : ℕ). max n 1) units)))
-    (front_kept blank (g.D.Disk.files c.args.disk.now).idx (g.D.Disk.files c.write_synced.new.disk).idx (c.in-Ok.ensures.written told) c.args.self.now
+    (front_kept blank (g.D.Disk.files c.args.disk.now).idx (g.D.Disk.files c.write_synced.new.disk).idx (c.in_ok-write_synced.ensures.written told)
+    c.args.self.now
     (max c.args.self.now.units 1) (c.requires.keeps told) refl)
 
 pub returns-clause-voided : goal.returns-clause-voided
 unfolding blank
-returns-clause-voided g c = λ told. c.in-Ok.ensures.written told
+returns-clause-voided g c = λ told. c.in_ok-write_synced.ensures.written told

@@ -1,4 +1,4 @@
-use Rattle.std.proofs.Common.{◌≡◌, ℕ, ◌+◌, ◌/◌, List, length, take, max, ap, sym, ◌∙◌, refl, arith, subst}
+use Rattle.std.proofs.Common.{◌≡◌, ℕ, ◌+◌, ◌/◌, List, length, take, max, ap, sym, ◌∙◌, refl, arith, subst, rules}
 use Rattle.rpm_outside.specs.Files.{units_of, put}
 use Rattle.rpm_hindex.specs.State.{State, Keeps}
 use Rattle.rpm_outside.specs.declared.disk.File.TheVariants.{Idx}
@@ -8,13 +8,21 @@ use Rattle.rpm_hindex.proofs.TornWrites.{torn_behind}
 use Rattle.rpm_hindex.proofs.Seals.{image_kept}
 use Rattle.rpm_hindex.proofs.index.Hindex.write_image.Goals as goal
 
-pub returns-in_default-clause-changes : goal.returns-in_default-clause-changes
-returns-in_default-clause-changes g c = changes_weaker _ _ _ _ _ _ Idx _ SameSeal 0 0 _ _ (omega arith) (λ a b t. torn_behind 1 _ a b (omega arith) t)
-    c.in_default.ensures.changes
+pub returns-in_err-write_synced-clause-writes : goal.returns-in_err-write_synced-clause-writes
+returns-in_err-write_synced-clause-writes g c = record {
+  changes =
+      changes_weaker _ _ _ _ _ _ Idx _ SameSeal 0 0 _ _ (omega arith) (λ a b t. torn_behind 1 _ a b (omega arith) t)
+      c.in_err-write_synced.ensures.writes.changes;
+  cause = search rules;
+}
 
-pub returns-clause-changes : goal.returns-clause-changes
-returns-clause-changes g c = changes_weaker _ _ _ _ _ _ Idx _ SameSeal 0 0 _ _ (omega arith) (λ a b t. torn_behind 1 _ a b (omega arith) t)
-    c.in-Ok.ensures.changes
+pub returns-clause-writes : goal.returns-clause-writes
+returns-clause-writes g c = record {
+  changes =
+      changes_weaker _ _ _ _ _ _ Idx _ SameSeal 0 0 _ _ (omega arith) (λ a b t. torn_behind 1 _ a b (omega arith) t)
+      c.in_ok-write_synced.ensures.writes.changes;
+  cause = search rules;
+}
 
 abbrev made : List ℕ → List ℕ → ℕ → ℕ → State
 made first second units pending = record { first = first; second = second; units = units; pending = pending }
@@ -35,5 +43,5 @@ returns-clause-kept g c = λ told.
     subst (Keeps (g.D.Disk.files c.write_synced.new.disk).idx) (sym (same _ s.first _ (take 16 bytes) _ (max s.units n) c.args.image.now.buckets first
     second units))
     (image_kept bytes (g.D.Disk.files c.args.disk.now).idx (g.D.Disk.files c.write_synced.new.disk).idx
-    (c.in-Ok.ensures.written told ∙ ap (λ (bs : List ℕ). put 1 (units_of bs) (g.D.Disk.files c.args.disk.now).idx) c.deref.ensures.value) s
+    (c.in_ok-write_synced.ensures.written told ∙ ap (λ (bs : List ℕ). put 1 (units_of bs) (g.D.Disk.files c.args.disk.now).idx) c.deref.ensures.value) s
     (max s.units n) c.args.image.now.buckets c.requires.some (c.requires.keeps told) refl)
