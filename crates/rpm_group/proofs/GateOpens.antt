@@ -1,12 +1,13 @@
 -- A commit record that opens a log.
-use Rattle.std.proofs.Common.{◌≡◌, ℕ, ◌+◌, ◌-◌, ◌<◌, List, [], ◌∷◌, length, sym, ap, subst, ◌∙◌, arith}
+use Rattle.std.proofs.Common.{◌≡◌, ℕ, ◌+◌, ◌-◌, ◌<◌, ◌≤◌, ◌^◌, List, [], ◌∷◌, length, sym, ap, subst, ◌∙◌, arith}
 use Rattle.rpm_outside.specs.declared.disk.File.TheVariants.{Log}
 use Rattle.rpm_outside.specs.Files.{Units, Files, with_file, put}
 use Rattle.rpm_outside.specs.Crash.{LeavesOnly, TornFile, Elapses, OnlyAfter}
 use Rattle.rpm_outside.specs.Logs.{Entry, Closed, Open, log_state, unlogged, with_entries}
 use Rattle.rpm_outside.specs.LogWrites.{EntriesIn, IsGate}
 use Rattle.rpm_outside.specs.inner.LogWriting.{entries_long, word_full, opened_is}
-use Rattle.rpm_group.specs.inner.Words.{IsUnitOf}
+use Rattle.rpm_outside.specs.Words.{word, unit_of_words}
+use Rattle.rpm_outside.specs.inner.UnitLaws.{word_0, word_1, word_2, word_3}
 use Rattle.rpm_group.specs.declared.group.Tail.{Tail}
 use Rattle.rpm_group.specs.Groups.{BeforeOrAfter}
 use Rattle.rpm_group.specs.inner.Grouped.{IsTail}
@@ -19,19 +20,21 @@ pub record Opens (gate : List ℕ) (entries : List Entry) (tail : Tail) (log : U
   pub below : tail.at - 1 < length log
   pub placed : EntriesIn entries 1 (tail.at - 1 + 1) log
 
-pub opens : (gate : List ℕ) (entries : List Entry) (tail : Tail) (log : Units) → IsUnitOf 0x4c6d_7052 1 tail.entries (tail.at - 1) gate
-    → IsTail entries tail log → 0 < tail.entries → 1 < tail.at → Opens gate entries tail log
-opens gate entries tail log unit is some place =
+pub opens : (gate : List ℕ) (entries : List Entry) (tail : Tail) (log : Units) → gate ≡ unit_of_words 0x4c6d_7052 1 tail.entries (tail.at - 1)
+    → IsTail entries tail log → 0 < tail.entries → tail.entries < 2 ^ 32 → 1 < tail.at → tail.at ≤ 2 ^ 28 → Opens gate entries tail log
+opens gate entries tail log unit is some few place small =
+    let end = tail.at - 1 in
+    let magic : word 0 gate ≡ 0x4c6d_7052 = ap (word 0) unit ∙ word_0 0x4c6d_7052 1 tail.entries end (omega arith) in
     let same : tail.at ≡ tail.at - 1 + 1 = omega arith in
     let any : 0 < length entries = omega (arith, is.count) in
     record {
       is_gate = record {
-        magic = unit.one;
-        version = unit.two;
-        count = unit.three ∙ sym is.count;
-        end = unit.four;
+        magic = magic;
+        version = ap (word 1) unit ∙ word_1 0x4c6d_7052 1 tail.entries end (omega arith);
+        count = ap (word 2) unit ∙ word_2 0x4c6d_7052 1 tail.entries end few ∙ sym is.count;
+        end = ap (word 3) unit ∙ word_3 0x4c6d_7052 1 tail.entries end (omega arith);
         full =
-            word_full gate (λ zero. absurd (omega (arith, zero, unit.one)));
+            word_full gate (λ zero. absurd (omega (arith, zero, magic)));
       };
       some = any;
       below = omega (arith, entries_long entries 1 tail.at log any is.placed);

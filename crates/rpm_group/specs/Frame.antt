@@ -1,5 +1,8 @@
 -- What stands around a call that takes a disk, by the ghost members of its kind: beside the words of `rpm_outside`, those of a group.
+use Rattle.std.specs.Prelude.{◌-◌, Result}
 use Rattle.rpm_outside.specs.declared.disk.Disk as disk
+use Rattle.rpm_outside.specs.declared.disk.File.{File}
+use Rattle.rpm_outside.specs.Frame as frame
 use Rattle.rpm_group.specs.Groups as groups
 use Rattle.rpm_group.specs.LogReads as reads
 
@@ -8,9 +11,28 @@ module _ {D : Type 0} (d : disk.Ghosts D) where
   abbrev pub ReadsLog : D → D → Type 0
   ReadsLog = reads.ReadsLog d.moment d.bytes_read d.follows
 
-  -- nothing was read
-  abbrev pub ReadsNothing : D → D → Type 0
-  ReadsNothing = reads.ReadsNothing d.moment d.bytes_read d.follows
+  -- of the other files than the log nothing was read, and an error comes only where the disk counted a fault
+  pub record OnlyReadsLog {T E : Type 0} (result : Result T E) (old new : D) : Type 0 where
+    pub log : ReadsLog old new
+    pub cause : frame.DiskCause d result old new
+
+  -- the same for an answer of several errors, of which this comes only where the disk counted a fault
+  pub record OnlyReadsLogOr (what : Type 0) (old new : D) : Type 0 where
+    pub log : ReadsLog old new
+    pub cause : frame.DiskFault d what old new
+
+  -- nothing was read, and an error comes only where the disk counted a fault
+  pub record ReadsNothing {T E : Type 0} (result : Result T E) (old new : D) : Type 0 where
+    pub nothing : reads.ReadsNothing d.moment d.bytes_read d.follows old new
+    pub cause : frame.DiskCause d result old new
+
+  -- one file was read, nothing else happened, and an error comes only where the disk counted a fault
+  abbrev pub ReadsAt : {T E : Type 0} → File → Result T E → D → D → Type 0
+  ReadsAt file result old new = frame.Reads d file (d.bytes_read new file - d.bytes_read old file) result old new
+
+  -- the same for an answer of several errors, of which this comes only where the disk counted a fault
+  abbrev pub ReadsAtOr : File → Type 0 → D → D → Type 0
+  ReadsAtOr file what old new = frame.ReadsOr d file (d.bytes_read new file - d.bytes_read old file) what old new
 
   -- nothing at all happened
   abbrev pub Unwritten : D → D → Type 0

@@ -4,7 +4,6 @@ pub mod LogReadings
 pub mod HeldUnits
 pub mod Leavings
 pub mod Behind
-pub mod Words
 pub mod Logged
 pub mod Over
 pub mod Grouped

@@ -1,7 +1,7 @@
 //! What an overlay holds becomes one change of the disk below.
 
 ghost use Rattle.std.specs.Prelude.{◌≡◌, ◌⊎◌, ◌↔◌, ℕ, ◌+◌, ◌-◌, ◌*◌, ◌/◌, ◌%◌, ◌<◌, ◌≤◌, ◌^◌, IsTrue, length, Ok, Err, OnOk, OnErr, IfOk, IfErr, List};
-ghost use Rattle.rpm_outside.specs.Frame.{images, LeavesIn, DiskFault, DiskCause, LeavesChanged};
+ghost use Rattle.rpm_outside.specs.Frame.{images, LeavesIn, DiskFault, LeavesChanged};
 ghost use Rattle.rpm_outside.specs.Files.{Files, file_of, with_file};
 ghost use Rattle.rpm_outside.specs.Crash.{Untouched};
 ghost use Rattle.rpm_outside.specs.Changed.{ChangedIn};
@@ -14,15 +14,15 @@ ghost use Rattle.rpm_group.specs.inner.Leavings.{WasWithin};
 ghost use Rattle.rpm_group.specs.Groups.{runs_of, units_of_log, needed, BeforeOrAfter};
 ghost use Rattle.rpm_group.specs.inner.Grouped.{with_held, IsGroup, IsTail};
 ghost use Rattle.rpm_group.specs.Commits.{IsCommit, IsFull, CommitSays};
-ghost use Rattle.rpm_group.specs.Frame.{ReadsLog, ReadsNothing, Unwritten};
+ghost use Rattle.rpm_group.specs.Frame.{OnlyReadsLog, OnlyReadsLogOr, ReadsNothing, Unwritten};
 
 use crate::group::{Tail, apply_runs, log_runs};
 use crate::layers::Layers;
 use crate::overlay::Overlay;
 use crate::recovery::{close_log, settle_files};
 use crate::scan::extent;
-use crate::writes::{Buffer, unit_of};
-use rpm_outside::{Disk, Failed, File};
+use crate::writes::Buffer;
+use rpm_outside::{Disk, Failed, File, unit_of_words};
 
 /// Writes the entries of both files to the log after the commit record, and settles it.
 fn log_held<D: Disk>(disk: &mut D, held: &Layers, buffer: &mut Buffer) -> Result<Tail, Failed>
@@ -36,8 +36,7 @@ fn log_held<D: Disk>(disk: &mut D, held: &Layers, buffer: &mut Buffer) -> Result
         (D.files disk.new)) }
     ensures settled { OnOk result (IsTrue D.tells → AreSettled (D.files disk.new) (images D.Disk disk.new)) }
     ensures images { IsTrue D.tells → LeavesChanged D.Disk File.Log 1 (2 ^ 28) disk.old disk.new }
-    ensures reads { ReadsNothing D.Disk disk.old disk.new }
-    ensures cause { DiskCause D.Disk result disk.old disk.new }
+    ensures reads { ReadsNothing D.Disk result disk.old disk.new }
 {
     let start = Tail { at: 1, entries: 0 };
     let middle = log_runs(disk, &held.pkg, File::Pkg, start, buffer)?;
@@ -65,10 +64,9 @@ fn open_log<D: Disk>(disk: &mut D, tail: Tail) -> Result<(), Failed>
     ensures images { IsTrue D.tells → (entries : List Entry) → IsTail entries tail (D.files disk.old).log
         → LeavesIn D.Disk disk.old disk.new (BeforeOrAfter (unlogged (D.files disk.old))
         (with_entries entries (unlogged (D.files disk.old)))) }
-    ensures reads { ReadsNothing D.Disk disk.old disk.new }
-    ensures cause { DiskCause D.Disk result disk.old disk.new }
+    ensures reads { ReadsNothing D.Disk result disk.old disk.new }
 {
-    let gate = unit_of(MAGIC, 1, tail.entries, (tail.at - 1) as u32);
+    let gate = unit_of_words(MAGIC, 1, tail.entries, (tail.at - 1) as u32);
     disk.write_at(File::Log, 0, &gate)?;
     disk.sync(File::Log)?;
     Ok(())
@@ -81,8 +79,7 @@ fn apply_held<D: Disk>(disk: &mut D, held: &Layers, buffer: &mut Buffer) -> Resu
     ensures idx { OnOk result (IsTrue D.tells → IsSettled File.Idx (D.files disk.new) (images D.Disk disk.new)) }
     ensures images { IsTrue D.tells → (entries : List Entry) → IsGroup entries held.now
         → LeavesIn D.Disk disk.old disk.new (WasWithin entries (images D.Disk disk.old)) }
-    ensures reads { ReadsLog D.Disk disk.old disk.new }
-    ensures cause { DiskCause D.Disk result disk.old disk.new }
+    ensures reads { OnlyReadsLog D.Disk result disk.old disk.new }
 {
     apply_runs(disk, &held.pkg, File::Pkg, buffer)?;
     apply_runs(disk, &held.idx, File::Idx, buffer)?;
@@ -102,8 +99,7 @@ fn write_group<D: Disk>(disk: &mut D, held: &Layers) -> Result<(), Failed>
     ensures settled { OnOk result (IsTrue D.tells → AreSettled (D.files disk.new) (images D.Disk disk.new)) }
     ensures images { IsTrue D.tells → LeavesIn D.Disk disk.old disk.new
         (BeforeOrAfter (unlogged (D.files disk.old)) (unlogged (with_held held.now (D.files disk.old)))) }
-    ensures reads { ReadsLog D.Disk disk.old disk.new }
-    ensures cause { DiskCause D.Disk result disk.old disk.new }
+    ensures reads { OnlyReadsLog D.Disk result disk.old disk.new }
 {
     let mut buffer = [0u8; 65_536];
     let tail = log_held(disk, held, &mut buffer)?;
@@ -139,8 +135,7 @@ fn write_held<D: Disk>(disk: &mut D, held: &Layers) -> Result<(), CommitFault>
     ensures full { 2 ^ 28 < needed held.now → IsFull (needed held.now) result }
     ensures idle { needed held.now ≡ 1 → Unwritten D.Disk disk.old disk.new }
     ensures unwritten { IsFull (needed held.now) result → Unwritten D.Disk disk.old disk.new }
-    ensures reads { ReadsLog D.Disk disk.old disk.new }
-    ensures cause { DiskFault D.Disk (result ≡ Err CommitFault.DiskFault) disk.old disk.new }
+    ensures reads { OnlyReadsLogOr D.Disk (result ≡ Err CommitFault.DiskFault) disk.old disk.new }
 {
     let pkg = extent(&held.pkg.table, held.pkg.end as usize);
     let idx = extent(&held.idx.table, held.idx.end as usize);
@@ -151,10 +146,7 @@ fn write_held<D: Disk>(disk: &mut D, held: &Layers) -> Result<(), CommitFault>
     if units >= MOST {
         return Err(CommitFault::LogFull { needed: 1 + units });
     }
-    let Ok(()) = write_group(disk, held) else {
-        return Err(CommitFault::DiskFault);
-    };
-    Ok(())
+    write_group(disk, held).map_err(|_| CommitFault::DiskFault)
 }
 
 impl<D: Disk> Overlay<D> {

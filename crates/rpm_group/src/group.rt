@@ -1,7 +1,7 @@
 //! What is held is written as one change: to the log, and from memory to the files.
 
 ghost use Rattle.std.specs.Prelude.{◌≡◌, ◌⊎◌, ℕ, ◌+◌, ◌-◌, ◌*◌, ◌/◌, ◌%◌, ◌<◌, ◌≤◌, ◌^◌, IsTrue, length, OnOk, OnErr, IfOk, IfErr, List, Err};
-ghost use Rattle.rpm_outside.specs.Frame.{images, LeavesIn, DiskCause, LeavesChanged};
+ghost use Rattle.rpm_outside.specs.Frame.{images, LeavesIn, LeavesChanged};
 ghost use Rattle.rpm_outside.specs.Files.{Files, file_of, with_file};
 ghost use Rattle.rpm_outside.specs.Crash.{Untouched};
 ghost use Rattle.rpm_outside.specs.Changed.{ChangedIn};
@@ -47,8 +47,7 @@ pub fn log_runs<D: Disk>(
     ensures changed { OnOk result (IsTrue D.tells → ChangedIn File.Log tail.at (2 ^ 28) (D.files disk.old)
         (D.files disk.new)) }
     ensures images { IsTrue D.tells → LeavesChanged D.Disk File.Log tail.at (2 ^ 28) disk.old disk.new }
-    ensures reads { ReadsNothing D.Disk disk.old disk.new }
-    ensures cause { DiskCause D.Disk result disk.old disk.new }
+    ensures reads { ReadsNothing D.Disk result disk.old disk.new }
 {
     let end = pages.end as usize;
     let mut next = tail;
@@ -81,8 +80,7 @@ pub fn apply_runs<D: Disk>(
     ensures images { IsTrue D.tells → (entries : List Entry)
         → CoversHeld entries file pages.now.table.items pages.now.end
         → LeavesIn D.Disk disk.old disk.new (WasWithin entries (images D.Disk disk.old)) }
-    ensures reads { ReadsNothing D.Disk disk.old disk.new }
-    ensures cause { DiskCause D.Disk result disk.old disk.new }
+    ensures reads { ReadsNothing D.Disk result disk.old disk.new }
 {
     let end = pages.end as usize;
     let mut at = 0;

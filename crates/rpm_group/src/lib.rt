@@ -20,7 +20,6 @@ mod recovery;
 mod scan;
 mod spared;
 mod table;
-mod words;
 mod writes;
 
 pub use commit::CommitFault;

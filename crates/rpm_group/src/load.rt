@@ -10,6 +10,7 @@ ghost use Rattle.rpm_group.specs.inner.LogReadings.{heads_behind};
 ghost use Rattle.rpm_outside.specs.declared.disk.File.TheVariants.{Log};
 ghost use Rattle.rpm_group.specs.Layers.{laid_files};
 ghost use Rattle.rpm_group.specs.Loads.{LoadSays, IsOutside};
+ghost use Rattle.rpm_group.specs.Frame.{ReadsAtOr};
 
 use crate::layers::{Layers, no_layers};
 use crate::log::{Gate, Reading, read_head, read_log};
@@ -47,16 +48,12 @@ fn hold_piece<D: Disk>(
         (put at (take (length bytes.old / 16) (drop from (D.files disk.old).log))
         (file_of file (laid_files held.old files))) (laid_files held.old files)) }
     ensures fault { IfErr result IsOutside }
-    ensures looks { LooksAt D.Disk Log disk.old disk.new }
-    ensures cause { DiskFault D.Disk (result ≡ Err LoadFault.DiskFault) disk.old disk.new }
+    ensures reads { ReadsAtOr D.Disk Log (result ≡ Err LoadFault.DiskFault) disk.old disk.new }
 {
-    let Ok(()) = disk.read_at(File::Log, from, bytes) else {
-        return Err(LoadFault::DiskFault);
-    };
-    let Ok(()) = held.hold(alloc, file, at, bytes) else {
-        return Err(LoadFault::NoMemory);
-    };
-    Ok(())
+    disk.read_at(File::Log, from, bytes)
+        .map_err(|_| LoadFault::DiskFault)?;
+    held.hold(alloc, file, at, bytes)
+        .map_err(|_| LoadFault::NoMemory)
 }
 
 /// Holds so many units of the log as units of a file, 4 KiB at a time.
@@ -78,8 +75,7 @@ fn hold_units<D: Disk>(
         (put at (take count (drop from (D.files disk.old).log)) (file_of file (laid_files held.old files)))
         (laid_files held.old files)) }
     ensures fault { IfErr result IsOutside }
-    ensures looks { LooksAt D.Disk Log disk.old disk.new }
-    ensures cause { DiskFault D.Disk (result ≡ Err LoadFault.DiskFault) disk.old disk.new }
+    ensures reads { ReadsAtOr D.Disk Log (result ≡ Err LoadFault.DiskFault) disk.old disk.new }
 {
     let mut page = [0u8; 4096];
     let mut done = 0u32;
@@ -87,9 +83,7 @@ fn hold_units<D: Disk>(
         let n = (count - done).min(256);
         let bytes = &mut page[..16 * n as usize];
         let place = at + done as u64;
-        if let Err(fault) = hold_piece(alloc, disk, held, from + done as u64, file, place, bytes) {
-            return Err(fault);
-        }
+        hold_piece(alloc, disk, held, from + done as u64, file, place, bytes)?;
         done += n;
     }
     Ok(())
@@ -108,8 +102,7 @@ fn hold_entries<D: Disk>(
         → laid_files held.new files ≡ with_entries (entries_of (heads_behind gate (D.files disk.old).log))
         (laid_files held.old files)) }
     ensures fault { IfErr result (λ fault. IsTrue D.tells → IsOutside fault) }
-    ensures looks { LooksAt D.Disk Log disk.old disk.new }
-    ensures cause { DiskFault D.Disk (result ≡ Err LoadFault.DiskFault) disk.old disk.new }
+    ensures reads { ReadsAtOr D.Disk Log (result ≡ Err LoadFault.DiskFault) disk.old disk.new }
 {
     let mut p = 1u64;
     for _k in 0..gate.entries {
@@ -120,9 +113,7 @@ fn hold_entries<D: Disk>(
             return Err(LoadFault::BadLog { unit: p });
         };
         let first = head.first as u64;
-        if let Err(fault) = hold_units(alloc, disk, held, p + 1, head.file, first, head.count) {
-            return Err(fault);
-        }
+        hold_units(alloc, disk, held, p + 1, head.file, first, head.count)?;
         p += 1 + head.count as u64;
     }
     Ok(())
@@ -136,8 +127,7 @@ pub fn hold_log<D: Disk>(alloc: Global, disk: &mut D, held: &mut Layers) -> Resu
     ensures entries { OnOk result (IsTrue D.tells → (files : Files)
         → laid_files held.new files ≡ with_entries (entries_of (log_state (D.files disk.old).log)) files) }
     ensures says { IsTrue D.tells → LoadSays (log_state (D.files disk.old).log) result }
-    ensures looks { LooksAt D.Disk Log disk.old disk.new }
-    ensures cause { DiskFault D.Disk (result ≡ Err LoadFault.DiskFault) disk.old disk.new }
+    ensures reads { ReadsAtOr D.Disk Log (result ≡ Err LoadFault.DiskFault) disk.old disk.new }
 {
     let Ok(reading) = read_log(disk) else {
         return Err(LoadFault::DiskFault);

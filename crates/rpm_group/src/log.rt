@@ -1,15 +1,14 @@
 //! The commit record and the heads of the log.
 
 ghost use Rattle.std.specs.Prelude.{◌≡◌, ◌==◌, if◌then◌else◌, ℕ, ◌+◌, ◌*◌, ◌/◌, ◌<◌, ◌≤◌, ◌^◌, IsTrue, length, IfOk, IfSome};
-ghost use Rattle.rpm_outside.specs.Frame.{LooksAt, DiskCause};
 ghost use Rattle.rpm_outside.specs.Files.{Files, unit_at};
-ghost use Rattle.rpm_outside.specs.Logs.{is_gate, is_head};
+ghost use Rattle.rpm_outside.specs.Logs.{is_blank, is_gate, is_head};
 ghost use Rattle.rpm_outside.specs.Words.{word};
 ghost use Rattle.rpm_group.specs.inner.LogReadings.{GateSays, LogSays, IsHead, HeadSays, HeadsSay, heads_behind};
 ghost use Rattle.rpm_outside.specs.declared.disk.File.TheVariants.{Log};
+ghost use Rattle.rpm_group.specs.Frame.{ReadsAt};
 
-use crate::words::{is_blank, word};
-use rpm_outside::{Disk, Failed, File};
+use rpm_outside::{Disk, Failed, File, word};
 
 /// The commit record of a log: how many entries there are, and the last unit of the last.
 #[derive(Clone, Copy, PartialEq, Eq)]
@@ -41,12 +40,18 @@ const MAGIC: u32 = 0x4c6d_7052;
 pub fn read_unit<D: Disk>(disk: &mut D, at: u64) -> Result<[u8; 16], Failed>
     requires { IsTrue D.tells → at < length (D.files disk.old).log }
     ensures unit { IfOk result (λ unit. IsTrue D.tells → unit ≡ unit_at (D.files disk.old).log at) }
-    ensures looks { LooksAt D.Disk Log disk.old disk.new }
-    ensures cause { DiskCause D.Disk result disk.old disk.new }
+    ensures reads { ReadsAt D.Disk Log result disk.old disk.new }
 {
     let mut unit = [0u8; 16];
     disk.read_at(File::Log, at, &mut unit)?;
     Ok(unit)
+}
+
+/// Whether all bytes are zero.
+fn is_blank(unit: &[u8]) -> bool
+    ensures { result ≡ is_blank unit.now }
+{
+    unit.iter().all(|b| *b == 0)
 }
 
 /// Whether a unit is the commit record of a log of so many units.
@@ -84,8 +89,7 @@ fn is_head(last: u32, p: u64, head: &[u8]) -> bool
 /// `Failed` only where the count of faults rose.
 pub fn read_gate<D: Disk>(disk: &mut D) -> Result<Reading, Failed>
     ensures says { IfOk result (λ reading. IsTrue D.tells → GateSays reading (D.files disk.old).log) }
-    ensures looks { LooksAt D.Disk Log disk.old disk.new }
-    ensures cause { DiskCause D.Disk result disk.old disk.new }
+    ensures reads { ReadsAt D.Disk Log result disk.old disk.new }
 {
     let units = disk.len(File::Log)?;
     if units == 0 {
@@ -113,8 +117,7 @@ pub fn read_head<D: Disk>(disk: &mut D, last: u32, p: u64) -> Result<Option<Head
     requires { IsTrue D.tells → last < length (D.files disk.old).log }
     ensures head { IfOk result (λ head. IfSome head (λ h. IsHead last p h)) }
     ensures says { IfOk result (λ head. IsTrue D.tells → HeadSays last p (D.files disk.old).log head) }
-    ensures looks { LooksAt D.Disk Log disk.old disk.new }
-    ensures cause { DiskCause D.Disk result disk.old disk.new }
+    ensures reads { ReadsAt D.Disk Log result disk.old disk.new }
 {
     if p > last as u64 {
         return Ok(None);
@@ -152,8 +155,7 @@ fn head_of(unit: &[u8]) -> Head
 pub fn check_heads<D: Disk>(disk: &mut D, gate: Gate) -> Result<Option<u64>, Failed>
     requires { IsTrue D.tells → gate.last < length (D.files disk.old).log }
     ensures says { IfOk result (λ fault. IsTrue D.tells → HeadsSay (heads_behind gate (D.files disk.old).log) fault) }
-    ensures looks { LooksAt D.Disk Log disk.old disk.new }
-    ensures cause { DiskCause D.Disk result disk.old disk.new }
+    ensures reads { ReadsAt D.Disk Log result disk.old disk.new }
 {
     let mut p = 1u64;
     for _k in 0..gate.entries {
@@ -175,8 +177,7 @@ pub fn check_heads<D: Disk>(disk: &mut D, gate: Gate) -> Result<Option<u64>, Fai
 /// `Failed` only where the count of faults rose.
 pub fn read_log<D: Disk>(disk: &mut D) -> Result<Reading, Failed>
     ensures says { IfOk result (λ reading. IsTrue D.tells → LogSays reading (D.files disk.old).log) }
-    ensures looks { LooksAt D.Disk Log disk.old disk.new }
-    ensures cause { DiskCause D.Disk result disk.old disk.new }
+    ensures reads { ReadsAt D.Disk Log result disk.old disk.new }
 {
     match read_gate(disk)? {
         Reading::Opened(gate) => match check_heads(disk, gate)? {

@@ -1,9 +1,9 @@
 //! Reading what is held over what a disk has.
 
 ghost use Rattle.std.specs.Prelude.{◌≡◌, ℕ, ◌+◌, ◌-◌, ◌*◌, ◌/◌, ◌%◌, ◌<◌, ◌≤◌, ◌^◌, min, IsTrue, length, take, drop, OnOk, IfOk, false};
-ghost use Rattle.rpm_outside.specs.Frame.{Looks};
+ghost use Rattle.rpm_outside.specs.Frame.{Reads};
 ghost use Rattle.rpm_outside.specs.Files.{Files, Units, file_of, units_of, unit_at};
-ghost use Rattle.rpm_outside.specs.Causes.{HasCause, RoseBy};
+ghost use Rattle.rpm_outside.specs.Causes.{RoseBy};
 ghost use Rattle.rpm_outside.specs.Crash.{Untouched, bytes_for};
 ghost use Rattle.rpm_group.specs.Held.{unit_in};
 ghost use Rattle.rpm_group.specs.Counts.{is_held};
@@ -23,10 +23,9 @@ fn read_some<D: Disk>(below: &mut D, file: File, unit: u64, into: &mut [u8]) -> 
         → unit + length into.old / 16 ≤ length (file_of file (D.files below.old)) }
     ensures units { OnOk result (IsTrue D.tells → units_of into.new
         ≡ take (length into.old / 16) (drop unit (file_of file (D.files below.old)))) }
-    ensures looks { Looks D.Disk file (length into.old) below.old below.new }
-    ensures reads { (f : File) → RoseBy (D.bytes_read below.old f) (bytes_for file f (length into.old))
+    ensures counts { (f : File) → RoseBy (D.bytes_read below.old f) (bytes_for file f (length into.old))
         (D.bytes_read below.new f) }
-    ensures cause { HasCause (D.faults below.old) (D.faults below.new) result }
+    ensures reads { Reads D.Disk file (length into.old) result below.old below.new }
 {
     if into.is_empty() {
         return Ok(());
@@ -56,9 +55,8 @@ fn read_below<D: Disk>(
     requires end { IsTrue D.tells → end ≡ length (file_of file (D.files below.old)) }
     ensures units { OnOk result (IsTrue D.tells → (k : ℕ) → k < length into.old / 16
         → unit_in into.new k ≡ unit_at (file_of file (D.files below.old)) (unit + k)) }
-    ensures looks { Looks D.Disk file (length into.old) below.old below.new }
-    ensures reads { CountsRead D.bytes_read file (length into.old) below.old below.new spared.old spared.new }
-    ensures cause { HasCause (D.faults below.old) (D.faults below.new) result }
+    ensures counts { CountsRead D.bytes_read file (length into.old) below.old below.new spared.old spared.new }
+    ensures reads { Reads D.Disk file (length into.old) result below.old below.new }
 {
     let there = available(unit, end, into.len() / 16);
     spared.add(file, into.len() - 16 * there);
@@ -80,9 +78,8 @@ fn read_partly<D: Disk>(
         (file_of file (laid_files layers.now (D.files below.old))) }
     ensures units { OnOk result (IsTrue D.tells → units_of into.new
         ≡ take (length into.old / 16) (drop unit (file_of file (laid_files layers.now (D.files below.old))))) }
-    ensures looks { Looks D.Disk file (length into.old) below.old below.new }
-    ensures reads { CountsRead D.bytes_read file (length into.old) below.old below.new spared.old spared.new }
-    ensures cause { HasCause (D.faults below.old) (D.faults below.new) result }
+    ensures counts { CountsRead D.bytes_read file (length into.old) below.old below.new spared.old spared.new }
+    ensures reads { Reads D.Disk file (length into.old) result below.old below.new }
 {
     let pages = layers.file(file);
     // A file of which nothing is held reads as below, and its length need not be asked for.

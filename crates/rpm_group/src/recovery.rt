@@ -1,7 +1,7 @@
 //! What a crash left of a change is finished.
 
 ghost use Rattle.std.specs.Prelude.{◌≡◌, ◌↔◌, ℕ, ◌+◌, ◌*◌, ◌/◌, ◌%◌, ◌<◌, ◌≤◌, ◌^◌, IsTrue, length, take, drop, Ok, Err, None, true, OnOk, IfOk, IfErr};
-ghost use Rattle.rpm_outside.specs.Frame.{images, LeavesIn, DiskFault, DiskCause, LeavesChanged};
+ghost use Rattle.rpm_outside.specs.Frame.{images, LeavesIn, DiskFault, LeavesChanged};
 ghost use Rattle.rpm_outside.specs.Files.{Files, file_of, with_file, put, unit_at};
 ghost use Rattle.rpm_outside.specs.Entries.{Within};
 ghost use Rattle.rpm_outside.specs.Logs.{Closed, log_state, unlogged, with_entries, reopened};
@@ -13,7 +13,7 @@ ghost use Rattle.rpm_group.specs.inner.Leavings.{WasWithin};
 ghost use Rattle.rpm_outside.specs.declared.disk.File.TheVariants.{Log};
 ghost use Rattle.rpm_outside.specs.Looks.{LooksAt};
 ghost use Rattle.rpm_outside.specs.Changes.{AreSettled, IsSettled};
-ghost use Rattle.rpm_group.specs.Frame.{ReadsLog};
+ghost use Rattle.rpm_group.specs.Frame.{ReadsLog, OnlyReadsLog, OnlyReadsLogOr};
 
 use crate::log::{Gate, Reading, read_head, read_log};
 use rpm_outside::{Disk, Failed, File};
@@ -32,8 +32,7 @@ pub fn settle<D: Disk>(disk: &mut D) -> Result<(), Failed>
     ensures same { IsTrue D.tells → D.files disk.new ≡ D.files disk.old }
     ensures settled { OnOk result (IsTrue D.tells → AreSettled (D.files disk.new) (images D.Disk disk.new)) }
     ensures images { IsTrue D.tells → LeavesIn D.Disk disk.old disk.new (images D.Disk disk.old) }
-    ensures reads { ReadsLog D.Disk disk.old disk.new }
-    ensures cause { DiskCause D.Disk result disk.old disk.new }
+    ensures reads { OnlyReadsLog D.Disk result disk.old disk.new }
 {
     settle_files(disk)?;
     disk.sync(File::Log)
@@ -45,8 +44,7 @@ pub fn settle_files<D: Disk>(disk: &mut D) -> Result<(), Failed>
     ensures pkg { OnOk result (IsTrue D.tells → IsSettled File.Pkg (D.files disk.new) (images D.Disk disk.new)) }
     ensures idx { OnOk result (IsTrue D.tells → IsSettled File.Idx (D.files disk.new) (images D.Disk disk.new)) }
     ensures images { IsTrue D.tells → LeavesIn D.Disk disk.old disk.new (images D.Disk disk.old) }
-    ensures reads { ReadsLog D.Disk disk.old disk.new }
-    ensures cause { DiskCause D.Disk result disk.old disk.new }
+    ensures reads { OnlyReadsLog D.Disk result disk.old disk.new }
 {
     disk.sync(File::Pkg)?;
     disk.sync(File::Idx)?;
@@ -69,8 +67,7 @@ fn copy_piece<D: Disk>(
         → D.files disk.new ≡ with_file file (put at (take (length bytes.old / 16) (drop from (D.files disk.old).log))
         (file_of file (D.files disk.old))) (D.files disk.old)) }
     ensures images { IsTrue D.tells → LeavesChanged D.Disk file at (at + length bytes.old / 16) disk.old disk.new }
-    ensures reads { ReadsLog D.Disk disk.old disk.new }
-    ensures cause { DiskCause D.Disk result disk.old disk.new }
+    ensures reads { OnlyReadsLog D.Disk result disk.old disk.new }
 {
     disk.read_at(File::Log, from, bytes)?;
     disk.write_at(file, at, bytes)?;
@@ -94,8 +91,7 @@ fn copy_units<D: Disk>(
         ≡ with_file file (put at (take count (drop from (D.files disk.old).log)) (file_of file (D.files disk.old)))
         (D.files disk.old)) }
     ensures images { IsTrue D.tells → LeavesChanged D.Disk file at (at + count) disk.old disk.new }
-    ensures reads { ReadsLog D.Disk disk.old disk.new }
-    ensures cause { DiskCause D.Disk result disk.old disk.new }
+    ensures reads { OnlyReadsLog D.Disk result disk.old disk.new }
 {
     let mut page = [0u8; 4096];
     let mut done = 0u32;
@@ -118,8 +114,7 @@ fn copy_entries<D: Disk>(disk: &mut D, gate: Gate) -> Result<Option<u64>, Failed
         ≡ with_entries (entries_of (heads_behind gate (D.files disk.old).log)) (D.files disk.old)) }
     ensures images { IsTrue D.tells → LeavesIn D.Disk disk.old disk.new
         (WasWithin (entries_of (heads_behind gate (D.files disk.old).log)) (images D.Disk disk.old)) }
-    ensures reads { ReadsLog D.Disk disk.old disk.new }
-    ensures cause { DiskCause D.Disk result disk.old disk.new }
+    ensures reads { OnlyReadsLog D.Disk result disk.old disk.new }
 {
     let mut p = 1u64;
     for _k in 0..gate.entries {
@@ -143,8 +138,7 @@ fn apply_entries<D: Disk>(disk: &mut D, gate: Gate) -> Result<Option<u64>, Faile
     ensures settled { OnOk result (IsTrue D.tells → AreSettled (D.files disk.new) (images D.Disk disk.new)) }
     ensures images { IsTrue D.tells → LeavesIn D.Disk disk.old disk.new
         (WasWithin (entries_of (heads_behind gate (D.files disk.old).log)) (images D.Disk disk.old)) }
-    ensures reads { ReadsLog D.Disk disk.old disk.new }
-    ensures cause { DiskCause D.Disk result disk.old disk.new }
+    ensures reads { OnlyReadsLog D.Disk result disk.old disk.new }
 {
     let fault = copy_entries(disk, gate)?;
     settle_files(disk)?;
@@ -163,8 +157,7 @@ pub fn close_log<D: Disk>(disk: &mut D) -> Result<(), Failed>
     ensures same { IsTrue D.tells → unlogged (D.files disk.new) ≡ unlogged (D.files disk.old) }
     ensures settled { OnOk result (IsTrue D.tells → AreSettled (D.files disk.new) (images D.Disk disk.new)) }
     ensures images { IsTrue D.tells → LeavesIn D.Disk disk.old disk.new (ReopensAs (unlogged (D.files disk.old))) }
-    ensures reads { ReadsLog D.Disk disk.old disk.new }
-    ensures cause { DiskCause D.Disk result disk.old disk.new }
+    ensures reads { OnlyReadsLog D.Disk result disk.old disk.new }
 {
     disk.write_at(File::Log, 0, &[0u8; 16])?;
     disk.sync(File::Log)?;
@@ -183,8 +176,7 @@ fn finish<D: Disk>(disk: &mut D, gate: Gate) -> Result<bool, RecoverFault>
     ensures files { OnOk result (IsTrue D.tells → unlogged (D.files disk.new) ≡ reopened (D.files disk.old)) }
     ensures settled { OnOk result (IsTrue D.tells → AreSettled (D.files disk.new) (images D.Disk disk.new)) }
     ensures images { IsTrue D.tells → LeavesIn D.Disk disk.old disk.new (ReopensAs (reopened (D.files disk.old))) }
-    ensures reads { ReadsLog D.Disk disk.old disk.new }
-    ensures cause { DiskFault D.Disk (result ≡ Err RecoverFault.DiskFault) disk.old disk.new }
+    ensures reads { OnlyReadsLogOr D.Disk (result ≡ Err RecoverFault.DiskFault) disk.old disk.new }
 {
     let Ok(fault) = apply_entries(disk, gate) else {
         return Err(RecoverFault::DiskFault);
@@ -192,9 +184,7 @@ fn finish<D: Disk>(disk: &mut D, gate: Gate) -> Result<bool, RecoverFault>
     if let Some(unit) = fault {
         return Err(RecoverFault::BadLog { unit });
     }
-    let Ok(()) = close_log(disk) else {
-        return Err(RecoverFault::DiskFault);
-    };
+    close_log(disk).map_err(|_| RecoverFault::DiskFault)?;
     Ok(true)
 }
 
@@ -219,9 +209,7 @@ pub fn recover<D: Disk>(disk: &mut D) -> Result<bool, RecoverFault>
     ensures reads { ReadsLog D.Disk disk.old disk.new }
     ensures cause { DiskFault D.Disk (result ≡ Err RecoverFault.DiskFault) disk.old disk.new }
 {
-    let Ok(()) = settle(disk) else {
-        return Err(RecoverFault::DiskFault);
-    };
+    settle(disk).map_err(|_| RecoverFault::DiskFault)?;
     let Ok(reading) = read_log(disk) else {
         return Err(RecoverFault::DiskFault);
     };

@@ -1,43 +1,27 @@
 //! Runs of held units are written to a disk.
 
-ghost use Rattle.std.specs.Prelude.{◌≡◌, ℕ, ◌+◌, ◌-◌, ◌*◌, ◌/◌, ◌%◌, ◌<◌, ◌≤◌, ◌^◌, IsTrue, true, length, OnOk, ◌∷◌, List};
-ghost use Rattle.rpm_outside.specs.Frame.{DiskCause, LeavesChanged};
+ghost use Rattle.std.specs.Prelude.{◌≡◌, ℕ, ◌+◌, ◌-◌, ◌*◌, ◌/◌, ◌%◌, ◌<◌, ◌≤◌, ◌^◌, IsTrue, true, length, OnOk, ◌∷◌};
+ghost use Rattle.rpm_outside.specs.Frame.{images, LeavesChanged};
 ghost use Rattle.rpm_outside.specs.Files.{Files, file_of, with_file, units_of, put};
-ghost use Rattle.rpm_outside.specs.Words.{word};
+ghost use Rattle.rpm_outside.specs.Words.{unit_of_words};
 ghost use Rattle.rpm_outside.specs.LogWrites.{number_of};
 ghost use Rattle.rpm_group.specs.inner.HeldUnits.{units_held, AreHeld};
-ghost use Rattle.rpm_group.specs.inner.Words.{IsUnitOf, IsHeadOf};
 ghost use Rattle.rpm_group.specs.Frame.{ReadsNothing};
 
 use crate::table::{Table, lay};
-use rpm_outside::{Disk, Failed, File};
+use rpm_outside::{Disk, Failed, File, unit_of_words};
 
 /// Where units are gathered from their pages before they are written.
 pub type Buffer = [u8; 65_536];
 
-/// A unit of four numbers.
-#[tactic(auto, unfolding(rpm_outside::specs::Words::word))]
-pub fn unit_of(first: u32, second: u32, third: u32, fourth: u32) -> [u8; 16]
-    ensures { IsUnitOf first second third fourth result }
-{
-    let a = first.to_le_bytes();
-    let b = second.to_le_bytes();
-    let c = third.to_le_bytes();
-    let d = fourth.to_le_bytes();
-    [
-        a[0], a[1], a[2], a[3], b[0], b[1], b[2], b[3], c[0], c[1], c[2], c[3], d[0], d[1], d[2],
-        d[3],
-    ]
-}
-
 /// The head of so many units of a file.
 fn head_of(file: File, first: u32, count: u32) -> [u8; 16]
-    ensures { IsHeadOf file first count result }
+    ensures { result ≡ unit_of_words (number_of file) first count 0 }
 {
     match file {
-        File::Pkg => unit_of(1, first, count, 0),
-        File::Idx => unit_of(2, first, count, 0),
-        File::Log => unit_of(0, first, count, 0),
+        File::Pkg => unit_of_words(1, first, count, 0),
+        File::Idx => unit_of_words(2, first, count, 0),
+        File::Log => unit_of_words(0, first, count, 0),
     }
 }
 
@@ -59,8 +43,7 @@ fn write_piece<D: Disk>(
         ≡ with_file file (put at (units_held table.now.items from (length bytes.old / 16))
         (file_of file (D.files disk.old))) (D.files disk.old)) }
     ensures images { IsTrue D.tells → LeavesChanged D.Disk file at (at + length bytes.old / 16) disk.old disk.new }
-    ensures reads { ReadsNothing D.Disk disk.old disk.new }
-    ensures cause { DiskCause D.Disk result disk.old disk.new }
+    ensures reads { ReadsNothing D.Disk result disk.old disk.new }
 {
     lay(table, from, bytes);
     disk.write_at(file, at, bytes)?;
@@ -86,8 +69,7 @@ pub fn write_run<D: Disk>(
         ≡ with_file file (put at (units_held table.now.items from (end - from)) (file_of file (D.files disk.old)))
         (D.files disk.old)) }
     ensures images { IsTrue D.tells → LeavesChanged D.Disk file at (at + (end - from)) disk.old disk.new }
-    ensures reads { ReadsNothing D.Disk disk.old disk.new }
-    ensures cause { DiskCause D.Disk result disk.old disk.new }
+    ensures reads { ReadsNothing D.Disk result disk.old disk.new }
 {
     let mut done = from;
     while done < end {
@@ -113,12 +95,11 @@ pub fn log_run<D: Disk>(
     requires held { AreHeld table.now.items from end }
     requires room { at + 1 + (end - from) ≤ 2 ^ 28 }
     requires small { end ≤ 2 ^ 28 }
-    ensures written { OnOk result (IsTrue D.tells → (head : List ℕ) × IsHeadOf file from (end - from) head
-        × (D.files disk.new ≡ with_file File.Log (put at (head ∷ units_held table.now.items from (end - from))
-        (D.files disk.old).log) (D.files disk.old))) }
+    ensures written { OnOk result (IsTrue D.tells → D.files disk.new ≡ with_file File.Log
+        (put at (unit_of_words (number_of file) from (end - from) 0 ∷ units_held table.now.items from (end - from))
+        (D.files disk.old).log) (D.files disk.old)) }
     ensures images { IsTrue D.tells → LeavesChanged D.Disk File.Log at (at + 1 + (end - from)) disk.old disk.new }
-    ensures reads { ReadsNothing D.Disk disk.old disk.new }
-    ensures cause { DiskCause D.Disk result disk.old disk.new }
+    ensures reads { ReadsNothing D.Disk result disk.old disk.new }
 {
     let head = head_of(file, from as u32, (end - from) as u32);
     disk.write_at(File::Log, at, &head)?;

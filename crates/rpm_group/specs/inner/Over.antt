@@ -4,7 +4,7 @@ use Rattle.rpm_outside.specs.declared.disk.Disk as disk
 use Rattle.rpm_outside.specs.declared.disk.File.{File}
 use Rattle.rpm_outside.specs.declared.failed.Failed.{Failed}
 use Rattle.rpm_outside.specs.Files.{file_of, units_of}
-use Rattle.rpm_outside.specs.Frame.{Looks, DiskCause}
+use Rattle.rpm_outside.specs.Frame.{Reads}
 use Rattle.rpm_group.specs.declared.layers.Layers.{Layers}
 use Rattle.rpm_group.specs.declared.spared.Spared.{Spared}
 use Rattle.rpm_group.specs.Layers.{laid_files}
@@ -15,6 +15,5 @@ module _ {D : Type 0} (d : disk.Ghosts D) where
   pub record ReadsOver (layers : Layers) (file : File) (unit : ℕ) (bytes : ℕ) (after : List ℕ) (result : Result (Unit {0}) Failed) (old new : D)
       (so sn : Spared) : Type 0 where
     pub units : OnOk result (IsTrue d.tells → units_of after ≡ take (bytes / 16) (drop unit (file_of file (laid_files layers (d.files old)))))
-    pub looks : Looks d file (bytes) old new
-    pub reads : CountsRead d.bytes_read file (bytes) old new so sn
-    pub cause : DiskCause d result old new
+    pub counts : CountsRead d.bytes_read file bytes old new so sn
+    pub reads : Reads d file bytes result old new

@@ -28,7 +28,7 @@ returns-in_err-apply_runs-2-clause-images g c = λ told entries group.
     let old = c.args.disk.now in
     let mid = c.apply_runs.new.disk in
     both_within D.moment D.left_since entries old mid c.apply_runs-2.new.disk
-    (λ image left. g.met.D.Disk.earlier mid (D.moment old) (D.moment mid) image told c.apply_runs.ensures.reads.later (omega arith) left)
+    (λ image left. g.met.D.Disk.earlier mid (D.moment old) (D.moment mid) image told c.apply_runs.ensures.reads.nothing.later (omega arith) left)
     (c.apply_runs.ensures.images told entries group.pkg) (c.apply_runs-2.ensures.images told entries group.idx)
 
 pub returns-clause-images : goal.returns-clause-images
@@ -39,8 +39,8 @@ returns-clause-images g c = λ told entries group.
     let last = c.apply_runs-2.new.disk in
     then_back D.moment D.left_since old last c.settle_files.new.disk (WasWithin entries (D.left_since old (D.moment old)))
     (λ image left. g.met.D.Disk.earlier last (D.moment old) (D.moment last) image told
-    (omega (arith, c.apply_runs.ensures.reads.later, c.apply_runs-2.ensures.reads.later)) (omega arith) left)
+    (omega (arith, c.apply_runs.ensures.reads.nothing.later, c.apply_runs-2.ensures.reads.nothing.later)) (omega arith) left)
     (both_within D.moment D.left_since entries old mid last
-    (λ image left. g.met.D.Disk.earlier mid (D.moment old) (D.moment mid) image told c.apply_runs.ensures.reads.later (omega arith) left)
+    (λ image left. g.met.D.Disk.earlier mid (D.moment old) (D.moment mid) image told c.apply_runs.ensures.reads.nothing.later (omega arith) left)
     (c.apply_runs.ensures.images told entries group.pkg) (c.apply_runs-2.ensures.images told entries group.idx))
     (c.settle_files.ensures.images told)

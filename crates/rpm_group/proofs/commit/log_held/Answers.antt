@@ -15,7 +15,7 @@ returns-in_err-tail-clause-images g c = λ told.
     let old = c.args.disk.now in
     let mid = c.log_runs.new.disk in
     log_leaves D.moment D.left_since c.in_ok-middle.middle.at old mid c.log_runs-2.new.disk (omega (arith, c.in_ok-middle.ensures.at))
-    (λ image left. g.met.D.Disk.earlier mid (D.moment old) (D.moment mid) image told c.log_runs.ensures.reads.later (omega arith) left)
+    (λ image left. g.met.D.Disk.earlier mid (D.moment old) (D.moment mid) image told c.log_runs.ensures.reads.nothing.later (omega arith) left)
     (c.log_runs.ensures.images told) (c.log_runs-2.ensures.images told)
 
 pub returns-in_err-sync-clause-images : goal.returns-in_err-sync-clause-images
@@ -26,11 +26,11 @@ returns-in_err-sync-clause-images g c = λ told.
     let last = c.log_runs-2.new.disk in
     sync_leaves D.moment D.left_since old last c.sync.new.self (WasChanged Log 1 (2 ^ 28) (D.left_since old (D.moment old)))
     (log_leaves D.moment D.left_since c.in_ok-middle.middle.at old mid last (omega (arith, c.in_ok-middle.ensures.at))
-    (λ image left. g.met.D.Disk.earlier mid (D.moment old) (D.moment mid) image told c.log_runs.ensures.reads.later (omega arith) left)
+    (λ image left. g.met.D.Disk.earlier mid (D.moment old) (D.moment mid) image told c.log_runs.ensures.reads.nothing.later (omega arith) left)
     (c.log_runs.ensures.images told) (c.log_runs-2.ensures.images told))
     (c.sync.ensures.time told) (c.sync.ensures.images told)
     (λ image left. g.met.D.Disk.earlier last (D.moment old) (D.moment last) image told
-    (omega (arith, c.log_runs.ensures.reads.later, c.log_runs-2.ensures.reads.later)) (omega arith) left)
+    (omega (arith, c.log_runs.ensures.reads.nothing.later, c.log_runs-2.ensures.reads.nothing.later)) (omega arith) left)
 
 pub returns-clause-images : goal.returns-clause-images
 returns-clause-images g c = λ told.
@@ -40,11 +40,11 @@ returns-clause-images g c = λ told.
     let last = c.log_runs-2.new.disk in
     sync_leaves D.moment D.left_since old last c.sync.new.self (WasChanged Log 1 (2 ^ 28) (D.left_since old (D.moment old)))
     (log_leaves D.moment D.left_since c.in_ok-middle.middle.at old mid last (omega (arith, c.in_ok-middle.ensures.at))
-    (λ image left. g.met.D.Disk.earlier mid (D.moment old) (D.moment mid) image told c.log_runs.ensures.reads.later (omega arith) left)
+    (λ image left. g.met.D.Disk.earlier mid (D.moment old) (D.moment mid) image told c.log_runs.ensures.reads.nothing.later (omega arith) left)
     (c.log_runs.ensures.images told) (c.log_runs-2.ensures.images told))
     (c.sync.ensures.time told) (c.sync.ensures.images told)
     (λ image left. g.met.D.Disk.earlier last (D.moment old) (D.moment last) image told
-    (omega (arith, c.log_runs.ensures.reads.later, c.log_runs-2.ensures.reads.later)) (omega arith) left)
+    (omega (arith, c.log_runs.ensures.reads.nothing.later, c.log_runs-2.ensures.reads.nothing.later)) (omega arith) left)
 
 pub returns-clause-logged : goal.returns-clause-logged
 returns-clause-logged g c = λ told.
@@ -81,5 +81,5 @@ returns-clause-settled g c = λ told.
     (c.in_ok-tail.ensures.changed told))) in
     log_settled D.moment D.left_since old new (D.files old) (D.files new) (c.requires.settled told) changed (returns-clause-images g c told)
     (λ image left. g.met.D.Disk.earlier new (D.moment old) (D.moment new) image told
-    (omega (arith, c.log_runs.ensures.reads.later, c.log_runs-2.ensures.reads.later, c.sync.ensures.later)) (omega arith) left)
+    (omega (arith, c.log_runs.ensures.reads.nothing.later, c.log_runs-2.ensures.reads.nothing.later, c.sync.ensures.later)) (omega arith) left)
     (λ image left. c.in_ok-sync.ensures.settled told image left ∙ ap (λ (f : Files). f.log) same)

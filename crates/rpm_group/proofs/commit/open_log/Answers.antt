@@ -1,6 +1,7 @@
-use Rattle.std.proofs.Common.{arith}
+use Rattle.std.proofs.Common.{length, ap, ◌∙◌, arith}
 use Rattle.rpm_outside.specs.Files.{Files, units_of}
 use Rattle.rpm_outside.specs.inner.Cuts.{cut_up_one}
+use Rattle.rpm_outside.specs.inner.UnitLaws.{length-unit}
 use Rattle.rpm_outside.specs.inner.Leaves.{sync_leaves}
 use Rattle.rpm_outside.specs.Logs.{unlogged, with_entries}
 use Rattle.rpm_group.specs.Groups.{BeforeOrAfter}
@@ -12,10 +13,10 @@ pub returns-in_err-write_at-clause-images : goal.returns-in_err-write_at-clause-
 returns-in_err-write_at-clause-images g c = λ told entries is.
     let D = g.D.Disk in
     let files : Files = D.files c.args.disk.now in
-    let gate = c.unit_of-gate.result in
+    let gate = c.unit_of_words-gate.result in
     gate_leaves D.moment D.left_since c.args.disk.now c.write_at.new.self files gate (units_of gate) entries c.args.tail
-    (cut_up_one gate c.unit_of-gate.ensures.long)
-    (opens gate entries c.args.tail files.log c.unit_of-gate.ensures is c.requires.some c.requires.place) (c.requires.closed told)
+    (cut_up_one gate (ap length c.unit_of_words-gate.ensures ∙ length-unit _ _ _ _))
+    (opens gate entries c.args.tail files.log c.unit_of_words-gate.ensures is c.requires.some (omega arith) c.requires.place c.requires.small) (c.requires.closed told)
     (c.requires.settled told) (c.write_at.ensures.images told) (c.write_at.ensures.time told)
 
 pub returns-in_err-sync-clause-images : goal.returns-in_err-sync-clause-images
@@ -24,10 +25,10 @@ returns-in_err-sync-clause-images g c = λ told entries is.
     let old = c.args.disk.now in
     let mid = c.write_at.new.self in
     let files : Files = D.files old in
-    let gate = c.unit_of-gate.result in
+    let gate = c.unit_of_words-gate.result in
     sync_leaves D.moment D.left_since old mid c.sync.new.self (BeforeOrAfter (unlogged files) (with_entries entries (unlogged files)))
-    (gate_leaves D.moment D.left_since old mid files gate (units_of gate) entries c.args.tail (cut_up_one gate c.unit_of-gate.ensures.long)
-    (opens gate entries c.args.tail files.log c.unit_of-gate.ensures is c.requires.some c.requires.place) (c.requires.closed told)
+    (gate_leaves D.moment D.left_since old mid files gate (units_of gate) entries c.args.tail (cut_up_one gate (ap length c.unit_of_words-gate.ensures ∙ length-unit _ _ _ _))
+    (opens gate entries c.args.tail files.log c.unit_of_words-gate.ensures is c.requires.some (omega arith) c.requires.place c.requires.small) (c.requires.closed told)
     (c.requires.settled told) (c.write_at.ensures.images told) (c.write_at.ensures.time told))
     (c.sync.ensures.time told) (c.sync.ensures.images told)
     (λ image left. g.met.D.Disk.earlier mid (D.moment old) (D.moment mid) image told c.write_at.ensures.later (omega arith) left)
@@ -38,10 +39,10 @@ returns-clause-images g c = λ told entries is.
     let old = c.args.disk.now in
     let mid = c.write_at.new.self in
     let files : Files = D.files old in
-    let gate = c.unit_of-gate.result in
+    let gate = c.unit_of_words-gate.result in
     sync_leaves D.moment D.left_since old mid c.sync.new.self (BeforeOrAfter (unlogged files) (with_entries entries (unlogged files)))
-    (gate_leaves D.moment D.left_since old mid files gate (units_of gate) entries c.args.tail (cut_up_one gate c.unit_of-gate.ensures.long)
-    (opens gate entries c.args.tail files.log c.unit_of-gate.ensures is c.requires.some c.requires.place) (c.requires.closed told)
+    (gate_leaves D.moment D.left_since old mid files gate (units_of gate) entries c.args.tail (cut_up_one gate (ap length c.unit_of_words-gate.ensures ∙ length-unit _ _ _ _))
+    (opens gate entries c.args.tail files.log c.unit_of_words-gate.ensures is c.requires.some (omega arith) c.requires.place c.requires.small) (c.requires.closed told)
     (c.requires.settled told) (c.write_at.ensures.images told) (c.write_at.ensures.time told))
     (c.sync.ensures.time told) (c.sync.ensures.images told)
     (λ image left. g.met.D.Disk.earlier mid (D.moment old) (D.moment mid) image told c.write_at.ensures.later (omega arith) left)
@@ -50,15 +51,15 @@ pub returns-clause-open : goal.returns-clause-open
 returns-clause-open g c = λ told entries is.
     let D = g.D.Disk in
     let files : Files = D.files c.args.disk.now in
-    let gate = c.unit_of-gate.result in
+    let gate = c.unit_of_words-gate.result in
     gate_opened files (D.files c.write_at.new.self) (D.files c.sync.new.self) gate (units_of gate) entries c.args.tail
-    (cut_up_one gate c.unit_of-gate.ensures.long)
-    (opens gate entries c.args.tail files.log c.unit_of-gate.ensures is c.requires.some c.requires.place) (c.in_ok-write_at.ensures.written told)
+    (cut_up_one gate (ap length c.unit_of_words-gate.ensures ∙ length-unit _ _ _ _))
+    (opens gate entries c.args.tail files.log c.unit_of_words-gate.ensures is c.requires.some (omega arith) c.requires.place c.requires.small) (c.in_ok-write_at.ensures.written told)
     (c.sync.ensures.same told)
 
 pub returns-clause-behind : goal.returns-clause-behind
 returns-clause-behind g c = λ told.
     let D = g.D.Disk in
-    let gate = c.unit_of-gate.result in
+    let gate = c.unit_of_words-gate.result in
     gate_keeps gate (units_of gate) (D.files c.args.disk.now) (D.files c.write_at.new.self) (D.files c.sync.new.self)
-    (cut_up_one gate c.unit_of-gate.ensures.long) (c.in_ok-write_at.ensures.written told) (c.sync.ensures.same told)
+    (cut_up_one gate (ap length c.unit_of_words-gate.ensures ∙ length-unit _ _ _ _)) (c.in_ok-write_at.ensures.written told) (c.sync.ensures.same told)

@@ -79,7 +79,7 @@ close_log-requires-clause-settled g c = λ told.
     applied_settled D.moment D.left_since second third (D.files second) (D.files third) logged.0 (log_not_log (D.files second).log logged.0 opened)
     (c.in_ok-apply_held.ensures.written told ∙ sym (logged.1.whole (D.files second)))
     (c.in_ok-open_log.ensures.settled told) (c.apply_held.ensures.images told logged.0 logged.1)
-    (λ image left. g.met.D.Disk.earlier third (D.moment second) (D.moment third) image told c.apply_held.ensures.reads.later (omega arith) left)
+    (λ image left. g.met.D.Disk.earlier third (D.moment second) (D.moment third) image told c.apply_held.ensures.reads.log.later (omega arith) left)
     (c.in_ok-apply_held.ensures.pkg told) (c.in_ok-apply_held.ensures.idx told)
 
 pub close_log-requires-clause-done : goal.close_log-requires-clause-done

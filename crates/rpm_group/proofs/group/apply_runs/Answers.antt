@@ -72,8 +72,8 @@ loop-at-preserved-in_ok-write_run g c =
           (λ i low high. covers i (omega (arith, high, whole, stop.ensures.end)) (stop.ensures.between i low (omega (arith, high, whole))))
           (λ image left. g.met.D.Disk.earlier mid (D.moment old) (D.moment mid) image told inv.reads.later (omega arith) left)
           (inv.images told entries covers) (c.write_run.ensures.images told);
-      reads = nothing_then _ _ _ g.met.D.Disk.follows_trans old mid c.write_run.new.disk inv.reads c.write_run.ensures.reads;
-      faults = omega (arith, inv.faults, c.write_run.ensures.cause.later);
+      reads = nothing_then _ _ _ g.met.D.Disk.follows_trans old mid c.write_run.new.disk inv.reads c.write_run.ensures.reads.nothing;
+      faults = omega (arith, inv.faults, c.write_run.ensures.reads.cause.later);
     }
 
 pub loop-at-preserved : goal.loop-at-preserved

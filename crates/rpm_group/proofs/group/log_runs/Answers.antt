@@ -1,15 +1,16 @@
 mod Places
-use Rattle.std.proofs.Common.{◌≡◌, ℕ, ◌+◌, ◌-◌, ◌<◌, ◌^◌, ◌++◌, ◌∷◌, [], length, refl, sym, ap, subst, arith}
+use Rattle.std.proofs.Common.{IsTrue, ◌≡◌, ℕ, ◌+◌, ◌-◌, ◌<◌, ◌^◌, ◌++◌, ◌∷◌, [], length, refl, sym, ap, subst, arith}
 use Rattle.rpm_outside.specs.declared.disk.File.TheVariants.{Log}
-use Rattle.rpm_outside.specs.Files.{Files}
+use Rattle.rpm_outside.specs.Files.{Files, with_file, put}
 use Rattle.rpm_outside.specs.inner.ChangedLaws.{leaves_none, changed_none, changed_then}
 use Rattle.rpm_group.specs.Counts.{begins_run, count_below, log_units}
 use Rattle.rpm_group.specs.LogReads.{nothing_none, nothing_then}
 use Rattle.rpm_group.specs.inner.Logged.{Logged, run_entry}
-use Rattle.rpm_group.specs.inner.Words.{IsHeadOf}
+use Rattle.rpm_outside.specs.Words.{unit_of_words}
+use Rattle.rpm_outside.specs.LogWrites.{number_of}
 use Rattle.rpm_group.proofs.Runs.{length-units_held}
 use Rattle.rpm_group.proofs.Countings.{none_begun, log_units_none, gap_begins, gap_counted, run_begins, run_counted}
-use Rattle.rpm_group.proofs.Entering.{entered_more, entered_heads, put_changed}
+use Rattle.rpm_group.proofs.Entering.{head_unit, entered_more, entered_heads, put_changed}
 use Rattle.rpm_group.proofs.OneRun.{room_here, run_leaves}
 use Rattle.rpm_group.proofs.LoggedLaws.{logged_none, logged_gap, logged_more}
 use Rattle.rpm_group.proofs.group.log_runs.Answers.Places as places
@@ -80,6 +81,10 @@ loop-at-preserved-in_ok-log_run g c =
     let entry = run_entry c.args.file table first.result stop.result in
     let long : length entry.units ≡ stop.result - first.result = length-units_held table first.result (stop.result - first.result) in
     let place = c.loop-at.next.at in
+    let log = (D.files c.log_run.new.disk).log in
+    let written = λ (told : IsTrue D.tells). subst (λ (n : ℕ). D.files c.log_run.new.disk ≡ with_file Log
+    (put place (unit_of_words (number_of c.args.file) first.result n 0 ∷ entry.units) (D.files now).log) (D.files now))
+    (sym long) (c.in_ok-log_run.ensures.written told) in
     record {
       end = stop.ensures.end;
       starts = λ some below. stop.ensures.found below;
@@ -87,32 +92,27 @@ loop-at-preserved-in_ok-log_run g c =
       count = omega (arith, inv.count, begun);
       logged = λ told.
           let so_far = inv.logged told in
-          let written = c.in_ok-log_run.ensures.written told in
-          let head : IsHeadOf entry.file entry.first (length entry.units) written.0 = subst (λ (n : ℕ). IsHeadOf entry.file entry.first n written.0)
-          (sym long) written.1 in (
+          let is = ap (λ (f : Files). f.log) (written told) in (
             so_far.0 ++ entry ∷ [],
             logged_more so_far.0 c.args.file table c.loop-at.at first.result so_far.1 first.ensures.from first.ensures.between stop.result
                 c.if-first-stop.true stop.ensures.between begun,
-            entered_more entry written.0 place (D.files now).log (D.files c.log_run.new.disk).log (ap (λ (f : Files). f.log) written.2) head
-                c.requires.not_log (omega (arith, long, c.if-first-stop.true))
+            entered_more entry place (D.files now).log log is c.requires.not_log (omega (arith, long, c.if-first-stop.true))
                 (omega (arith, long, c.if-first-stop.true, stop.ensures.end, c.args.pages.now.small)) so_far.0 c.args.tail.at
                 (place + 1 + (stop.result - first.result)) so_far.2 (omega (arith, long)),
-            entered_heads entry written.0 place (D.files now).log (D.files c.log_run.new.disk).log (ap (λ (f : Files). f.log) written.2) head
-                c.requires.not_log (omega (arith, long, c.if-first-stop.true))
+            entered_heads entry place (D.files now).log log is c.requires.not_log (omega (arith, long, c.if-first-stop.true))
                 (omega (arith, long, c.if-first-stop.true, stop.ensures.end, c.args.pages.now.small)) so_far.0 c.args.tail.at so_far.2 so_far.3,
           );
       changed = λ told.
-          let written = c.in_ok-log_run.ensures.written told in
           changed_then Log c.args.tail.at (2 ^ 28) (D.files old) (D.files now) (D.files c.log_run.new.disk) (inv.changed told)
-          (put_changed place (place + 1 + (stop.result - first.result)) c.args.tail.at (2 ^ 28) (written.0 ∷ entry.units) (D.files now)
-          (D.files c.log_run.new.disk) (omega (arith, long)) (omega (arith, inv.place)) room written.2);
+          (put_changed place (place + 1 + (stop.result - first.result)) c.args.tail.at (2 ^ 28) (head_unit entry ∷ entry.units) (D.files now)
+          (D.files c.log_run.new.disk) (omega (arith, long)) (omega (arith, inv.place)) room (written told));
       images = λ told.
           run_leaves D.moment D.left_since c.args.tail.at place (place + 1 + (stop.result - first.result)) old now c.log_run.new.disk
           (omega (arith, inv.place)) room
           (λ image left. g.met.D.Disk.earlier now (D.moment old) (D.moment now) image told inv.reads.later (omega arith) left)
           (inv.images told) (c.log_run.ensures.images told);
-      reads = nothing_then _ _ _ g.met.D.Disk.follows_trans old now c.log_run.new.disk inv.reads c.log_run.ensures.reads;
-      faults = omega (arith, inv.faults, c.log_run.ensures.cause.later);
+      reads = nothing_then _ _ _ g.met.D.Disk.follows_trans old now c.log_run.new.disk inv.reads c.log_run.ensures.reads.nothing;
+      faults = omega (arith, inv.faults, c.log_run.ensures.reads.cause.later);
     }
 
 pub loop-at-preserved : goal.loop-at-preserved

@@ -1,4 +1,4 @@
-use Rattle.std.proofs.Common.{◌+◌, ◌-◌, Option, Some, None, IfSome, ap, subst, ◌∙◌, arith}
+use Rattle.std.proofs.Common.{◌+◌, ◌-◌, Option, Some, None, IfSome, Err, sym, ap, subst, ◌∙◌, arith}
 use Rattle.rpm_outside.specs.Files.{Files}
 use Rattle.rpm_outside.specs.declared.disk.File.TheVariants.{Log}
 use Rattle.rpm_outside.specs.inner.Looking.{looks_at_then}
@@ -20,13 +20,6 @@ returns-in_default-found-clause-fault g c = λ told.
     (read_as c.args.gate.last c.loop-k.p files (D.files c.loop-k.disk) c.in-Ok.found None (c.loop-k.invariant.looks.untouched told).same
     c.in_default-found.is (c.in-Ok.ensures.says told))
 
-pub returns-in-Err-clause-looks : goal.returns-in-Err-clause-looks
-returns-in-Err-clause-looks g c =
-    looks_at_then _ _ _ _ _ _ Log g.met.D.Disk.follows_trans c.args.disk.now c.read_head.new.disk c.hold_units.new.disk
-    (looks_at_then _ _ _ _ _ _ Log g.met.D.Disk.follows_trans c.args.disk.now c.loop-k.disk c.read_head.new.disk c.loop-k.invariant.looks
-    c.read_head.ensures.looks)
-    c.hold_units.ensures.looks
-
 pub loop-k-preserved : goal.loop-k-preserved
 loop-k-preserved g c =
     let D = g.D.Disk in
@@ -40,17 +33,17 @@ loop-k-preserved g c =
           let first : Files = D.files c.args.disk.now in
           let says : HeadIs c.args.gate.last c.loop-k.p first.log head = read_as c.args.gate.last c.loop-k.p first (D.files c.loop-k.disk)
           c.in-Ok.found (Some head) (inv.looks.untouched told).same c.in-Some.is (c.in-Ok.ensures.says told) in
-          let same = (c.read_head.ensures.looks.untouched told).same ∙ (inv.looks.untouched told).same in
+          let same = (c.read_head.ensures.reads.looks.untouched told).same ∙ (inv.looks.untouched told).same in
           done_more (entries_of (heads_behind c.args.gate first.log)) (c.args.gate.entries - c.loop-k._k) c.loop-k.p c.args.gate.last first.log
           (laid_files c.args.held.now files) (laid_files c.loop-k.held files) (laid_files c.hold_units.new.held files)
           (c.args.gate.entries - c.loop-k._k - 1) head (inv.so_far told files) (omega arith) says (c.requires.last told)
           (c.args.gate.entries - (c.loop-k._k + 1)) (c.loop-k.p + (1 + head.count)) (D.files c.read_head.new.disk).log (omega arith)
-          (omega (arith, says.count)) (ap (λ (f : Files). f.log) same) (c.in_default-hold_units.ensures.held told files);
+          (omega (arith, says.count)) (ap (λ (f : Files). f.log) same) (c.in_ok-hold_units.ensures.held told files);
       looks =
           looks_at_then _ _ _ _ _ _ Log g.met.D.Disk.follows_trans c.args.disk.now c.read_head.new.disk c.hold_units.new.disk
-          (looks_at_then _ _ _ _ _ _ Log g.met.D.Disk.follows_trans c.args.disk.now c.loop-k.disk c.read_head.new.disk inv.looks c.read_head.ensures.looks)
-          c.hold_units.ensures.looks;
-      faults = omega (arith, inv.faults, c.read_head.ensures.cause.later, c.hold_units.ensures.cause.later);
+          (looks_at_then _ _ _ _ _ _ Log g.met.D.Disk.follows_trans c.args.disk.now c.loop-k.disk c.read_head.new.disk inv.looks c.read_head.ensures.reads.looks)
+          c.hold_units.ensures.reads.looks;
+      faults = omega (arith, inv.faults, c.read_head.ensures.reads.cause.later, c.hold_units.ensures.reads.cause.later);
     }
 
 pub returns-clause-held : goal.returns-clause-held
@@ -58,3 +51,19 @@ returns-clause-held g c = λ told files.
     let first : Files = g.D.Disk.files c.args.disk.now in
     done_all (entries_of (heads_behind c.args.gate first.log)) (c.args.gate.entries - c.loop-k._k) c.loop-k.p c.args.gate.last first.log
     (laid_files c.args.held.now files) (laid_files c.loop-k.held files) (omega arith) (c.loop-k.invariant.so_far told files)
+
+pub returns-in_err-hold_units-clause-reads : goal.returns-in_err-hold_units-clause-reads
+returns-in_err-hold_units-clause-reads g c = record {
+  looks =
+      looks_at_then _ _ _ _ _ _ Log g.met.D.Disk.follows_trans c.args.disk.now c.read_head.new.disk c.hold_units.new.disk
+      (looks_at_then _ _ _ _ _ _ Log g.met.D.Disk.follows_trans c.args.disk.now c.loop-k.disk c.read_head.new.disk c.loop-k.invariant.looks
+      c.read_head.ensures.reads.looks)
+      c.hold_units.ensures.reads.looks;
+  cause = record {
+    later = omega (arith, c.loop-k.invariant.faults, c.read_head.ensures.reads.cause.later, c.hold_units.ensures.reads.cause.later);
+    rose = λ is.
+        let same = rw is at c.from_residual.ensures.1 in
+        let failed = c.hold_units.ensures.reads.cause.rose (c.in_err-hold_units.was ∙ ap Err (sym same)) in
+        omega (arith, c.loop-k.invariant.faults, c.read_head.ensures.reads.cause.later, failed);
+  };
+}

@@ -1,4 +1,4 @@
-use Rattle.std.proofs.Common.{◌*◌, ◌/◌, length, take, ap, arith}
+use Rattle.std.proofs.Common.{Err, ◌*◌, ◌/◌, length, take, sym, ap, ◌∙◌, arith}
 use Rattle.rpm_outside.specs.Files.{Files}
 use Rattle.rpm_outside.specs.declared.disk.File.TheVariants.{Log}
 use Rattle.rpm_outside.specs.inner.Looking.{looks_at_then}
@@ -20,10 +20,10 @@ loop-done-preserved g c =
           copied_more c.args.file c.args.at c.args.from c.loop-done.done n log (laid_files old files) (laid_files c.loop-done.held files)
           (laid_files c.hold_piece.new.held files) (omega (arith, c.min-n.ensures)) (omega (arith, c.min-n.ensures, c.requires.within told))
           (length (take (16 * n) c.loop-done.page) / 16) (D.files c.loop-done.disk).log k (inv.held told files)
-          (ap (λ (f : Files). f.log) (inv.looks.untouched told).same) (c.in_default.ensures.held told files);
+          (ap (λ (f : Files). f.log) (inv.looks.untouched told).same) (c.in_ok-hold_piece.ensures.held told files);
       looks = looks_at_then _ _ _ _ _ _ Log g.met.D.Disk.follows_trans c.args.disk.now c.loop-done.disk c.hold_piece.new.disk inv.looks
-          c.hold_piece.ensures.looks;
-      faults = omega (arith, inv.faults, c.hold_piece.ensures.cause.later);
+          c.hold_piece.ensures.reads.looks;
+      faults = omega (arith, inv.faults, c.hold_piece.ensures.reads.cause.later);
     }
 
 pub returns-clause-held : goal.returns-clause-held
@@ -32,7 +32,15 @@ returns-clause-held g c = λ told files.
     (laid_files c.loop-done.held files) (omega (arith, c.loop-done.invariant.place)) c.requires.some (c.requires.within told)
     (c.loop-done.invariant.held told files)
 
-pub returns-in-Err-clause-looks : goal.returns-in-Err-clause-looks
-returns-in-Err-clause-looks g c =
-    looks_at_then _ _ _ _ _ _ Log g.met.D.Disk.follows_trans c.args.disk.now c.loop-done.disk c.hold_piece.new.disk c.loop-done.invariant.looks
-    c.hold_piece.ensures.looks
+pub returns-in_err-hold_piece-clause-reads : goal.returns-in_err-hold_piece-clause-reads
+returns-in_err-hold_piece-clause-reads g c = record {
+  looks = looks_at_then _ _ _ _ _ _ Log g.met.D.Disk.follows_trans c.args.disk.now c.loop-done.disk c.hold_piece.new.disk c.loop-done.invariant.looks
+      c.hold_piece.ensures.reads.looks;
+  cause = record {
+    later = omega (arith, c.loop-done.invariant.faults, c.hold_piece.ensures.reads.cause.later);
+    rose = λ is.
+        let same = rw is at c.from_residual.ensures.1 in
+        let failed = c.hold_piece.ensures.reads.cause.rose (c.in_err-hold_piece.was ∙ ap Err (sym same)) in
+        omega (arith, c.loop-done.invariant.faults, failed);
+  };
+}

@@ -51,8 +51,8 @@ loop-k-preserved g c =
           next_right (heads_behind c.args.gate files.log) so_far.0 (c.args.gate.entries - c.loop-k._k) c.loop-k.p c.args.gate.last files.log left
           so_far.1 (omega arith)
           (c.args.gate.entries - (c.loop-k._k + 1)) (c.loop-k.p + (1 + head.count)) (omega arith) says.right (omega (arith, says.count));
-      looks = looks_at_then _ _ _ _ _ _ Log g.met.D.Disk.follows_trans c.args.disk.now c.loop-k.disk c.read_head.new.disk inv.looks c.read_head.ensures.looks;
-      faults = omega (arith, inv.faults, c.read_head.ensures.cause.later);
+      looks = looks_at_then _ _ _ _ _ _ Log g.met.D.Disk.follows_trans c.args.disk.now c.loop-k.disk c.read_head.new.disk inv.looks c.read_head.ensures.reads.looks;
+      faults = omega (arith, inv.faults, c.read_head.ensures.reads.cause.later);
     }
 
 pub returns-then-p-gate-clause-says : goal.returns-then-p-gate-clause-says

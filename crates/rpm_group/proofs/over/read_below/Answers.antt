@@ -32,8 +32,8 @@ returns-clause-units g c =
     (c.available-there.ensures ∙ ap (λ (l : ℕ). min (l - c.args.unit) n) (c.requires.end told)) whole refl (ap (λ (l : ℕ). l - 16 * t) whole) zeros
     front_long (read told ∙ ap (λ (k : ℕ). take k (drop c.args.unit file)) (omega (arith, part))))
 
-pub returns-clause-reads : goal.returns-clause-reads
-returns-clause-reads g c =
+pub returns-clause-counts : goal.returns-clause-counts
+returns-clause-counts g c =
     let into = c.args.into.now in
     let t = c.available-there.result in
     let mid = put_mid (16 * t) (length into - 16 * t) into c.fill.new.self in
@@ -48,4 +48,4 @@ returns-clause-reads g c =
           (omega (arith, c.available-there.ensures)),
     ) in
     counts_both g.D.Disk.bytes_read c.args.file (length (take (16 * t) mid)) (length into - 16 * t) (length into) c.args.below.now c.read_some.new.below
-    c.args.spared.now c.add.new.self (omega (arith, part, c.available-there.ensures)) c.read_some.ensures.reads c.add.ensures
+    c.args.spared.now c.add.new.self (omega (arith, part, c.available-there.ensures)) c.read_some.ensures.counts c.add.ensures

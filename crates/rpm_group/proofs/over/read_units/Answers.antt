@@ -25,16 +25,18 @@ returns-then-covers g c = record {
       c.lay.ensures
       ∙ ap (λ (p : Pages). take n (drop unit (laid_file p file))) c.file-pages.ensures
       ∙ ap (λ (us : Units). take n (drop unit us)) (sym (file_of-laid c.args.file c.args.layers.now files));
-  looks = record {
-    untouched = λ told. record { same = refl; images = λ t image left. left; kept = λ t image left. left };
-    moment_stays = refl;
-    reads = read_none c.args.file (length c.args.into.now) (g.D.Disk.bytes_read c.args.below.now);
-    goes_on = g.met.D.Disk.follows_refl c.args.below.now;
+  counts = counts_spared g.D.Disk.bytes_read c.args.file _ _ c.args.below.now c.args.below.now c.args.spared.now c.add.new.self refl (λ f. refl) c.add.ensures;
+  reads = record {
+    looks = record {
+      untouched = λ told. record { same = refl; images = λ t image left. left; kept = λ t image left. left };
+      moment_stays = refl;
+      reads = read_none c.args.file (length c.args.into.now) (g.D.Disk.bytes_read c.args.below.now);
+      goes_on = g.met.D.Disk.follows_refl c.args.below.now;
+    };
+    cause = record { later = omega arith; failed = tt };
   };
-  reads = counts_spared g.D.Disk.bytes_read c.args.file _ _ c.args.below.now c.args.below.now c.args.spared.now c.add.new.self refl (λ f. refl) c.add.ensures;
-  cause = record { later = omega arith; failed = tt };
 }
 
 pub returns : goal.returns
 returns g c =
-    let partly = c.read_partly.ensures in record { units = partly.units; looks = partly.looks; reads = partly.reads; cause = partly.cause }
+    let partly = c.read_partly.ensures in record { units = partly.units; counts = partly.counts; reads = partly.reads }

@@ -14,7 +14,7 @@ returns-clause-images g c = λ told.
     let mid = c.copy_entries.new.disk in
     then_back D.moment D.left_since old mid c.settle_files.new.disk
     (WasWithin (entries_of (heads_behind c.args.gate (D.files old).log)) (D.left_since old (D.moment old)))
-    (λ image left. g.met.D.Disk.earlier mid (D.moment old) (D.moment mid) image told c.copy_entries.ensures.reads.later (omega arith) left)
+    (λ image left. g.met.D.Disk.earlier mid (D.moment old) (D.moment mid) image told c.copy_entries.ensures.reads.log.later (omega arith) left)
     (c.copy_entries.ensures.images told) (c.settle_files.ensures.images told)
 
 pub returns-clause-settled : goal.returns-clause-settled
@@ -29,5 +29,5 @@ returns-clause-settled g c = λ told.
     (c.settle_files.ensures.same told ∙ c.in_ok-fault.ensures.written told)
     (c.requires.settled told) (returns-clause-images g c told)
     (λ image left. g.met.D.Disk.earlier new (D.moment old) (D.moment new) image told
-    (omega (arith, c.copy_entries.ensures.reads.later, c.settle_files.ensures.reads.later)) (omega arith) left)
+    (omega (arith, c.copy_entries.ensures.reads.log.later, c.settle_files.ensures.reads.log.later)) (omega arith) left)
     (c.in_ok-settle_files.ensures.pkg told) (c.in_ok-settle_files.ensures.idx told)

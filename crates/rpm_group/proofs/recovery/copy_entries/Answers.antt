@@ -48,7 +48,7 @@ loop-k-preserved g c =
     let entries = entries_of (heads_behind c.args.gate files.log) in
     let is_head : IsHead c.args.gate.last c.loop-k.p head = subst (λ (h : Option Head). IfSome h (λ x. IsHead c.args.gate.last c.loop-k.p x))
     c.in-Some.is c.in_ok-head.ensures.head in
-    let looks = c.read_head.ensures.looks in
+    let looks = c.read_head.ensures.reads.looks in
     let old = c.args.disk.now in
     record {
       place = omega (arith, is_head.within);
@@ -87,8 +87,8 @@ loop-k-preserved g c =
             idx = omega (arith, looks.reads.no_less Idx, looks.reads.idx, inv.reads.idx);
             goes_on = g.met.D.Disk.follows_trans old c.loop-k.disk c.read_head.new.disk inv.reads.goes_on looks.goes_on;
           })
-          c.copy_units.ensures.reads;
-      faults = omega (arith, inv.faults, c.read_head.ensures.cause.later, c.copy_units.ensures.cause.later);
+          c.copy_units.ensures.reads.log;
+      faults = omega (arith, inv.faults, c.read_head.ensures.reads.cause.later, c.copy_units.ensures.reads.cause.later);
     }
 
 pub returns-in_err-copy_units-clause-images : goal.returns-in_err-copy_units-clause-images
@@ -101,7 +101,7 @@ returns-in_err-copy_units-clause-images g c = λ told.
     let entries = entries_of (heads_behind c.args.gate files.log) in
     let is_head : IsHead c.args.gate.last c.loop-k.p head = subst (λ (h : Option Head). IfSome h (λ x. IsHead c.args.gate.last c.loop-k.p x))
     c.in-Some.is c.in_ok-head.ensures.head in
-    let looks = c.read_head.ensures.looks in
+    let looks = c.read_head.ensures.reads.looks in
     let old = c.args.disk.now in
     let says : HeadIs c.args.gate.last c.loop-k.p files.log head = subst (λ us. HeadIs c.args.gate.last c.loop-k.p us head) (inv.log told)
     (subst (λ (h : Option Head). HeadSays c.args.gate.last c.loop-k.p (D.files c.loop-k.disk).log h) c.in-Some.is (c.in_ok-head.ensures.says told)) in

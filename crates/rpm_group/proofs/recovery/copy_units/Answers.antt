@@ -53,8 +53,8 @@ loop-done-preserved g c =
           (c.args.at + c.loop-done.done + length (take (16 * n) c.loop-done.page) / 16) c.args.at (c.args.at + c.args.count) c.loop-done.disk
           c.copy_piece.new.disk
           (omega arith) (omega (arith, k, c.min-n.ensures)) (c.copy_piece.ensures.images told));
-      reads = reads_then _ _ _ g.met.D.Disk.follows_trans c.args.disk.now c.loop-done.disk c.copy_piece.new.disk inv.reads c.copy_piece.ensures.reads;
-      faults = omega (arith, inv.faults, c.copy_piece.ensures.cause.later);
+      reads = reads_then _ _ _ g.met.D.Disk.follows_trans c.args.disk.now c.loop-done.disk c.copy_piece.new.disk inv.reads c.copy_piece.ensures.reads.log;
+      faults = omega (arith, inv.faults, c.copy_piece.ensures.reads.cause.later);
     }
 
 pub returns-clause-written : goal.returns-clause-written

@@ -68,8 +68,8 @@ both_leave moment left_since old mid new stands a same one two =
     leaves_then moment left_since old mid new (ReopensAs stands) one (leaves_weaker moment left_since mid new (ReopensAs a) (ReopensAs stands)
     (λ image is. record { same = is.same ∙ same; sound = is.sound }) two)
 
-pub returns-in_default-close_log-clause-images : goal.returns-in_default-close_log-clause-images
-returns-in_default-close_log-clause-images g c = λ told.
+pub returns-in_err-map_err-clause-images : goal.returns-in_err-map_err-clause-images
+returns-in_err-map_err-clause-images g c = λ told.
     let D = g.D.Disk in
     let old = c.args.disk.now in
     let files = D.files old in

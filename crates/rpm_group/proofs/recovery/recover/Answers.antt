@@ -28,7 +28,7 @@ returns-in-Opened-clause-images g c = λ told.
     let mid = c.read_log.new.disk in
     let new = c.finish.new.disk in
     let one_of : Files → Type 0 = ReopensAsOneOf (D.left_since old (D.moment old)) in
-    let looks = c.read_log.ensures.looks in
+    let looks = c.read_log.ensures.reads.looks in
     let same : D.files mid ≡ D.files old = (looks.untouched told).same ∙ c.settle.ensures.same told in
     leaves_then D.moment D.left_since old mid new one_of
     (then_look D.moment D.left_since old first mid one_of _ _

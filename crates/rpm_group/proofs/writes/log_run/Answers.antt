@@ -3,6 +3,7 @@ use Rattle.rpm_outside.specs.declared.disk.File.TheVariants.{Log}
 use Rattle.rpm_outside.specs.Files.{Units, Files, with_file, units_of, put}
 use Rattle.rpm_outside.specs.inner.Cuts.{cut_up_one}
 use Rattle.rpm_outside.specs.inner.PutLaws.{put_split}
+use Rattle.rpm_outside.specs.inner.UnitLaws.{length-unit}
 use Rattle.rpm_outside.specs.inner.ChangedLaws.{changed_leaves_then, changed_leaves_more, write_leaves}
 use Rattle.rpm_group.specs.inner.HeldUnits.{units_held}
 use Rattle.rpm_group.proofs.Readouts.{on_ok_map}
@@ -25,7 +26,7 @@ pub returns-in_err-write_at-clause-images : goal.returns-in_err-write_at-clause-
 returns-in_err-write_at-clause-images g c = λ told.
     let D = g.D.Disk in
     let head = c.head_of-head.result in
-    let one = one_unit head c.head_of-head.ensures.long in
+    let one = one_unit head (ap length c.head_of-head.ensures ∙ length-unit _ _ _ _) in
     changed_leaves_more D.moment D.left_since Log c.args.at (c.args.at + 1) c.args.at (c.args.at + 1 + (c.args.end - c.args.from)) c.args.disk.now
     c.write_at.new.self (omega arith) (omega arith)
     (write_leaves D.moment D.left_since Log c.args.at (units_of head) (c.args.at + 1) c.args.disk.now c.write_at.new.self (omega (arith, one))
@@ -35,7 +36,7 @@ pub returns-clause-images : goal.returns-clause-images
 returns-clause-images g c = λ told.
     let D = g.D.Disk in
     let head = c.head_of-head.result in
-    let one = one_unit head c.head_of-head.ensures.long in
+    let one = one_unit head (ap length c.head_of-head.ensures ∙ length-unit _ _ _ _) in
     let end = c.args.at + 1 + (c.args.end - c.args.from) in
     let mid = c.write_at.new.self in
     changed_leaves_then D.moment D.left_since Log c.args.at end c.args.disk.now mid c.write_run.new.disk
@@ -51,10 +52,10 @@ returns-clause-written g c = on_ok_map c.write_run.result c.write_run.ensures.wr
     (λ written told.
     let D = g.D.Disk in
     let head = c.head_of-head.result in
-    let n = c.args.end - c.args.from in (
-      head,
-      c.head_of-head.ensures,
-      entry_written c.args.at head (units_held c.args.table.now.items c.args.from n) (D.files c.args.disk.now) (D.files c.write_at.new.self)
-          (D.files c.write_run.new.disk) c.head_of-head.ensures.long
-          (omega (arith, length-units_held c.args.table.now.items c.args.from n, c.requires.some)) (c.in_ok-write_at.ensures.written told) (written told),
-    ))
+    let n = c.args.end - c.args.from in
+    let units = units_held c.args.table.now.items c.args.from n in
+    let old : Files = D.files c.args.disk.now in
+    entry_written c.args.at head units old (D.files c.write_at.new.self) (D.files c.write_run.new.disk)
+    (ap length c.head_of-head.ensures ∙ length-unit _ _ _ _) (omega (arith, length-units_held c.args.table.now.items c.args.from n, c.requires.some))
+    (c.in_ok-write_at.ensures.written told) (written told)
+    ∙ ap (λ (u : List ℕ). with_file Log (put c.args.at (u ∷ units) old.log) old) c.head_of-head.ensures)

@@ -71,8 +71,8 @@ loop-done-preserved g c =
           (changed_leaves_more D.moment D.left_since c.args.file place (place + length (take (16 * n) c.loop-done.buffer) / 16) c.args.at
           (c.args.at + (c.args.end - c.args.from)) c.loop-done.disk c.write_piece.new.disk
           (omega arith) (omega (arith, k, c.min-n.ensures, inv.from)) (c.write_piece.ensures.images told));
-      reads = nothing_then _ _ _ g.met.D.Disk.follows_trans c.args.disk.now c.loop-done.disk c.write_piece.new.disk inv.reads c.write_piece.ensures.reads;
-      faults = omega (arith, inv.faults, c.write_piece.ensures.cause.later);
+      reads = nothing_then _ _ _ g.met.D.Disk.follows_trans c.args.disk.now c.loop-done.disk c.write_piece.new.disk inv.reads c.write_piece.ensures.reads.nothing;
+      faults = omega (arith, inv.faults, c.write_piece.ensures.reads.cause.later);
     }
 
 pub returns-clause-written : goal.returns-clause-written

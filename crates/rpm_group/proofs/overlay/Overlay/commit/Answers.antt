@@ -15,6 +15,6 @@ returns g c =
       longest = needed_most c.into_parts-below.result.1 (g.D.Disk.files c.into_parts-below.result.0);
       idle = w.idle;
       unwritten = w.unwritten;
-      reads = w.reads;
-      cause = w.cause;
+      reads = w.reads.log;
+      cause = w.reads.cause;
     })
