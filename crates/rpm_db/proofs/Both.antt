@@ -17,12 +17,11 @@ use Rattle.rpm_hindex.specs.declared.plan.Work.{Work}
 use Rattle.rpm_hindex.specs.State as hindex
 use Rattle.rpm_hindex.specs.State.{State, sealed, is_current, is_in_order}
 use Rattle.rpm_db.specs.Changes.{IsChangedStill}
-use Rattle.rpm_db.specs.Lawful.{HasRows}
 use Rattle.rpm_db.specs.Rows.{rows}
 use Rattle.rpm_db.specs.Runs.{Runs, CameOf}
 use Rattle.rpm_db.specs.inner.Running.{runs_then}
 use Rattle.rpm_db.specs.inner.Writes.{BlobsTo, IndexTo, WritesRows, SameLog, packages_of, state_of}
-use Rattle.rpm_db.proofs.Changed.{store_stop, index_stop}
+use Rattle.rpm_db.proofs.Changed.{Fits, store_stop, index_stop}
 use Rattle.rpm_db.proofs.Raised.{stands_same}
 
 -- the generation at which a value's index is sealed
@@ -34,7 +33,7 @@ sealed_at g idx s keeps current =
     ap sealed (sym keeps.first) ∙ is
 
 module _ {D : Type 0} (moment : D → ℕ) (left_since : D → ℕ → Files → Type 0) (g f next : ℕ) (B after : BlobMap) (index : Units)
-    (at : sealed (unit_at index 0) ≡ g) (has : HasRows (packages_of B) index) (a : D) where
+    (fits : Fits g B index) (a : D) where
   abbrev left : D → Files → Type 0
   left d = left_since d (moment d)
 
@@ -46,7 +45,7 @@ module _ {D : Type 0} (moment : D → ℕ) (left_since : D → ℕ → Files →
   stops_store b settled run =
       leaves_weaker moment left_since a b (Stops Pkg (BlobsTo g f next B after) (left a))
       (IsChangedStill (state_of B f) (state_of after next) (left a))
-      (λ image s. store_stop g f next B after index at has (left a) image s.from s.was (s.idx ∙ settled s.from s.was) s.log s.pkg) run
+      (λ image s. store_stop g f next B after index fits (left a) image s.from s.was (s.idx ∙ settled s.from s.was) s.log s.pkg) run
 
   stops_rows : (work : Work) → WritesRows (rows (packages_of after)) work index → (b c : D) → ((i : Files) → left a i → i.idx ≡ index)
       → ((i : Files) → left b i → Changed Pkg Anything (left a) i) → ((i : Files) → left b i → StandsFor (g + 1) next after i.pkg)
@@ -54,7 +53,7 @@ module _ {D : Type 0} (moment : D → ℕ) (left_since : D → ℕ → Files →
   stops_rows work writes_rows b c settled before stands run =
       leaves_weaker moment left_since b c (Changed Idx (IndexTo (g + 1) work index) (left b))
       (IsChangedStill (state_of B f) (state_of after next) (left a))
-      (λ image s. (let m = before s.from s.was in index_stop g f next B after index at has (left a) work writes_rows image m.from s.from m.was m.log
+      (λ image s. (let m = before s.from s.was in index_stop g f next B after index fits (left a) work writes_rows image m.from s.from m.was m.log
       (m.idx ∙ settled m.from m.was) (stands s.from s.was) s.pkg s.log s.idx)) run
 
   two_runs : (b c : D) → LeavesStill a b → LeavesStill b c → LeavesStill a c
@@ -104,13 +103,13 @@ module _ {D : Type 0} (tells : Bool) (files : D → Files) (left_since : D → �
       let s = run.now told image here in
       subst (λ (u : Units). StandsAs value u image.pkg) (sym (run.pkg told)) (subst (StandsAs value (files b).pkg) (sym s.pkg) (quiet s.from s.was))
 
-  module _ (told : IsTrue tells) (g f next : ℕ) (B after : BlobMap) (a b c : D) (at : sealed (unit_at (files a).idx 0) ≡ g)
-      (has : HasRows (packages_of B) (files a).idx) (settled : IsSettled Idx (files a) (images a)) where
+  module _ (told : IsTrue tells) (g f next : ℕ) (B after : BlobMap) (a b c : D) (fits : Fits g B (files a).idx)
+      (settled : IsSettled Idx (files a) (images a)) where
     abbrev Leaves : D → D → Type 0
     Leaves x y = LeavesOnly moment left_since x y (IsChangedStill (state_of B f) (state_of after next) (images a))
 
     pub store_stops : LeavesOnly moment left_since a b (Stops Pkg (BlobsTo g f next B after) (images a)) → Leaves a b
-    store_stops run = stops_store moment left_since g f next B after (files a).idx at has a b settled run
+    store_stops run = stops_store moment left_since g f next B after (files a).idx fits a b settled run
 
     pub change_stops : (work : Work) (value : Store) (generation m : ℕ) → WritesRows (rows (packages_of after)) work (files a).idx
         → LeavesOnly moment left_since a b (Stops Pkg (BlobsTo g f next B after) (images a)) → Run Pkg Anything m a b → value.generation ≡ g + 1
@@ -122,6 +121,6 @@ module _ {D : Type 0} (tells : Bool) (files : D → Files) (left_since : D → �
         let same = subst (λ (n : ℕ). LeavesOnly moment left_since b c (Changed Idx (IndexTo n work (files b).idx) (images b))) e_n moved in
         let here =
         subst (λ (u : Units). LeavesOnly moment left_since b c (Changed Idx (IndexTo (g + 1) work u) (images b))) (run.idx told) same in
-        two_runs moment left_since g f next B after (files a).idx at has a b c (store_stops first)
-        (stops_rows moment left_since g f next B after (files a).idx at has a work writes_rows b c settled (run.now told)
+        two_runs moment left_since g f next B after (files a).idx fits a b c (store_stops first)
+        (stops_rows moment left_since g f next B after (files a).idx fits a work writes_rows b c settled (run.now told)
         (λ i left. stands_same value.generation value.field (g + 1) next (blobs (files b).pkg value) after i.pkg e_g e_f e_B (stands i left)) here)

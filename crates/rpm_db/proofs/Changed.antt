@@ -1,5 +1,5 @@
 -- What crashes leave while a change is made.
-use Rattle.std.proofs.Common.{◌≡◌, inl, inr, ℕ, ◌+◌, ◌<◌, eqb, sym, ap, ◌∙◌, subst, arith}
+use Rattle.std.proofs.Common.{◌≡◌, inl, inr, ℕ, ◌+◌, ◌<◌, ◌≤◌, List, true, eqb, sym, ap, ◌∙◌, subst, arith}
 use Rattle.std.specs.FinMap as finite
 use Rattle.std.specs.Ordering.{nat_cmp}
 use Rattle.std.proofs.lemmas.Bool.{and_parts}
@@ -9,11 +9,11 @@ use Rattle.rpm_pkgdb.specs.Quiet.{StandsFor, BlobMap}
 use Rattle.rpm_pkgdb.specs.Store.{Store}
 use Rattle.rpm_hindex.specs.declared.plan.Work.{Work}
 use Rattle.rpm_hindex.specs.Index.{records}
-use Rattle.rpm_hindex.specs.Rows.{SameRows}
-use Rattle.rpm_hindex.specs.State.{sealed, state_of, is_current, is_in_order}
+use Rattle.rpm_hindex.specs.Rows.{Row, SameRows}
+use Rattle.rpm_hindex.specs.State.{buckets_of, sealed, state_of, is_current, is_in_order}
 use Rattle.rpm_hindex.specs.Whole.{IsWellFormed}
 use Rattle.rpm_db.specs.Changes.{IsChangedStill}
-use Rattle.rpm_db.specs.Lawful.{HasRows, Agrees, IsLawful}
+use Rattle.rpm_db.specs.Lawful.{HasRows, Agrees, IsLawful, IsOfRows, is_current_at}
 use Rattle.rpm_db.specs.Rows.{rows}
 use Rattle.rpm_db.specs.State.{Package, packages, state}
 use Rattle.rpm_db.specs.inner.LawfulLaws.{void_agrees}
@@ -41,14 +41,23 @@ earlier_agrees value pkg idx early = record {
   no_later = omega (arith, early);
 }
 
--- an index that holds the rows of an image's packages, sealed no later
-now_lawful : (g f : ℕ) (B : BlobMap) (pkg idx : Units) → StandsFor g f B pkg → HasRows (packages_of B) idx → sealed (unit_at idx 0) ≡ g → IsLawful pkg idx
-now_lawful g f B pkg idx s has at = inr (
+-- an index that is sealed no later than a store, and holds the rows of its packages where it is current
+pub record Fits (g : ℕ) (B : BlobMap) (idx : Units) : Type 0 where
+  pub behind : sealed (unit_at idx 0) ≤ g
+  pub rows_are : is_current_at g idx ≡ true → HasRows (packages_of B) idx
+
+pub fits_now : (g : ℕ) (B : BlobMap) (idx : Units) → sealed (unit_at idx 0) ≡ g → HasRows (packages_of B) idx → Fits g B idx
+fits_now g B idx at has = record { behind = omega (arith, at); rows_are = λ current. has }
+
+now_lawful : (g f : ℕ) (B : BlobMap) (pkg idx : Units) → StandsFor g f B pkg → Fits g B idx → IsLawful pkg idx
+now_lawful g f B pkg idx s fits = inr (
   s.value,
   s.undamaged,
   record {
-    rows_are = λ current. subst (λ p. HasRows p idx) (sym (image_packages g f B pkg s)) has;
-    no_later = omega (arith, at, s.generation_is);
+    rows_are = λ current.
+        subst (λ p. HasRows p idx) (sym (image_packages g f B pkg s))
+        (fits.rows_are (subst (λ (n : ℕ). is_current_at n idx ≡ true) s.generation_is current));
+    no_later = omega (arith, fits.behind, s.generation_is);
   },
 )
 
@@ -68,8 +77,33 @@ rows_sealed g packages work file idx w s =
       sealed_is.generation_is,
     )
 
-module _ (g f next : ℕ) (B after : BlobMap) (index : Units) (at : sealed (unit_at index 0) ≡ g) (has : HasRows (packages_of B) index)
-    (images : Files → Type 0) where
+-- while an index that was sealed earlier gets the rows of the packages beside it, the files stay lawful
+pub filled_lawful : (g : ℕ) (work : Work) (index : Units) (to : finite.FinMap nat_cmp Package) → WritesRows (rows to) work index
+    → (sealed (unit_at index 0) ≡ g → ⊥) → (pkg mid idx : Units) → mid ≡ index → IsOfRows g (rows to) pkg → IndexTo g work index mid idx
+    → IsLawful pkg mid → IsLawful pkg idx
+filled_lawful g work index to writes apart pkg mid idx same of change (inl none) = inl none
+filled_lawful g work index to writes apart pkg mid idx same of (inl void) (inr is) = inr (is.0, is.1, void_agrees is.0 pkg idx void)
+filled_lawful g work index to writes apart pkg mid idx same of (inr (inl seal)) (inr is) =
+    let store_is : is.0 ≡ of.value = (let first = is.1 in let second = of.undamaged in cc) in
+    let generation : is.0.generation ≡ g = ap (λ (s : Store). s.generation) store_is ∙ of.generation_is in
+    let at : sealed (unit_at idx 0) ≡ sealed (unit_at index 0) = ap sealed seal ∙ ap (λ (u : Units). sealed (unit_at u 0)) same in
+    let behind : sealed (unit_at index 0) ≤ g = omega (arith, is.2.no_later, generation, ap (λ (u : Units). sealed (unit_at u 0)) same) in
+    inr (is.0, is.1, earlier_agrees is.0 pkg idx (omega (arith, at, behind, generation, apart)))
+filled_lawful g work index to writes apart pkg mid idx same of (inr (inr sealed_is)) (inr is) =
+    let r = rows_sealed g to work index idx writes sealed_is in
+    inr (
+      of.value,
+      of.undamaged,
+      record {
+        rows_are = λ current. record {
+          whole = r.0.whole;
+          same = subst (λ (rs : List Row). SameRows rs (records (buckets_of (unit_at idx 0)) idx)) of.rows_are r.0.same;
+        };
+        no_later = omega (arith, r.1, of.generation_is);
+      },
+    )
+
+module _ (g f next : ℕ) (B after : BlobMap) (index : Units) (fits : Fits g B index) (images : Files → Type 0) where
   abbrev Still : Files → Type 0
   Still = IsChangedStill (writes.state_of B f) (writes.state_of after next) images
 
@@ -78,15 +112,14 @@ module _ (g f next : ℕ) (B after : BlobMap) (index : Units) (at : sealed (unit
   store_stop image from was idx log to = either to
     where
       early : sealed (unit_at image.idx 0) < g + 1
-      early = omega (arith, ap (λ (u : Units). sealed (unit_at u 0)) idx, at)
+      early = omega (arith, ap (λ (u : Units). sealed (unit_at u 0)) idx, fits.behind)
 
       either : BlobsTo g f next B after image.pkg → Still image
       either (inl s) = record {
         from = from;
         was = was;
         log = log;
-        lawful = now_lawful g f B image.pkg image.idx s (subst (HasRows (packages_of B)) (sym idx) has)
-            (ap (λ (u : Units). sealed (unit_at u 0)) idx ∙ at);
+        lawful = now_lawful g f B image.pkg image.idx s (subst (Fits g B) (sym idx) fits);
         says = inr (record { value = s.value; undamaged = s.undamaged; is = inl (image_state g f B image.pkg s) });
       }
       either (inr (inl s)) = record {
@@ -116,10 +149,10 @@ module _ (g f next : ℕ) (B after : BlobMap) (index : Units) (at : sealed (unit
     index_lawful : (pkg mid idx : Units) → StandsFor (g + 1) next after pkg → mid ≡ index → IndexTo (g + 1) work index mid idx → IsLawful pkg idx
     index_lawful pkg mid idx s same (inl void) = inr (s.value, s.undamaged, void_agrees s.value pkg idx void)
     index_lawful pkg mid idx s same (inr (inl seal)) =
-        later_lawful (g + 1) next after pkg idx s (omega (arith, ap sealed seal, ap (λ (u : Units). sealed (unit_at u 0)) same, at))
+        later_lawful (g + 1) next after pkg idx s (omega (arith, ap sealed seal, ap (λ (u : Units). sealed (unit_at u 0)) same, fits.behind))
     index_lawful pkg mid idx s same (inr (inr sealed_is)) =
         let r = rows_sealed (g + 1) (packages_of after) work index idx writes_rows sealed_is in
-        now_lawful (g + 1) next after pkg idx s r.0 r.1
+        now_lawful (g + 1) next after pkg idx s (fits_now (g + 1) after idx r.1 r.0)
 
     pub index_stop : (image from mid : Files) → images from → mid.log ≡ from.log → mid.idx ≡ index → StandsFor (g + 1) next after mid.pkg
         → image.pkg ≡ mid.pkg → image.log ≡ mid.log → IndexTo (g + 1) work index mid.idx image.idx → Still image

@@ -1,5 +1,6 @@
 pub mod Answers
 pub mod Faults
+pub mod FillStops
 pub mod Rowing
 pub mod Making
 pub mod Opened

@@ -9,7 +9,7 @@ use Rattle.rpm_hindex.specs.Index.{records}
 use Rattle.rpm_hindex.specs.Rows.{Row, SameRows}
 use Rattle.rpm_hindex.specs.Sizes.{is_bucket_count}
 use Rattle.rpm_hindex.specs.State as hindex
-use Rattle.rpm_hindex.specs.State.{State, seal_unit, is_ordered, is_in_order, is_current, state_of, buckets_of}
+use Rattle.rpm_hindex.specs.State.{State, seal_unit, sealed, is_ordered, is_in_order, is_current, state_of, buckets_of}
 use Rattle.rpm_hindex.specs.Whole.{IsWellFormed}
 use Rattle.rpm_db.specs.State.{packages}
 use Rattle.rpm_db.specs.Rows.{rows}
@@ -113,6 +113,13 @@ rows_of_lawful pkg idx value keeps made (inr is) current =
     let same : is.0 ≡ in_file value = same_store pkg is.0 (in_file value) is.1 keeps in
     subst (λ p. HasRows p idx) (ap (packages pkg) same ∙ packages-in_file pkg value)
     (is.2.rows_are (ap (λ (s : Store). is_current_at s.generation idx) same ∙ current))
+
+-- nor is it sealed later
+pub no_later_of_lawful : (pkg idx : Units) (value : Store) → store pkg ≡ Ok (in_file value) → 1 ≤ value.pages → IsLawful pkg idx
+    → sealed (unit_at idx 0) ≤ value.generation
+no_later_of_lawful pkg idx value keeps made (inl none) = absurd (omega (arith, made, ap (λ (s : Store). s.pages) (same_store pkg _ _ none keeps)))
+no_later_of_lawful pkg idx value keeps made (inr is) =
+    omega (arith, is.2.no_later, ap (λ (s : Store). s.generation) (same_store pkg is.0 (in_file value) is.1 keeps))
 
 -- whether a value's units are current is whether its file's are
 pub current_same : (g : ℕ) (idx : Units) (s : State) → hindex.Keeps idx s → is_current g s ≡ is_current_at g idx

@@ -4,6 +4,8 @@ use Rattle.std.specs.Prelude.{IsTrue}
 use Rattle.std.specs.FinMap as finite
 use Rattle.std.specs.Ordering.{nat_cmp}
 use Rattle.rpm_outside.specs.declared.disk.File.{File}
+use Rattle.rpm_outside.specs.declared.disk.File.TheVariants.{Idx, Pkg}
+use Rattle.rpm_outside.specs.Changes.{IsSettled, Stops}
 use Rattle.rpm_outside.specs.Crash.{LeavesOnly}
 use Rattle.rpm_outside.specs.Files.{Units, Files}
 use Rattle.rpm_pkgdb.specs.declared.plan.Plan.{Plan}
@@ -11,20 +13,22 @@ use Rattle.rpm_pkgdb.specs.Blobs.{blobs}
 use Rattle.rpm_pkgdb.specs.Growing.{moving_cost}
 use Rattle.rpm_pkgdb.specs.Planned.{IsPlan, IsFor, moves_of}
 use Rattle.rpm_pkgdb.specs.Quiet.{BlobMap}
-use Rattle.rpm_pkgdb.specs.Store.{Store}
+use Rattle.rpm_pkgdb.specs.Store.{Keeps, Store}
 use Rattle.rpm_pkgdb.specs.Written.{with_spare, next_field, field_after}
 use Rattle.rpm_hindex.specs.declared.plan.Work.{Work}
 use Rattle.rpm_db.specs.Changes.{IsChangedStill, ReadsAtMost}
-use Rattle.rpm_db.specs.Lawful.{HasRows, AreLawful}
+use Rattle.rpm_db.specs.Lawful.{HasRows, AreLawful, IsLawful}
 use Rattle.rpm_db.specs.Rows.{rows}
 use Rattle.rpm_db.specs.Runs.{Runs}
 use Rattle.rpm_db.specs.State.{Package, packages, state}
-use Rattle.rpm_db.specs.inner.Writes.{SameFiles, WritesRows, IsSealedAfter, packages_of, state_of, number_for, field_for, cost_before, put_map}
-use Rattle.rpm_db.proofs.Changed.{rows_sealed}
+use Rattle.rpm_db.specs.inner.Writes.{BlobsTo, SameFiles, WritesRows, IsSealedAfter, packages_of, state_of, number_for, field_for, cost_before, put_map}
+use Rattle.rpm_db.proofs.Both.{store_stops}
+use Rattle.rpm_db.proofs.Changed.{Fits, rows_sealed}
 use Rattle.rpm_db.proofs.Edited.{number_is}
 use Rattle.rpm_db.proofs.Puts.{blobs_planned, map_planned, field_planned, reads_put}
 use Rattle.rpm_db.specs.inner.States.{state-blobs, packages-blobs}
-use Rattle.rpm_db.proofs.Unwritten.{stops_written, stops_told}
+use Rattle.rpm_db.proofs.Making.{no_later_of_lawful, rows_of_lawful}
+use Rattle.rpm_db.proofs.Unwritten.{settled_same, stops_written, stops_told}
 
 -- the state of these blobs and this number field
 pub state_written : (pkg : Units) (value : Store) (after : BlobMap) (field : ℕ) → blobs pkg value ≡ after → value.field ≡ field
@@ -62,12 +66,34 @@ pub reads_of_put : {value planned : Store} {n : Option ℕ} {plan : Plan} {bytes
 reads_of_put {value} {planned} {n} {plan} {bytes} {blob} p a b d first second =
     reads_put n value planned p.room (length blob) plan p.plan_is p.asked a b d first second
 
+-- the index of lawful files fits the store of the file
+fits_lawful : (pkg idx : Units) (value : Store) → Keeps pkg value → 1 ≤ value.pages → IsLawful pkg idx → Fits value.generation (blobs pkg value) idx
+fits_lawful pkg idx value keeps made lawful = record {
+  behind = no_later_of_lawful pkg idx value keeps made lawful;
+  rows_are = λ current.
+      subst (λ (ps : finite.FinMap nat_cmp Package). HasRows ps idx) (packages-blobs pkg value)
+      (rows_of_lawful pkg idx value keeps made lawful current);
+}
+
 module _ {D : Type 0} (tells : Bool) (files : D → Files) (left_since : D → ℕ → Files → Type 0) (moment : D → ℕ)
     (bytes_read : D → File → ℕ) (follows : D → D → Type 0) where
   abbrev images : D → Files → Type 0
   images d = left_since d (moment d)
 
-  -- what crashes leave, whatever the writing answers
+  -- what crashes leave, told by the files from before the plan
+  stops_since : (a b d : D) → IsTrue tells → AreLawful (images a) → Runs tells files left_since moment bytes_read follows SameFiles a b
+      → (value : Store) (was goes after : BlobMap) (field next last : ℕ) → was ≡ blobs (files a).pkg value → field ≡ value.field
+      → goes ≡ after → next ≡ last → LeavesOnly moment left_since b d (IsChangedStill (state_of was field) (state_of goes next) (images b))
+      → LeavesOnly moment left_since a d (IsChangedStill (state (files a).pkg value) (state_of after last) (images a))
+  stops_since a b d told lawful run value was goes after field next last was_is field_same goes_is next_is stops =
+      let file = (files a).pkg in
+      let before : state_of was field ≡ state file value =
+      ap (λ (k : BlobMap). state_of k field) was_is ∙ ap (state_of (blobs file value)) field_same ∙ sym (state-blobs file value) in
+      let behind : state_of goes next ≡ state_of after last = ap (λ (k : BlobMap). state_of k next) goes_is ∙ ap (state_of after) next_is in
+      stops_written (state file value) (state_of after last) tells files left_since moment bytes_read follows a b d told lawful run
+      (stops_told moment left_since b d (images b) (state_of was field) (state file value) (state_of goes next) (state_of after last) before behind stops)
+
+  -- whatever the writing answers
   pub stops_planned : (a b d : D) → IsTrue tells → AreLawful (images a) → Runs tells files left_since moment bytes_read follows SameFiles a b
       → (value : Store) (work : Work) (was goes after : BlobMap) (field next last : ℕ) → was ≡ blobs (files a).pkg value → field ≡ value.field
       → goes ≡ after → next ≡ last → HasRows (packages (files a).pkg value) (files a).idx → WritesRows (rows (packages_of after)) work (files a).idx
@@ -77,17 +103,12 @@ module _ {D : Type 0} (tells : Bool) (files : D → Files) (left_since : D → �
   stops_planned a b d told lawful run value work was goes after field next last was_is field_same goes_is next_is has writes stops =
       let file = (files a).pkg in
       let same = run.reads_as told in
-      let before : state_of was field ≡ state file value =
-      ap (λ (k : BlobMap). state_of k field) was_is ∙ ap (state_of (blobs file value)) field_same ∙ sym (state-blobs file value) in
-      let behind : state_of goes next ≡ state_of after last = ap (λ (k : BlobMap). state_of k next) goes_is ∙ ap (state_of after) next_is in
       let has_now = subst (λ (k : BlobMap). HasRows (packages_of k) (files b).idx) (sym was_is)
       (subst (λ (f : Files). HasRows (packages_of (blobs file value)) f.idx) (sym same)
       (subst (λ (ps : finite.FinMap nat_cmp Package). HasRows ps (files a).idx) (packages-blobs file value) has)) in
       let writes_now = subst (λ (k : BlobMap). WritesRows (rows (packages_of k)) work (files b).idx) (sym goes_is)
       (subst (λ (f : Files). WritesRows (rows (packages_of after)) work f.idx) (sym same) writes) in
-      stops_written (state file value) (state_of after last) tells files left_since moment bytes_read follows a b d told lawful run
-      (stops_told moment left_since b d (images b) (state_of was field) (state file value) (state_of goes next) (state_of after last) before behind
-      (stops has_now writes_now))
+      stops_since a b d told lawful run value was goes after field next last was_is field_same goes_is next_is (stops has_now writes_now)
 
   -- of a header that is put
   module _ {value planned : Store} {n : Option ℕ} {plan : Plan} {bytes blob : List ℕ} (a b d : D) (told : IsTrue tells)
@@ -126,6 +147,29 @@ module _ {D : Type 0} (tells : Bool) (files : D → Files) (left_since : D → �
         (put_map file value n blob) planned.field (field_after (next_field plan.target) planned.field) (field_for n value)
         (blobs_planned file mid here value planned p.room) (ap (λ (v : Store). v.field) p.room) (put_map_is file mid here p)
         (field_planned value planned p.room n (length blob) plan p.plan_is p.asked) has writes stops
+
+    -- also where its rows are gathered: the index is sealed no later than the store
+    pub stops_aside : AreLawful (images a) → images a (files a) → Keeps (files a).pkg value → 1 ≤ value.pages → IsSettled Idx (files a) (images a)
+        → LeavesOnly moment left_since b d (Stops Pkg (BlobsTo planned.generation planned.field (field_after (next_field plan.target) planned.field)
+        (blobs (files b).pkg planned) (finite.insert (blobs (files b).pkg planned) plan.target.number (Some bytes))) (images b))
+        → LeavesOnly moment left_since a d (IsChangedStill (state (files a).pkg value)
+        (state_of (put_map (files a).pkg value n blob) (field_for n value)) (images a))
+    stops_aside lawful now keeps made settled stops =
+        let file = (files a).pkg in
+        let mid = (files b).pkg in
+        let goes = finite.insert (blobs mid planned) plan.target.number (Some bytes) in
+        let next = field_after (next_field plan.target) planned.field in
+        let is = blobs_planned file mid here value planned p.room in
+        let fits = fits_lawful file (files a).idx value keeps made (lawful (files a) now) in
+        let fits_then : Fits planned.generation (blobs mid planned) (files b).idx =
+        subst (λ (f : Files). Fits planned.generation (blobs mid planned) f.idx) (sym (run.reads_as told))
+        (subst (λ (k : BlobMap). Fits planned.generation k (files a).idx) (sym is)
+        (subst (λ (v : Store). Fits v.generation (blobs file value) (files a).idx) (sym p.room) fits)) in
+        stops_since a b d told lawful run value (blobs mid planned) goes (put_map file value n blob) planned.field next (field_for n value) is
+        (ap (λ (v : Store). v.field) p.room) (put_map_is file mid here p)
+        (field_planned value planned p.room n (length blob) plan p.plan_is p.asked)
+        (store_stops tells files left_since moment bytes_read follows told planned.generation planned.field next (blobs mid planned) goes b d d fits_then
+        (settled_same tells files left_since moment bytes_read follows a b told run settled) stops)
 
   -- and of a number that is taken out
   pub stops_erase : (a b d : D) → IsTrue tells → AreLawful (images a) → Runs tells files left_since moment bytes_read follows SameFiles a b

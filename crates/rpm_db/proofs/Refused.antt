@@ -1,12 +1,13 @@
 -- What a fault says.
 use Rattle.std.proofs.Common.{◌≡◌, ℕ, ◌^◌, ◌≤◌, List, length, true, false, Ok, Err, refl, arith}
+use Rattle.std.specs.Prelude.{Result}
 use Rattle.rpm_db.specs.declared.change_fault.ChangeFault.{ChangeFault}
 use Rattle.rpm_db.specs.declared.change_fault.ChangeFault.TheVariants.{BadHeader, NoSuch, NumbersSpent, GenerationSpent, StoreFull, IndexFull, BadIndex, Stopped, DiskFault, NoMemory}
 use Rattle.rpm_outside.specs.Files.{Units}
 use Rattle.rpm_header.specs.Header.{Header, header}
 use Rattle.rpm_pkgdb.specs.Planned.{IsFull}
 use Rattle.rpm_db.specs.Database.{Database, holds, next_number}
-use Rattle.rpm_db.specs.Refusals.{AddIs, LaterCause, EraseCause, IsOfIndex, IsOfReading, IsOfRoom, IsRefusal, FullCause, BadCause, is_stopping}
+use Rattle.rpm_db.specs.Refusals.{AddIs, LaterCause, LaterIs, EraseCause, IsOfIndex, IsOfReading, IsOfRoom, IsRefusal, FullCause, BadCause, is_stopping}
 
 -- after the generation and the room in the store
 pub later_of_index : (generation : ℕ) (full : Type 0) (fault : ChangeFault) → IsOfIndex fault → (generation ≡ 4294967295 → ⊥) → ¬ full
@@ -113,3 +114,8 @@ add_cause db bytes own (BadIndex unit) going read left later = (left, record { g
 add_cause db bytes own Stopped going read left later = absurd later
 add_cause db bytes own DiskFault going read left later = (left, record { going = going; own = own; read = read; later = later })
 add_cause db bytes own NoMemory going read left later = (left, record { going = going; own = own; read = read; later = later })
+
+pub add_is : (db : Database) (bytes : List ℕ) (own : Header) (result : Result ℕ ChangeFault) → db.stopped ≡ false → header bytes ≡ Ok own
+    → (next_number db ≡ 4294967295 → ⊥) → LaterIs db.store.generation (IsFull db.store true (length own.blob)) result → AddIs db bytes result
+add_is db bytes own (Ok n) going read left later = (left, record { going = going; own = own; read = read; later = later })
+add_is db bytes own (Err fault) going read left later = add_cause db bytes own fault going read left later

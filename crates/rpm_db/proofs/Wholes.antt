@@ -1,5 +1,6 @@
 -- An index that is well formed as a whole, while a change of it is worked out and written.
-use Rattle.std.proofs.Common.{◌≡◌, ℕ, List, sym, subst}
+use Rattle.std.proofs.Common.{◌≡◌, ℕ, List, Ok, Err, sym, subst}
+use Rattle.std.specs.Prelude.{Result, IfErr}
 use Rattle.rpm_outside.specs.Files.{Units, Files, unit_at}
 use Rattle.rpm_hindex.specs.declared.plan.Work.{Work}
 use Rattle.rpm_hindex.specs.Plans.{IsPlanFor}
@@ -9,7 +10,7 @@ use Rattle.rpm_hindex.specs.Whole.{IsWellFormed}
 use Rattle.rpm_db.specs.declared.change_fault.ChangeFault.{ChangeFault}
 use Rattle.rpm_db.specs.declared.change_fault.ChangeFault.TheVariants.{BadHeader, NoSuch, NumbersSpent, GenerationSpent, StoreFull, IndexFull, BadIndex, Stopped, DiskFault, NoMemory}
 use Rattle.rpm_db.specs.Lawful.{IsWholeIndex}
-use Rattle.rpm_db.specs.Refusals.{BadCause, WholeCause}
+use Rattle.rpm_db.specs.Refusals.{BadCause, BadIndexIs, WholeCause}
 use Rattle.rpm_db.specs.inner.Writes.{WritesWhole, IsSealedAfter}
 use Rattle.rpm_db.proofs.Prepared.{never_bad}
 
@@ -44,3 +45,7 @@ whole_cause idx (BadIndex unit) whole bad = never_bad (buckets_of (unit_at idx 0
 whole_cause idx Stopped whole bad = tt
 whole_cause idx DiskFault whole bad = tt
 whole_cause idx NoMemory whole bad = tt
+
+pub whole_err : {A : Type 0} (idx : Units) (result : Result A ChangeFault) → IsWholeIndex idx → BadIndexIs idx result → IfErr result WholeCause
+whole_err idx (Ok done) whole bad = tt
+whole_err idx (Err fault) whole bad = whole_cause idx fault whole bad

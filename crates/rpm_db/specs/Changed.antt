@@ -5,9 +5,11 @@ use Rattle.rpm_db.specs.declared.change_fault.ChangeFault.{ChangeFault}
 use Rattle.rpm_db.specs.declared.change_fault.ChangeFault.TheVariants.{DiskFault}
 use Rattle.rpm_db.specs.Changes.{AllSay, Change, IsServing, apply}
 use Rattle.rpm_db.specs.Database.{Database, IsIndexed, is_blank, is_indexed}
+use Rattle.rpm_db.specs.Frame.{StaysBetween, state_in}
 use Rattle.rpm_db.specs.Lawful.{IsWholeIndex}
-use Rattle.rpm_db.specs.Reaches.{Reaches}
-use Rattle.rpm_db.specs.Refusals.{IsRefusal, StaysWhole}
+use Rattle.rpm_db.specs.Reaches.{Reaches, needed}
+use Rattle.rpm_db.specs.Refusals.{FullIndexIs, IsRefusal, StaysWhole}
+use Rattle.rpm_db.specs.Room.{RoomIs, next_store}
 use Rattle.rpm_db.specs.Runs.{Runs}
 use Rattle.rpm_db.specs.State.{state}
 use Rattle.rpm_db.specs.inner.Writes.{SameFiles}
@@ -28,6 +30,15 @@ module _ {D : Type 0} (d : disk.Ghosts D) where
         (d.left_since new (d.moment new))
     pub reach : IsTrue d.tells → IsIndexed (d.files old).pkg (d.files old).idx before
         → Reaches (state (d.files old).pkg before.store) change (d.files old).idx (d.files new).idx
+
+  -- a change by its answer: whether it found room in both files, what it made, and what crashes leave meanwhile
+  pub record Makes {A : Type 0} (old new : D) (change : Change) (before after : Database)
+      (result : Result A ChangeFault) : Type 0 where
+    pub room : RoomIs (next_store change before.store) before.store after.store result
+    pub changed : OnOk result (Changed old new change before after)
+    pub full : IsTrue d.tells → before.stopped ≡ false → IsIndexed (d.files old).pkg (d.files old).idx before
+        → FullIndexIs (needed (state_in d old before) change) result
+    pub stops : StaysBetween d old new change before
 
   -- what is left of a value; after a refusal it is this one, and no file was written
   pub record IsLeft {A : Type 0} (old new : D) (before after refused_as : Database)

@@ -4,9 +4,12 @@ use Rattle.std.specs.Ordering.{nat_cmp}
 use Rattle.std.specs.FinMap.{FinMap}
 use Rattle.rpm_outside.specs.declared.disk.Disk as disk
 use Rattle.rpm_outside.specs.Files.{Files}
+use Rattle.rpm_outside.specs.Frame.{DiskFault, LeavesIn, images}
 use Rattle.rpm_db.specs.Changes as changes
+use Rattle.rpm_db.specs.Changes.{Change, IsChangedStill, apply}
 use Rattle.rpm_db.specs.Database.{Database, Keeps, KeepsIndex}
 use Rattle.rpm_db.specs.Database as database
+use Rattle.rpm_db.specs.Lawful.{AreLawful}
 use Rattle.rpm_db.specs.Runs as runs
 use Rattle.rpm_db.specs.State.{Package, State, packages, state}
 
@@ -14,6 +17,11 @@ module _ {D : Type 0} (d : disk.Ghosts D) where
   -- the files, and what a crash leaves, came of those before as a relation says
   abbrev pub Runs : (Files → Files → Type 0) → D → D → Type 0
   Runs = runs.Runs d.tells d.files d.left_since d.moment d.bytes_read d.follows
+
+  -- so did they, and this answer comes only where the disk counted a fault
+  pub record RunsOr (by : Files → Files → Type 0) (what : Type 0) (old new : D) : Type 0 where
+    pub files : Runs by old new
+    pub cause : DiskFault d what old new
 
   -- the value of a database is that of Packages.db as it reads
   abbrev pub Kept : D → Database → Type 0
@@ -38,3 +46,8 @@ module _ {D : Type 0} (d : disk.Ghosts D) where
   -- its packages
   abbrev pub packages_in : D → Database → FinMap nat_cmp Package
   packages_in it db = packages (d.files it).pkg db.store
+
+  -- a crash meanwhile leaves lawful files with the packages from before a change or after it, where those at the start are lawful
+  abbrev pub StaysBetween : D → D → Change → Database → Type 0
+  StaysBetween old new change db = IsTrue d.tells → AreLawful (images d old)
+      → LeavesIn d old new (IsChangedStill (state_in old db) (apply change (state_in old db)) (images d old))

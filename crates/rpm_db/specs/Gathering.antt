@@ -1,5 +1,5 @@
 -- Additions to a database whose rows are gathered, and go into the index all at once.
-use Rattle.std.specs.Prelude.{◌≡◌, ◌≢◌, ℕ, ◌+◌, ◌^◌, ◌≤◌, max, List, [], length, replicate, true, false, ◌==◌, if◌then◌else◌, IsTrue, Option, Some, None}
+use Rattle.std.specs.Prelude.{◌≡◌, ◌≢◌, ℕ, ◌+◌, ◌^◌, ◌≤◌, max, List, [], length, replicate, true, false, ◌==◌, if◌then◌else◌, IsTrue, Option, Some, None, Result, OnOk, OnErr, IfErr}
 use Rattle.std.specs.Ordering.{nat_cmp}
 use Rattle.std.specs.FinMap.{FinMap}
 use Rattle.rpm_outside.specs.declared.disk.Disk as disk
@@ -8,12 +8,17 @@ use Rattle.rpm_hindex.specs.Plans.{HasChanged}
 use Rattle.rpm_hindex.specs.Rows.{Row}
 use Rattle.rpm_hindex.specs.Sizes.{live_of, units_for}
 use Rattle.rpm_hindex.specs.State as hindex
+use Rattle.rpm_db.specs.declared.change_fault.ChangeFault.{ChangeFault}
 use Rattle.rpm_db.specs.Changes.{Change, IsServing, apply}
 use Rattle.rpm_db.specs.Database.{Database, IsIndexed, is_indexed}
+use Rattle.rpm_db.specs.Frame.{Runs, StaysBetween, state_in}
 use Rattle.rpm_db.specs.Lawful.{HasRows}
-use Rattle.rpm_db.specs.Reaches.{Reaches}
+use Rattle.rpm_db.specs.Reaches.{Reaches, needed}
+use Rattle.rpm_db.specs.Refusals.{FullIndexIs, IsRefusal}
+use Rattle.rpm_db.specs.Room.{RoomIs, next_store}
 use Rattle.rpm_db.specs.Rows.{rows}
 use Rattle.rpm_db.specs.State.{Package, packages, state}
+use Rattle.rpm_db.specs.inner.Writes.{SameFiles}
 
 -- the generation at which an index is sealed
 abbrev pub sealed_in : Option hindex.State → ℕ
@@ -74,6 +79,22 @@ module _ {D : Type 0} (d : disk.Ghosts D) where
     pub owes : IsTrue d.tells → OwesOn old before owed → OwesOn new after more
     pub reach : IsTrue d.tells → OwesOn old before owed → Reaches (state (d.files old).pkg before.store) change
         (due (d.files old) before owed).idx (due (d.files new) after more).idx
+
+  -- an addition by its answer: whether it found room in both files, what it made, and what crashes leave meanwhile
+  pub record Gathers {A : Type 0} (old new : D) (change : Change) (before after : Database) (owed more : List Row)
+      (result : Result A ChangeFault) : Type 0 where
+    pub room : RoomIs (next_store change before.store) before.store after.store result
+    pub gathered : OnOk result (Gathered old new change before after owed more)
+    pub full : IsTrue d.tells → OwesOn old before owed → FullIndexIs (needed (state_in d old before) change) result
+    pub stops : StaysBetween d old new change before
+
+  -- what is left of a value: after an error it takes no change; after a refusal it is this one, and no file was written
+  pub record IsLeftSuspended {A : Type 0} (old new : D) (after refused_as : Database)
+      (result : Result A ChangeFault) : Type 0 where
+    pub indexed : is_indexed after ≡ true
+    pub stopped : OnErr result (after.stopped ≡ true)
+    pub refused : IfErr result (λ e. IsRefusal e → after ≡ refused_as)
+    pub same : IfErr result (λ e. IsRefusal e → Runs d SameFiles old new)
 
   -- the additions are over: the index has what it was owed
   pub record IsSettledUp (old new : D) (before after : Database) (owed : List Row) : Type 0 where

@@ -1,5 +1,5 @@
 -- What making a database leaves.
-use Rattle.std.specs.Prelude.{◌≡◌, ◌⊎◌, [], true, false, IsTrue, Result, Ok, Err}
+use Rattle.std.specs.Prelude.{◌≡◌, ◌⊎◌, [], Bool, true, false, IsTrue, Result, Ok, Err}
 use Rattle.std.specs.FinMap as finite
 use Rattle.rpm_outside.specs.declared.disk.Disk as disk
 use Rattle.rpm_outside.specs.declared.disk.File.TheVariants.{Idx}
@@ -13,9 +13,10 @@ use Rattle.rpm_pkgdb.specs.Written.{made_new}
 use Rattle.rpm_hindex.specs.Sizes.{units_for}
 use Rattle.rpm_db.specs.declared.change_fault.ChangeFault.{ChangeFault}
 use Rattle.rpm_db.specs.declared.change_fault.ChangeFault.TheVariants.{Stopped, DiskFault, NoMemory}
-use Rattle.rpm_db.specs.Database.{Database, IsIndexed, Keeps, KeepsIndex, is_indexed}
+use Rattle.rpm_db.specs.Database.{Database, IsIndexed, Keeps, KeepsIndex, is_blank, is_indexed}
 use Rattle.rpm_db.specs.Lawful.{IsLawful}
 use Rattle.rpm_db.specs.Reaches.{ReachesMade}
+use Rattle.rpm_db.specs.State.{state}
 
 -- a Packages.db without packages, whose number field is 1
 pub record IsEmpty (pkg : Units) : Type 0 where
@@ -42,6 +43,12 @@ IsInitFault _ = ⊥
 -- ---- what it leaves
 
 module _ {D : Type 0} (d : disk.Ghosts D) where
+  -- there is a database: it was made exactly where there was none, and says what it said
+  pub record IsThere (old new : D) (before after : Database) (made : Bool) : Type 0 where
+    pub made_is : made ≡ is_blank before
+    pub state_is : IsTrue d.tells → state (d.files new).pkg after.store ≡ state (d.files old).pkg before.store
+    pub not_blank : is_blank after ≡ false
+
   -- a database was made: it has no package, an index without rows, and can be changed
   pub record IsInit (old new : D) (before after : Database) : Type 0 where
     pub store_is : after.store ≡ made_new before.store

@@ -1,8 +1,12 @@
 -- What opening with an index answers.
-use Rattle.std.specs.Prelude.{◌≡◌, ℕ, ◌+◌, ◌<◌, ◌≤◌, ◌^◌, Bool, ◌&&◌, true, false, not, ◌==◌, if◌then◌else◌, Result, Ok, Err, IfOk}
+use Rattle.std.specs.Prelude.{IsTrue, ◌≡◌, ℕ, ◌+◌, ◌<◌, ◌≤◌, ◌^◌, Bool, ◌&&◌, true, false, not, ◌==◌, if◌then◌else◌, Result, Ok, Err, IfOk}
+use Rattle.rpm_outside.specs.declared.disk.Disk as disk
+use Rattle.rpm_outside.specs.declared.disk.File.TheVariants.{Idx, Pkg}
+use Rattle.rpm_outside.specs.Changes.{IsSettled}
 use Rattle.rpm_outside.specs.Files.{Units, Files}
 use Rattle.rpm_pkgdb.specs.declared.slot.Damage.{Damage}
 use Rattle.rpm_pkgdb.specs.Costs as costs
+use Rattle.rpm_pkgdb.specs.Quiet.{IsQuiet}
 use Rattle.rpm_pkgdb.specs.Store.{Store, store}
 use Rattle.rpm_hindex.specs.Sizes.{units_for}
 use Rattle.rpm_hindex.specs.declared.faults.RewriteFault.{RewriteFault}
@@ -11,6 +15,7 @@ use Rattle.rpm_db.specs.declared.open_fault.DbOpenFault.{DbOpenFault}
 use Rattle.rpm_db.specs.declared.open_fault.DbOpenFault.TheVariants.{Damaged, IndexFull, DiskFault, NoMemory}
 use Rattle.rpm_db.specs.Database.{Database, Keeps, KeepsIndex, IsIndexed, holds, is_blank, is_indexed}
 use Rattle.rpm_db.specs.Lawful.{IsLawful, is_current_at}
+use Rattle.rpm_db.specs.Reaches.{ReachesMade}
 use Rattle.rpm_db.specs.Rows.{rows}
 use Rattle.rpm_db.specs.State.{packages}
 
@@ -79,6 +84,16 @@ pub record IsFresh (db : Database) : Type 0 where
   pub from_one : holds 0 db ≡ false
   pub indexed : is_indexed db ≡ not (is_blank db)
   pub going : db.stopped ≡ false
+
+module _ {D : Type 0} (d : disk.Ghosts D) where
+  -- it was opened on this disk: both files are settled, and the index is as long as it was or as one that was made
+  pub record IsOpenedOn (old new : D) (db : Database) : Type 0 where
+    pub fresh : IsFresh db
+    pub quiet : IsTrue d.tells → IsQuiet db.store (d.files new) (d.left_since new (d.moment new))
+    pub durable : IsTrue d.tells → IsSettled Pkg (d.files new) (d.left_since new (d.moment new))
+    pub settled : IsTrue d.tells → IsSettled Idx (d.files new) (d.left_since new (d.moment new))
+    pub reach : IsTrue d.tells
+        → ReachesMade (units_needed (d.files old).pkg (store (d.files old).pkg)) (d.files old).idx (d.files new).idx
 
 -- ---- making the index
 

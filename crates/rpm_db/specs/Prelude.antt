@@ -13,7 +13,7 @@ pub use Rattle.rpm_hindex.specs.Sizes.{live_of, units_for}
 pub use Rattle.rpm_hindex.specs.Whole.{IsWellFormed}
 pub use Rattle.rpm_outside.specs.Changes.{Stops}
 pub use Rattle.rpm_outside.specs.Files.{Files, Units, blank, unit_at}
-pub use Rattle.rpm_outside.specs.Frame.{Changes, DiskCause, DiskFault, IsSettled, LeavesIn, Looks, LooksAt, images}
+pub use Rattle.rpm_outside.specs.Frame.{DiskCause, DiskFault, IsSettled, LeavesIn, Looks, LooksAt, Writes, images}
 pub use Rattle.rpm_outside.specs.Looks.{ReadAtMost}
 pub use Rattle.rpm_outside.specs.declared.disk.File.TheVariants.{Idx, Pkg}
 pub use Rattle.rpm_pkgdb.specs.Blobs.{blobs}
@@ -31,17 +31,17 @@ pub use Rattle.rpm_pkgdb.specs.declared.slot.Damage.{Damage}
 pub use Rattle.rpm_tags.specs.Kinds.{code_of}
 pub use Rattle.rpm_tags.specs.Value.{first_text}
 pub use Rattle.rpm_db.specs.Answers.{CutIs, FoundIs, GetIs, ReadIs, VerifyIs, key_chain}
-pub use Rattle.rpm_db.specs.Changed.{Changed, IsLeft, IsReady}
+pub use Rattle.rpm_db.specs.Changed.{IsLeft, IsReady, Makes}
 pub use Rattle.rpm_db.specs.Changes.{Add, Erase, IsChangedStill, IsServing, Put, ReadsAtMost, apply, next, with_room}
 pub use Rattle.rpm_db.specs.Database.{IsIndexed, IsNext, KeepsIndex, KeepsUnits, OpenIs, cost, holds, is_blank}
 pub use Rattle.rpm_db.specs.Database.{is_indexed, next_number}
-pub use Rattle.rpm_db.specs.Frame.{Runs}
-pub use Rattle.rpm_db.specs.Gathering.{Gathered, IsGathering, IsOrdered, IsSettledUp, OwesOn, resumed, sealed_in}
-pub use Rattle.rpm_db.specs.Gathering.{suspended}
-pub use Rattle.rpm_db.specs.Inits.{IsEmptyStill, IsInit, IsInitFault, StopsAs}
+pub use Rattle.rpm_db.specs.Frame.{Runs, RunsOr}
+pub use Rattle.rpm_db.specs.Gathering.{Gathers, IsGathering, IsLeftSuspended, IsOrdered, IsSettledUp, OwesOn, resumed}
+pub use Rattle.rpm_db.specs.Gathering.{sealed_in, suspended}
+pub use Rattle.rpm_db.specs.Inits.{IsEmptyStill, IsInit, IsInitFault, IsThere, StopsAs}
 pub use Rattle.rpm_db.specs.Lawful.{AreLawful, HasRows, IsIndexOf, IsLawful, IsOfRows, IsUnsealed, IsWholeIndex}
-pub use Rattle.rpm_db.specs.Lawful.{Remade, StaysLawful, is_current_at}
-pub use Rattle.rpm_db.specs.Openings.{FullIs, FullOpenIs, IsFresh, IsOpened, IsOutside, OpeningReads, StoreIs}
+pub use Rattle.rpm_db.specs.Lawful.{IsLawfulStill, Remade, StaysLawful, is_current_at}
+pub use Rattle.rpm_db.specs.Openings.{FullIs, FullOpenIs, IsOpened, IsOpenedOn, IsOutside, OpeningReads, StoreIs}
 pub use Rattle.rpm_db.specs.Openings.{WritesNothing, units_needed}
 pub use Rattle.rpm_db.specs.Reaches.{ReachesMade}
 pub use Rattle.rpm_db.specs.Rebuilds.{IsRebuilt, IsRenewed, IsStill, RebuildIs}
@@ -53,11 +53,11 @@ pub use Rattle.rpm_db.specs.State.{Package, package_of, packages, state}
 pub use Rattle.rpm_db.specs.Verdicts.{differs, header_verdict, is_digest_wrong, verdict}
 pub use Rattle.rpm_db.specs.declared.change_fault.ChangeFault.TheVariants.{BadHeader}
 pub use Rattle.rpm_db.specs.declared.open_fault.DbOpenFault.TheVariants.{Damaged}
-pub use Rattle.rpm_db.specs.inner.Both.{AreRead, CanApply, CanChange, CanPut, CanTake, IndexIs, IsApplied, IsDone}
-pub use Rattle.rpm_db.specs.inner.Both.{IsMade, IsPlaced, IsStored, LeadsTo, PlacedIs}
+pub use Rattle.rpm_db.specs.inner.Both.{ArePlanned, AreRead, AreWritten, CanApply, CanChange, CanPut, CanTake, IndexIs, IsApplied}
+pub use Rattle.rpm_db.specs.inner.Both.{FindsRoom, IsDone, IsMade, IsPlaced, IsStored, LeadsTo, PlacedIs}
 pub use Rattle.rpm_db.specs.inner.Faults.{store_fault}
-pub use Rattle.rpm_db.specs.inner.Filling.{IsFilled, IsPutAside}
-pub use Rattle.rpm_db.specs.inner.Making.{CanIndex, CanMake, IsMadeEmpty, IsRemade}
+pub use Rattle.rpm_db.specs.inner.Filling.{AreOfRows, CanFill, CanPutAside, IsFilled, IsPutAside, TakesRows}
+pub use Rattle.rpm_db.specs.inner.Making.{CanIndex, CanMake, IsEmptyIndex, IsIndexFor, IsMadeEmpty, IsRemade, IsSealedHere}
 pub use Rattle.rpm_db.specs.inner.Places.{AreByPlace, AreWithout, StandsBefore, StandsNotBehind}
 pub use Rattle.rpm_db.specs.inner.Writes.{BlobsTo, IndexTo, SameFiles, SameLog, WritesRows, WritesWhole, change_for}
 pub use Rattle.rpm_db.specs.inner.Writes.{cost_before, field_for, number_for, old_rows, packages_of, put_map}

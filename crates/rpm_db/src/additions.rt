@@ -1,7 +1,7 @@
 //! Adding several headers, with one change of the index.
 
 ghost use Rattle.std.specs.Prelude.{◌≡◌, [], IsTrue, true, false, Ok, Err, OnOk, IfOk, IfErr};
-ghost use Rattle.rpm_db.specs.Prelude.{Add, AddIs, apply, DiskFault, FullIndexIs, Gathered, Header, header, HeaderFault, is_indexed, IsGathering, IsOfIndex, IsOfReading, IsOrdered, IsSettledUp, IsWholeIndex, next_number, next_store, OwesOn, packages, ReachesTo, resumed, RoomIs, rows, Runs, SameLog, sealed_in, state, StaysWhole, suspended, units_for, WholeCause};
+ghost use Rattle.rpm_db.specs.Prelude.{Add, AddIs, AreLawful, DiskFault, Gathers, Header, header, HeaderFault, images, is_indexed, IsGathering, IsLawfulStill, IsLeftSuspended, IsOfIndex, IsOfReading, IsOrdered, IsSettledUp, IsWholeIndex, LeavesIn, next_number, OwesOn, ReachesTo, resumed, Runs, SameLog, sealed_in, StaysWhole, suspended, WholeCause, with_room};
 
 use crate::change_fault::ChangeFault;
 use crate::database::Db;
@@ -49,10 +49,12 @@ impl Additions {
     /// gathers its rows. Bytes after the header aren't kept. The index isn't written, and is read only where its counts
     /// leave it open whether it has room for the rows.
     ///
+    /// A crash at any moment leaves a database that is lawful, with the packages from before or with this one.
+    ///
     /// # Errors
     ///
-    /// Those of [`Db::add`], in the same order. After `BadHeader` all is as it was, and after any other the additions
-    /// aren't to be used further.
+    /// Those of [`Db::add`], in the same order. After `BadHeader` all is as it was; after any other but `DiskFault` the
+    /// files are, and the additions aren't to be used further.
     pub fn add<D: Disk>(
         &mut self,
         alloc: Global,
@@ -62,18 +64,13 @@ impl Additions {
     ) -> Result<u32, ChangeFault>
         requires gathering { IsGathering D.Disk disk.old db.old self.old }
         ensures causes { AddIs (resumed db.old) blob.now result }
-        ensures placed { (h : Header) → header blob.now ≡ Ok h
-            → RoomIs (next_store (Add h.blob) db.old.store) db.old.store db.new.store result }
         ensures number { IfOk result (λ n. n ≡ next_number db.old) }
-        ensures gathered { OnOk result ((h : Header) → header blob.now ≡ Ok h
-            → Gathered D.Disk disk.old disk.new (Add h.blob) db.old db.new self.old self.new) }
-        ensures full { IsTrue D.tells → OwesOn D.Disk disk.old db.old self.old → (h : Header) → header blob.now ≡ Ok h
-            → FullIndexIs (units_for (rows (apply (Add h.blob) (state (D.files disk.old).pkg db.old.store)).packages))
-            result }
+        ensures gathers { (h : Header) → header blob.now ≡ Ok h
+            → Gathers D.Disk disk.old disk.new (Add h.blob) db.old db.new self.old self.new result }
         ensures whole { IsTrue D.tells → IsWholeIndex (D.files disk.old).idx → IfErr result WholeCause }
         ensures refused { (fault : HeaderFault) → result ≡ Err (ChangeFault.BadHeader fault)
             → (disk.new ≡ disk.old) × (db.new ≡ db.old) × (self.new ≡ self.old) }
-        ensures indexed { is_indexed db.new ≡ true }
+        ensures left { IsLeftSuspended D.Disk disk.old disk.new db.new (with_room db.new.store.spare db.old) result }
         ensures index { IsTrue D.tells → (D.files disk.new).idx ≡ (D.files disk.old).idx }
         ensures end { OnOk result (IsTrue D.tells
             → ReachesTo db.new.store (D.files disk.old).pkg (D.files disk.new).pkg) }
@@ -87,19 +84,18 @@ impl Additions {
         let Some(index) = &db.index else {
             unreachable!()
         };
-        let number = match put_aside(alloc, disk, &mut db.store, index, &mut self.rows, &view) {
-            Ok(number) => number,
-            Err(fault) => return Err(fault),
-        };
-        Ok(number)
+        put_aside(alloc, disk, &mut db.store, index, &mut self.rows, &view)
     }
 
     /// Ends the additions: all their rows go into the index, which is sealed once. Where there were none nothing is
     /// written.
     ///
-    /// Until the seal is written the index is that of an earlier generation, or has none.
+    /// Until the seal is written the index is that of an earlier generation, or has none: a crash at any moment leaves
+    /// the packages as they are, and a database that is lawful.
     ///
     /// # Errors
+    ///
+    /// After each but `DiskFault` the files are as they were, and so is the value.
     ///
     /// - `BadIndex` only where a chain of the index isn't well formed, or unit 1 counts too little; and it or
     ///   `IndexFull` never where the index held the rows as the additions began.
@@ -120,7 +116,9 @@ impl Additions {
         ensures unwritten { sealed_in db.old.index ≡ db.old.store.generation → disk.new ≡ disk.old }
         ensures store { db.new.store ≡ db.old.store }
         ensures packages { IsTrue D.tells → (D.files disk.new).pkg ≡ (D.files disk.old).pkg }
-        ensures indexed { is_indexed db.new ≡ true }
+        ensures left { IsLeftSuspended D.Disk disk.old disk.new db.new db.old result }
+        ensures stops { IsTrue D.tells → AreLawful (images D.Disk disk.old) → OwesOn D.Disk disk.old db.old self
+            → LeavesIn D.Disk disk.old disk.new (IsLawfulStill (images D.Disk disk.old)) }
         ensures runs { Runs D.Disk SameLog disk.old disk.new }
         ensures cause { DiskFault D.Disk (result ≡ Err ChangeFault.DiskFault) disk.old disk.new }
     {

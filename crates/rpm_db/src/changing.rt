@@ -2,7 +2,7 @@
 
 ghost use Rattle.std.specs.Prelude.{◌≡◌, ℕ, ◌+◌, ◌<◌, ◌≤◌, max, IsTrue, IsSome, true, false, length, Some, None, OnOk, IfOk};
 ghost use Rattle.std.specs.FinMap as finite;
-ghost use Rattle.rpm_db.specs.Prelude.{blobs, CanApply, CanChange, CanPut, CanWrite, DiskCause, erased, field_after, HasRows, Idx, images, IsApplied, IsChangedStill, IsMade, IsPlan, IsQuiet, IsStored, Keeps, LeavesIn, LeavesOrder, moves_of, moving_cost, next_field, packages_of, Pkg, ReachesTo, ReadAtMost, rows, Runs, SameLog, slot_with, StandsFor, state_of, units_after, with_generation, with_plan, with_spare, WritesRows};
+ghost use Rattle.rpm_db.specs.Prelude.{AreWritten, blobs, CanApply, CanChange, CanPut, DiskCause, erased, field_after, HasRows, images, IsChangedStill, IsMade, LeavesIn, moves_of, moving_cost, next_field, packages_of, Pkg, ReachesTo, ReadAtMost, rows, Runs, SameLog, slot_with, state_of, with_generation, with_plan, with_spare, WritesRows};
 ghost use Rattle.rpm_outside.specs.Changes.{IsSettled};
 ghost use Rattle.rpm_hindex.specs.State as hindex;
 
@@ -28,13 +28,10 @@ pub fn write_put<D: Disk>(
     requires length { plan.target.length ≡ length blob.now }
     requires change { CanApply index.old.units change.work }
     ensures number { IfOk result (λ n. n ≡ plan.target.number) }
-    ensures ok { OnOk result (store.new ≡ with_spare store.new.spare
-        (with_plan plan (with_generation (store.old.generation + 1) store.old))) }
     ensures is_made { IsMade store.new }
-    ensures stored { OnOk result (IsStored D.Disk disk.new store.new
-        (finite.insert (blobs (D.files disk.old).pkg store.old) plan.target.number (Some blob.now))) }
-    ensures applied { OnOk result (IsApplied D.Disk disk.old disk.new index.old index.new store.new.generation
-        change.work) }
+    ensures written { OnOk result (AreWritten D.Disk disk.old disk.new index.old index.new store.new
+        (with_spare store.new.spare (with_plan plan (with_generation (store.old.generation + 1) store.old)))
+        (finite.insert (blobs (D.files disk.old).pkg store.old) plan.target.number (Some blob.now)) change.work) }
     ensures stops { IsTrue D.tells → HasRows (packages_of (blobs (D.files disk.old).pkg store.old))
         (D.files disk.old).idx → WritesRows (rows
         (packages_of (finite.insert (blobs (D.files disk.old).pkg store.old) plan.target.number (Some blob.now))))
@@ -69,12 +66,10 @@ pub fn write_erase<D: Disk>(
     requires left { store.old.generation < 4294967295 }
     requires held { IsSome (slot_with n store.old.slots) }
     requires change { CanApply index.old.units change.work }
-    ensures ok { OnOk result (store.new ≡ erased n (with_generation (store.old.generation + 1) store.old)) }
     ensures is_made { IsMade store.new }
-    ensures stored { OnOk result (IsStored D.Disk disk.new store.new
-        (finite.remove (blobs (D.files disk.old).pkg store.old) n)) }
-    ensures applied { OnOk result (IsApplied D.Disk disk.old disk.new index.old index.new store.new.generation
-        change.work) }
+    ensures written { OnOk result (AreWritten D.Disk disk.old disk.new index.old index.new store.new
+        (erased n (with_generation (store.old.generation + 1) store.old))
+        (finite.remove (blobs (D.files disk.old).pkg store.old) n) change.work) }
     ensures stops { IsTrue D.tells → HasRows (packages_of (blobs (D.files disk.old).pkg store.old))
         (D.files disk.old).idx → WritesRows (rows
         (packages_of (finite.remove (blobs (D.files disk.old).pkg store.old) n))) change.work (D.files disk.old).idx

@@ -1,8 +1,8 @@
 //! An opened database.
 
-ghost use Rattle.std.specs.Prelude.{◌≡◌, ◌≢◌, ℕ, ◌+◌, ◌^◌, ◌≤◌, IsTrue, true, false, not, is_some, None, Err, IfOk};
+ghost use Rattle.std.specs.Prelude.{◌≡◌, ◌≢◌, ℕ, ◌+◌, ◌^◌, ◌≤◌, IsTrue, true, false, is_some, None, Err, IfOk};
 ghost use Rattle.std.specs.FinMap as finite;
-ghost use Rattle.rpm_db.specs.Prelude.{DiskFault, holds, Idx, images, is_blank, is_indexed, IsFresh, IsNext, IsOpened, IsQuiet, IsSettled, Looks, next, next_number, opening_cost, OpeningReads, OpenIs, Pkg, ReachesMade, Remade, Runs, slot_with, state, StaysLawful, store, StoreIs, Units, units_needed};
+ghost use Rattle.rpm_db.specs.Prelude.{DiskFault, holds, Idx, is_blank, is_indexed, IsNext, IsOpened, IsOpenedOn, IsSettled, Looks, next, next_number, opening_cost, OpeningReads, OpenIs, Pkg, Remade, Runs, slot_with, state, StaysLawful, store, StoreIs, Units};
 ghost use Rattle.rpm_db.specs.Database.{Keeps};
 ghost use Rattle.rpm_pkgdb.specs.Store as pkgdb;
 
@@ -55,17 +55,10 @@ impl Db {
     /// Beside the two syncs it does what `open_settled` does, and answers what that answers.
     pub fn open<D: Disk>(alloc: Global, disk: &mut D) -> Result<Db, DbOpenFault>
         ensures opened { IsTrue D.tells → IsOpened (D.files disk.old) (D.files disk.new) result }
-        ensures fresh { IfOk result IsFresh }
-        ensures quiet { IfOk result (λ db. IsTrue D.tells
-            → IsQuiet db.store (D.files disk.new) (images D.Disk disk.new)) }
-        ensures durable { IfOk result (λ _db. IsTrue D.tells → IsSettled D.Disk Pkg disk.new) }
-        ensures settled { IfOk result (λ _db. IsTrue D.tells → IsSettled D.Disk Idx disk.new) }
+        ensures served { IfOk result (IsOpenedOn D.Disk disk.old disk.new) }
         ensures stops { IsTrue D.tells → StaysLawful D.moment D.left_since disk.old disk.new }
         ensures reads { IsTrue D.tells → OpeningReads (D.files disk.old) (D.bytes_read disk.old File.Pkg)
             (D.bytes_read disk.new File.Pkg) }
-        ensures reach { IfOk result (λ _db. IsTrue D.tells
-            → ReachesMade (units_needed (D.files disk.old).pkg (store (D.files disk.old).pkg)) (D.files disk.old).idx
-            (D.files disk.new).idx) }
         ensures units { D.bytes_read disk.new File.Idx ≤ D.bytes_read disk.old File.Idx + 32 }
         ensures runs { Runs D.Disk Remade disk.old disk.new }
         ensures cause { DiskFault D.Disk (result ≡ Err DbOpenFault.DiskFault) disk.old disk.new }
@@ -96,17 +89,10 @@ impl Db {
         requires pkg { IsTrue D.tells → IsSettled D.Disk Pkg disk.old }
         requires idx { IsTrue D.tells → IsSettled D.Disk Idx disk.old }
         ensures opened { IsTrue D.tells → IsOpened (D.files disk.old) (D.files disk.new) result }
-        ensures fresh { IfOk result IsFresh }
-        ensures quiet { IfOk result (λ db. IsTrue D.tells
-            → IsQuiet db.store (D.files disk.new) (images D.Disk disk.new)) }
-        ensures durable { IfOk result (λ _db. IsTrue D.tells → IsSettled D.Disk Pkg disk.new) }
-        ensures settled { IfOk result (λ _db. IsTrue D.tells → IsSettled D.Disk Idx disk.new) }
+        ensures served { IfOk result (IsOpenedOn D.Disk disk.old disk.new) }
         ensures stops { IsTrue D.tells → StaysLawful D.moment D.left_since disk.old disk.new }
         ensures reads { IsTrue D.tells → OpeningReads (D.files disk.old) (D.bytes_read disk.old File.Pkg)
             (D.bytes_read disk.new File.Pkg) }
-        ensures reach { IfOk result (λ _db. IsTrue D.tells
-            → ReachesMade (units_needed (D.files disk.old).pkg (store (D.files disk.old).pkg)) (D.files disk.old).idx
-            (D.files disk.new).idx) }
         ensures units { D.bytes_read disk.new File.Idx ≤ D.bytes_read disk.old File.Idx + 32 }
         ensures runs { Runs D.Disk Remade disk.old disk.new }
         ensures cause { DiskFault D.Disk (result ≡ Err DbOpenFault.DiskFault) disk.old disk.new }

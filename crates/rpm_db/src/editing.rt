@@ -1,7 +1,7 @@
 //! Adding, putting and erasing.
 
 ghost use Rattle.std.specs.Prelude.{◌≡◌, ◌+◌, ◌≤◌, length, IsTrue, true, false, None, Some, Ok, Err, OnOk, IfOk};
-ghost use Rattle.rpm_db.specs.Prelude.{Add, AddIs, apply, AreLawful, BadIndexIs, Changed, cost, DiskFault, Erase, EraseIs, FullIndexIs, Header, header, holds, images, is_indexed, IsChangedStill, IsIndexed, IsLeft, IsServing, LeavesIn, next_number, next_store, Pkg, Put, PutIs, ReachesTo, ReadsAtMost, RoomIs, rows, Runs, SameLog, state, units_for, with_room};
+ghost use Rattle.rpm_db.specs.Prelude.{Add, AddIs, BadIndexIs, cost, DiskFault, Erase, EraseIs, Header, header, holds, images, is_indexed, IsLeft, IsServing, Makes, next_number, Pkg, Put, PutIs, ReachesTo, ReadsAtMost, Runs, SameLog, with_room};
 
 use crate::change_fault::ChangeFault;
 use crate::database::Db;
@@ -45,23 +45,14 @@ impl Db {
         requires serving { self.old.stopped ≡ false → IsTrue D.tells
             → IsServing (D.files disk.old) (images D.Disk disk.old) self.old }
         ensures causes { AddIs self.old blob.now result }
-        ensures placed { (h : Header) → header blob.now ≡ Ok h
-            → RoomIs (next_store (Add h.blob) self.old.store) self.old.store self.new.store result }
         ensures number { IfOk result (λ n. n ≡ next_number self.old) }
-        ensures changed { OnOk result ((h : Header) → header blob.now ≡ Ok h
-            → Changed D.Disk disk.old disk.new (Add h.blob) self.old self.new) }
+        ensures makes { (h : Header) → header blob.now ≡ Ok h
+            → Makes D.Disk disk.old disk.new (Add h.blob) self.old self.new result }
         ensures left { IsLeft D.Disk disk.old disk.new self.old self.new (with_room self.new.store.spare self.old)
             result }
         ensures end { OnOk result (IsTrue D.tells
             → ReachesTo self.new.store (D.files disk.old).pkg (D.files disk.new).pkg) }
-        ensures full { IsTrue D.tells → self.old.stopped ≡ false
-            → IsIndexed (D.files disk.old).pkg (D.files disk.old).idx self.old → (h : Header) → header blob.now ≡ Ok h
-            → FullIndexIs (units_for (rows (apply (Add h.blob)
-            (state (D.files disk.old).pkg self.old.store)).packages)) result }
         ensures bad { IsTrue D.tells → BadIndexIs (D.files disk.old).idx result }
-        ensures stops { IsTrue D.tells → AreLawful (images D.Disk disk.old) → (h : Header) → header blob.now ≡ Ok h
-            → LeavesIn D.Disk disk.old disk.new (IsChangedStill (state (D.files disk.old).pkg self.old.store)
-            (apply (Add h.blob) (state (D.files disk.old).pkg self.old.store)) (images D.Disk disk.old)) }
         ensures reads { ReadsAtMost None self.old.store (D.bytes_read disk.old Pkg) (D.bytes_read disk.new Pkg) }
         ensures runs { Runs D.Disk SameLog disk.old disk.new }
         ensures cause { DiskFault D.Disk (result ≡ Err ChangeFault.DiskFault) disk.old disk.new }
@@ -110,22 +101,13 @@ impl Db {
         requires serving { self.old.stopped ≡ false → IsTrue D.tells
             → IsServing (D.files disk.old) (images D.Disk disk.old) self.old }
         ensures causes { PutIs self.old n blob.now result }
-        ensures placed { (h : Header) → header blob.now ≡ Ok h
-            → RoomIs (next_store (Put n h.blob) self.old.store) self.old.store self.new.store result }
-        ensures changed { OnOk result ((h : Header) → header blob.now ≡ Ok h
-            → Changed D.Disk disk.old disk.new (Put n h.blob) self.old self.new) }
+        ensures makes { (h : Header) → header blob.now ≡ Ok h
+            → Makes D.Disk disk.old disk.new (Put n h.blob) self.old self.new result }
         ensures left { IsLeft D.Disk disk.old disk.new self.old self.new (with_room self.new.store.spare self.old)
             result }
         ensures end { OnOk result (IsTrue D.tells
             → ReachesTo self.new.store (D.files disk.old).pkg (D.files disk.new).pkg) }
-        ensures full { IsTrue D.tells → self.old.stopped ≡ false
-            → IsIndexed (D.files disk.old).pkg (D.files disk.old).idx self.old → (h : Header) → header blob.now ≡ Ok h
-            → FullIndexIs (units_for (rows (apply (Put n h.blob)
-            (state (D.files disk.old).pkg self.old.store)).packages)) result }
         ensures bad { IsTrue D.tells → BadIndexIs (D.files disk.old).idx result }
-        ensures stops { IsTrue D.tells → AreLawful (images D.Disk disk.old) → (h : Header) → header blob.now ≡ Ok h
-            → LeavesIn D.Disk disk.old disk.new (IsChangedStill (state (D.files disk.old).pkg self.old.store)
-            (apply (Put n h.blob) (state (D.files disk.old).pkg self.old.store)) (images D.Disk disk.old)) }
         ensures reads { D.bytes_read disk.new Pkg ≤ D.bytes_read disk.old Pkg + cost n self.old }
         ensures runs { Runs D.Disk SameLog disk.old disk.new }
         ensures cause { DiskFault D.Disk (result ≡ Err ChangeFault.DiskFault) disk.old disk.new }
@@ -169,18 +151,10 @@ impl Db {
         requires serving { self.old.stopped ≡ false → IsTrue D.tells
             → IsServing (D.files disk.old) (images D.Disk disk.old) self.old }
         ensures causes { EraseIs self.old n result }
-        ensures placed { RoomIs (next_store (Erase n) self.old.store) self.old.store self.new.store result }
-        ensures changed { OnOk result (Changed D.Disk disk.old disk.new (Erase n) self.old self.new) }
+        ensures makes { Makes D.Disk disk.old disk.new (Erase n) self.old self.new result }
         ensures left { IsLeft D.Disk disk.old disk.new self.old self.new self.old result }
         ensures end { OnOk result (IsTrue D.tells → length (D.files disk.new).pkg ≤ length (D.files disk.old).pkg) }
-        ensures full { IsTrue D.tells → self.old.stopped ≡ false
-            → IsIndexed (D.files disk.old).pkg (D.files disk.old).idx self.old
-            → FullIndexIs (units_for (rows (apply (Erase n) (state (D.files disk.old).pkg self.old.store)).packages))
-            result }
         ensures bad { IsTrue D.tells → BadIndexIs (D.files disk.old).idx result }
-        ensures stops { IsTrue D.tells → AreLawful (images D.Disk disk.old)
-            → LeavesIn D.Disk disk.old disk.new (IsChangedStill (state (D.files disk.old).pkg self.old.store)
-            (apply (Erase n) (state (D.files disk.old).pkg self.old.store)) (images D.Disk disk.old)) }
         ensures reads { D.bytes_read disk.new Pkg ≤ D.bytes_read disk.old Pkg + cost n self.old }
         ensures runs { Runs D.Disk SameLog disk.old disk.new }
         ensures cause { DiskFault D.Disk (result ≡ Err ChangeFault.DiskFault) disk.old disk.new }

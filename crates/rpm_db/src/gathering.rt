@@ -1,8 +1,8 @@
 //! Rows that are gathered while headers are put into the store, and go into the index all at once.
 
-ghost use Rattle.std.specs.Prelude.{◌≡◌, ◌+◌, ◌≤◌, [], length, IsTrue, true, false, None, Err, OnOk, IfOk, IfErr};
+ghost use Rattle.std.specs.Prelude.{◌≡◌, ◌+◌, ◌++◌, ◌≤◌, [], length, IsTrue, true, false, None, Err, OnOk, IfOk, IfErr};
 ghost use Rattle.std.specs.FinMap as finite;
-ghost use Rattle.rpm_db.specs.Prelude.{AreRead, BadIndexIs, CanTake, DiskFault, FullCause, FullIndexIs, HasChanged, HasRows, Idx, images, IsFilled, IsFull, IsMade, IsOfIndex, IsPutAside, IsQuiet, IsSettled, IsWholeIndex, LaterIs, nat_cmp, Package, packages, packages_of, put_in, put_map, raised, ReachesTo, RoomIs, rows, Runs, SameFiles, SameLog, slot_with, StaysWhole, units_for};
+ghost use Rattle.rpm_db.specs.Prelude.{AreLawful, AreOfRows, CanFill, CanPutAside, CanTake, DiskFault, field_for, FindsRoom, FullCause, HasChanged, HasRows, header_rows, images, IsChangedStill, IsFilled, IsLawfulStill, IsMade, IsOfIndex, IsPutAside, IsRefusal, IsWholeIndex, LeavesIn, nat_cmp, Package, put_map, rows, Runs, RunsOr, SameFiles, SameLog, state, state_of, StaysWhole, TakesRows, units_for, with_spare};
 ghost use Rattle.rpm_pkgdb.specs.Store.{next_number};
 ghost use Rattle.rpm_hindex.specs.State as hindex;
 
@@ -27,10 +27,7 @@ fn expect_room<D: Disk>(
 ) -> Result<(), ChangeFault>
     requires order { hindex.is_in_order index.now ≡ true }
     requires keeps { IsTrue D.tells → hindex.Keeps (D.files disk.old).idx index.now }
-    ensures full { IsTrue D.tells → (before after : finite.FinMap nat_cmp Package)
-        → HasRows before (D.files disk.old).idx → HasChanged [] owed.now (rows before) (rows after)
-        → FullIndexIs (units_for (rows after)) result }
-    ensures bad { IsTrue D.tells → BadIndexIs (D.files disk.old).idx result }
+    ensures takes { TakesRows D.Disk disk.old [] owed.now result }
     ensures kinds { IfErr result IsOfIndex }
     ensures runs { Runs D.Disk SameFiles disk.old disk.new }
     ensures cause { DiskFault D.Disk (result ≡ Err ChangeFault.DiskFault) disk.old disk.new }
@@ -53,26 +50,21 @@ pub fn put_aside<D: Disk>(
     owed: &mut Rows,
     view: &View<'_>,
 ) -> Result<u32, ChangeFault>
-    requires read { AreRead D.Disk disk.old store.old index.now }
-    requires going { store.old.is_stopped ≡ false }
-    requires made { 1 ≤ store.old.pages }
-    requires from_one { slot_with 0 store.old.slots ≡ None }
+    requires ready { CanPutAside D.Disk disk.old store.old index.now }
     requires takes { CanTake None store.old }
-    ensures later { LaterIs store.old.generation (IsFull store.old true (length view.now.blob)) result }
-    ensures placed { RoomIs (put_in None (length view.now.blob) (raised store.old)) store.old store.new result }
+    ensures room { FindsRoom None (length view.now.blob) store.old store.new result }
     ensures number { IfOk result (λ m. m ≡ next_number store.old) }
     ensures is_made { IsMade store.new }
     ensures done { OnOk result (IsPutAside D.Disk disk.old disk.new store.old store.new owed.old owed.new view.now) }
-    ensures full { IsTrue D.tells → (before : finite.FinMap nat_cmp Package) → HasRows before (D.files disk.old).idx
-        → HasChanged [] owed.old (rows before) (rows (packages (D.files disk.old).pkg store.old))
-        → FullIndexIs (units_for (rows (packages_of (put_map (D.files disk.old).pkg store.old None view.now.blob))))
-        result }
-    ensures bad { IsTrue D.tells → BadIndexIs (D.files disk.old).idx result }
+    ensures rows { TakesRows D.Disk disk.old [] (owed.old ++ header_rows (next_number store.old) view.now) result }
     ensures index { IsTrue D.tells → (D.files disk.new).idx ≡ (D.files disk.old).idx }
-    ensures settled { IsTrue D.tells → IsSettled D.Disk Idx disk.old → IsSettled D.Disk Idx disk.new }
-    ensures end { OnOk result (IsTrue D.tells → ReachesTo store.new (D.files disk.old).pkg (D.files disk.new).pkg) }
-    ensures runs { Runs D.Disk SameLog disk.old disk.new }
-    ensures cause { DiskFault D.Disk (result ≡ Err ChangeFault.DiskFault) disk.old disk.new }
+    ensures refused { IfErr result (λ e. IsRefusal e
+        → (store.new ≡ with_spare store.new.spare store.old) × Runs D.Disk SameFiles disk.old disk.new) }
+    ensures stops { IsTrue D.tells → AreLawful (images D.Disk disk.old)
+        → LeavesIn D.Disk disk.old disk.new (IsChangedStill (state (D.files disk.old).pkg store.old)
+        (state_of (put_map (D.files disk.old).pkg store.old None view.now.blob) (field_for None store.old))
+        (images D.Disk disk.old)) }
+    ensures runs { RunsOr D.Disk SameLog (result ≡ Err ChangeFault.DiskFault) disk.old disk.new }
 {
     let plan = match plan_room(alloc, store, None, view) {
         Ok(plan) => plan,
@@ -103,10 +95,7 @@ pub fn fill_index<D: Disk>(
     owed: &Rows,
     generation: u32,
 ) -> Result<(), ChangeFault>
-    requires order { hindex.is_in_order index.old ≡ true }
-    requires clear { hindex.sealed index.old.first ≡ generation → owed.now ≡ [] }
-    requires keeps { IsTrue D.tells → hindex.Keeps (D.files disk.old).idx index.old }
-    requires settled { IsTrue D.tells → IsSettled D.Disk Idx disk.old }
+    requires ready { CanFill D.Disk disk.old index.old generation owed.now }
     ensures filled { OnOk result (IsFilled D.Disk disk.old disk.new index.old index.new generation owed.now) }
     ensures full { IfErr result (λ e. (hindex.sealed index.old.first ≡ generation → ⊥) × (IsTrue D.tells
         → (before after : finite.FinMap nat_cmp Package) → HasRows before (D.files disk.old).idx
@@ -115,6 +104,12 @@ pub fn fill_index<D: Disk>(
     ensures kinds { IfErr result IsOfIndex }
     ensures unwritten { hindex.sealed index.old.first ≡ generation → disk.new ≡ disk.old }
     ensures store { IsTrue D.tells → (D.files disk.new).pkg ≡ (D.files disk.old).pkg }
+    ensures refused { IfErr result (λ e. IsRefusal e
+        → (index.new ≡ index.old) × Runs D.Disk SameFiles disk.old disk.new) }
+    ensures stops { IsTrue D.tells → AreLawful (images D.Disk disk.old) → (before after : finite.FinMap nat_cmp Package)
+        → HasRows before (D.files disk.old).idx → HasChanged [] owed.now (rows before) (rows after)
+        → AreOfRows generation after (images D.Disk disk.old)
+        → LeavesIn D.Disk disk.old disk.new (IsLawfulStill (images D.Disk disk.old)) }
     ensures runs { Runs D.Disk SameLog disk.old disk.new }
     ensures cause { DiskFault D.Disk (result ≡ Err ChangeFault.DiskFault) disk.old disk.new }
 {

@@ -1,7 +1,7 @@
 //! Making the index from the packages.
 
-ghost use Rattle.std.specs.Prelude.{◌≡◌, ◌≢◌, ℕ, ◌+◌, ◌≤◌, ◌<◌, max, IsTrue, true, false, not, None, Err, OnOk, IfOk, IfErr, if◌then◌else◌};
-ghost use Rattle.rpm_db.specs.Prelude.{CanIndex, cost_all, Damage, DiskCause, DiskFault, Files, FullIs, FullOpenIs, HasRows, Idx, images, is_current_at, IsIndexOf, IsLawful, IsOfRows, IsRefused, IsSettled, IsUnsealed, Keeps, packages, Pkg, ReachesMade, ReadAtMost, Remade, Row, rows, Runs, slot_with, units_for, WritesNothing};
+ghost use Rattle.std.specs.Prelude.{◌≡◌, ◌≢◌, ℕ, ◌+◌, ◌≤◌, ◌<◌, max, IsTrue, true, not, None, Err, OnOk, IfOk, IfErr, if◌then◌else◌};
+ghost use Rattle.rpm_db.specs.Prelude.{CanIndex, cost_all, Damage, DiskCause, DiskFault, Files, FullIs, FullOpenIs, Idx, images, is_current_at, IsIndexFor, IsOfRows, IsRefused, IsSealedHere, IsSettled, IsUnsealed, Keeps, packages, Pkg, ReachesMade, ReadAtMost, Remade, rows, Runs, slot_with, units_for, WritesNothing};
 ghost use Rattle.rpm_hindex.specs.State as hindex;
 
 use crate::open_fault::DbOpenFault;
@@ -38,10 +38,7 @@ pub fn seal_index<D: Disk>(
         (D.files disk.old).idx }
     requires each { IsTrue D.tells → (image : Files) → images D.Disk disk.old image
         → IsUnsealed generation index.old.pending image.pkg (D.files disk.old).idx }
-    ensures current { OnOk result (hindex.is_current generation index.new ≡ true) }
-    ensures kept { OnOk result (IsTrue D.tells → hindex.Keeps (D.files disk.new).idx index.new) }
-    ensures index { OnOk result (IsTrue D.tells → IsIndexOf (D.files disk.new).pkg (D.files disk.new).idx) }
-    ensures settled { OnOk result (IsTrue D.tells → IsSettled D.Disk Idx disk.new) }
+    ensures sealed { OnOk result (IsSealedHere D.Disk disk.new generation index.new) }
     ensures units { OnOk result (index.new.units ≡ index.old.units) }
     ensures unread { (f : File) → D.bytes_read disk.new f ≤ D.bytes_read disk.old f }
     ensures runs { Runs D.Disk Remade disk.old disk.new }
@@ -62,10 +59,7 @@ fn write_index<D: Disk>(
     requires settled { IsTrue D.tells → IsSettled D.Disk Pkg disk.old }
     requires rows { IsTrue D.tells → IsOfRows generation rows.now (D.files disk.old).pkg }
     ensures full { FullIs (units_for rows.now) result }
-    ensures current { OnOk result (hindex.is_current generation index.new ≡ true) }
-    ensures kept { OnOk result (IsTrue D.tells → hindex.Keeps (D.files disk.new).idx index.new) }
-    ensures index { OnOk result (IsTrue D.tells → IsIndexOf (D.files disk.new).pkg (D.files disk.new).idx) }
-    ensures settled { OnOk result (IsTrue D.tells → IsSettled D.Disk Idx disk.new) }
+    ensures sealed { OnOk result (IsSealedHere D.Disk disk.new generation index.new) }
     ensures refused { IfErr result (λ e. IsRefused e → (index.new ≡ index.old) × (disk.new ≡ disk.old)) }
     ensures grows { OnOk result (index.new.units ≤ max index.old.units (units_for rows.now)) }
     ensures unread { (f : File) → D.bytes_read disk.new f ≤ D.bytes_read disk.old f }
@@ -93,10 +87,7 @@ pub fn make_index<D: Disk>(
     requires index { IsTrue D.tells → hindex.Keeps (D.files disk.old).idx index.old }
     requires settled { IsTrue D.tells → IsSettled D.Disk Pkg disk.old }
     ensures full { IsTrue D.tells → FullIs (units_for (rows (packages (D.files disk.old).pkg store.now))) result }
-    ensures current { OnOk result (hindex.is_current store.now.generation index.new ≡ true) }
-    ensures kept { OnOk result (IsTrue D.tells → hindex.Keeps (D.files disk.new).idx index.new) }
-    ensures index { OnOk result (IsTrue D.tells → IsIndexOf (D.files disk.new).pkg (D.files disk.new).idx) }
-    ensures settled { OnOk result (IsTrue D.tells → IsSettled D.Disk Idx disk.new) }
+    ensures sealed { OnOk result (IsSealedHere D.Disk disk.new store.now.generation index.new) }
     ensures refused { IfErr result (λ e. IsRefused e → (index.new ≡ index.old)
         × (IsTrue D.tells → D.files disk.new ≡ D.files disk.old)) }
     ensures reach { OnOk result (IsTrue D.tells
@@ -118,14 +109,7 @@ pub fn index_for<D: Disk>(alloc: Global, disk: &mut D, store: &PkgDb) -> Result<
     ensures undamaged { (d : Damage) → result ≢ Err (DbOpenFault.Damaged d) }
     ensures same { IsTrue D.tells → WritesNothing (not (is_current_at store.now.generation (D.files disk.old).idx))
         result → D.files disk.new ≡ D.files disk.old }
-    ensures current { IfOk result (λ index. hindex.is_current store.now.generation index ≡ true) }
-    ensures kept { IfOk result (λ index. IsTrue D.tells → hindex.Keeps (D.files disk.new).idx index) }
-    ensures rows { IfOk result (λ _index. IsTrue D.tells → IsLawful (D.files disk.old).pkg (D.files disk.old).idx
-        → HasRows (packages (D.files disk.new).pkg store.now) (D.files disk.new).idx) }
-    ensures made { IfOk result (λ _index. IsTrue D.tells
-        → is_current_at store.now.generation (D.files disk.old).idx ≡ false
-        → HasRows (packages (D.files disk.new).pkg store.now) (D.files disk.new).idx) }
-    ensures idx { IfOk result (λ _index. IsTrue D.tells → IsSettled D.Disk Idx disk.new) }
+    ensures index { IfOk result (IsIndexFor D.Disk disk.old disk.new store.now) }
     ensures reach { IfOk result (λ _index. IsTrue D.tells
         → ReachesMade (units_for (rows (packages (D.files disk.old).pkg store.now))) (D.files disk.old).idx
         (D.files disk.new).idx) }

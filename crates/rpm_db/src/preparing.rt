@@ -55,10 +55,8 @@ fn rows_behind(alloc: Global, number: u32, view: &View<'_>) -> Result<Rows, Allo
     ensures { IfOk result (λ rows. rows ≡ header_rows number view.now) }
 {
     let mut rows = Rows::with_room(alloc, USUAL_ROWS, USUAL_KEYS)?;
-    match push_header(&mut rows, view, number) {
-        Ok(()) => Ok(rows),
-        Err(fault) => Err(fault),
-    }
+    push_header(&mut rows, view, number)?;
+    Ok(rows)
 }
 
 /// The rows that a header under a number drops and adds: those that both headers have stay.

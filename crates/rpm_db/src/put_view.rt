@@ -1,7 +1,7 @@
 //! Putting a header that was parsed.
 
 ghost use Rattle.std.specs.Prelude.{◌≡◌, IsTrue, length, is_none, None, Some, Ok, Err, OnOk, IfOk};
-ghost use Rattle.rpm_db.specs.Prelude.{apply, AreLawful, CanTake, change_for, Changed, DiskFault, header, images, IndexIs, is_stopping, IsChangedStill, IsFull, IsLeft, IsReady, LaterIs, LeavesIn, next_store, number_for, packages, Pkg, ReachesTo, ReadsAtMost, RoomIs, rows, Runs, SameLog, state, units_for, with_room};
+ghost use Rattle.rpm_db.specs.Prelude.{BadIndexIs, CanTake, change_for, DiskFault, header, is_stopping, IsFull, IsLeft, IsReady, LaterIs, Makes, number_for, Pkg, ReachesTo, ReadsAtMost, Runs, SameLog, with_room};
 
 use crate::change_fault::ChangeFault;
 use crate::database::Db;
@@ -31,22 +31,13 @@ impl Db {
         requires own { header view.now.blob ≡ Ok view.now }
         ensures later { LaterIs self.old.store.generation (IsFull self.old.store (is_none n) (length view.now.blob))
             result }
-        ensures placed { RoomIs (next_store (change_for n view.now.blob) self.old.store) self.old.store self.new.store
-            result }
+        ensures makes { Makes D.Disk disk.old disk.new (change_for n view.now.blob) self.old self.new result }
         ensures number { IfOk result (λ m. m ≡ number_for n self.old.store) }
-        ensures changed { OnOk result (Changed D.Disk disk.old disk.new (change_for n view.now.blob) self.old
-            self.new) }
         ensures left { IsLeft D.Disk disk.old disk.new self.old self.new (with_room self.new.store.spare self.old)
             result }
         ensures end { OnOk result (IsTrue D.tells
             → ReachesTo self.new.store (D.files disk.old).pkg (D.files disk.new).pkg) }
-        ensures index { IndexIs D.Disk disk.old (packages (D.files disk.old).pkg self.old.store)
-            (units_for (rows (apply (change_for n view.now.blob)
-            (state (D.files disk.old).pkg self.old.store)).packages)) result }
-        ensures stops { IsTrue D.tells → AreLawful (images D.Disk disk.old)
-            → LeavesIn D.Disk disk.old disk.new (IsChangedStill (state (D.files disk.old).pkg self.old.store)
-            (apply (change_for n view.now.blob) (state (D.files disk.old).pkg self.old.store))
-            (images D.Disk disk.old)) }
+        ensures bad { IsTrue D.tells → BadIndexIs (D.files disk.old).idx result }
         ensures reads { ReadsAtMost n self.old.store (D.bytes_read disk.old Pkg) (D.bytes_read disk.new Pkg) }
         ensures runs { Runs D.Disk SameLog disk.old disk.new }
         ensures cause { DiskFault D.Disk (result ≡ Err ChangeFault.DiskFault) disk.old disk.new }

@@ -1,13 +1,10 @@
 //! Changes of one value, in both files.
 
-ghost use Rattle.std.specs.Prelude.{◌≡◌, ◌≢◌, ℕ, ◌+◌, ◌≤◌, ◌<◌, max, IsTrue, IsSome, true, false, length, is_none, Option, Some, None, Ok, Err, OnOk, IfOk, IfErr, IfSome};
+ghost use Rattle.std.specs.Prelude.{◌≡◌, ℕ, ◌+◌, ◌≤◌, IsTrue, IsSome, true, length, is_none, None, Ok, Err, OnOk, IfOk, IfErr};
 ghost use Rattle.std.specs.FinMap as finite;
-ghost use Rattle.rpm_db.specs.Prelude.{AreLawful, AreRead, BadIndexIs, blobs, CanApply, CanChange, CanPut, CanTake, CanWrite, cost_before, DiskFault, erased, field_for, Files, FullIndexIs, HasRows, header, header_rows, Idx, images, IndexIs, IsChangedStill, IsDone, IsFor, IsFull, IsMade, IsOfRoom, IsPlaced, IsPlan, IsQuiet, IsRefusal, IsWholeIndex, Keeps, LaterIs, LeadsTo, LeavesIn, LeavesOrder, live_of, number_for, packages, packages_of, Pkg, placed, PlacedIs, placement_of, put_in, put_map, raised, ReachesTo, ReadsAtMost, RoomCause, RoomIs, rows, Runs, SameFiles, SameLog, slot_with, StandsFor, state, state_of, units_after, units_for, with_spare, WritesWhole};
-ghost use Rattle.rpm_outside.specs.Changes.{IsSettled};
+ghost use Rattle.rpm_db.specs.Prelude.{AreLawful, ArePlanned, AreRead, blobs, CanChange, CanPut, CanTake, cost_before, DiskFault, erased, field_for, FindsRoom, HasRows, header, header_rows, images, IndexIs, IsChangedStill, IsDone, IsFull, IsMade, IsOfRoom, IsPlaced, IsRefusal, LaterIs, LeavesIn, live_of, number_for, packages, packages_of, Pkg, PlacedIs, put_map, raised, ReachesTo, ReadsAtMost, rows, Runs, RunsOr, SameFiles, SameLog, slot_with, state, state_of, units_for, with_spare};
 ghost use Rattle.rpm_pkgdb.specs.Costs.{cost};
-ghost use Rattle.rpm_pkgdb.specs.Store.{next_number};
 ghost use Rattle.rpm_db.specs.inner.Both.{IsRefused};
-ghost use Rattle.rpm_hindex.specs.State as hindex;
 
 use crate::change_fault::ChangeFault;
 use crate::changing::{write_erase, write_put};
@@ -71,14 +68,7 @@ fn plan_put<D: Disk>(
     ensures value { store.new ≡ with_spare store.new.spare store.old }
     ensures later { LaterIs store.old.generation (IsFull store.old (is_none n) (length view.now.blob)) result }
     ensures placed { PlacedIs n (length view.now.blob) store.old result }
-    ensures plan { IfOk result (λ planned. CanPut store.new planned.0) }
-    ensures change { IfOk result (λ planned. CanApply index.now.units planned.1.work) }
-    ensures leads { IfOk result (λ planned. LeadsTo D.Disk disk.old index.now.units
-        (packages (D.files disk.old).pkg store.old)
-        (packages_of (put_map (D.files disk.old).pkg store.old n view.now.blob))
-        (header_rows (number_for n store.old) view.now) planned.1.work) }
-    ensures whole { IfOk result (λ planned. IsTrue D.tells → IsWholeIndex (D.files disk.old).idx
-        → WritesWhole planned.1.work (D.files disk.old).idx) }
+    ensures planned { IfOk result (ArePlanned D.Disk disk.old store.old store.new index.now n view.now) }
     ensures index { IndexIs D.Disk disk.old (packages (D.files disk.old).pkg store.old)
         (units_for (rows (packages_of (put_map (D.files disk.old).pkg store.old n view.now.blob)))) result }
     ensures reads { D.bytes_read disk.new Pkg ≤ D.bytes_read disk.old Pkg + cost_before n store.old }
@@ -107,8 +97,7 @@ pub fn put_header<D: Disk>(
 ) -> Result<u32, ChangeFault>
     requires ready { CanChange D.Disk disk.old store.old index.old }
     requires takes { CanTake n store.old }
-    ensures later { LaterIs store.old.generation (IsFull store.old (is_none n) (length view.now.blob)) result }
-    ensures placed { RoomIs (put_in n (length view.now.blob) (raised store.old)) store.old store.new result }
+    ensures room { FindsRoom n (length view.now.blob) store.old store.new result }
     ensures number { IfOk result (λ m. m ≡ number_for n store.old) }
     ensures is_made { IsMade store.new }
     ensures done { OnOk result (IsDone D.Disk disk.old disk.new store.old store.new index.new
@@ -125,8 +114,7 @@ pub fn put_header<D: Disk>(
         (state_of (put_map (D.files disk.old).pkg store.old n view.now.blob) (field_for n store.old))
         (images D.Disk disk.old)) }
     ensures reads { ReadsAtMost n store.old (D.bytes_read disk.old Pkg) (D.bytes_read disk.new Pkg) }
-    ensures runs { Runs D.Disk SameLog disk.old disk.new }
-    ensures cause { DiskFault D.Disk (result ≡ Err ChangeFault.DiskFault) disk.old disk.new }
+    ensures runs { RunsOr D.Disk SameLog (result ≡ Err ChangeFault.DiskFault) disk.old disk.new }
 {
     let (plan, change) = match plan_put(alloc, disk, store, index, n, view) {
         Ok(planned) => planned,
@@ -164,8 +152,7 @@ pub fn erase_number<D: Disk>(
         (state_of (finite.remove (blobs (D.files disk.old).pkg store.old) n) store.old.field)
         (images D.Disk disk.old)) }
     ensures reads { D.bytes_read disk.new Pkg ≤ D.bytes_read disk.old Pkg + cost n store.old }
-    ensures runs { Runs D.Disk SameLog disk.old disk.new }
-    ensures cause { DiskFault D.Disk (result ≡ Err ChangeFault.DiskFault) disk.old disk.new }
+    ensures runs { RunsOr D.Disk SameLog (result ≡ Err ChangeFault.DiskFault) disk.old disk.new }
 {
     if store.generation() == u32::MAX {
         return Err(ChangeFault::GenerationSpent);

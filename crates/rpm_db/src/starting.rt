@@ -1,10 +1,8 @@
 //! Making a database.
 
-ghost use Rattle.std.specs.Prelude.{◌≡◌, ◌≢◌, ◌⊎◌, ℕ, ◌+◌, ◌<◌, ◌≤◌, [], length, max, IsTrue, true, false, None, Err, Ok, IfOk, IfErr};
-ghost use Rattle.rpm_db.specs.Prelude.{blank, CanMake, DiskFault, Idx, images, is_blank, IsEmptyStill, IsInit, IsInitFault, IsMadeEmpty, IsRefused, IsSettled, IsWellFormed, LeavesIn, made_new, Pkg, ReachesMade, ReachesTo, ReadAtMost, records, Remade, Runs, SameLog, SameRows, slot_with, state, StopsAs, units_for};
+ghost use Rattle.std.specs.Prelude.{◌≡◌, ◌≢◌, ℕ, ◌+◌, ◌≤◌, [], IsTrue, true, false, None, Err, Ok, IfOk, IfErr};
+ghost use Rattle.rpm_db.specs.Prelude.{CanMake, DiskFault, Idx, images, is_blank, IsEmptyIndex, IsEmptyStill, IsInit, IsInitFault, IsMadeEmpty, IsRefused, IsSettled, IsThere, LeavesIn, made_new, Pkg, ReachesMade, ReachesTo, ReadAtMost, Remade, Runs, SameLog, slot_with, StopsAs, units_for};
 ghost use Rattle.rpm_db.specs.Database.{Keeps};
-ghost use Rattle.rpm_pkgdb.specs.Store as pkgdb;
-ghost use Rattle.rpm_hindex.specs.State as hindex;
 
 use crate::change_fault::ChangeFault;
 use crate::database::Db;
@@ -17,15 +15,8 @@ use std::alloc::Global;
 /// An index without rows, which isn't sealed.
 fn empty_index<D: Disk>(alloc: Global, disk: &mut D) -> Result<Hindex, RewriteFault>
     ensures room { (needed : ℕ) → result ≢ Err (RewriteFault.IndexFull needed) }
-    ensures voided { IfOk result (λ index. index.first ≡ blank) }
-    ensures ordered { IfOk result (λ index. hindex.is_ordered index.pending index.second index.units ≡ true) }
-    ensures kept { IfOk result (λ index. IsTrue D.tells → hindex.Keeps (D.files disk.new).idx index) }
-    ensures whole { IfOk result (λ index. IsTrue D.tells → IsWellFormed index.pending (D.files disk.new).idx) }
-    ensures rows { IfOk result (λ index. IsTrue D.tells → SameRows [] (records index.pending (D.files disk.new).idx)) }
-    ensures settled { IfOk result (λ _index. IsTrue D.tells → IsSettled D.Disk Idx disk.new) }
+    ensures empty { IfOk result (IsEmptyIndex D.Disk disk.old disk.new) }
     ensures refused { IfErr result (λ e. IsRefused e → IsTrue D.tells → D.files disk.new ≡ D.files disk.old) }
-    ensures reach { IfOk result (λ index. IsTrue D.tells
-        → index.units ≤ max (length (D.files disk.old).idx) (units_for [])) }
     ensures units { D.bytes_read disk.new Idx ≤ D.bytes_read disk.old Idx + 32 }
     ensures unread { D.bytes_read disk.new Pkg ≤ D.bytes_read disk.old Pkg }
     ensures runs { Runs D.Disk Remade disk.old disk.new }
@@ -95,12 +86,9 @@ impl Db {
         requires keeps { self.old.stopped ≡ false → IsTrue D.tells → Keeps (D.files disk.old).pkg self.old }
         requires pkg { self.old.stopped ≡ false → is_blank self.old ≡ true → IsTrue D.tells
             → IsSettled D.Disk Pkg disk.old }
-        ensures made { IfOk result (λ made. made ≡ is_blank self.old) }
+        ensures made { IfOk result (IsThere D.Disk disk.old disk.new self.old self.new) }
         ensures done { result ≡ Ok true → IsInit D.Disk disk.old disk.new self.old self.new }
         ensures same { result ≡ Ok false → (self.new ≡ self.old) × (disk.new ≡ disk.old) }
-        ensures state { IfOk result (λ _made. IsTrue D.tells
-            → state (D.files disk.new).pkg self.new.store ≡ state (D.files disk.old).pkg self.old.store) }
-        ensures not_blank { IfOk result (λ _made. is_blank self.new ≡ false) }
         ensures refused { IfErr result (λ e. e ≢ ChangeFault.DiskFault → (self.new ≡ self.old)
             × (IsTrue D.tells → D.files disk.new ≡ D.files disk.old)) }
         ensures reads { ReadAtMost Idx 32 (D.bytes_read disk.old) (D.bytes_read disk.new) }

@@ -1,9 +1,8 @@
 //! Writing a change: the store after a raise of its generation, and then the index.
 
-ghost use Rattle.std.specs.Prelude.{◌≡◌, ℕ, ◌+◌, ◌<◌, ◌≤◌, ◌^◌, max, IsTrue, IsSome, true, false, length, Some, OnOk, OnErr, IfOk};
+ghost use Rattle.std.specs.Prelude.{◌≡◌, ℕ, ◌+◌, ◌<◌, ◌≤◌, ◌^◌, IsTrue, IsSome, true, false, length, Some, OnOk, OnErr, IfOk};
 ghost use Rattle.std.specs.FinMap as finite;
-ghost use Rattle.rpm_db.specs.Prelude.{Anything, blobs, BlobsTo, CanApply, CanPut, CanWrite, Changes, DiskCause, erased, field_after, Files, Idx, images, IndexTo, IsApplied, IsPlan, IsQuiet, IsStored, Keeps, LeavesIn, LeavesOrder, moves_of, moving_cost, next_field, Pkg, ReachesTo, slot_with, StandsFor, Stops, units_after, with_generation, with_plan, with_spare};
-ghost use Rattle.rpm_outside.specs.Changes.{IsSettled};
+ghost use Rattle.rpm_db.specs.Prelude.{Anything, blobs, BlobsTo, CanApply, CanPut, erased, field_after, Idx, images, IndexTo, IsApplied, IsQuiet, IsStored, Keeps, LeavesIn, moves_of, moving_cost, next_field, Pkg, ReachesTo, slot_with, Stops, with_generation, with_plan, with_spare, Writes};
 ghost use Rattle.rpm_hindex.specs.State as hindex;
 
 use rpm_hindex::{Hindex, IndexDiskFault, IndexPlan};
@@ -35,9 +34,8 @@ pub fn put_raised<D: Disk>(
         (finite.insert (blobs (D.files disk.old).pkg store.old) plan.target.number (Some blob.now)))
         (images D.Disk disk.old)) }
     ensures end { OnOk result (IsTrue D.tells → ReachesTo store.new (D.files disk.old).pkg (D.files disk.new).pkg) }
-    ensures changes { Changes D.Disk Pkg Anything (moving_cost store.old.slots (moves_of plan.page)) disk.old
+    ensures writes { Writes D.Disk Pkg Anything (moving_cost store.old.slots (moves_of plan.page)) result disk.old
         disk.new }
-    ensures cause { DiskCause D.Disk result disk.old disk.new }
 {
     let Ok(()) = store.raise(disk) else {
         return Err(DiskFault);
@@ -61,8 +59,7 @@ pub fn erase_raised<D: Disk>(disk: &mut D, store: &mut PkgDb, n: u32) -> Result<
         (BlobsTo store.old.generation store.old.field store.old.field (blobs (D.files disk.old).pkg store.old)
         (finite.remove (blobs (D.files disk.old).pkg store.old) n)) (images D.Disk disk.old)) }
     ensures end { OnOk result (IsTrue D.tells → length (D.files disk.new).pkg ≤ length (D.files disk.old).pkg) }
-    ensures changes { Changes D.Disk Pkg Anything 0 disk.old disk.new }
-    ensures cause { DiskCause D.Disk result disk.old disk.new }
+    ensures writes { Writes D.Disk Pkg Anything 0 result disk.old disk.new }
 {
     match store.raise(disk) {
         Ok(()) => store.erase(disk, n),
@@ -80,8 +77,8 @@ pub fn write_rows<D: Disk>(
     requires change { CanApply index.old.units plan.work }
     requires keeps { IsTrue D.tells → hindex.Keeps (D.files disk.old).idx index.old }
     ensures applied { OnOk result (IsApplied D.Disk disk.old disk.new index.old index.new generation plan.work) }
-    ensures changes { Changes D.Disk Idx (IndexTo generation plan.work (D.files disk.old).idx) 0 disk.old disk.new }
-    ensures cause { DiskCause D.Disk result disk.old disk.new }
+    ensures writes { Writes D.Disk Idx (IndexTo generation plan.work (D.files disk.old).idx) 0 result disk.old
+        disk.new }
 {
     let Ok(()) = index.apply(disk, plan) else {
         return Err(IndexDiskFault);

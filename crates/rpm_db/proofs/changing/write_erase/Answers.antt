@@ -7,13 +7,14 @@ use Rattle.rpm_pkgdb.specs.Slots.{slot_with}
 use Rattle.rpm_pkgdb.specs.Store.{Store}
 use Rattle.rpm_hindex.specs.State as hindex
 use Rattle.rpm_db.specs.inner.Writes.{IndexTo}
+use Rattle.rpm_db.proofs.Changed.{fits_now}
 use Rattle.rpm_db.proofs.Both.{sealed_at, runs_store, runs_both, store_stops, change_stops}
 use Rattle.rpm_db.proofs.Halves.{reads_both, stored_then, applied_since}
 use Rattle.rpm_db.proofs.changing.write_erase.Goals as goal
 
 pub write_rows-requires-clause-keeps : goal.write_rows-requires-clause-keeps
 write_rows-requires-clause-keeps g c = λ told.
-    subst (λ (u : Units). hindex.Keeps u c.args.index.now) (sym (c.in-Ok.ensures.changes.idx told)) (c.requires.ready.units told)
+    subst (λ (u : Units). hindex.Keeps u c.args.index.now) (sym (c.in-Ok.ensures.writes.changes.idx told)) (c.requires.ready.units told)
 
 -- ---- the store wasn't written
 
@@ -24,13 +25,14 @@ returns-in_default-clause-stops g c = λ told has change.
     let file = (g.D.Disk.files a).pkg in
     store_stops g.D.Disk.tells g.D.Disk.files g.D.Disk.left_since g.D.Disk.moment g.D.Disk.bytes_read g.D.Disk.follows told st.generation st.field st.field
     (blobs file st) (finite.remove (blobs file st) c.args.n) a c.erase_raised.new.disk c.erase_raised.new.disk
-    (sealed_at st.generation (g.D.Disk.files a).idx c.args.index.now (c.requires.ready.units told) c.requires.ready.order) has (c.requires.ready.settled told)
+    (fits_now _ _ _ (sealed_at st.generation (g.D.Disk.files a).idx c.args.index.now (c.requires.ready.units told) c.requires.ready.order) has)
+    (c.requires.ready.settled told)
     (c.in_default.ensures.images told (c.requires.ready.quiet told))
 
 pub returns-in_default-clause-runs : goal.returns-in_default-clause-runs
 returns-in_default-clause-runs g c =
     runs_store g.D.Disk.tells g.D.Disk.files g.D.Disk.left_since g.D.Disk.moment g.D.Disk.bytes_read g.D.Disk.follows Anything 0 c.args.disk.now
-    c.erase_raised.new.disk c.in_default.ensures.changes
+    c.erase_raised.new.disk c.in_default.ensures.writes.changes
 
 -- ---- the index was
 
@@ -44,15 +46,16 @@ returns-in-Ok-write_rows-clause-stops g c = λ told has change.
     let generation = ap (λ (v : Store). v.generation) e.ok in
     change_stops g.D.Disk.tells g.D.Disk.files g.D.Disk.left_since g.D.Disk.moment g.D.Disk.bytes_read g.D.Disk.follows told st.generation st.field
     st.field (blobs file st) (finite.remove (blobs file st) c.args.n) a c.erase_raised.new.disk c.write_rows.new.disk
-    (sealed_at st.generation (g.D.Disk.files a).idx c.args.index.now (c.requires.ready.units told) c.requires.ready.order) has (c.requires.ready.settled told)
-    c.args.change.work put c.generation.result 0 change (e.images told (c.requires.ready.quiet told)) e.changes generation
-    (ap (λ (v : Store). v.field) e.ok) (e.stored.blobs_are told) (e.stored.stands told) (c.generation.ensures.value ∙ generation) c.in-Ok-write_rows.ensures.changes
+    (fits_now _ _ _ (sealed_at st.generation (g.D.Disk.files a).idx c.args.index.now (c.requires.ready.units told) c.requires.ready.order) has)
+    (c.requires.ready.settled told)
+    c.args.change.work put c.generation.result 0 change (e.images told (c.requires.ready.quiet told)) e.writes.changes generation
+    (ap (λ (v : Store). v.field) e.ok) (e.stored.blobs_are told) (e.stored.stands told) (c.generation.ensures.value ∙ generation) c.in-Ok-write_rows.ensures.writes.changes
 
 pub returns-in-Ok-write_rows-clause-runs : goal.returns-in-Ok-write_rows-clause-runs
 returns-in-Ok-write_rows-clause-runs g c =
     runs_both g.D.Disk.tells g.D.Disk.files g.D.Disk.left_since g.D.Disk.moment g.D.Disk.bytes_read g.D.Disk.follows g.met.D.Disk.follows_trans Anything
     (IndexTo c.generation.result c.args.change.work (g.D.Disk.files c.erase_raised.new.disk).idx) 0 0
-    c.args.disk.now c.erase_raised.new.disk c.write_rows.new.disk c.in-Ok.ensures.changes c.in-Ok-write_rows.ensures.changes
+    c.args.disk.now c.erase_raised.new.disk c.write_rows.new.disk c.in-Ok.ensures.writes.changes c.in-Ok-write_rows.ensures.writes.changes
 
 pub returns-in-Err-clause-stops : goal.returns-in-Err-clause-stops
 returns-in-Err-clause-stops g c = λ told has change.
@@ -64,21 +67,22 @@ returns-in-Err-clause-stops g c = λ told has change.
     let generation = ap (λ (v : Store). v.generation) e.ok in
     change_stops g.D.Disk.tells g.D.Disk.files g.D.Disk.left_since g.D.Disk.moment g.D.Disk.bytes_read g.D.Disk.follows told st.generation st.field
     st.field (blobs file st) (finite.remove (blobs file st) c.args.n) a c.erase_raised.new.disk c.write_rows.new.disk
-    (sealed_at st.generation (g.D.Disk.files a).idx c.args.index.now (c.requires.ready.units told) c.requires.ready.order) has (c.requires.ready.settled told)
-    c.args.change.work put c.generation.result 0 change (e.images told (c.requires.ready.quiet told)) e.changes generation
-    (ap (λ (v : Store). v.field) e.ok) (e.stored.blobs_are told) (e.stored.stands told) (c.generation.ensures.value ∙ generation) c.in-Err.ensures.changes
+    (fits_now _ _ _ (sealed_at st.generation (g.D.Disk.files a).idx c.args.index.now (c.requires.ready.units told) c.requires.ready.order) has)
+    (c.requires.ready.settled told)
+    c.args.change.work put c.generation.result 0 change (e.images told (c.requires.ready.quiet told)) e.writes.changes generation
+    (ap (λ (v : Store). v.field) e.ok) (e.stored.blobs_are told) (e.stored.stands told) (c.generation.ensures.value ∙ generation) c.in-Err.ensures.writes.changes
 
 pub returns-in-Err-clause-runs : goal.returns-in-Err-clause-runs
 returns-in-Err-clause-runs g c =
     runs_both g.D.Disk.tells g.D.Disk.files g.D.Disk.left_since g.D.Disk.moment g.D.Disk.bytes_read g.D.Disk.follows g.met.D.Disk.follows_trans Anything
     (IndexTo c.generation.result c.args.change.work (g.D.Disk.files c.erase_raised.new.disk).idx) 0 0
-    c.args.disk.now c.erase_raised.new.disk c.write_rows.new.disk c.in-Ok.ensures.changes c.in-Err.ensures.changes
+    c.args.disk.now c.erase_raised.new.disk c.write_rows.new.disk c.in-Ok.ensures.writes.changes c.in-Err.ensures.writes.changes
 
 -- ---- all was
 
 pub returns-in-Ok-write_rows-clause-end : goal.returns-in-Ok-write_rows-clause-end
 returns-in-Ok-write_rows-clause-end g c = λ told.
-    omega (arith, c.in-Ok.ensures.end told, ap length (c.in-Ok-write_rows.ensures.changes.pkg told))
+    omega (arith, c.in-Ok.ensures.end told, ap length (c.in-Ok-write_rows.ensures.writes.changes.pkg told))
 
 -- ---- what both leave
 
@@ -100,21 +104,20 @@ returns-in-Err-clause-is_made g c = record {
   from_one = c.generation.ensures.from_one;
 }
 
-pub returns-in-Ok-write_rows-clause-stored : goal.returns-in-Ok-write_rows-clause-stored
-returns-in-Ok-write_rows-clause-stored g c =
-    stored_then g.D.Disk c.erase_raised.new.store _ _ 0 _ _ c.in-Ok-write_rows.ensures.changes c.in-Ok.ensures.stored
-
-pub returns-in-Ok-write_rows-clause-applied : goal.returns-in-Ok-write_rows-clause-applied
-returns-in-Ok-write_rows-clause-applied g c =
-    applied_since g.D.Disk _ _ _ _ _ _ _ _ c.in-Ok.ensures.changes.idx c.generation.ensures.value c.in-Ok-write_rows.ensures.applied
+pub returns-in-Ok-write_rows-clause-written : goal.returns-in-Ok-write_rows-clause-written
+returns-in-Ok-write_rows-clause-written g c = record {
+  ok = c.in-Ok.ensures.ok;
+  stored = stored_then g.D.Disk c.erase_raised.new.store _ _ 0 _ _ c.in-Ok-write_rows.ensures.writes.changes c.in-Ok.ensures.stored;
+  applied = applied_since g.D.Disk _ _ _ _ _ _ _ _ c.in-Ok.ensures.writes.changes.idx c.generation.ensures.value c.in-Ok-write_rows.ensures.applied;
+}
 
 pub returns-in_default-clause-reads : goal.returns-in_default-clause-reads
-returns-in_default-clause-reads g c = c.in_default.ensures.changes.reads
+returns-in_default-clause-reads g c = c.in_default.ensures.writes.changes.reads
 
 pub returns-in-Ok-write_rows-clause-reads : goal.returns-in-Ok-write_rows-clause-reads
 returns-in-Ok-write_rows-clause-reads g c =
-    reads_both 0 _ _ _ c.in-Ok.ensures.changes.reads c.in-Ok-write_rows.ensures.changes.reads
+    reads_both 0 _ _ _ c.in-Ok.ensures.writes.changes.reads c.in-Ok-write_rows.ensures.writes.changes.reads
 
 pub returns-in-Err-clause-reads : goal.returns-in-Err-clause-reads
 returns-in-Err-clause-reads g c =
-    reads_both 0 _ _ _ c.in-Ok.ensures.changes.reads c.in-Err.ensures.changes.reads
+    reads_both 0 _ _ _ c.in-Ok.ensures.writes.changes.reads c.in-Err.ensures.writes.changes.reads

@@ -8,22 +8,31 @@ use Rattle.rpm_db.specs.Rows.{rows}
 use Rattle.rpm_db.proofs.Prepared.{of_records}
 use Rattle.rpm_db.proofs.gathering.expect_room.Goals as goal
 
-pub returns-then-has_room_for-clause-full : goal.returns-then-has_room_for-clause-full
-returns-then-has_room_for-clause-full g c = λ told before after has changed.
-    let idx = (g.D.Disk.files c.args.disk.now).idx in
-    let keeps = c.requires.keeps told in
-    let owed = c.args.owed.now in
-    let whole = subst (λ (u : List ℕ). IsWellFormed (buckets_of u) idx) (sym keeps.first) has.whole in
-    c.has_room_for.ensures c.if-has_room_for.true idx keeps whole (rows after)
-    (subst (λ (u : List ℕ). HasChanged [] owed (records (buckets_of u) idx) (rows after)) (sym keeps.first)
-    (of_records [] owed before after idx has changed))
+pub returns-then-has_room_for-clause-takes : goal.returns-then-has_room_for-clause-takes
+returns-then-has_room_for-clause-takes g c = record {
+  full = λ told before after has changed.
+      (let idx = (g.D.Disk.files c.args.disk.now).idx in
+      let keeps = c.requires.keeps told in
+      let owed = c.args.owed.now in
+      let whole = subst (λ (u : List ℕ). IsWellFormed (buckets_of u) idx) (sym keeps.first) has.whole in
+      c.has_room_for.ensures c.if-has_room_for.true idx keeps whole (rows after)
+      (subst (λ (u : List ℕ). HasChanged [] owed (records (buckets_of u) idx) (rows after)) (sym keeps.first)
+      (of_records [] owed before after idx has changed)));
+  bad = λ told. tt;
+}
 
-pub returns-in-Ok-clause-full : goal.returns-in-Ok-clause-full
-returns-in-Ok-clause-full g c = λ told before after has changed.
-    c.in-Ok.ensures.full told before after has
-    (subst (λ (rs : List Row). HasChanged rs c.args.owed.now (rows before) (rows after)) (sym c.new.ensures) changed)
+pub returns-in-Ok-clause-takes : goal.returns-in-Ok-clause-takes
+returns-in-Ok-clause-takes g c = record {
+  full = λ told before after has changed.
+      c.in-Ok.ensures.full told before after has
+      (subst (λ (rs : List Row). HasChanged rs c.args.owed.now (rows before) (rows after)) (sym c.new.ensures) changed);
+  bad = λ told. tt;
+}
 
-pub returns-clause-full : goal.returns-clause-full
-returns-clause-full g c = λ told before after has changed.
-    c.in-Err.ensures.full told before after has
-    (subst (λ (rs : List Row). HasChanged rs c.args.owed.now (rows before) (rows after)) (sym c.new.ensures) changed)
+pub returns-clause-takes : goal.returns-clause-takes
+returns-clause-takes g c = record {
+  full = λ told before after has changed.
+      c.in-Err.ensures.full told before after has
+      (subst (λ (rs : List Row). HasChanged rs c.args.owed.now (rows before) (rows after)) (sym c.new.ensures) changed);
+  bad = λ told. c.in-Err.ensures.bad told;
+}

@@ -1,4 +1,4 @@
-use Rattle.std.proofs.Common.{◌≡◌, ◌==◌, List, true, false, sym, ap, ◌∙◌, subst, arith}
+use Rattle.std.proofs.Common.{◌≡◌, ◌==◌, List, true, false, refl, sym, ap, ◌∙◌, subst, arith}
 use Rattle.std.proofs.lemmas.Bool.Decides.{nat_tests}
 use Rattle.rpm_outside.specs.Files.{Files}
 use Rattle.rpm_hindex.specs.Plans.{HasChanged}
@@ -8,6 +8,7 @@ use Rattle.rpm_db.specs.Rows.{rows}
 use Rattle.rpm_db.specs.inner.Writes.{IndexTo, IsSealedAfter}
 use Rattle.rpm_db.proofs.Both.{quiet_then, runs_rows}
 use Rattle.rpm_db.proofs.Changed.{rows_sealed}
+use Rattle.rpm_db.proofs.FillStops.{still_lawful, stops_filled}
 use Rattle.rpm_db.proofs.OwedRows.{current_sealed, other_sealed, rows_clear}
 use Rattle.rpm_db.proofs.Unwritten.{log_same, log_then, quiet_same}
 use Rattle.rpm_db.proofs.Wholes.{whole_cause, whole_sealed}
@@ -22,22 +23,22 @@ returns-then-is_current-clause-filled g c =
     let test : (hindex.sealed c.args.index.now.first == c.args.generation) ≡ true = grind (arith, nat_tests, at) in
     record {
       current = current;
-      kept = λ told. c.requires.keeps told;
-      settled = λ told. c.requires.settled told;
+      kept = λ told. c.requires.ready.keeps told;
+      settled = λ told. c.requires.ready.settled told;
       quiet = λ told value quiet. quiet;
       rows_are = λ told from to has changed.
-          rows_clear from to (g.D.Disk.files c.args.disk.now).idx c.args.owed.now (c.requires.clear at) has changed;
+          rows_clear from to (g.D.Disk.files c.args.disk.now).idx c.args.owed.now (c.requires.ready.clear at) has changed;
       reach = λ told from to has changed. rw test (omega arith);
     }
 
 -- ---- the change
 
 pub prepare_rows-requires-clause-order : goal.prepare_rows-requires-clause-order
-prepare_rows-requires-clause-order g c = c.requires.order
+prepare_rows-requires-clause-order g c = c.requires.ready.order
 
 pub write_rows-requires-clause-keeps : goal.write_rows-requires-clause-keeps
 write_rows-requires-clause-keeps g c = λ told.
-    subst (λ (f : Files). hindex.Keeps f.idx c.args.index.now) (sym (c.in-Ok.ensures.runs.reads_as told)) (c.requires.keeps told)
+    subst (λ (f : Files). hindex.Keeps f.idx c.args.index.now) (sym (c.in-Ok.ensures.runs.reads_as told)) (c.requires.ready.keeps told)
 
 pub returns-in-Ok-write_rows-clause-filled : goal.returns-in-Ok-write_rows-clause-filled
 returns-in-Ok-write_rows-clause-filled g c =
@@ -50,14 +51,14 @@ returns-in-Ok-write_rows-clause-filled g c =
     let run = c.in-Ok.ensures.runs in
     let w = c.in-Ok-write_rows.ensures in
     let other : hindex.is_current n index ≡ false = sym c.is_current.ensures ∙ c.if-is_current.false in
-    let apart = other_sealed n index c.requires.order other in
+    let apart = other_sealed n index c.requires.ready.order other in
     let test : (hindex.sealed index.first == n) ≡ false = grind (arith, nat_tests, apart) in
     record {
       current = w.applied.current;
       kept = λ told. w.applied.kept told;
       settled = λ told. w.applied.settled told;
       quiet = λ told value quiet.
-          quiet_then D.tells D.files D.left_since D.moment D.bytes_read D.follows told value (IndexTo n c.in-Ok.plan.work (D.files b).idx) 0 b e w.changes
+          quiet_then D.tells D.files D.left_since D.moment D.bytes_read D.follows told value (IndexTo n c.in-Ok.plan.work (D.files b).idx) 0 b e w.writes.changes
           (quiet_same D.tells D.files D.left_since D.moment D.bytes_read D.follows a b told run value quiet);
       rows_are = λ told from to has changed.
           (let leads = c.in-Ok.ensures.leads from to
@@ -67,12 +68,12 @@ returns-in-Ok-write_rows-clause-filled g c =
       reach = λ told from to has changed.
           (let leads = c.in-Ok.ensures.leads from to
           (subst (λ (rs : List Row). HasChanged rs c.args.owed.now (rows from) (rows to)) (sym c.new-drops.ensures) changed) in
-          rw test (omega (arith, leads.reach told has, w.applied.grows, (w.applied.kept told).units, (c.requires.keeps told).units)));
+          rw test (omega (arith, leads.reach told has, w.applied.grows, (w.applied.kept told).units, (c.requires.ready.keeps told).units)));
     }
 
 pub returns-in-Err-clause-full : goal.returns-in-Err-clause-full
 returns-in-Err-clause-full g c = (
-  other_sealed c.args.generation c.args.index.now c.requires.order (sym c.is_current.ensures ∙ c.if-is_current.false),
+  other_sealed c.args.generation c.args.index.now c.requires.ready.order (sym c.is_current.ensures ∙ c.if-is_current.false),
   λ told from to has changed.
       c.in-Err.ensures.full told from to has
       (subst (λ (rs : List Row). HasChanged rs c.args.owed.now (rows from) (rows to)) (sym c.new-drops.ensures) changed),
@@ -80,7 +81,7 @@ returns-in-Err-clause-full g c = (
 
 pub returns-clause-full : goal.returns-clause-full
 returns-clause-full g c = (
-  other_sealed c.args.generation c.args.index.now c.requires.order (sym c.is_current.ensures ∙ c.if-is_current.false),
+  other_sealed c.args.generation c.args.index.now c.requires.ready.order (sym c.is_current.ensures ∙ c.if-is_current.false),
   λ told from to has changed. tt,
 )
 
@@ -95,34 +96,60 @@ returns-in-Ok-write_rows-clause-whole g c = λ told whole.
 
 pub returns-in-Err-clause-unwritten : goal.returns-in-Err-clause-unwritten
 returns-in-Err-clause-unwritten g c = λ is.
-    absurd (other_sealed c.args.generation c.args.index.now c.requires.order (sym c.is_current.ensures ∙ c.if-is_current.false) is)
+    absurd (other_sealed c.args.generation c.args.index.now c.requires.ready.order (sym c.is_current.ensures ∙ c.if-is_current.false) is)
 
 pub returns-in-Ok-write_rows-clause-unwritten : goal.returns-in-Ok-write_rows-clause-unwritten
 returns-in-Ok-write_rows-clause-unwritten g c = λ is.
-    absurd (other_sealed c.args.generation c.args.index.now c.requires.order (sym c.is_current.ensures ∙ c.if-is_current.false) is)
+    absurd (other_sealed c.args.generation c.args.index.now c.requires.ready.order (sym c.is_current.ensures ∙ c.if-is_current.false) is)
 
 pub returns-clause-unwritten : goal.returns-clause-unwritten
 returns-clause-unwritten g c = λ is.
-    absurd (other_sealed c.args.generation c.args.index.now c.requires.order (sym c.is_current.ensures ∙ c.if-is_current.false) is)
+    absurd (other_sealed c.args.generation c.args.index.now c.requires.ready.order (sym c.is_current.ensures ∙ c.if-is_current.false) is)
 
 pub returns-in-Err-clause-store : goal.returns-in-Err-clause-store
 returns-in-Err-clause-store g c = λ told. ap (λ (f : Files). f.pkg) (c.in-Err.ensures.runs.reads_as told)
 
 pub returns-in-Ok-write_rows-clause-store : goal.returns-in-Ok-write_rows-clause-store
 returns-in-Ok-write_rows-clause-store g c = λ told.
-    c.in-Ok-write_rows.ensures.changes.pkg told ∙ ap (λ (f : Files). f.pkg) (c.in-Ok.ensures.runs.reads_as told)
+    c.in-Ok-write_rows.ensures.writes.changes.pkg told ∙ ap (λ (f : Files). f.pkg) (c.in-Ok.ensures.runs.reads_as told)
 
 pub returns-clause-store : goal.returns-clause-store
 returns-clause-store g c = λ told.
-    c.in-Err-write_rows.ensures.changes.pkg told ∙ ap (λ (f : Files). f.pkg) (c.in-Ok.ensures.runs.reads_as told)
+    c.in-Err-write_rows.ensures.writes.changes.pkg told ∙ ap (λ (f : Files). f.pkg) (c.in-Ok.ensures.runs.reads_as told)
 
 pub returns-in-Err-clause-runs : goal.returns-in-Err-clause-runs
 returns-in-Err-clause-runs g c = log_same _ _ _ _ _ _ _ _ c.in-Err.ensures.runs
 
 pub returns-in-Ok-write_rows-clause-runs : goal.returns-in-Ok-write_rows-clause-runs
 returns-in-Ok-write_rows-clause-runs g c =
-    log_then _ _ _ _ _ _ g.met.D.Disk.follows_trans _ _ _ c.in-Ok.ensures.runs (runs_rows _ _ _ _ _ _ _ _ _ _ c.in-Ok-write_rows.ensures.changes)
+    log_then _ _ _ _ _ _ g.met.D.Disk.follows_trans _ _ _ c.in-Ok.ensures.runs (runs_rows _ _ _ _ _ _ _ _ _ _ c.in-Ok-write_rows.ensures.writes.changes)
 
 pub returns-clause-runs : goal.returns-clause-runs
 returns-clause-runs g c =
-    log_then _ _ _ _ _ _ g.met.D.Disk.follows_trans _ _ _ c.in-Ok.ensures.runs (runs_rows _ _ _ _ _ _ _ _ _ _ c.in-Err-write_rows.ensures.changes)
+    log_then _ _ _ _ _ _ g.met.D.Disk.follows_trans _ _ _ c.in-Ok.ensures.runs (runs_rows _ _ _ _ _ _ _ _ _ _ c.in-Err-write_rows.ensures.writes.changes)
+
+pub returns-in-Err-clause-refused : goal.returns-in-Err-clause-refused
+returns-in-Err-clause-refused g c = λ refusal. (refl, c.in-Err.ensures.runs)
+
+-- ---- what crashes leave
+
+pub returns-in-Err-clause-stops : goal.returns-in-Err-clause-stops
+returns-in-Err-clause-stops g c = λ told lawful from to has changed of. still_lawful _ _ _ _ _ _ _ _ told lawful c.in-Err.ensures.runs
+
+pub returns-in-Ok-write_rows-clause-stops : goal.returns-in-Ok-write_rows-clause-stops
+returns-in-Ok-write_rows-clause-stops g c = λ told lawful from to has changed of.
+    let ready = c.requires.ready in
+    let leads = c.in-Ok.ensures.leads from to
+    (subst (λ (rs : List Row). HasChanged rs c.args.owed.now (rows from) (rows to)) (sym c.new-drops.ensures) changed) in
+    let apart = other_sealed c.args.generation c.args.index.now ready.order (sym c.is_current.ensures ∙ c.if-is_current.false) in
+    stops_filled _ _ _ _ _ _ _ _ _ told lawful c.in-Ok.ensures.runs c.args.generation c.in-Ok.plan.work to (ready.settled told)
+    (λ at. apart (ap hindex.sealed (ready.keeps told).first ∙ at)) of (leads.makes told has) c.in-Ok-write_rows.ensures.writes.changes
+
+pub returns-clause-stops : goal.returns-clause-stops
+returns-clause-stops g c = λ told lawful from to has changed of.
+    let ready = c.requires.ready in
+    let leads = c.in-Ok.ensures.leads from to
+    (subst (λ (rs : List Row). HasChanged rs c.args.owed.now (rows from) (rows to)) (sym c.new-drops.ensures) changed) in
+    let apart = other_sealed c.args.generation c.args.index.now ready.order (sym c.is_current.ensures ∙ c.if-is_current.false) in
+    stops_filled _ _ _ _ _ _ _ _ _ told lawful c.in-Ok.ensures.runs c.args.generation c.in-Ok.plan.work to (ready.settled told)
+    (λ at. apart (ap hindex.sealed (ready.keeps told).first ∙ at)) of (leads.makes told has) c.in-Err-write_rows.ensures.writes.changes

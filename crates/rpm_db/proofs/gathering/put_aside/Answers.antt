@@ -1,4 +1,4 @@
-use Rattle.std.proofs.Common.{ℕ, ◌+◌, ◌≤◌, ◌++◌, None, length, sym, ap, ◌∙◌, subst, arith}
+use Rattle.std.proofs.Common.{ℕ, ◌+◌, ◌≤◌, ◌++◌, List, [], None, Ok, Err, length, sym, ap, ◌∙◌, subst, arith, rules}
 use Rattle.rpm_outside.specs.Files.{Files}
 use Rattle.rpm_pkgdb.specs.Placing.{placed, placement_of}
 use Rattle.rpm_pkgdb.specs.Planned.{moves_of}
@@ -6,61 +6,72 @@ use Rattle.rpm_pkgdb.specs.Reaches.{ReachesTo}
 use Rattle.rpm_pkgdb.specs.Slots.{slot_with}
 use Rattle.rpm_pkgdb.specs.Store.{Keeps, Store, store}
 use Rattle.rpm_pkgdb.specs.Quiet.{Anything}
-use Rattle.rpm_db.specs.Rows.{header_rows}
+use Rattle.rpm_hindex.specs.Rows.{Row}
+use Rattle.rpm_hindex.specs.Sizes.{units_for}
+use Rattle.rpm_db.specs.Rows.{header_rows, rows}
+use Rattle.rpm_db.specs.inner.Filling.{TakesRows}
 use Rattle.rpm_db.proofs.Both.{runs_store}
-use Rattle.rpm_db.proofs.OwedRows.{gathered_rows}
-use Rattle.rpm_db.proofs.Planning.{number_put}
+use Rattle.rpm_db.proofs.Planning.{number_put, stops_aside}
 use Rattle.rpm_db.proofs.Puts.{field_planned, map_planned, number_same}
 use Rattle.rpm_db.proofs.Raised.{some_pages}
 use Rattle.rpm_db.proofs.Refused.{later_of_index, room_index}
 use Rattle.rpm_db.proofs.Rooms.{put_placed, room_of_index, room_put}
-use Rattle.rpm_db.proofs.Unwritten.{log_same, log_then, settled_same}
+use Rattle.rpm_db.proofs.Unwritten.{log_same, log_then, quiet_roomed, settled_same, stops_refused}
 use Rattle.rpm_db.proofs.gathering.put_aside.Goals as goal
 
 -- ---- what the write asks for
 
 pub put_raised-requires-clause-going : goal.put_raised-requires-clause-going
-put_raised-requires-clause-going g c = ap (λ (v : Store). v.is_stopped) c.in-Ok.ensures.value ∙ c.requires.going
+put_raised-requires-clause-going g c = ap (λ (v : Store). v.is_stopped) c.in-Ok.ensures.value ∙ c.requires.ready.going
 
 pub put_raised-requires-clause-keeps : goal.put_raised-requires-clause-keeps
 put_raised-requires-clause-keeps g c = λ told.
     subst (Keeps (g.D.Disk.files c.expect_room.new.disk).pkg) (sym c.in-Ok.ensures.value)
-    (ap (λ (f : Files). store f.pkg) (c.in-Ok-expect_room.ensures.runs.reads_as told) ∙ c.requires.read.keeps told)
+    (ap (λ (f : Files). store f.pkg) (c.in-Ok-expect_room.ensures.runs.reads_as told) ∙ c.requires.ready.read.keeps told)
 
 pub put_raised-requires-clause-made : goal.put_raised-requires-clause-made
-put_raised-requires-clause-made g c = omega (arith, ap (λ (v : Store). v.pages) c.in-Ok.ensures.value, c.requires.made)
+put_raised-requires-clause-made g c = omega (arith, ap (λ (v : Store). v.pages) c.in-Ok.ensures.value, c.requires.ready.made.made)
 
 pub put_raised-requires-clause-length : goal.put_raised-requires-clause-length
 put_raised-requires-clause-length g c = c.in-Ok.ensures.placed.1.length_is ∙ ap length (sym c.blob.ensures.value)
 
 -- ---- the causes
 
-pub returns-in-Err-clause-placed : goal.returns-in-Err-clause-placed
-returns-in-Err-clause-placed g c = room_put None (length c.args.view.now.blob) c.args.store.now c.in-Err.fault c.in-Err.ensures.placed
+pub returns-in-Err-clause-room : goal.returns-in-Err-clause-room
+returns-in-Err-clause-room g c = record {
+  later = c.in-Err.ensures.later;
+  placed = room_put None (length c.args.view.now.blob) c.args.store.now c.in-Err.fault c.in-Err.ensures.placed;
+}
 
-pub returns-in_default-clause-later : goal.returns-in_default-clause-later
-returns-in_default-clause-later g c = c.in-Ok.ensures.later.0
+pub returns-in_default-clause-room : goal.returns-in_default-clause-room
+returns-in_default-clause-room g c = record {
+  later = c.in-Ok.ensures.later.0;
+  placed = tt;
+}
 
-pub returns-in-Err-expect_room-clause-later : goal.returns-in-Err-expect_room-clause-later
-returns-in-Err-expect_room-clause-later g c =
-    later_of_index _ _ c.in-Err-expect_room.fault c.in-Err-expect_room.ensures.kinds c.in-Ok.ensures.later.0 c.in-Ok.ensures.later.1
-
-pub returns-in-Err-expect_room-clause-placed : goal.returns-in-Err-expect_room-clause-placed
-returns-in-Err-expect_room-clause-placed g c =
+pub returns-in-Err-expect_room-clause-room : goal.returns-in-Err-expect_room-clause-room
+returns-in-Err-expect_room-clause-room g c =
     let size = length c.args.view.now.blob in
-    room_put None size c.args.store.now c.in-Err-expect_room.fault
-    (room_of_index (placed None size c.args.store.now) (placement_of c.in-Ok.plan) c.in-Err-expect_room.fault c.in-Err-expect_room.ensures.kinds
-    c.in-Ok.ensures.placed.0)
+    let fault = c.in-Err-expect_room.fault in
+    let kinds = c.in-Err-expect_room.ensures.kinds in
+    let e = c.in-Ok.ensures in
+    record {
+      later = later_of_index _ _ fault kinds e.later.0 e.later.1;
+      placed = room_put None size c.args.store.now fault
+          (room_of_index (placed None size c.args.store.now) (placement_of c.in-Ok.plan) fault kinds e.placed.0);
+    }
 
-pub returns-in-Err-put_raised-clause-later : goal.returns-in-Err-put_raised-clause-later
-returns-in-Err-put_raised-clause-later g c = c.in-Ok.ensures.later.0
+pub returns-in-Err-put_raised-clause-room : goal.returns-in-Err-put_raised-clause-room
+returns-in-Err-put_raised-clause-room g c = record {
+  later = c.in-Ok.ensures.later.0;
+  placed = tt;
+}
 
-pub returns-in-Ok-put_raised-clause-later : goal.returns-in-Ok-put_raised-clause-later
-returns-in-Ok-put_raised-clause-later g c = c.in-Ok.ensures.later
-
-pub returns-in-Ok-put_raised-clause-placed : goal.returns-in-Ok-put_raised-clause-placed
-returns-in-Ok-put_raised-clause-placed g c =
-    put_placed _ _ _ _ _ c.in-Ok.plan c.in-Ok.ensures.placed.0 c.in-Ok.ensures.value c.in-Ok-put_raised.ensures.ok
+pub returns-in-Ok-put_raised-clause-room : goal.returns-in-Ok-put_raised-clause-room
+returns-in-Ok-put_raised-clause-room g c = record {
+  later = c.in-Ok.ensures.later;
+  placed = put_placed _ _ _ _ _ c.in-Ok.plan c.in-Ok.ensures.placed.0 c.in-Ok.ensures.value c.in-Ok-put_raised.ensures.ok;
+}
 
 pub returns-in-Ok-put_raised-clause-number : goal.returns-in-Ok-put_raised-clause-number
 returns-in-Ok-put_raised-clause-number g c =
@@ -69,78 +80,100 @@ returns-in-Ok-put_raised-clause-number g c =
 
 -- ---- the index
 
-pub returns-in-Err-clause-full : goal.returns-in-Err-clause-full
-returns-in-Err-clause-full g c = λ told before has changed. (room_index _ (g.D.Disk.files c.args.disk.now).idx c.in-Err.fault c.in-Err.ensures.kinds).0
+pub returns-in-Err-clause-rows : goal.returns-in-Err-clause-rows
+returns-in-Err-clause-rows g c =
+    let said = λ (needed : ℕ). room_index needed (g.D.Disk.files c.args.disk.now).idx c.in-Err.fault c.in-Err.ensures.kinds in
+    record { full = λ told before after has changed. (said (units_for (rows after))).0; bad = λ told. (said 0).1.0 }
 
-pub returns-in-Err-clause-bad : goal.returns-in-Err-clause-bad
-returns-in-Err-clause-bad g c = λ told. (room_index 0 (g.D.Disk.files c.args.disk.now).idx c.in-Err.fault c.in-Err.ensures.kinds).1.0
+pub returns-in_default-clause-rows : goal.returns-in_default-clause-rows
+returns-in_default-clause-rows g c = record { full = λ told before after has changed. tt; bad = λ told. tt }
 
-pub returns-in-Err-expect_room-clause-full : goal.returns-in-Err-expect_room-clause-full
-returns-in-Err-expect_room-clause-full g c = λ told before has changed.
-    let e = c.in-Ok.ensures in
-    c.in-Err-expect_room.ensures.full told before _ has
-    (gathered_rows (g.D.Disk.files c.args.disk.now).pkg c.args.store.now c.plan_room.new.store e.value c.next_number.result c.next_number.ensures
-    c.args.view.now e.own c.args.owed.now c.push_header.new.rows c.in-Ok-push_header.ensures _ changed)
+pub returns-in-Err-expect_room-clause-rows : goal.returns-in-Err-expect_room-clause-rows
+returns-in-Err-expect_room-clause-rows g c =
+    let more = c.in-Ok-push_header.ensures ∙ ap (λ (n : ℕ). c.args.owed.now ++ header_rows n c.args.view.now)
+    (c.next_number.ensures ∙ number_same None c.args.store.now c.plan_room.new.store c.in-Ok.ensures.value) in
+    subst (λ (rs : List Row). TakesRows g.D.Disk {A = ℕ} c.args.disk.now [] rs (Err c.in-Err-expect_room.fault)) more
+    (record { full = c.in-Err-expect_room.ensures.takes.full; bad = c.in-Err-expect_room.ensures.takes.bad })
 
-pub returns-in-Ok-put_raised-clause-full : goal.returns-in-Ok-put_raised-clause-full
-returns-in-Ok-put_raised-clause-full g c = λ told before has changed.
-    let e = c.in-Ok.ensures in
-    c.in-Ok-expect_room.ensures.full told before _ has
-    (gathered_rows (g.D.Disk.files c.args.disk.now).pkg c.args.store.now c.plan_room.new.store e.value c.next_number.result c.next_number.ensures
-    c.args.view.now e.own c.args.owed.now c.push_header.new.rows c.in-Ok-push_header.ensures _ changed)
+pub returns-in-Ok-put_raised-clause-rows : goal.returns-in-Ok-put_raised-clause-rows
+returns-in-Ok-put_raised-clause-rows g c =
+    let more = c.in-Ok-push_header.ensures ∙ ap (λ (n : ℕ). c.args.owed.now ++ header_rows n c.args.view.now)
+    (c.next_number.ensures ∙ number_same None c.args.store.now c.plan_room.new.store c.in-Ok.ensures.value) in
+    subst (λ (rs : List Row). TakesRows g.D.Disk c.args.disk.now [] rs (Ok c.in-Ok-put_raised.number)) more
+    (record { full = c.in-Ok-expect_room.ensures.takes.full; bad = λ told. tt })
+
+pub returns-in-Err-put_raised-clause-rows : goal.returns-in-Err-put_raised-clause-rows
+returns-in-Err-put_raised-clause-rows g c = record { full = λ told before after has changed. tt; bad = λ told. tt }
 
 pub returns-in-Err-expect_room-clause-index : goal.returns-in-Err-expect_room-clause-index
 returns-in-Err-expect_room-clause-index g c = λ told. ap (λ (f : Files). f.idx) (c.in-Err-expect_room.ensures.runs.reads_as told)
 
 pub returns-in-Ok-put_raised-clause-index : goal.returns-in-Ok-put_raised-clause-index
 returns-in-Ok-put_raised-clause-index g c = λ told.
-    c.in-Ok-put_raised.ensures.changes.idx told ∙ ap (λ (f : Files). f.idx) (c.in-Ok-expect_room.ensures.runs.reads_as told)
+    c.in-Ok-put_raised.ensures.writes.changes.idx told ∙ ap (λ (f : Files). f.idx) (c.in-Ok-expect_room.ensures.runs.reads_as told)
 
 pub returns-in-Err-put_raised-clause-index : goal.returns-in-Err-put_raised-clause-index
 returns-in-Err-put_raised-clause-index g c = λ told.
-    c.in-Err-put_raised.ensures.changes.idx told ∙ ap (λ (f : Files). f.idx) (c.in-Ok-expect_room.ensures.runs.reads_as told)
+    c.in-Err-put_raised.ensures.writes.changes.idx told ∙ ap (λ (f : Files). f.idx) (c.in-Ok-expect_room.ensures.runs.reads_as told)
 
-pub returns-in-Err-expect_room-clause-settled : goal.returns-in-Err-expect_room-clause-settled
-returns-in-Err-expect_room-clause-settled g c = λ told settled. settled_same _ _ _ _ _ _ _ _ told c.in-Err-expect_room.ensures.runs settled
+-- ---- what crashes leave
 
-pub returns-in-Ok-put_raised-clause-settled : goal.returns-in-Ok-put_raised-clause-settled
-returns-in-Ok-put_raised-clause-settled g c = λ told settled image here.
-    let run = c.in-Ok-put_raised.ensures.changes in
-    let moved = run.now told image here in
-    moved.idx ∙ settled_same _ _ _ _ _ _ _ _ told c.in-Ok-expect_room.ensures.runs settled moved.from moved.was ∙ sym (run.idx told)
+pub returns-in-Err-expect_room-clause-stops : goal.returns-in-Err-expect_room-clause-stops
+returns-in-Err-expect_room-clause-stops g c = λ told lawful. stops_refused _ _ _ _ _ _ _ _ _ _ told lawful c.in-Err-expect_room.ensures.runs
 
-pub returns-in-Err-put_raised-clause-settled : goal.returns-in-Err-put_raised-clause-settled
-returns-in-Err-put_raised-clause-settled g c = λ told settled image here.
-    let run = c.in-Err-put_raised.ensures.changes in
-    let moved = run.now told image here in
-    moved.idx ∙ settled_same _ _ _ _ _ _ _ _ told c.in-Ok-expect_room.ensures.runs settled moved.from moved.was ∙ sym (run.idx told)
+pub returns-in-Ok-put_raised-clause-stops : goal.returns-in-Ok-put_raised-clause-stops
+returns-in-Ok-put_raised-clause-stops g c = λ told lawful.
+    let e = c.in-Ok.ensures in
+    let run = c.in-Ok-expect_room.ensures.runs in
+    let ready = c.requires.ready in
+    stops_aside _ _ _ _ _ _ _ _ _ told run (record { room = e.value; plan_is = e.plan.plan_is; asked = e.placed.1; own = c.blob.ensures.value }) lawful
+    (g.met.D.Disk.as_read c.args.disk.now told) (ready.read.keeps told) ready.made.made (ready.settled told)
+    (c.in-Ok-put_raised.ensures.images told (quiet_roomed _ _ _ _ _ _ _ _ told run _ _ e.value (ready.quiet told)))
+
+pub returns-in-Err-put_raised-clause-stops : goal.returns-in-Err-put_raised-clause-stops
+returns-in-Err-put_raised-clause-stops g c = λ told lawful.
+    let e = c.in-Ok.ensures in
+    let run = c.in-Ok-expect_room.ensures.runs in
+    let ready = c.requires.ready in
+    stops_aside _ _ _ _ _ _ _ _ _ told run (record { room = e.value; plan_is = e.plan.plan_is; asked = e.placed.1; own = c.blob.ensures.value }) lawful
+    (g.met.D.Disk.as_read c.args.disk.now told) (ready.read.keeps told) ready.made.made (ready.settled told)
+    (c.in-Err-put_raised.ensures.images told (quiet_roomed _ _ _ _ _ _ _ _ told run _ _ e.value (ready.quiet told)))
+
+pub returns-in-Err-expect_room-clause-refused : goal.returns-in-Err-expect_room-clause-refused
+returns-in-Err-expect_room-clause-refused g c = λ refusal. (c.in-Ok.ensures.value, c.in-Err-expect_room.ensures.runs)
 
 -- ---- the runs
 
 pub returns-in-Err-expect_room-clause-runs : goal.returns-in-Err-expect_room-clause-runs
-returns-in-Err-expect_room-clause-runs g c = log_same _ _ _ _ _ _ _ _ c.in-Err-expect_room.ensures.runs
+returns-in-Err-expect_room-clause-runs g c = record { files = log_same _ _ _ _ _ _ _ _ c.in-Err-expect_room.ensures.runs; cause = search rules }
 
 pub returns-in-Ok-put_raised-clause-runs : goal.returns-in-Ok-put_raised-clause-runs
 returns-in-Ok-put_raised-clause-runs g c =
-    log_then _ _ _ _ _ _ g.met.D.Disk.follows_trans _ _ _ c.in-Ok-expect_room.ensures.runs (runs_store _ _ _ _ _ _ Anything _ _ _ c.in-Ok-put_raised.ensures.changes)
+    record {
+      files = log_then _ _ _ _ _ _ g.met.D.Disk.follows_trans _ _ _ c.in-Ok-expect_room.ensures.runs
+          (runs_store _ _ _ _ _ _ Anything _ _ _ c.in-Ok-put_raised.ensures.writes.changes);
+      cause = search rules;
+    }
 
 pub returns-in-Err-put_raised-clause-runs : goal.returns-in-Err-put_raised-clause-runs
 returns-in-Err-put_raised-clause-runs g c =
-    log_then _ _ _ _ _ _ g.met.D.Disk.follows_trans _ _ _ c.in-Ok-expect_room.ensures.runs (runs_store _ _ _ _ _ _ Anything _ _ _ c.in-Err-put_raised.ensures.changes)
+    record {
+      files = log_then _ _ _ _ _ _ g.met.D.Disk.follows_trans _ _ _ c.in-Ok-expect_room.ensures.runs
+          (runs_store _ _ _ _ _ _ Anything _ _ _ c.in-Err-put_raised.ensures.writes.changes);
+      cause = search rules;
+    }
 
-pub returns-in-Err-clause-cause : goal.returns-in-Err-clause-cause
-returns-in-Err-clause-cause g c = record {
-  later = omega arith;
-  rose = λ is. absurd ((room_index 0 (g.D.Disk.files c.args.disk.now).idx c.in-Err.fault c.in-Err.ensures.kinds).1.1 (cc));
-}
+pub returns-in-Err-clause-runs : goal.returns-in-Err-clause-runs
+returns-in-Err-clause-runs g c =
+    record {
+      cause = record {
+        later = omega arith;
+        rose = λ is. absurd ((room_index 0 (g.D.Disk.files c.args.disk.now).idx c.in-Err.fault c.in-Err.ensures.kinds).1.1 (cc));
+      };
+      files = search rules;
+    }
 
 -- ---- what was made
-
-pub returns-in-Ok-put_raised-clause-end : goal.returns-in-Ok-put_raised-clause-end
-returns-in-Ok-put_raised-clause-end g c = λ told.
-    let f = g.D.Disk.files in
-    subst (λ (old : Files). ReachesTo c.put_raised.new.store old.pkg (f c.put_raised.new.disk).pkg) (c.in-Ok-expect_room.ensures.runs.reads_as told)
-    (c.in-Ok-put_raised.ensures.end told)
 
 pub returns-in-Ok-put_raised-clause-done : goal.returns-in-Ok-put_raised-clause-done
 returns-in-Ok-put_raised-clause-done g c =
@@ -150,7 +183,7 @@ returns-in-Ok-put_raised-clause-done g c =
     let planned = c.plan_room.new.store in
     let size = length c.args.view.now.blob in
     record {
-      going = ap (λ (v : Store). v.is_stopped) w.ok ∙ ap (λ (v : Store). v.is_stopped) e.value ∙ c.requires.going;
+      going = ap (λ (v : Store). v.is_stopped) w.ok ∙ ap (λ (v : Store). v.is_stopped) e.value ∙ c.requires.ready.going;
       generation_is = ap (λ (v : Store). v.generation) w.ok ∙ ap (λ (v : Store). v.generation + 1) e.value;
       field_is = ap (λ (v : Store). v.field) w.ok ∙ field_planned st planned e.value None size c.in-Ok.plan e.plan.plan_is e.placed.1;
       rows_are = c.in-Ok-push_header.ensures
@@ -165,26 +198,34 @@ returns-in-Ok-put_raised-clause-done g c =
         quiet = w.stored.quiet;
         stands = w.stored.stands;
       };
+      settled = λ told image here.
+          (let moved = w.writes.changes.now told image here in
+          moved.idx
+          ∙ settled_same _ _ _ _ _ _ _ _ told c.in-Ok-expect_room.ensures.runs (c.requires.ready.settled told) moved.from moved.was
+          ∙ sym (w.writes.changes.idx told));
+      end = λ told.
+          subst (λ (old : Files). ReachesTo c.put_raised.new.store old.pkg (g.D.Disk.files c.put_raised.new.disk).pkg)
+          (c.in-Ok-expect_room.ensures.runs.reads_as told) (w.end told);
     }
 
 -- ---- the store
 
 pub returns-in-Err-clause-is_made : goal.returns-in-Err-clause-is_made
 returns-in-Err-clause-is_made g c = record {
-  made = omega (arith, ap (λ (v : Store). v.pages) c.in-Err.ensures.value, c.requires.made);
-  from_one = ap (λ (v : Store). slot_with 0 v.slots) c.in-Err.ensures.value ∙ c.requires.from_one;
+  made = omega (arith, ap (λ (v : Store). v.pages) c.in-Err.ensures.value, c.requires.ready.made.made);
+  from_one = ap (λ (v : Store). slot_with 0 v.slots) c.in-Err.ensures.value ∙ c.requires.ready.made.from_one;
 }
 
 pub returns-in_default-clause-is_made : goal.returns-in_default-clause-is_made
 returns-in_default-clause-is_made g c = record {
-  made = omega (arith, ap (λ (v : Store). v.pages) c.in-Ok.ensures.value, c.requires.made);
-  from_one = ap (λ (v : Store). slot_with 0 v.slots) c.in-Ok.ensures.value ∙ c.requires.from_one;
+  made = omega (arith, ap (λ (v : Store). v.pages) c.in-Ok.ensures.value, c.requires.ready.made.made);
+  from_one = ap (λ (v : Store). slot_with 0 v.slots) c.in-Ok.ensures.value ∙ c.requires.ready.made.from_one;
 }
 
 pub returns-in-Err-expect_room-clause-is_made : goal.returns-in-Err-expect_room-clause-is_made
 returns-in-Err-expect_room-clause-is_made g c = record {
-  made = omega (arith, ap (λ (v : Store). v.pages) c.in-Ok.ensures.value, c.requires.made);
-  from_one = ap (λ (v : Store). slot_with 0 v.slots) c.in-Ok.ensures.value ∙ c.requires.from_one;
+  made = omega (arith, ap (λ (v : Store). v.pages) c.in-Ok.ensures.value, c.requires.ready.made.made);
+  from_one = ap (λ (v : Store). slot_with 0 v.slots) c.in-Ok.ensures.value ∙ c.requires.ready.made.from_one;
 }
 
 pub returns-in-Err-put_raised-clause-is_made : goal.returns-in-Err-put_raised-clause-is_made
@@ -192,14 +233,14 @@ returns-in-Err-put_raised-clause-is_made g c =
     let e = c.in-Ok.ensures in
     let w = c.in-Err-put_raised.ensures in
     record {
-      made = omega (arith, w.err.1, ap (λ (v : Store). v.pages) e.value, c.requires.made);
-      from_one = ap (slot_with 0) w.err.0 ∙ ap (λ (v : Store). slot_with 0 v.slots) e.value ∙ c.requires.from_one;
+      made = omega (arith, w.err.1, ap (λ (v : Store). v.pages) e.value, c.requires.ready.made.made);
+      from_one = ap (slot_with 0) w.err.0 ∙ ap (λ (v : Store). slot_with 0 v.slots) e.value ∙ c.requires.ready.made.from_one;
     }
 
 pub returns-in-Ok-put_raised-clause-is_made : goal.returns-in-Ok-put_raised-clause-is_made
 returns-in-Ok-put_raised-clause-is_made g c =
     let e = c.in-Ok.ensures in
-    let pages : 1 ≤ c.plan_room.new.store.pages = omega (arith, ap (λ (v : Store). v.pages) e.value, c.requires.made) in
+    let pages : 1 ≤ c.plan_room.new.store.pages = omega (arith, ap (λ (v : Store). v.pages) e.value, c.requires.ready.made.made) in
     record {
       made = omega (arith, ap (λ (v : Store). v.pages) c.in-Ok-put_raised.ensures.ok, some_pages (moves_of c.in-Ok.plan.page) c.plan_room.new.store.pages pages);
       from_one = c.generation.ensures.from_one;

@@ -1,4 +1,5 @@
 use Rattle.std.proofs.Common.{◌≡◌, ℕ, length, arith, true, false, refl, ap, sym, ◌∙◌, subst}
+use Rattle.std.specs.Prelude.{IsTrue}
 use Rattle.rpm_outside.specs.Files.{Files}
 use Rattle.rpm_outside.specs.declared.disk.File.TheVariants.{Idx}
 use Rattle.rpm_hindex.specs.State.{is_current}
@@ -13,65 +14,65 @@ use Rattle.rpm_db.specs.inner.Running.{runs_looks, runs_then}
 use Rattle.rpm_db.proofs.Making.{rows_of_lawful, rows_of_index, current_same}
 use Rattle.rpm_db.proofs.indexing.index_for.Goals as goal
 
-pub returns-then-is_current-clause-rows : goal.returns-then-is_current-clause-rows
-returns-then-is_current-clause-rows g c = λ told lawful.
-    let value = c.args.store.now in
-    let old = g.D.Disk.files c.args.disk.now in
-    let new = g.D.Disk.files c.open.new.disk in
-    let same = (c.in-Ok.ensures.looks.untouched told).same in
-    let here : is_current value.generation c.in-Ok.index ≡ true =
-    ap (λ (n : ℕ). is_current n c.in-Ok.index) (sym c.generation.ensures.value) ∙ sym c.is_current.ensures ∙ c.if-is_current.true in
-    let now : is_current_at value.generation new.idx ≡ true =
-    sym (current_same value.generation new.idx c.in-Ok.index (c.in-Ok.ensures.kept told)) ∙ here in
-    subst (λ (f : Files). HasRows (packages f.pkg value) f.idx) (sym same)
-    (rows_of_lawful old.pkg old.idx value (c.requires.can.keeps told) c.requires.can.made lawful
-    (ap (λ (f : Files). is_current_at value.generation f.idx) (sym same) ∙ now))
-
-pub returns-in-Ok-make_index-clause-rows : goal.returns-in-Ok-make_index-clause-rows
-returns-in-Ok-make_index-clause-rows g c = λ told lawful.
-    let value = c.args.store.now in
-    let same = (c.in-Ok.ensures.looks.untouched told).same in
-    let e = c.in-Ok-make_index.ensures in
-    let new = g.D.Disk.files c.make_index.new.disk in
-    let pkg : new.pkg ≡ (g.D.Disk.files c.args.disk.now).pkg = (e.runs.reads_as told).pkg ∙ ap (λ (f : Files). f.pkg) same in
-    rows_of_index new.pkg new.idx value (ap store pkg ∙ c.requires.can.keeps told) (e.index told)
-
-pub returns-then-is_current-clause-made : goal.returns-then-is_current-clause-made
-returns-then-is_current-clause-made g c = λ told stale.
-    let value = c.args.store.now in
-    let old = g.D.Disk.files c.args.disk.now in
-    let new = g.D.Disk.files c.open.new.disk in
-    let same = (c.in-Ok.ensures.looks.untouched told).same in
-    let here : is_current value.generation c.in-Ok.index ≡ true =
-    ap (λ (n : ℕ). is_current n c.in-Ok.index) (sym c.generation.ensures.value) ∙ sym c.is_current.ensures ∙ c.if-is_current.true in
-    let now : is_current_at value.generation new.idx ≡ true =
-    sym (current_same value.generation new.idx c.in-Ok.index (c.in-Ok.ensures.kept told)) ∙ here in
-    let both : true ≡ false = sym now ∙ ap (λ (f : Files). is_current_at value.generation f.idx) same ∙ stale in
-    absurd cc
-
-pub returns-in-Ok-make_index-clause-made : goal.returns-in-Ok-make_index-clause-made
-returns-in-Ok-make_index-clause-made g c = λ told stale.
-    let value = c.args.store.now in
-    let same = (c.in-Ok.ensures.looks.untouched told).same in
-    let e = c.in-Ok-make_index.ensures in
-    let new = g.D.Disk.files c.make_index.new.disk in
-    let pkg : new.pkg ≡ (g.D.Disk.files c.args.disk.now).pkg = (e.runs.reads_as told).pkg ∙ ap (λ (f : Files). f.pkg) same in
-    rows_of_index new.pkg new.idx value (ap store pkg ∙ c.requires.can.keeps told) (e.index told)
-
 pub returns-in-Err-DiskFault-clause-runs : goal.returns-in-Err-DiskFault-clause-runs
 returns-in-Err-DiskFault-clause-runs g c =
     runs_then g.D.Disk.tells g.D.Disk.files g.D.Disk.left_since g.D.Disk.moment g.D.Disk.bytes_read g.D.Disk.follows g.met.D.Disk.follows_trans
     Remade Remade Remade c.args.disk.now c.open.new.disk c.make_index.new.disk (λ x y r. r) remade_then
     (runs_looks g.D.Disk.tells g.D.Disk.files g.D.Disk.left_since g.D.Disk.moment g.D.Disk.bytes_read g.D.Disk.follows Remade remade_none Idx 32
-    c.args.disk.now c.open.new.disk refl c.in-Ok.ensures.looks) c.in-Err-DiskFault.ensures.runs
+    c.args.disk.now c.open.new.disk refl c.in-Ok.ensures.reads.looks) c.in-Err-DiskFault.ensures.runs
 
 pub returns-then-is_current-clause-reach : goal.returns-then-is_current-clause-reach
 returns-then-is_current-clause-reach g c = λ told.
-    omega (arith, ap (λ (f : Files). length f.idx) (c.in-Ok.ensures.looks.untouched told).same)
+    omega (arith, ap (λ (f : Files). length f.idx) (c.in-Ok.ensures.reads.looks.untouched told).same)
 
 pub returns-in-Ok-make_index-clause-reach : goal.returns-in-Ok-make_index-clause-reach
 returns-in-Ok-make_index-clause-reach g c = λ told.
     let value = c.args.store.now in
-    let same = (c.in-Ok.ensures.looks.untouched told).same in
+    let same = (c.in-Ok.ensures.reads.looks.untouched told).same in
     let new = g.D.Disk.files c.make_index.new.disk in
     subst (λ (f : Files). ReachesMade (units_for (rows (packages f.pkg value))) f.idx new.idx) same (c.in-Ok-make_index.ensures.reach told)
+
+pub returns-then-is_current-clause-index : goal.returns-then-is_current-clause-index
+returns-then-is_current-clause-index g c =
+    let D = g.D.Disk in
+    let value = c.args.store.now in
+    let a = c.args.disk.now in
+    let b = c.open.new.disk in
+    let old = D.files a in
+    let new = D.files b in
+    let looks = c.in-Ok.ensures.reads.looks in
+    let same = λ (told : IsTrue D.tells). (looks.untouched told).same in
+    let here : is_current value.generation c.in-Ok.index ≡ true =
+    ap (λ (n : ℕ). is_current n c.in-Ok.index) (sym c.generation.ensures.value) ∙ sym c.is_current.ensures ∙ c.if-is_current.true in
+    let now : IsTrue D.tells → is_current_at value.generation old.idx ≡ true = λ told.
+    ap (λ (f : Files). is_current_at value.generation f.idx) (sym (same told))
+    ∙ sym (current_same value.generation new.idx c.in-Ok.index (c.in-Ok.ensures.kept told)) ∙ here in
+    record {
+      current = here;
+      kept = c.in-Ok.ensures.kept;
+      settled = λ told image left.
+          c.requires.can.idx told image (subst (λ (t : ℕ). D.left_since a t image) looks.moment_stays ((looks.untouched told).images (D.moment b) image left))
+          ∙ ap (λ (f : Files). f.idx) (sym (same told));
+      rows_are = λ told lawful.
+          subst (λ (f : Files). HasRows (packages f.pkg value) f.idx) (sym (same told))
+          (rows_of_lawful old.pkg old.idx value (c.requires.can.keeps told) c.requires.can.made lawful (now told));
+      made = λ told stale. absurd (let both : true ≡ false = sym (now told) ∙ stale in cc);
+    }
+
+pub returns-in-Ok-make_index-clause-index : goal.returns-in-Ok-make_index-clause-index
+returns-in-Ok-make_index-clause-index g c =
+    let D = g.D.Disk in
+    let value = c.args.store.now in
+    let e = c.in-Ok-make_index.ensures in
+    let new = D.files c.make_index.new.disk in
+    let rows_now : IsTrue D.tells → HasRows (packages new.pkg value) new.idx = λ told.
+    (let same = (c.in-Ok.ensures.reads.looks.untouched told).same in
+    let pkg : new.pkg ≡ (D.files c.args.disk.now).pkg = (e.runs.reads_as told).pkg ∙ ap (λ (f : Files). f.pkg) same in
+    rows_of_index new.pkg new.idx value (ap store pkg ∙ c.requires.can.keeps told) (e.sealed.index_of told)) in
+    record {
+      current = e.sealed.current;
+      kept = e.sealed.kept;
+      settled = e.sealed.settled;
+      rows_are = λ told lawful. rows_now told;
+      made = λ told stale. rows_now told;
+    }

@@ -25,4 +25,4 @@ returns-clause-runs g c =
       some = omega (arith, (c.requires.keeps told).units, ordered_some b c.args.index.now.units c.args.index.now.second c.requires.ordered);
       seal = c.seal.ensures.whichever told (c.requires.here told).whole;
     })
-    c.seal.ensures.changes
+    c.seal.ensures.writes.changes

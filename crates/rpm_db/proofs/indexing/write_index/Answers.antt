@@ -15,14 +15,14 @@ returns-in-Ok-clause-runs g c =
     runs_then g.D.Disk.tells g.D.Disk.files g.D.Disk.left_since g.D.Disk.moment g.D.Disk.bytes_read g.D.Disk.follows g.met.D.Disk.follows_trans
     Remade Remade Remade c.args.disk.now c.rewrite.new.disk c.seal_index.new.disk (λ x y r. r) remade_then
     (runs_index g.D.Disk.tells g.D.Disk.files g.D.Disk.left_since g.D.Disk.moment g.D.Disk.bytes_read g.D.Disk.follows Remade VoidOrSame (λ f. Unit {0}) 0
-    c.args.disk.now c.rewrite.new.disk voiding (λ told. tt) (λ told image left. tt) c.in_ok-rewrite.ensures.changes) c.in-Ok.ensures.runs
+    c.args.disk.now c.rewrite.new.disk voiding (λ told. tt) (λ told image left. tt) c.in_ok-rewrite.ensures.writes.changes) c.in-Ok.ensures.runs
 
 pub returns-in-Err-clause-runs : goal.returns-in-Err-clause-runs
 returns-in-Err-clause-runs g c =
     runs_then g.D.Disk.tells g.D.Disk.files g.D.Disk.left_since g.D.Disk.moment g.D.Disk.bytes_read g.D.Disk.follows g.met.D.Disk.follows_trans
     Remade Remade Remade c.args.disk.now c.rewrite.new.disk c.seal_index.new.disk (λ x y r. r) remade_then
     (runs_index g.D.Disk.tells g.D.Disk.files g.D.Disk.left_since g.D.Disk.moment g.D.Disk.bytes_read g.D.Disk.follows Remade VoidOrSame (λ f. Unit {0}) 0
-    c.args.disk.now c.rewrite.new.disk voiding (λ told. tt) (λ told image left. tt) c.in_ok-rewrite.ensures.changes) c.in-Err.ensures.runs
+    c.args.disk.now c.rewrite.new.disk voiding (λ told. tt) (λ told image left. tt) c.in_ok-rewrite.ensures.writes.changes) c.in-Err.ensures.runs
 
 pub returns-in-Ok-clause-grows : goal.returns-in-Ok-clause-grows
 returns-in-Ok-clause-grows g c = omega (arith, c.in_ok-rewrite.ensures.grows, c.in-Ok.ensures.units)

@@ -60,46 +60,46 @@ pub returns-in-Ok-clause-runs : goal.returns-in-Ok-clause-runs
 returns-in-Ok-clause-runs g c =
     runs_looks g.D.Disk.tells g.D.Disk.files g.D.Disk.left_since g.D.Disk.moment g.D.Disk.bytes_read g.D.Disk.follows SameFiles (λ f. refl) Idx _
     c.args.disk.now
-    c.prepare.new.disk refl c.in-Ok.ensures.looks
+    c.prepare.new.disk refl c.in-Ok.ensures.reads.looks
 
 pub returns-in-Ok-clause-unread : goal.returns-in-Ok-clause-unread
-returns-in-Ok-clause-unread g c = omega (arith, c.in-Ok.ensures.looks.reads.pkg)
+returns-in-Ok-clause-unread g c = omega (arith, c.in-Ok.ensures.reads.looks.reads.pkg)
 
 pub returns-in-Err-IndexFull-clause-runs : goal.returns-in-Err-IndexFull-clause-runs
 returns-in-Err-IndexFull-clause-runs g c =
     runs_looks g.D.Disk.tells g.D.Disk.files g.D.Disk.left_since g.D.Disk.moment g.D.Disk.bytes_read g.D.Disk.follows SameFiles (λ f. refl) Idx _
     c.args.disk.now
-    c.prepare.new.disk refl c.in-Err-IndexFull.ensures.looks
+    c.prepare.new.disk refl c.in-Err-IndexFull.ensures.reads.looks
 
 pub returns-in-Err-IndexFull-clause-unread : goal.returns-in-Err-IndexFull-clause-unread
-returns-in-Err-IndexFull-clause-unread g c = omega (arith, c.in-Err-IndexFull.ensures.looks.reads.pkg)
+returns-in-Err-IndexFull-clause-unread g c = omega (arith, c.in-Err-IndexFull.ensures.reads.looks.reads.pkg)
 
 pub returns-in-Err-BadIndex-clause-runs : goal.returns-in-Err-BadIndex-clause-runs
 returns-in-Err-BadIndex-clause-runs g c =
     runs_looks g.D.Disk.tells g.D.Disk.files g.D.Disk.left_since g.D.Disk.moment g.D.Disk.bytes_read g.D.Disk.follows SameFiles (λ f. refl) Idx _
     c.args.disk.now
-    c.prepare.new.disk refl c.in-Err-BadIndex.ensures.looks
+    c.prepare.new.disk refl c.in-Err-BadIndex.ensures.reads.looks
 
 pub returns-in-Err-BadIndex-clause-unread : goal.returns-in-Err-BadIndex-clause-unread
-returns-in-Err-BadIndex-clause-unread g c = omega (arith, c.in-Err-BadIndex.ensures.looks.reads.pkg)
+returns-in-Err-BadIndex-clause-unread g c = omega (arith, c.in-Err-BadIndex.ensures.reads.looks.reads.pkg)
 
 pub returns-in-Err-DiskFault-clause-runs : goal.returns-in-Err-DiskFault-clause-runs
 returns-in-Err-DiskFault-clause-runs g c =
     runs_looks g.D.Disk.tells g.D.Disk.files g.D.Disk.left_since g.D.Disk.moment g.D.Disk.bytes_read g.D.Disk.follows SameFiles (λ f. refl) Idx _
     c.args.disk.now
-    c.prepare.new.disk refl c.in-Err-DiskFault.ensures.looks
+    c.prepare.new.disk refl c.in-Err-DiskFault.ensures.reads.looks
 
 pub returns-in-Err-DiskFault-clause-unread : goal.returns-in-Err-DiskFault-clause-unread
-returns-in-Err-DiskFault-clause-unread g c = omega (arith, c.in-Err-DiskFault.ensures.looks.reads.pkg)
+returns-in-Err-DiskFault-clause-unread g c = omega (arith, c.in-Err-DiskFault.ensures.reads.looks.reads.pkg)
 
 pub returns-in-Err-NoMemory-clause-runs : goal.returns-in-Err-NoMemory-clause-runs
 returns-in-Err-NoMemory-clause-runs g c =
     runs_looks g.D.Disk.tells g.D.Disk.files g.D.Disk.left_since g.D.Disk.moment g.D.Disk.bytes_read g.D.Disk.follows SameFiles (λ f. refl) Idx _
     c.args.disk.now
-    c.prepare.new.disk refl c.in-Err-NoMemory.ensures.looks
+    c.prepare.new.disk refl c.in-Err-NoMemory.ensures.reads.looks
 
 pub returns-in-Err-NoMemory-clause-unread : goal.returns-in-Err-NoMemory-clause-unread
-returns-in-Err-NoMemory-clause-unread g c = omega (arith, c.in-Err-NoMemory.ensures.looks.reads.pkg)
+returns-in-Err-NoMemory-clause-unread g c = omega (arith, c.in-Err-NoMemory.ensures.reads.looks.reads.pkg)
 
 pub returns-in-Ok-clause-change : goal.returns-in-Ok-clause-change
 returns-in-Ok-clause-change g c = record { can = c.in-Ok.ensures.can; ordered = c.in-Ok.ensures.prepared.ordered }

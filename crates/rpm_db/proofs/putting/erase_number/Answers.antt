@@ -1,4 +1,4 @@
-use Rattle.std.proofs.Common.{length, refl, IsTrue, ap, ◌∙◌, arith}
+use Rattle.std.proofs.Common.{length, refl, IsTrue, ap, ◌∙◌, arith, rules}
 use Rattle.std.specs.FinMap as finite
 use Rattle.rpm_outside.specs.Files.{Files}
 use Rattle.rpm_pkgdb.specs.Blobs.{blobs}
@@ -31,8 +31,11 @@ returns-in-Err-clause-stops g c = λ told lawful has.
 
 pub returns-in-Err-clause-runs : goal.returns-in-Err-clause-runs
 returns-in-Err-clause-runs g c =
-    log_same g.D.Disk.tells g.D.Disk.files g.D.Disk.left_since g.D.Disk.moment g.D.Disk.bytes_read g.D.Disk.follows c.args.disk.now c.prepare_erase.new.disk
-    c.in-Err.ensures.runs
+    record {
+      files = log_same g.D.Disk.tells g.D.Disk.files g.D.Disk.left_since g.D.Disk.moment g.D.Disk.bytes_read g.D.Disk.follows c.args.disk.now c.prepare_erase.new.disk
+          c.in-Err.ensures.runs;
+      cause = search rules;
+    }
 
 -- ---- both files were written
 
@@ -56,13 +59,19 @@ returns-in-Err-write_erase-clause-stops g c = λ told lawful has.
 
 pub returns-in-Ok-write_erase-clause-runs : goal.returns-in-Ok-write_erase-clause-runs
 returns-in-Ok-write_erase-clause-runs g c =
-    log_then g.D.Disk.tells g.D.Disk.files g.D.Disk.left_since g.D.Disk.moment g.D.Disk.bytes_read g.D.Disk.follows g.met.D.Disk.follows_trans
-    c.args.disk.now c.prepare_erase.new.disk c.write_erase.new.disk c.in-Ok.ensures.runs c.in-Ok-write_erase.ensures.runs
+    record {
+      files = log_then g.D.Disk.tells g.D.Disk.files g.D.Disk.left_since g.D.Disk.moment g.D.Disk.bytes_read g.D.Disk.follows g.met.D.Disk.follows_trans
+          c.args.disk.now c.prepare_erase.new.disk c.write_erase.new.disk c.in-Ok.ensures.runs c.in-Ok-write_erase.ensures.runs;
+      cause = search rules;
+    }
 
 pub returns-in-Err-write_erase-clause-runs : goal.returns-in-Err-write_erase-clause-runs
 returns-in-Err-write_erase-clause-runs g c =
-    log_then g.D.Disk.tells g.D.Disk.files g.D.Disk.left_since g.D.Disk.moment g.D.Disk.bytes_read g.D.Disk.follows g.met.D.Disk.follows_trans
-    c.args.disk.now c.prepare_erase.new.disk c.write_erase.new.disk c.in-Ok.ensures.runs c.in-Err-write_erase.ensures.runs
+    record {
+      files = log_then g.D.Disk.tells g.D.Disk.files g.D.Disk.left_since g.D.Disk.moment g.D.Disk.bytes_read g.D.Disk.follows g.met.D.Disk.follows_trans
+          c.args.disk.now c.prepare_erase.new.disk c.write_erase.new.disk c.in-Ok.ensures.runs c.in-Err-write_erase.ensures.runs;
+      cause = search rules;
+    }
 
 pub returns-in-Ok-write_erase-clause-end : goal.returns-in-Ok-write_erase-clause-end
 returns-in-Ok-write_erase-clause-end g c = λ told.
@@ -81,17 +90,17 @@ returns-in-Ok-write_erase-clause-done g c =
     let goes_to = finite.remove (blobs old.pkg st) c.args.n in
     let leads = e.leads (packages_of goes_to) (rows_erased old.pkg st c.args.n) in
     let goes = λ (told : IsTrue D.tells).
-    w.stored.blobs_are told ∙ ap (λ (fs : Files). finite.remove (blobs fs.pkg st) c.args.n) (e.runs.reads_as told) in
+    w.written.stored.blobs_are told ∙ ap (λ (fs : Files). finite.remove (blobs fs.pkg st) c.args.n) (e.runs.reads_as told) in
     record {
-      ready = changed_again D _ _ after _ _ _ _ (ap (λ (v : Store). v.is_stopped) w.ok ∙ c.requires.ready.going) w.is_made w.stored w.applied;
-      generation_is = ap (λ (v : Store). v.generation) w.ok;
-      state_is = λ told. state_written new.pkg after goes_to st.field (goes told) (ap (λ (v : Store). v.field) w.ok);
-      stands = w.stored.stands;
+      ready = changed_again D _ _ after _ _ _ _ (ap (λ (v : Store). v.is_stopped) w.written.ok ∙ c.requires.ready.going) w.is_made w.written.stored w.written.applied;
+      generation_is = ap (λ (v : Store). v.generation) w.written.ok;
+      state_is = λ told. state_written new.pkg after goes_to st.field (goes told) (ap (λ (v : Store). v.field) w.written.ok);
+      stands = w.written.stored.stands;
       rows_are = λ told has.
           rows_written new.pkg new.idx old.idx (f c.prepare_erase.new.disk).idx after after.generation c.in-Ok.change.work goes_to (goes told)
-          (ap (λ (fs : Files). fs.idx) (e.runs.reads_as told)) (leads.makes told has) (w.applied.sealed told);
-      reach = λ told has. omega (arith, leads.reach told has, w.applied.grows, live_none);
-      whole = λ told whole. whole_sealed _ c.in-Ok.change.work _ _ _ (e.runs.reads_as told) (e.whole told whole) (w.applied.sealed told);
+          (ap (λ (fs : Files). fs.idx) (e.runs.reads_as told)) (leads.makes told has) (w.written.applied.sealed told);
+      reach = λ told has. omega (arith, leads.reach told has, w.written.applied.grows, live_none);
+      whole = λ told whole. whole_sealed _ c.in-Ok.change.work _ _ _ (e.runs.reads_as told) (e.whole told whole) (w.written.applied.sealed told);
     }
 
 pub returns-in-Ok-write_erase-clause-index : goal.returns-in-Ok-write_erase-clause-index

@@ -27,20 +27,25 @@ returns-in-Err-prepare_put-clause-placed g c =
     room_of_index (placed c.args.n (length c.args.view.now.blob) c.args.store.now) (placement_of c.in-Ok.plan) c.in-Err-prepare_put.fault
     c.in-Err-prepare_put.ensures.kinds c.in-Ok.ensures.placed.0
 
-pub returns-in-Ok-prepare_put-clause-leads : goal.returns-in-Ok-prepare_put-clause-leads
-returns-in-Ok-prepare_put-clause-leads g c =
+pub returns-in-Ok-prepare_put-clause-planned : goal.returns-in-Ok-prepare_put-clause-planned
+returns-in-Ok-prepare_put-clause-planned g c =
     let st = c.args.store.now in
     let f = g.D.Disk.files c.args.disk.now in
     let h = c.args.view.now in
     let same = c.in-Ok.ensures.value in
     let after = packages_of (put_map f.pkg st c.args.n h.blob) in
     let number_is = c.number_of-number.ensures ∙ number_same c.args.n st c.plan_room.new.store same in
-    subst (λ (k : ℕ). LeadsTo g.D.Disk c.args.disk.now c.args.index.now.units (packages f.pkg st) after (header_rows k h)
-    c.in-Ok-prepare_put.change.work) number_is
-    (subst (λ (ps : finite.FinMap nat_cmp Package). LeadsTo g.D.Disk c.args.disk.now c.args.index.now.units ps after (header_rows c.number_of-number.result h)
-    c.in-Ok-prepare_put.change.work) (packages_same f.pkg st c.plan_room.new.store same)
-    (c.in-Ok-prepare_put.ensures.leads after
-    (rows_planned f.pkg st c.plan_room.new.store same c.args.n c.number_of-number.result c.number_of-number.ensures h c.in-Ok.ensures.own)))
+    record {
+      put = c.in-Ok.ensures.plan;
+      change = c.in-Ok-prepare_put.ensures.change;
+      leads = subst (λ (k : ℕ). LeadsTo g.D.Disk c.args.disk.now c.args.index.now.units (packages f.pkg st) after (header_rows k h)
+          c.in-Ok-prepare_put.change.work) number_is
+          (subst (λ (ps : finite.FinMap nat_cmp Package). LeadsTo g.D.Disk c.args.disk.now c.args.index.now.units ps after (header_rows c.number_of-number.result h)
+          c.in-Ok-prepare_put.change.work) (packages_same f.pkg st c.plan_room.new.store same)
+          (c.in-Ok-prepare_put.ensures.leads after
+          (rows_planned f.pkg st c.plan_room.new.store same c.args.n c.number_of-number.result c.number_of-number.ensures h c.in-Ok.ensures.own)));
+      whole = c.in-Ok-prepare_put.ensures.whole;
+    }
 
 pub returns-in-Ok-prepare_put-clause-index : goal.returns-in-Ok-prepare_put-clause-index
 returns-in-Ok-prepare_put-clause-index g c = record {

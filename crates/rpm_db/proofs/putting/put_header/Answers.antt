@@ -1,4 +1,4 @@
-use Rattle.std.proofs.Common.{◌+◌, refl, length, sym, ap, ◌∙◌, subst, arith}
+use Rattle.std.proofs.Common.{◌+◌, refl, length, sym, ap, ◌∙◌, subst, arith, rules}
 use Rattle.rpm_outside.specs.Files.{Files}
 use Rattle.rpm_pkgdb.specs.Reaches.{ReachesTo}
 use Rattle.rpm_pkgdb.specs.Slots.{slot_with}
@@ -26,59 +26,67 @@ pub returns-in-Err-clause-stops : goal.returns-in-Err-clause-stops
 returns-in-Err-clause-stops g c = λ told lawful has. stops_refused _ _ _ _ _ _ _ _ _ _ told lawful c.in-Err.ensures.runs
 
 pub returns-in-Err-clause-runs : goal.returns-in-Err-clause-runs
-returns-in-Err-clause-runs g c = log_same _ _ _ _ _ _ _ _ c.in-Err.ensures.runs
+returns-in-Err-clause-runs g c = record { files = log_same _ _ _ _ _ _ _ _ c.in-Err.ensures.runs; cause = search rules }
 
 pub returns-in-Ok-write_put-clause-stops : goal.returns-in-Ok-write_put-clause-stops
 returns-in-Ok-write_put-clause-stops g c = λ told lawful has.
     let e = c.in-Ok.ensures in
-    stops_put _ _ _ _ _ _ _ _ _ told e.runs (record { room = e.value; plan_is = e.plan.plan_is; asked = e.placed.1; own = c.blob.ensures.value })
-    c.in-Ok.planned.1.work lawful has (e.leads.makes told has) (c.in-Ok-write_put.ensures.stops told)
+    stops_put _ _ _ _ _ _ _ _ _ told e.runs (record { room = e.value; plan_is = e.planned.put.plan_is; asked = e.placed.1; own = c.blob.ensures.value })
+    c.in-Ok.planned.1.work lawful has (e.planned.leads.makes told has) (c.in-Ok-write_put.ensures.stops told)
 
 pub returns-in-Err-write_put-clause-stops : goal.returns-in-Err-write_put-clause-stops
 returns-in-Err-write_put-clause-stops g c = λ told lawful has.
     let e = c.in-Ok.ensures in
-    stops_put _ _ _ _ _ _ _ _ _ told e.runs (record { room = e.value; plan_is = e.plan.plan_is; asked = e.placed.1; own = c.blob.ensures.value })
-    c.in-Ok.planned.1.work lawful has (e.leads.makes told has) (c.in-Err-write_put.ensures.stops told)
+    stops_put _ _ _ _ _ _ _ _ _ told e.runs (record { room = e.value; plan_is = e.planned.put.plan_is; asked = e.placed.1; own = c.blob.ensures.value })
+    c.in-Ok.planned.1.work lawful has (e.planned.leads.makes told has) (c.in-Err-write_put.ensures.stops told)
 
-pub returns-in-Ok-write_put-clause-later : goal.returns-in-Ok-write_put-clause-later
-returns-in-Ok-write_put-clause-later g c = c.in-Ok.ensures.later
+pub returns-in-Ok-write_put-clause-room : goal.returns-in-Ok-write_put-clause-room
+returns-in-Ok-write_put-clause-room g c = record {
+  later = c.in-Ok.ensures.later;
+  placed = put_placed _ _ _ _ _ c.in-Ok.planned.0 c.in-Ok.ensures.placed.0 c.in-Ok.ensures.value c.in-Ok-write_put.ensures.written.ok;
+}
 
-pub returns-in-Err-write_put-clause-later : goal.returns-in-Err-write_put-clause-later
-returns-in-Err-write_put-clause-later g c = c.in-Ok.ensures.later.0
+pub returns-in-Err-write_put-clause-room : goal.returns-in-Err-write_put-clause-room
+returns-in-Err-write_put-clause-room g c = record {
+  later = c.in-Ok.ensures.later.0;
+  placed = tt;
+}
 
-pub returns-in-Err-clause-later : goal.returns-in-Err-clause-later
-returns-in-Err-clause-later g c = c.in-Err.ensures.later
+pub returns-in-Err-clause-room : goal.returns-in-Err-clause-room
+returns-in-Err-clause-room g c = record {
+  later = c.in-Err.ensures.later;
+  placed = room_put c.args.n (length c.args.view.now.blob) c.args.store.now c.in-Err.fault c.in-Err.ensures.placed;
+}
 
 pub returns-in-Ok-write_put-clause-number : goal.returns-in-Ok-write_put-clause-number
 returns-in-Ok-write_put-clause-number g c =
     let e = c.in-Ok.ensures in
-    c.in-Ok-write_put.ensures.number ∙ number_put (record { room = e.value; plan_is = e.plan.plan_is; asked = e.placed.1; own = c.blob.ensures.value })
-
-pub returns-in-Ok-write_put-clause-placed : goal.returns-in-Ok-write_put-clause-placed
-returns-in-Ok-write_put-clause-placed g c =
-    put_placed _ _ _ _ _ c.in-Ok.planned.0 c.in-Ok.ensures.placed.0 c.in-Ok.ensures.value c.in-Ok-write_put.ensures.ok
-
-pub returns-in-Err-clause-placed : goal.returns-in-Err-clause-placed
-returns-in-Err-clause-placed g c = room_put c.args.n (length c.args.view.now.blob) c.args.store.now c.in-Err.fault c.in-Err.ensures.placed
+    c.in-Ok-write_put.ensures.number ∙ number_put (record { room = e.value; plan_is = e.planned.put.plan_is; asked = e.placed.1; own = c.blob.ensures.value })
 
 pub returns-in-Ok-write_put-clause-reads : goal.returns-in-Ok-write_put-clause-reads
 returns-in-Ok-write_put-clause-reads g c =
     let e = c.in-Ok.ensures in
-    reads_of_put (record { room = e.value; plan_is = e.plan.plan_is; asked = e.placed.1; own = c.blob.ensures.value }) _ _ _ e.reads c.in-Ok-write_put.ensures.reads.pkg
+    reads_of_put (record { room = e.value; plan_is = e.planned.put.plan_is; asked = e.placed.1; own = c.blob.ensures.value }) _ _ _ e.reads c.in-Ok-write_put.ensures.reads.pkg
 
 pub returns-in-Err-write_put-clause-reads : goal.returns-in-Err-write_put-clause-reads
 returns-in-Err-write_put-clause-reads g c =
     let e = c.in-Ok.ensures in
-    reads_of_put (record { room = e.value; plan_is = e.plan.plan_is; asked = e.placed.1; own = c.blob.ensures.value }) _ _ _ e.reads c.in-Err-write_put.ensures.reads.pkg
+    reads_of_put (record { room = e.value; plan_is = e.planned.put.plan_is; asked = e.placed.1; own = c.blob.ensures.value }) _ _ _ e.reads c.in-Err-write_put.ensures.reads.pkg
 
 pub returns-in-Err-clause-reads : goal.returns-in-Err-clause-reads
 returns-in-Err-clause-reads g c = reads_planned c.args.n c.args.store.now _ _ c.in-Err.ensures.reads
 
 pub returns-in-Ok-write_put-clause-runs : goal.returns-in-Ok-write_put-clause-runs
-returns-in-Ok-write_put-clause-runs g c = log_then _ _ _ _ _ _ g.met.D.Disk.follows_trans _ _ _ c.in-Ok.ensures.runs c.in-Ok-write_put.ensures.runs
+returns-in-Ok-write_put-clause-runs g c = record {
+  files = log_then _ _ _ _ _ _ g.met.D.Disk.follows_trans _ _ _ c.in-Ok.ensures.runs c.in-Ok-write_put.ensures.runs;
+  cause = search rules;
+}
 
 pub returns-in-Err-write_put-clause-runs : goal.returns-in-Err-write_put-clause-runs
-returns-in-Err-write_put-clause-runs g c = log_then _ _ _ _ _ _ g.met.D.Disk.follows_trans _ _ _ c.in-Ok.ensures.runs c.in-Err-write_put.ensures.runs
+returns-in-Err-write_put-clause-runs g c = record {
+  files = log_then _ _ _ _ _ _ g.met.D.Disk.follows_trans _ _ _ c.in-Ok.ensures.runs c.in-Err-write_put.ensures.runs;
+  cause = search rules;
+}
 
 pub returns-in-Ok-write_put-clause-end : goal.returns-in-Ok-write_put-clause-end
 returns-in-Ok-write_put-clause-end g c = λ told.
@@ -95,18 +103,18 @@ returns-in-Ok-write_put-clause-done g c =
     let after = c.write_put.new.store in
     record {
       ready = changed_again D _ _ after _ _ _ _
-          (ap (λ (v : Store). v.is_stopped) w.ok ∙ ap (λ (v : Store). v.is_stopped) e.value ∙ c.requires.ready.going) w.is_made w.stored w.applied;
-      generation_is = ap (λ (v : Store). v.generation) w.ok ∙ ap (λ (v : Store). v.generation + 1) e.value;
+          (ap (λ (v : Store). v.is_stopped) w.written.ok ∙ ap (λ (v : Store). v.is_stopped) e.value ∙ c.requires.ready.going) w.is_made w.written.stored w.written.applied;
+      generation_is = ap (λ (v : Store). v.generation) w.written.ok ∙ ap (λ (v : Store). v.generation + 1) e.value;
       state_is = λ told.
-          state_put _ _ _ _ _ _ _ _ c.write_put.new.disk told e.runs (record { room = e.value; plan_is = e.plan.plan_is; asked = e.placed.1; own = c.blob.ensures.value })
-          after (w.stored.blobs_are told) (ap (λ (v : Store). v.field) w.ok);
-      stands = w.stored.stands;
+          state_put _ _ _ _ _ _ _ _ c.write_put.new.disk told e.runs (record { room = e.value; plan_is = e.planned.put.plan_is; asked = e.placed.1; own = c.blob.ensures.value })
+          after (w.written.stored.blobs_are told) (ap (λ (v : Store). v.field) w.written.ok);
+      stands = w.written.stored.stands;
       rows_are = λ told has.
-          rows_put _ _ _ _ _ _ _ _ c.write_put.new.disk told e.runs (record { room = e.value; plan_is = e.plan.plan_is; asked = e.placed.1; own = c.blob.ensures.value })
-          after c.in-Ok.planned.1.work (w.stored.blobs_are told) (e.leads.makes told has)
-          (w.applied.sealed told);
-      reach = λ told has. omega (arith, e.leads.reach told has, w.applied.grows);
-      whole = λ told whole. whole_sealed _ c.in-Ok.planned.1.work _ _ _ (e.runs.reads_as told) (e.whole told whole) (w.applied.sealed told);
+          rows_put _ _ _ _ _ _ _ _ c.write_put.new.disk told e.runs (record { room = e.value; plan_is = e.planned.put.plan_is; asked = e.placed.1; own = c.blob.ensures.value })
+          after c.in-Ok.planned.1.work (w.written.stored.blobs_are told) (e.planned.leads.makes told has)
+          (w.written.applied.sealed told);
+      reach = λ told has. omega (arith, e.planned.leads.reach told has, w.written.applied.grows);
+      whole = λ told whole. whole_sealed _ c.in-Ok.planned.1.work _ _ _ (e.runs.reads_as told) (e.planned.whole told whole) (w.written.applied.sealed told);
     }
 
 pub returns-in-Ok-write_put-clause-index : goal.returns-in-Ok-write_put-clause-index

@@ -1,4 +1,4 @@
-use Rattle.std.proofs.Common.{◌≡◌, length, ap, refl, arith}
+use Rattle.std.proofs.Common.{◌≡◌, length, ap, refl, arith, rules}
 use Rattle.rpm_outside.specs.declared.disk.File.TheVariants.{Idx}
 use Rattle.rpm_hindex.specs.declared.faults.RewriteFault.TheVariants as rewrite
 use Rattle.rpm_outside.specs.Files.{Files}
@@ -16,30 +16,38 @@ returns-in-Ok-rewrite-clause-runs g c =
     runs_then g.D.Disk.tells g.D.Disk.files g.D.Disk.left_since g.D.Disk.moment g.D.Disk.bytes_read g.D.Disk.follows g.met.D.Disk.follows_trans
     Remade Remade Remade c.args.disk.now c.open.new.disk c.rewrite.new.disk (λ x y r. r) remade_then
     (runs_looks g.D.Disk.tells g.D.Disk.files g.D.Disk.left_since g.D.Disk.moment g.D.Disk.bytes_read g.D.Disk.follows Remade remade_none Idx 32
-    c.args.disk.now c.open.new.disk refl c.in-Ok.ensures.looks)
+    c.args.disk.now c.open.new.disk refl c.in-Ok.ensures.reads.looks)
     (runs_index g.D.Disk.tells g.D.Disk.files g.D.Disk.left_since g.D.Disk.moment g.D.Disk.bytes_read g.D.Disk.follows Remade VoidOrSame (λ f. Unit {0}) 0
-    c.open.new.disk c.rewrite.new.disk voiding (λ told. tt) (λ told image left. tt) c.rewrite.ensures.changes)
+    c.open.new.disk c.rewrite.new.disk voiding (λ told. tt) (λ told image left. tt) c.rewrite.ensures.writes.changes)
 
 pub returns-clause-runs : goal.returns-clause-runs
 returns-clause-runs g c =
     runs_then g.D.Disk.tells g.D.Disk.files g.D.Disk.left_since g.D.Disk.moment g.D.Disk.bytes_read g.D.Disk.follows g.met.D.Disk.follows_trans
     Remade Remade Remade c.args.disk.now c.open.new.disk c.rewrite.new.disk (λ x y r. r) remade_then
     (runs_looks g.D.Disk.tells g.D.Disk.files g.D.Disk.left_since g.D.Disk.moment g.D.Disk.bytes_read g.D.Disk.follows Remade remade_none Idx 32
-    c.args.disk.now c.open.new.disk refl c.in-Ok.ensures.looks)
+    c.args.disk.now c.open.new.disk refl c.in-Ok.ensures.reads.looks)
     (runs_index g.D.Disk.tells g.D.Disk.files g.D.Disk.left_since g.D.Disk.moment g.D.Disk.bytes_read g.D.Disk.follows Remade VoidOrSame (λ f. Unit {0}) 0
-    c.open.new.disk c.rewrite.new.disk voiding (λ told. tt) (λ told image left. tt) c.rewrite.ensures.changes)
+    c.open.new.disk c.rewrite.new.disk voiding (λ told. tt) (λ told image left. tt) c.rewrite.ensures.writes.changes)
 
 pub returns-clause-room : goal.returns-clause-room
 returns-clause-room g c = λ needed is.
     let same : c.in-Err-rewrite.fault ≡ rewrite.IndexFull needed = cc in
     never_full c.new-rows.result c.new-rows.ensures c.in-Err-rewrite.fault c.in-Err-rewrite.ensures.full needed same
 
-pub returns-in-Ok-rewrite-clause-reach : goal.returns-in-Ok-rewrite-clause-reach
-returns-in-Ok-rewrite-clause-reach g c = λ told.
-    omega (
-      arith,
-      c.in-Ok-rewrite.ensures.grows,
-      ap units_for c.new-rows.ensures,
-      (c.in-Ok.ensures.kept told).units,
-      ap (λ (f : Files). length f.idx) (c.in-Ok.ensures.looks.untouched told).same,
-    )
+pub returns-in-Ok-rewrite-clause-empty : goal.returns-in-Ok-rewrite-clause-empty
+returns-in-Ok-rewrite-clause-empty g c = record {
+  voided = search rules;
+  ordered = search rules;
+  kept = search rules;
+  whole = search rules;
+  rows = search rules;
+  settled = search rules;
+  reach = λ told.
+      omega (
+        arith,
+        c.in-Ok-rewrite.ensures.grows,
+        ap units_for c.new-rows.ensures,
+        (c.in-Ok.ensures.kept told).units,
+        ap (λ (f : Files). length f.idx) (c.in-Ok.ensures.reads.looks.untouched told).same,
+      );
+}

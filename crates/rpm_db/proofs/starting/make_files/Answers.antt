@@ -14,33 +14,33 @@ use Rattle.rpm_db.proofs.starting.make_files.Goals as goal
 
 pub seal_index-requires-clause-written : goal.seal_index-requires-clause-written
 seal_index-requires-clause-written g c =
-    ordered_pending c.in-Ok.index.pending c.in-Ok.index.units c.in-Ok.index.second c.in-Ok.ensures.ordered
+    ordered_pending c.in-Ok.index.pending c.in-Ok.index.units c.in-Ok.index.second c.in-Ok.ensures.empty.ordered
 
 pub seal_index-requires-clause-keeps : goal.seal_index-requires-clause-keeps
 seal_index-requires-clause-keeps g c = λ told.
-    subst (λ (u : Units). hindex.Keeps u c.in-Ok.index) (sym (c.in-Ok-make.ensures.changes.idx told)) (c.in-Ok.ensures.kept told)
+    subst (λ (u : Units). hindex.Keeps u c.in-Ok.index) (sym (c.in-Ok-make.ensures.writes.changes.idx told)) (c.in-Ok.ensures.empty.kept told)
 
 pub seal_index-requires-clause-settled : goal.seal_index-requires-clause-settled
 seal_index-requires-clause-settled g c = λ told image here.
-    let m = c.in-Ok-make.ensures.changes in
+    let m = c.in-Ok-make.ensures.writes.changes in
     let s = m.now told image here in
-    s.idx ∙ c.in-Ok.ensures.settled told s.from s.was ∙ sym (m.idx told)
+    s.idx ∙ c.in-Ok.ensures.empty.settled told s.from s.was ∙ sym (m.idx told)
 
 pub seal_index-requires-clause-here : goal.seal_index-requires-clause-here
 seal_index-requires-clause-here g c = λ told.
     let m = c.in-Ok-make.ensures in
-    let idx = m.changes.idx told in
+    let idx = m.writes.changes.idx told in
     subst (λ (u : Units). IsUnsealed 1 c.in-Ok.index.pending (g.D.Disk.files c.make.new.disk).pkg u) (sym idx)
     (empty_unsealed c.in-Ok.index.pending (g.D.Disk.files c.make.new.disk).pkg (g.D.Disk.files c.empty_index.new.disk).idx c.args.store.now
-    (subst (pkgdb.Keeps (g.D.Disk.files c.make.new.disk).pkg) m.ok (m.made told).written.kept) (c.in-Ok.ensures.whole told) (c.in-Ok.ensures.rows told))
+    (subst (pkgdb.Keeps (g.D.Disk.files c.make.new.disk).pkg) m.ok (m.made told).written.kept) (c.in-Ok.ensures.empty.whole told) (c.in-Ok.ensures.empty.rows told))
 
 pub seal_index-requires-clause-each : goal.seal_index-requires-clause-each
 seal_index-requires-clause-each g c = λ told image here.
     let m = c.in-Ok-make.ensures in
-    let idx = m.changes.idx told in
+    let idx = m.writes.changes.idx told in
     subst (λ (u : Units). IsUnsealed 1 c.in-Ok.index.pending image.pkg u) (sym idx)
     (empty_unsealed c.in-Ok.index.pending image.pkg (g.D.Disk.files c.empty_index.new.disk).idx c.args.store.now
-    (subst (pkgdb.Keeps image.pkg) m.ok ((m.made told).written.quiet image here).keeps) (c.in-Ok.ensures.whole told) (c.in-Ok.ensures.rows told))
+    (subst (pkgdb.Keeps image.pkg) m.ok ((m.made told).written.quiet image here).keeps) (c.in-Ok.ensures.empty.whole told) (c.in-Ok.ensures.empty.rows told))
 
 pub returns-in-Err-clause-stops : goal.returns-in-Err-clause-stops
 returns-in-Err-clause-stops g c = λ told.
@@ -63,12 +63,12 @@ returns-in_default-clause-stops g c = λ told.
     let d = c.make.new.disk in
     let m = c.in_default.ensures in
     let idx = (g.D.Disk.files b).idx in
-    let void : unit_at idx 0 ≡ blank = sym (e.kept told).first ∙ e.voided in
+    let void : unit_at idx 0 ≡ blank = sym (e.empty.kept told).first ∙ e.empty.voided in
     let keeps = ap store (e.runs.reads_as told).pkg ∙ c.requires.can.keeps told in
     let quiet = settled_quiet value (g.D.Disk.files b) (g.D.Disk.left_since b (g.D.Disk.moment b)) keeps
     (still_settled g.D.Disk.tells g.D.Disk.files g.D.Disk.left_since g.D.Disk.moment g.D.Disk.bytes_read g.D.Disk.follows a b told e.runs (c.requires.can.pkg
     told)) in
-    let made = stops_make g.D.Disk.moment g.D.Disk.left_since a b d idx void (e.runs.now told) (e.settled told) (m.images told quiet) in
+    let made = stops_make g.D.Disk.moment g.D.Disk.left_since a b d idx void (e.runs.now told) (e.empty.settled told) (m.images told quiet) in
     two g.D.Disk.moment g.D.Disk.left_since a b d first made
 
 pub returns-in-Ok-seal_index-clause-stops : goal.returns-in-Ok-seal_index-clause-stops
@@ -82,12 +82,12 @@ returns-in-Ok-seal_index-clause-stops g c = λ told.
     let d = c.make.new.disk in
     let m = c.in-Ok-make.ensures in
     let idx = (g.D.Disk.files b).idx in
-    let void : unit_at idx 0 ≡ blank = sym (e.kept told).first ∙ e.voided in
+    let void : unit_at idx 0 ≡ blank = sym (e.empty.kept told).first ∙ e.empty.voided in
     let keeps = ap store (e.runs.reads_as told).pkg ∙ c.requires.can.keeps told in
     let quiet = settled_quiet value (g.D.Disk.files b) (g.D.Disk.left_since b (g.D.Disk.moment b)) keeps
     (still_settled g.D.Disk.tells g.D.Disk.files g.D.Disk.left_since g.D.Disk.moment g.D.Disk.bytes_read g.D.Disk.follows a b told e.runs (c.requires.can.pkg
     told)) in
-    let made = stops_make g.D.Disk.moment g.D.Disk.left_since a b d idx void (e.runs.now told) (e.settled told) (m.images told quiet) in
+    let made = stops_make g.D.Disk.moment g.D.Disk.left_since a b d idx void (e.runs.now told) (e.empty.settled told) (m.images told quiet) in
     let f = c.seal_index.new.disk in
     let sealed = stops_seal g.D.Disk.moment g.D.Disk.left_since a b d f
     (λ i here. g.met.D.Disk.earlier d (g.D.Disk.moment b) (g.D.Disk.moment d) i told made.later (omega arith) here) made
@@ -105,12 +105,12 @@ returns-in-Err-seal_index-clause-stops g c = λ told.
     let d = c.make.new.disk in
     let m = c.in-Ok-make.ensures in
     let idx = (g.D.Disk.files b).idx in
-    let void : unit_at idx 0 ≡ blank = sym (e.kept told).first ∙ e.voided in
+    let void : unit_at idx 0 ≡ blank = sym (e.empty.kept told).first ∙ e.empty.voided in
     let keeps = ap store (e.runs.reads_as told).pkg ∙ c.requires.can.keeps told in
     let quiet = settled_quiet value (g.D.Disk.files b) (g.D.Disk.left_since b (g.D.Disk.moment b)) keeps
     (still_settled g.D.Disk.tells g.D.Disk.files g.D.Disk.left_since g.D.Disk.moment g.D.Disk.bytes_read g.D.Disk.follows a b told e.runs (c.requires.can.pkg
     told)) in
-    let made = stops_make g.D.Disk.moment g.D.Disk.left_since a b d idx void (e.runs.now told) (e.settled told) (m.images told quiet) in
+    let made = stops_make g.D.Disk.moment g.D.Disk.left_since a b d idx void (e.runs.now told) (e.empty.settled told) (m.images told quiet) in
     let f = c.seal_index.new.disk in
     let sealed = stops_seal g.D.Disk.moment g.D.Disk.left_since a b d f
     (λ i here. g.met.D.Disk.earlier d (g.D.Disk.moment b) (g.D.Disk.moment d) i told made.later (omega arith) here) made
@@ -126,10 +126,10 @@ returns-in-Ok-seal_index-clause-empty g c =
       quiet = λ told.
           still_quiet g.D.Disk.tells g.D.Disk.files g.D.Disk.left_since g.D.Disk.moment g.D.Disk.bytes_read g.D.Disk.follows c.make.new.disk
           c.seal_index.new.disk c.make.new.self told s.runs (m.made told).written.quiet;
-      current = s.current;
-      units = s.kept;
-      index_of = s.index;
-      settled = s.settled;
+      current = s.sealed.current;
+      units = s.sealed.kept;
+      index_of = s.sealed.index_of;
+      settled = s.sealed.settled;
     }
 
 pub returns-in-Err-clause-runs : goal.returns-in-Err-clause-runs
@@ -140,23 +140,23 @@ returns-in-Err-clause-runs g c =
 pub returns-in_default-clause-runs : goal.returns-in_default-clause-runs
 returns-in_default-clause-runs g c =
     log_made g.D.Disk.tells g.D.Disk.files g.D.Disk.left_since g.D.Disk.moment g.D.Disk.bytes_read g.D.Disk.follows g.met.D.Disk.follows_trans
-    (SameOutside 0 256) 0 c.args.disk.now c.empty_index.new.disk c.make.new.disk c.in-Ok.ensures.runs c.in_default.ensures.changes
+    (SameOutside 0 256) 0 c.args.disk.now c.empty_index.new.disk c.make.new.disk c.in-Ok.ensures.runs c.in_default.ensures.writes.changes
 
 pub returns-in-Ok-seal_index-clause-runs : goal.returns-in-Ok-seal_index-clause-runs
 returns-in-Ok-seal_index-clause-runs g c =
     log_sealed g.D.Disk.tells g.D.Disk.files g.D.Disk.left_since g.D.Disk.moment g.D.Disk.bytes_read g.D.Disk.follows g.met.D.Disk.follows_trans
-    (SameOutside 0 256) 0 c.args.disk.now c.empty_index.new.disk c.make.new.disk c.seal_index.new.disk c.in-Ok.ensures.runs c.in-Ok-make.ensures.changes
+    (SameOutside 0 256) 0 c.args.disk.now c.empty_index.new.disk c.make.new.disk c.seal_index.new.disk c.in-Ok.ensures.runs c.in-Ok-make.ensures.writes.changes
     c.in-Ok-seal_index.ensures.runs
 
 pub returns-in-Err-seal_index-clause-runs : goal.returns-in-Err-seal_index-clause-runs
 returns-in-Err-seal_index-clause-runs g c =
     log_sealed g.D.Disk.tells g.D.Disk.files g.D.Disk.left_since g.D.Disk.moment g.D.Disk.bytes_read g.D.Disk.follows g.met.D.Disk.follows_trans
-    (SameOutside 0 256) 0 c.args.disk.now c.empty_index.new.disk c.make.new.disk c.seal_index.new.disk c.in-Ok.ensures.runs c.in-Ok-make.ensures.changes
+    (SameOutside 0 256) 0 c.args.disk.now c.empty_index.new.disk c.make.new.disk c.seal_index.new.disk c.in-Ok.ensures.runs c.in-Ok-make.ensures.writes.changes
     c.in-Err-seal_index.ensures.runs
 
 pub returns-in-Ok-seal_index-clause-reach : goal.returns-in-Ok-seal_index-clause-reach
 returns-in-Ok-seal_index-clause-reach g c = λ told.
-    let s = c.in-Ok-seal_index.ensures in omega (arith, c.in-Ok.ensures.reach told, s.units, (s.kept told).units)
+    let s = c.in-Ok-seal_index.ensures in omega (arith, c.in-Ok.ensures.empty.reach told, s.units, (s.sealed.kept told).units)
 
 pub returns-in-Ok-seal_index-clause-end : goal.returns-in-Ok-seal_index-clause-end
 returns-in-Ok-seal_index-clause-end g c = λ told.

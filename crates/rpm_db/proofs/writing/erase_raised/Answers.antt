@@ -1,4 +1,4 @@
-use Rattle.std.proofs.Common.{◌≡◌, ◌+◌, IsTrue, arith, ap, ◌∙◌}
+use Rattle.std.proofs.Common.{◌≡◌, ◌+◌, IsTrue, arith, ap, ◌∙◌, rules}
 use Rattle.std.specs.FinMap as finite
 use Rattle.rpm_outside.specs.declared.disk.File.TheVariants.{Pkg}
 use Rattle.rpm_outside.specs.inner.Changing.{changes_then, changes_weaker, stops_then, stops_weaker}
@@ -41,7 +41,7 @@ returns-in-Ok-clause-images g c = λ told quiet.
     stops_weaker D.moment D.left_since Pkg (ErasesTo raised c.args.n mid) to b d
     (λ image. erases_to st.generation st.field (blobs file st) raised mid image (ap (λ (v : Store). v.generation) e.ok)
     (ap (λ (v : Store). v.field) e.ok) (e.raised told).written.blobs_are c.args.n) (c.erase.ensures.stops told (e.raised told).written.quiet).images in
-    stops_then D.tells D.files D.left_since D.moment D.bytes_read D.follows Pkg told (SameOutside 0 1) to 0 a b d e.changes first second
+    stops_then D.tells D.files D.left_since D.moment D.bytes_read D.follows Pkg told (SameOutside 0 1) to 0 a b d e.writes.changes first second
 
 pub returns-in-Ok-clause-err : goal.returns-in-Ok-clause-err
 returns-in-Ok-clause-err g c = map_err c.erase.result (λ (is : c.erase.new.self ≡ stopped c.raise.new.self). (
@@ -56,18 +56,24 @@ returns-in-Err-clause-err g c =
 pub erase-requires-clause-keeps : goal.erase-requires-clause-keeps
 erase-requires-clause-keeps g c = λ told. (c.in-Ok.ensures.raised told).written.kept
 
-pub returns-in-Err-clause-changes : goal.returns-in-Err-clause-changes
-returns-in-Err-clause-changes g c =
+pub returns-in-Err-clause-writes : goal.returns-in-Err-clause-writes
+returns-in-Err-clause-writes g c =
     let D = g.D.Disk in
-    changes_weaker D.tells D.files D.left_since D.moment D.bytes_read D.follows Pkg (SameOutside 0 1) Anything 0 0 c.args.disk.now c.raise.new.disk
-    (omega arith) (λ x y r. tt) c.in-Err.ensures.changes
+    record {
+      changes = changes_weaker D.tells D.files D.left_since D.moment D.bytes_read D.follows Pkg (SameOutside 0 1) Anything 0 0 c.args.disk.now c.raise.new.disk
+          (omega arith) (λ x y r. tt) c.in-Err.ensures.writes.changes;
+      cause = search rules;
+    }
 
-pub returns-in-Ok-clause-changes : goal.returns-in-Ok-clause-changes
-returns-in-Ok-clause-changes g c =
+pub returns-in-Ok-clause-writes : goal.returns-in-Ok-clause-writes
+returns-in-Ok-clause-writes g c =
     let D = g.D.Disk in
-    changes_then D.tells D.files D.left_since D.moment D.bytes_read D.follows Pkg g.met.D.Disk.follows_trans (SameOutside 0 1) Anything Anything 0
-    0 0 c.args.disk.now c.raise.new.disk c.erase.new.disk
-    (omega arith) (λ x y r. tt) (λ x y z p q. tt) c.in-Ok.ensures.changes c.erase.ensures.changes
+    record {
+      changes = changes_then D.tells D.files D.left_since D.moment D.bytes_read D.follows Pkg g.met.D.Disk.follows_trans (SameOutside 0 1) Anything Anything 0
+          0 0 c.args.disk.now c.raise.new.disk c.erase.new.disk
+          (omega arith) (λ x y r. tt) (λ x y z p q. tt) c.in-Ok.ensures.writes.changes c.erase.ensures.writes.changes;
+      cause = search rules;
+    }
 
 pub returns-in-Ok-clause-end : goal.returns-in-Ok-clause-end
 returns-in-Ok-clause-end g c =

@@ -1,4 +1,4 @@
-use Rattle.std.proofs.Common.{◌≡◌, ◌+◌, ◌≤◌, length, IsTrue, arith, Some, sym, ap, ◌∙◌, subst}
+use Rattle.std.proofs.Common.{◌≡◌, ◌+◌, ◌≤◌, length, IsTrue, arith, Some, sym, ap, ◌∙◌, subst, rules}
 use Rattle.std.specs.FinMap as finite
 use Rattle.rpm_outside.specs.declared.disk.File.TheVariants.{Pkg}
 use Rattle.rpm_outside.specs.inner.Changing.{changes_then, changes_weaker, stops_then, stops_weaker}
@@ -51,7 +51,7 @@ returns-clause-images g c = λ told quiet.
     stops_weaker D.moment D.left_since Pkg (PutsTo raised target c.args.blob.now mid) to b d
     (λ image. puts_to st.generation st.field (blobs file st) raised mid image (ap (λ (v : Store). v.generation) e.ok)
     (ap (λ (v : Store). v.field) e.ok) (e.raised told).written.blobs_are target c.args.blob.now) (c.put.ensures.stops told (e.raised told).written.quiet).images in
-    stops_then D.tells D.files D.left_since D.moment D.bytes_read D.follows Pkg told (SameOutside 0 1) to 0 a b d e.changes first second
+    stops_then D.tells D.files D.left_since D.moment D.bytes_read D.follows Pkg told (SameOutside 0 1) to 0 a b d e.writes.changes first second
 
 pub returns-clause-err : goal.returns-clause-err
 returns-clause-err g c = map_err c.put.result (λ (is : c.put.new.self ≡ stopped c.raise.new.self). (
@@ -72,21 +72,27 @@ put-requires-clause-ready g c =
       keeps = λ told. (c.in-Ok.ensures.raised told).written.kept;
     }
 
-pub returns-in_default-clause-changes : goal.returns-in_default-clause-changes
-returns-in_default-clause-changes g c =
+pub returns-in_default-clause-writes : goal.returns-in_default-clause-writes
+returns-in_default-clause-writes g c =
     let D = g.D.Disk in
-    changes_weaker D.tells D.files D.left_since D.moment D.bytes_read D.follows Pkg (SameOutside 0 1) Anything 0
-    (moving_cost c.args.store.now.slots (moves_of c.args.plan.page)) c.args.disk.now c.raise.new.disk (omega arith) (λ x y r. tt)
-    c.in_default.ensures.changes
+    record {
+      changes = changes_weaker D.tells D.files D.left_since D.moment D.bytes_read D.follows Pkg (SameOutside 0 1) Anything 0
+          (moving_cost c.args.store.now.slots (moves_of c.args.plan.page)) c.args.disk.now c.raise.new.disk (omega arith) (λ x y r. tt)
+          c.in_default.ensures.writes.changes;
+      cause = search rules;
+    }
 
-pub returns-clause-changes : goal.returns-clause-changes
-returns-clause-changes g c =
+pub returns-clause-writes : goal.returns-clause-writes
+returns-clause-writes g c =
     let D = g.D.Disk in
-    changes_then D.tells D.files D.left_since D.moment D.bytes_read D.follows Pkg g.met.D.Disk.follows_trans (SameOutside 0 1) Anything Anything 0
-    (moving_cost c.raise.new.self.slots (moves_of c.args.plan.page)) (moving_cost c.args.store.now.slots (moves_of c.args.plan.page)) c.args.disk.now
-    c.raise.new.disk c.put.new.disk
-    (omega (arith, ap (λ (v : Store). moving_cost v.slots (moves_of c.args.plan.page)) c.in-Ok.ensures.ok)) (λ x y r. tt) (λ x y z p q. tt)
-    c.in-Ok.ensures.changes c.put.ensures.changes
+    record {
+      changes = changes_then D.tells D.files D.left_since D.moment D.bytes_read D.follows Pkg g.met.D.Disk.follows_trans (SameOutside 0 1) Anything Anything 0
+          (moving_cost c.raise.new.self.slots (moves_of c.args.plan.page)) (moving_cost c.args.store.now.slots (moves_of c.args.plan.page)) c.args.disk.now
+          c.raise.new.disk c.put.new.disk
+          (omega (arith, ap (λ (v : Store). moving_cost v.slots (moves_of c.args.plan.page)) c.in-Ok.ensures.ok)) (λ x y r. tt) (λ x y z p q. tt)
+          c.in-Ok.ensures.writes.changes c.put.ensures.writes.changes;
+      cause = search rules;
+    }
 
 pub returns-clause-ok : goal.returns-clause-ok
 returns-clause-ok g c =

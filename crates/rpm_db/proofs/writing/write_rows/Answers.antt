@@ -1,4 +1,4 @@
-use Rattle.std.proofs.Common.{refl, ap, arith}
+use Rattle.std.proofs.Common.{refl, ap, arith, rules}
 use Rattle.rpm_outside.specs.declared.disk.File.TheVariants.{Idx}
 use Rattle.rpm_outside.specs.inner.Changing.{changes_weaker, changes_between}
 use Rattle.rpm_hindex.specs.Images.{VoidOrSameSeal, SealedOrSame}
@@ -14,15 +14,18 @@ seal-requires-clause-written g c =
     let i = c.apply.new.self in
     ordered_pending i.pending i.units i.second (c.in-Ok.ensures.ordered c.requires.change.ordered)
 
-pub returns-in_default-clause-changes : goal.returns-in_default-clause-changes
-returns-in_default-clause-changes g c =
+pub returns-in_default-clause-writes : goal.returns-in_default-clause-writes
+returns-in_default-clause-writes g c =
     let D = g.D.Disk in
     let file = (D.files c.args.disk.now).idx in
-    changes_weaker D.tells D.files D.left_since D.moment D.bytes_read D.follows Idx VoidOrSameSeal (IndexTo c.args.generation c.args.plan.work file) 0 0
-    c.args.disk.now c.apply.new.disk (omega arith) (unsealed_yet c.args.generation c.args.plan.work file) c.in_default.ensures.changes
+    record {
+      changes = changes_weaker D.tells D.files D.left_since D.moment D.bytes_read D.follows Idx VoidOrSameSeal (IndexTo c.args.generation c.args.plan.work file) 0 0
+          c.args.disk.now c.apply.new.disk (omega arith) (unsealed_yet c.args.generation c.args.plan.work file) c.in_default.ensures.writes.changes;
+      cause = search rules;
+    }
 
-pub returns-clause-changes : goal.returns-clause-changes
-returns-clause-changes g c =
+pub returns-clause-writes : goal.returns-clause-writes
+returns-clause-writes g c =
     let D = g.D.Disk in
     let n = c.args.generation in
     let work = c.args.plan.work in
@@ -33,14 +36,17 @@ returns-clause-changes g c =
     let e = c.in-Ok.ensures in
     let unit = seal_unit n i.pending in
     let some = ordered_some i.pending i.units i.second (e.ordered c.requires.change.ordered) in
-    changes_between D.tells D.files D.left_since D.moment D.bytes_read D.follows Idx g.met.D.Disk.follows_trans VoidOrSameSeal (SealedOrSame unit)
-    (IndexTo n work file) (IsWritten n work file) 0 0 0 c.args.disk.now b c.seal.new.disk (omega arith) (unsealed_yet n work file)
-    (sealing_rows n work file unit (ap (seal_unit n) e.pending))
-    (λ told. is_written n work file i.pending mid mid e.pending (e.written told) (omega (arith, (e.kept told).units, some)) (c.seal.ensures.whichever told)
-    refl)
-    (λ told image left. is_written n work file i.pending mid image.idx e.pending (e.written told) (omega (arith, (e.kept told).units, some))
-    (c.seal.ensures.whichever told) (e.settled told image left))
-    e.changes c.seal.ensures.changes
+    record {
+      changes = changes_between D.tells D.files D.left_since D.moment D.bytes_read D.follows Idx g.met.D.Disk.follows_trans VoidOrSameSeal (SealedOrSame unit)
+          (IndexTo n work file) (IsWritten n work file) 0 0 0 c.args.disk.now b c.seal.new.disk (omega arith) (unsealed_yet n work file)
+          (sealing_rows n work file unit (ap (seal_unit n) e.pending))
+          (λ told. is_written n work file i.pending mid mid e.pending (e.written told) (omega (arith, (e.kept told).units, some)) (c.seal.ensures.whichever told)
+          refl)
+          (λ told image left. is_written n work file i.pending mid image.idx e.pending (e.written told) (omega (arith, (e.kept told).units, some))
+          (c.seal.ensures.whichever told) (e.settled told image left))
+          e.writes.changes c.seal.ensures.writes.changes;
+      cause = search rules;
+    }
 
 pub returns-clause-applied : goal.returns-clause-applied
 returns-clause-applied g c =

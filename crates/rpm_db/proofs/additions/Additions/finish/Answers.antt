@@ -8,29 +8,23 @@ use Rattle.rpm_db.specs.Gathering.{IsOrdered, sealed_in}
 use Rattle.rpm_db.specs.Lawful.{HasRows}
 use Rattle.rpm_db.specs.Rows.{rows}
 use Rattle.rpm_db.specs.State.{packages}
+use Rattle.rpm_db.specs.inner.Filling.{AreOfRows}
 use Rattle.rpm_db.proofs.Refused.{reading_of}
-use Rattle.rpm_db.proofs.Served.{indexed_as}
+use Rattle.rpm_db.proofs.FillStops.{rows_quiet}
+use Rattle.rpm_db.proofs.Served.{database_of, indexed_as, refused_same}
 use Rattle.rpm_db.proofs.additions.Additions.finish.Goals as goal
 
-pub fill_index-requires-clause-order : goal.fill_index-requires-clause-order
-fill_index-requires-clause-order g c =
+pub fill_index-requires : goal.fill_index-requires
+fill_index-requires g c =
     let was = rw (sym c.db.view_is, sym c.self.view_is) at c.requires.gathering in
-    subst IsOrdered c.in-Some.is was.ordered
-
-pub fill_index-requires-clause-clear : goal.fill_index-requires-clause-clear
-fill_index-requires-clause-clear g c = λ is.
-    let was = rw (sym c.db.view_is, sym c.self.view_is) at c.requires.gathering in
-    was.clear (ap sealed_in c.in-Some.is ∙ is ∙ c.generation-generation.ensures.value)
-
-pub fill_index-requires-clause-keeps : goal.fill_index-requires-clause-keeps
-fill_index-requires-clause-keeps g c = λ told.
-    let was = rw (sym c.db.view_is, sym c.self.view_is) at c.requires.gathering in
-    subst (KeepsUnits (g.D.Disk.files c.args.disk.now).idx) c.in-Some.is (was.serving told).index
-
-pub fill_index-requires-clause-settled : goal.fill_index-requires-clause-settled
-fill_index-requires-clause-settled g c = λ told.
-    let was = rw (sym c.db.view_is, sym c.self.view_is) at c.requires.gathering in
-    (was.serving told).settled
+    record {
+      ready = record {
+        order = subst IsOrdered c.in-Some.is was.ordered;
+        clear = λ is. was.clear (ap sealed_in c.in-Some.is ∙ is ∙ c.generation-generation.ensures.value);
+        keeps = λ told. subst (KeepsUnits (g.D.Disk.files c.args.disk.now).idx) c.in-Some.is (was.serving told).index;
+        settled = λ told. (was.serving told).settled;
+      };
+    }
 
 pub returns-in-Ok-clause-settled : goal.returns-in-Ok-clause-settled
 returns-in-Ok-clause-settled g c =
@@ -75,6 +69,46 @@ returns-in-Ok-clause-unwritten g c =
 pub returns-clause-unwritten : goal.returns-clause-unwritten
 returns-clause-unwritten g c =
     rw (sym c.db.view_is) (λ at. c.in-Err.ensures.unwritten (ap sealed_in (sym c.in-Some.is) ∙ at ∙ sym c.generation-generation.ensures.value))
+
+-- ---- what crashes leave, and what is left
+
+pub returns-in-Ok-clause-stops : goal.returns-in-Ok-clause-stops
+returns-in-Ok-clause-stops g c =
+    let was = rw (sym c.db.view_is, sym c.self.view_is) at c.requires.gathering in
+    let a = c.args.disk.now in
+    let old = g.D.Disk.files a in
+    let images = g.D.Disk.left_since a (g.D.Disk.moment a) in
+    let st = c.db.inside.store in
+    rw (sym c.db.view_is, sym c.self.view_is) (λ told lawful o.
+    c.in-Ok.ensures.stops told lawful o.from (packages old.pkg st) o.has o.changed
+    (subst (λ (n : ℕ). AreOfRows n (packages old.pkg st) images) (sym c.generation-generation.ensures.value)
+    (rows_quiet st old images (was.serving told).keeps (c.db.invariant.made (ap is_some c.in-Some.is)) (was.serving told).quiet)))
+
+pub returns-clause-stops : goal.returns-clause-stops
+returns-clause-stops g c =
+    let was = rw (sym c.db.view_is, sym c.self.view_is) at c.requires.gathering in
+    let a = c.args.disk.now in
+    let old = g.D.Disk.files a in
+    let images = g.D.Disk.left_since a (g.D.Disk.moment a) in
+    let st = c.db.inside.store in
+    rw (sym c.db.view_is, sym c.self.view_is) (λ told lawful o.
+    c.in-Err.ensures.stops told lawful o.from (packages old.pkg st) o.has o.changed
+    (subst (λ (n : ℕ). AreOfRows n (packages old.pkg st) images) (sym c.generation-generation.ensures.value)
+    (rows_quiet st old images (was.serving told).keeps (c.db.invariant.made (ap is_some c.in-Some.is)) (was.serving told).quiet)))
+
+pub returns-clause-left : goal.returns-clause-left
+returns-clause-left g c =
+    let was = rw (sym c.db.view_is) at c.requires.gathering in
+    let st = c.db.inside.store in
+    let on = c.db.inside.is_stopped in
+    let e = c.in-Err.ensures in
+    let view = ap (λ (i : Option hindex.State). database_of st i on) (sym c.in-Some.is) ∙ c.db.view_is in
+    record {
+      indexed = refl;
+      stopped = was.suspends;
+      refused = λ refusal. refused_same st st c.in-Some.index c.fill_index.new.index on on c.args.db.now view refl (e.refused refusal).0 refl;
+      same = λ refusal. (e.refused refusal).1;
+    }
 
 pub invariant_of-db-in-Err : goal.invariant_of-db-in-Err
 invariant_of-db-in-Err g c =

@@ -25,46 +25,6 @@ erase_number-requires-clause-ready g c =
     ready_inside g.D.Disk c.args.disk.now c.self.inside.store c.self.inside.index c.in-Some.index c.self.inside.is_stopped c.args.self.now c.self.invariant
     c.if-self.false c.self.view_is c.in-Some.is (c.requires.serving told_going)
 
-pub returns-in-Ok-clause-placed : goal.returns-in-Ok-clause-placed
-returns-in-Ok-clause-placed g c =
-    let same : c.self.inside.store ≡ c.args.self.now.store = ap (λ (db : Database). db.store) c.self.view_is in
-    subst (λ (v : Store). next_store (Erase c.args.n) v ≡ Some (with_spare v.spare c.erase_number.new.store)) same
-    (ap Some (sym (ap (with_spare c.self.inside.store.spare) c.in-Ok.ensures.ok)))
-
-pub returns-in-Ok-clause-full : goal.returns-in-Ok-clause-full
-returns-in-Ok-clause-full g c = λ told runs was.
-    let st = c.self.inside.store in
-    let old = g.D.Disk.files c.args.disk.now in
-    let same : c.self.inside.store ≡ c.args.self.now.store = ap (λ (db : Database). db.store) c.self.view_is in
-    let has = subst (λ (v : Store). HasRows (packages old.pkg v) old.idx) (sym same) was.rows_are in
-    subst (λ (s : State). units_for (rows s.packages) ≤ 2 ^ 28) (erase_goes old.pkg st c.args.self.now.store same c.args.n) (c.in-Ok.ensures.index.full told has)
-
-pub returns-in-Err-clause-full : goal.returns-in-Err-clause-full
-returns-in-Err-clause-full g c = λ told runs was.
-    let st = c.self.inside.store in
-    let old = g.D.Disk.files c.args.disk.now in
-    let same : c.self.inside.store ≡ c.args.self.now.store = ap (λ (db : Database). db.store) c.self.view_is in
-    let has = subst (λ (v : Store). HasRows (packages old.pkg v) old.idx) (sym same) was.rows_are in
-    subst (λ (s : State). FullCause (units_for (rows s.packages)) c.in-Err.fault) (erase_goes old.pkg st c.args.self.now.store same c.args.n)
-    (c.in-Err.ensures.index.full told has)
-
-pub returns-in-Ok-clause-stops : goal.returns-in-Ok-clause-stops
-returns-in-Ok-clause-stops g c = λ told lawful.
-    let st = c.self.inside.store in
-    let a = c.args.disk.now in
-    let old = g.D.Disk.files a in
-    let images = g.D.Disk.left_since a (g.D.Disk.moment a) in
-    let same : c.self.inside.store ≡ c.args.self.now.store = ap (λ (db : Database). db.store) c.self.view_is in
-    let going = c.if-self.false in
-    let told_going : c.args.self.now.stopped ≡ false = sym (ap (λ (db : Database). db.stopped) c.self.view_is) ∙ going in
-    let s = serving_inside old images st c.self.inside.index c.in-Some.index c.self.inside.is_stopped c.args.self.now c.self.view_is c.in-Some.is
-    (c.requires.serving told_going told) in
-    let current = subst (IsInOrder st.generation) c.in-Some.is (c.self.invariant.order going) in
-    let made = c.self.invariant.made (ap is_some c.in-Some.is) in
-    let has = rows_of_disk old.pkg old.idx st c.in-Some.index s.keeps made s.index current (lawful old (g.met.D.Disk.as_read a told)) in
-    stops_told g.D.Disk.moment g.D.Disk.left_since a c.erase_number.new.disk images _ _ _ _ (ap (state old.pkg) same)
-    (erase_goes old.pkg st c.args.self.now.store same c.args.n) (c.in-Ok.ensures.stops told lawful has)
-
 pub returns-in-Err-clause-causes : goal.returns-in-Err-clause-causes
 returns-in-Err-clause-causes g c =
     let same : c.self.inside.store ≡ c.args.self.now.store = ap (λ (db : Database). db.store) c.self.view_is in
@@ -75,56 +35,7 @@ returns-in-Err-clause-causes g c =
     erase_cause c.args.self.now c.args.n c.in-Err.fault told_going here
     (subst (λ (v : Store). LaterCause v.generation ⊥ c.in-Err.fault) same c.in-Err.ensures.later)
 
-pub returns-in-Err-clause-placed : goal.returns-in-Err-clause-placed
-returns-in-Err-clause-placed g c =
-    room_erased c.self.inside.store.generation c.args.n (raised c.args.self.now.store) c.in-Err.fault c.in-Err.ensures.later
-
-pub returns-in-Err-clause-stops : goal.returns-in-Err-clause-stops
-returns-in-Err-clause-stops g c = λ told lawful.
-    let st = c.self.inside.store in
-    let a = c.args.disk.now in
-    let old = g.D.Disk.files a in
-    let images = g.D.Disk.left_since a (g.D.Disk.moment a) in
-    let same : c.self.inside.store ≡ c.args.self.now.store = ap (λ (db : Database). db.store) c.self.view_is in
-    let going = c.if-self.false in
-    let told_going : c.args.self.now.stopped ≡ false = sym (ap (λ (db : Database). db.stopped) c.self.view_is) ∙ going in
-    let s = serving_inside old images st c.self.inside.index c.in-Some.index c.self.inside.is_stopped c.args.self.now c.self.view_is c.in-Some.is
-    (c.requires.serving told_going told) in
-    let current = subst (IsInOrder st.generation) c.in-Some.is (c.self.invariant.order going) in
-    let made = c.self.invariant.made (ap is_some c.in-Some.is) in
-    let has = rows_of_disk old.pkg old.idx st c.in-Some.index s.keeps made s.index current (lawful old (g.met.D.Disk.as_read a told)) in
-    stops_told g.D.Disk.moment g.D.Disk.left_since a c.erase_number.new.disk images _ _ _ _ (ap (state old.pkg) same)
-    (erase_goes old.pkg st c.args.self.now.store same c.args.n) (c.in-Err.ensures.stops told lawful has)
-
 -- ---- what was made, and what is left
-
-pub returns-in-Ok-clause-changed : goal.returns-in-Ok-clause-changed
-returns-in-Ok-clause-changed g c =
-    let D = g.D.Disk in
-    let st = c.self.inside.store in
-    let now = c.args.self.now.store in
-    let a = c.args.disk.now in
-    let old = D.files a in
-    let new = D.files c.erase_number.new.disk in
-    let e = c.in-Ok.ensures in
-    let same : st ≡ now = ap (λ (db : Database). db.store) c.self.view_is in
-    let goes = erase_goes old.pkg st now same c.args.n in
-    let told_going : c.args.self.now.stopped ≡ false = sym (ap (λ (db : Database). db.stopped) c.self.view_is) ∙ c.if-self.false in
-    let s = λ (told : IsTrue D.tells). serving_inside old (D.left_since a (D.moment a)) st c.self.inside.index c.in-Some.index c.self.inside.is_stopped
-    c.args.self.now c.self.view_is c.in-Some.is (c.requires.serving told_going told) in
-    record {
-      state_is = λ told. e.done.state_is told ∙ goes;
-      held = λ told image here. held_by new.pkg image.pkg c.erase_number.new.store _ (e.done.state_is told ∙ goes) (e.done.stands told image here);
-      reach = λ told was.
-          (let has = subst (λ (v : Store). HasRows (packages old.pkg v) old.idx) (sym same) was.rows_are in
-          omega (
-            arith,
-            e.done.reach told has,
-            (s told).index.units,
-            (e.done.ready.units told).units,
-            ap (λ (t : State). units_for (rows t.packages)) goes,
-          ));
-    }
 
 pub returns-in-Ok-clause-left : goal.returns-in-Ok-clause-left
 returns-in-Ok-clause-left g c =
@@ -146,3 +57,72 @@ returns-in-Err-clause-left g c =
 
 pub returns-in-Err-clause-bad : goal.returns-in-Err-clause-bad
 returns-in-Err-clause-bad g c = λ told. c.in-Err.ensures.index.bad told
+
+pub returns-in-Ok-clause-makes : goal.returns-in-Ok-clause-makes
+returns-in-Ok-clause-makes g c =
+    let D = g.D.Disk in
+    let st = c.self.inside.store in
+    let now = c.args.self.now.store in
+    let a = c.args.disk.now in
+    let old = D.files a in
+    let new = D.files c.erase_number.new.disk in
+    let images = D.left_since a (D.moment a) in
+    let e = c.in-Ok.ensures in
+    let same : st ≡ now = ap (λ (db : Database). db.store) c.self.view_is in
+    let goes = erase_goes old.pkg st now same c.args.n in
+    let going = c.if-self.false in
+    let told_going : c.args.self.now.stopped ≡ false = sym (ap (λ (db : Database). db.stopped) c.self.view_is) ∙ going in
+    let inside = λ (told : IsTrue D.tells). serving_inside old images st c.self.inside.index c.in-Some.index c.self.inside.is_stopped
+    c.args.self.now c.self.view_is c.in-Some.is (c.requires.serving told_going told) in
+    let has = λ (told : IsTrue D.tells) (was : HasRows (packages old.pkg now) old.idx). subst (λ (v : Store). HasRows (packages old.pkg v) old.idx) (sym same) was in
+    record {
+      room = subst (λ (v : Store). next_store (Erase c.args.n) v ≡ Some (with_spare v.spare c.erase_number.new.store)) same
+          (ap Some (sym (ap (with_spare st.spare) e.ok)));
+      changed = record {
+        state_is = λ told. e.done.state_is told ∙ goes;
+        held = λ told image here. held_by new.pkg image.pkg c.erase_number.new.store _ (e.done.state_is told ∙ goes) (e.done.stands told image here);
+        reach = λ told was.
+            omega (
+              arith,
+              e.done.reach told (has told was.rows_are),
+              (inside told).index.units,
+              (e.done.ready.units told).units,
+              ap (λ (t : State). units_for (rows t.packages)) goes,
+            );
+      };
+      full = λ told runs was. subst (λ (s : State). units_for (rows s.packages) ≤ 2 ^ 28) goes (e.index.full told (has told was.rows_are));
+      stops = λ told lawful.
+          (let s = inside told in
+          let current = subst (IsInOrder st.generation) c.in-Some.is (c.self.invariant.order going) in
+          let made = c.self.invariant.made (ap is_some c.in-Some.is) in
+          let here = rows_of_disk old.pkg old.idx st c.in-Some.index s.keeps made s.index current (lawful old (g.met.D.Disk.as_read a told)) in
+          stops_told D.moment D.left_since a c.erase_number.new.disk images _ _ _ _ (ap (state old.pkg) same) goes (e.stops told lawful here));
+    }
+
+pub returns-in-Err-clause-makes : goal.returns-in-Err-clause-makes
+returns-in-Err-clause-makes g c =
+    let D = g.D.Disk in
+    let st = c.self.inside.store in
+    let now = c.args.self.now.store in
+    let a = c.args.disk.now in
+    let old = D.files a in
+    let images = D.left_since a (D.moment a) in
+    let e = c.in-Err.ensures in
+    let same : st ≡ now = ap (λ (db : Database). db.store) c.self.view_is in
+    let goes = erase_goes old.pkg st now same c.args.n in
+    let going = c.if-self.false in
+    let told_going : c.args.self.now.stopped ≡ false = sym (ap (λ (db : Database). db.stopped) c.self.view_is) ∙ going in
+    record {
+      room = room_erased st.generation c.args.n (raised now) c.in-Err.fault e.later;
+      changed = tt;
+      full = λ told runs was.
+          subst (λ (s : State). FullCause (units_for (rows s.packages)) c.in-Err.fault) goes
+          (e.index.full told (subst (λ (v : Store). HasRows (packages old.pkg v) old.idx) (sym same) was.rows_are));
+      stops = λ told lawful.
+          (let s = serving_inside old images st c.self.inside.index c.in-Some.index c.self.inside.is_stopped c.args.self.now c.self.view_is c.in-Some.is
+          (c.requires.serving told_going told) in
+          let current = subst (IsInOrder st.generation) c.in-Some.is (c.self.invariant.order going) in
+          let made = c.self.invariant.made (ap is_some c.in-Some.is) in
+          let here = rows_of_disk old.pkg old.idx st c.in-Some.index s.keeps made s.index current (lawful old (g.met.D.Disk.as_read a told)) in
+          stops_told D.moment D.left_since a c.erase_number.new.disk images _ _ _ _ (ap (state old.pkg) same) goes (e.stops told lawful here));
+    }

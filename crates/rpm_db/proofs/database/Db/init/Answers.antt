@@ -1,4 +1,4 @@
-use Rattle.std.proofs.Common.{◌≡◌, ℕ, Some, false, refl, sym, ap, ◌∙◌, arith}
+use Rattle.std.proofs.Common.{◌≡◌, ℕ, Some, false, refl, sym, ap, ◌∙◌, arith, rules}
 use Rattle.std.proofs.lemmas.Grind.{common_steps}
 use Rattle.rpm_hindex.specs.State as hindex
 use Rattle.rpm_pkgdb.specs.Store.{Store}
@@ -31,13 +31,18 @@ returns-in-Ok-clause-done g c = λ is.
       end = e.end;
     }
 
-pub returns-in-Ok-clause-state : goal.returns-in-Ok-clause-state
-returns-in-Ok-clause-state g c = λ told.
+pub returns-in-Ok-clause-made : goal.returns-in-Ok-clause-made
+returns-in-Ok-clause-made g c =
     let old = g.D.Disk.files c.args.disk.now in
     let new = g.D.Disk.files c.make_files.new.disk in
     let value : Store = c.args.self.now.store in
     let same : c.self.inside.store ≡ value = ap (λ (db : Database). db.store) c.self.view_is in
     let going : c.args.self.now.stopped ≡ false = sym (ap (λ (db : Database). db.stopped) c.self.view_is) ∙ c.if-self.false in
     let none : c.self.inside.store.pages ≡ 0 = grind (arith, common_steps, c.is_blank.ensures, c.if-not-is_blank.false) in
-    ap (state new.pkg) (c.in-Ok.ensures.made ∙ ap made_new same)
-    ∙ state_made old.pkg new.pkg value (c.requires.keeps going told) (sym (ap (λ (s : Store). s.pages) same) ∙ none)
+    record {
+      made_is = grind (arith, common_steps, c.is_blank.ensures, c.if-not-is_blank.false, same);
+      state_is = λ told.
+          ap (state new.pkg) (c.in-Ok.ensures.made ∙ ap made_new same)
+          ∙ state_made old.pkg new.pkg value (c.requires.keeps going told) (sym (ap (λ (s : Store). s.pages) same) ∙ none);
+      not_blank = search rules;
+    }

@@ -1,7 +1,13 @@
+use Rattle.std.proofs.Common.{subst}
+use Rattle.rpm_outside.specs.Files.{Files}
+use Rattle.rpm_pkgdb.specs.Store.{store}
 use Rattle.rpm_db.specs.Lawful.{Remade}
+use Rattle.rpm_db.specs.Openings.{IsOpenedOn, units_needed}
+use Rattle.rpm_db.specs.Reaches.{ReachesMade}
 use Rattle.rpm_db.specs.inner.LawfulLaws.{remade_then}
 use Rattle.rpm_db.specs.inner.Running.{runs_then}
 use Rattle.rpm_db.proofs.Opened.{stays_lawful}
+use Rattle.rpm_db.proofs.Results.{map_if_ok}
 use Rattle.rpm_db.proofs.database.Db.open.Goals as goal
 
 pub returns-in-Ok-clause-runs : goal.returns-in-Ok-clause-runs
@@ -15,3 +21,16 @@ returns-in-Ok-clause-stops g c = λ told. stays_lawful _ _ _ _ _ _ _ _ told (ret
 
 pub returns-in-Err-clause-stops : goal.returns-in-Err-clause-stops
 returns-in-Err-clause-stops g c = λ told. stays_lawful _ _ _ _ _ _ _ _ told c.in-Err.ensures.runs
+
+pub returns-in-Ok-clause-served : goal.returns-in-Ok-clause-served
+returns-in-Ok-clause-served g c =
+    let D = g.D.Disk in
+    let new = D.files c.open_settled.new.disk in
+    map_if_ok c.open_settled.result (λ db (s : IsOpenedOn D c.settle.new.disk c.open_settled.new.disk db). record {
+      fresh = s.fresh;
+      quiet = s.quiet;
+      durable = s.durable;
+      settled = s.settled;
+      reach = λ told.
+          subst (λ (f : Files). ReachesMade (units_needed f.pkg (store f.pkg)) f.idx new.idx) (c.in-Ok.ensures.same told) (s.reach told);
+    }) c.open_settled.ensures.served

@@ -1,4 +1,4 @@
-use Rattle.std.proofs.Common.{length, Result, ap, sym, ◌∙◌, subst, arith}
+use Rattle.std.proofs.Common.{ℕ, length, IsTrue, Result, refl, ap, sym, ◌∙◌, subst, arith, rules}
 use Rattle.rpm_outside.specs.Files.{Files}
 use Rattle.rpm_pkgdb.specs.declared.slot.Damage.{Damage}
 use Rattle.rpm_hindex.specs.Sizes.{units_for}
@@ -21,15 +21,6 @@ returns-then-is_blank-clause-runs g c = runs_read _ _ _ _ _ _ _ _ _ c.in_ok-stor
 pub returns-in_err-store-clause-runs : goal.returns-in_err-store-clause-runs
 returns-in_err-store-clause-runs g c = runs_read _ _ _ _ _ _ _ _ _ c.in_err-store.ensures.looks
 
-pub returns-then-is_blank-clause-durable : goal.returns-then-is_blank-clause-durable
-returns-then-is_blank-clause-durable g c = λ told. still_settled _ _ _ _ _ _ _ _ told (returns-then-is_blank-clause-runs g c) (c.requires.pkg told)
-
-pub returns-then-is_blank-clause-quiet : goal.returns-then-is_blank-clause-quiet
-returns-then-is_blank-clause-quiet g c = λ told.
-    settled_quiet c.in_ok-store.store (g.D.Disk.files c.open_store.new.disk)
-    (g.D.Disk.left_since c.open_store.new.disk (g.D.Disk.moment c.open_store.new.disk)) (c.in_ok-store.ensures.kept told)
-    (returns-then-is_blank-clause-durable g c told)
-
 pub returns-then-is_blank-clause-stops : goal.returns-then-is_blank-clause-stops
 returns-then-is_blank-clause-stops g c = λ told. stays_lawful _ _ _ _ _ _ _ _ told (returns-then-is_blank-clause-runs g c)
 
@@ -44,7 +35,8 @@ returns-clause-opened g c = λ told.
     let f = g.D.Disk.files in
     opened_made (f c.args.disk.now) (f c.open_store.new.disk) (f c.index_for.new.disk) c.in_ok-store.store c.in_ok-index.index
     (c.in_ok-store.ensures.store told) (c.in_ok-store.ensures.looks.untouched told).same (sym c.is_blank.ensures ∙ c.if-is_blank.false)
-    (e.full told) (e.same told) (e.runs.reads_as told).pkg (c.in_ok-store.ensures.kept told) (e.kept told) e.current (e.rows told) (e.made told)
+    (e.full told) (e.same told) (e.runs.reads_as told).pkg (c.in_ok-store.ensures.kept told) (e.index.kept told) e.index.current (e.index.rows_are told)
+    (e.index.made told)
 
 pub returns-clause-runs : goal.returns-clause-runs
 returns-clause-runs g c =
@@ -58,32 +50,47 @@ returns-in_err-index-clause-runs g c =
     Remade Remade Remade c.args.disk.now c.open_store.new.disk c.index_for.new.disk (λ x y r. r) remade_then
     (runs_read _ _ _ _ _ _ _ _ _ c.in_ok-store.ensures.looks) c.in_err-index.ensures.runs
 
-pub returns-clause-durable : goal.returns-clause-durable
-returns-clause-durable g c = λ told.
-    still_settled _ _ _ _ _ _ _ _ told (returns-clause-runs g c) (c.requires.pkg told)
-
-pub returns-clause-quiet : goal.returns-clause-quiet
-returns-clause-quiet g c = λ told.
-    let new = c.index_for.new.disk in
-    settled_quiet c.in_ok-store.store (g.D.Disk.files new) (g.D.Disk.left_since new (g.D.Disk.moment new))
-    (ap store (c.in_ok-index.ensures.runs.reads_as told).pkg ∙ c.in_ok-store.ensures.kept told) (returns-clause-durable g c told)
-
 pub returns-clause-stops : goal.returns-clause-stops
 returns-clause-stops g c = λ told. stays_lawful _ _ _ _ _ _ _ _ told (returns-clause-runs g c)
 
 pub returns-in_err-index-clause-stops : goal.returns-in_err-index-clause-stops
 returns-in_err-index-clause-stops g c = λ told. stays_lawful _ _ _ _ _ _ _ _ told (returns-in_err-index-clause-runs g c)
 
--- ---- how far the index reaches
+-- ---- what it serves
 
-pub returns-then-is_blank-clause-reach : goal.returns-then-is_blank-clause-reach
-returns-then-is_blank-clause-reach g c = λ told.
-    omega (arith, ap (λ (f : Files). length f.idx) (c.in_ok-store.ensures.looks.untouched told).same)
+pub returns-then-is_blank-clause-served : goal.returns-then-is_blank-clause-served
+returns-then-is_blank-clause-served g c =
+    let D = g.D.Disk in
+    let new = c.open_store.new.disk in
+    let looks = c.in_ok-store.ensures.looks in
+    let durable = λ (told : IsTrue D.tells). still_settled _ _ _ _ _ _ _ _ told (returns-then-is_blank-clause-runs g c) (c.requires.pkg told) in
+    record {
+      fresh = record { from_one = search rules; indexed = search rules; going = refl };
+      quiet = λ told. settled_quiet c.in_ok-store.store (D.files new) (D.left_since new (D.moment new)) (c.in_ok-store.ensures.kept told) (durable told);
+      durable = durable;
+      settled = λ told image left.
+          c.requires.idx told image
+          (subst (λ (t : ℕ). D.left_since c.args.disk.now t image) looks.moment_stays ((looks.untouched told).images (D.moment new) image left))
+          ∙ ap (λ (f : Files). f.idx) (sym (looks.untouched told).same);
+      reach = λ told. omega (arith, ap (λ (f : Files). length f.idx) (looks.untouched told).same);
+    }
 
-pub returns-clause-reach : goal.returns-clause-reach
-returns-clause-reach g c = λ told.
-    let f = g.D.Disk.files in
-    let new = (f c.index_for.new.disk).idx in
-    subst (λ (s : Result Store Damage). ReachesMade (units_needed (f c.args.disk.now).pkg s) (f c.args.disk.now).idx new) (sym (c.in_ok-store.ensures.store told))
-    (subst (λ (fs : Files). ReachesMade (units_for (rows (packages fs.pkg c.in_ok-store.store))) fs.idx new) (c.in_ok-store.ensures.looks.untouched told).same
-    (c.in_ok-index.ensures.reach told))
+pub returns-clause-served : goal.returns-clause-served
+returns-clause-served g c =
+    let D = g.D.Disk in
+    let new = c.index_for.new.disk in
+    let f = D.files in
+    let s = c.in_ok-store.ensures in
+    let e = c.in_ok-index.ensures in
+    let durable = λ (told : IsTrue D.tells). still_settled _ _ _ _ _ _ _ _ told (returns-clause-runs g c) (c.requires.pkg told) in
+    record {
+      fresh = record { from_one = search rules; indexed = search rules; going = refl };
+      quiet = λ told.
+          settled_quiet c.in_ok-store.store (f new) (D.left_since new (D.moment new)) (ap store (e.runs.reads_as told).pkg ∙ s.kept told) (durable told);
+      durable = durable;
+      settled = e.index.settled;
+      reach = λ told.
+          subst (λ (r : Result Store Damage). ReachesMade (units_needed (f c.args.disk.now).pkg r) (f c.args.disk.now).idx (f new).idx) (sym (s.store told))
+          (subst (λ (fs : Files). ReachesMade (units_for (rows (packages fs.pkg c.in_ok-store.store))) fs.idx (f new).idx) (s.looks.untouched told).same
+          (e.reach told));
+    }

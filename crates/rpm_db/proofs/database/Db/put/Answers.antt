@@ -1,6 +1,25 @@
-use Rattle.std.proofs.Common.{sym}
+use Rattle.std.proofs.Common.{◌≡◌, Ok, Err, sym, subst}
+use Rattle.rpm_header.specs.Header.{Header, header}
+use Rattle.rpm_db.specs.Changed.{Makes}
+use Rattle.rpm_db.specs.Changes.{Put}
 use Rattle.rpm_db.specs.inner.Own.{header-own}
 use Rattle.rpm_db.proofs.database.Db.put.Goals as goal
 
 pub put_view-requires-clause-own : goal.put_view-requires-clause-own
 put_view-requires-clause-own g c = header-own c.args.blob.now c.in_ok-view.view (sym c.in_ok-view.ensures.value)
+
+pub returns-in-Ok-clause-makes : goal.returns-in-Ok-clause-makes
+returns-in-Ok-clause-makes g c = λ h is.
+    let first : header c.args.blob.now ≡ Ok c.in_ok-view.view = sym c.in_ok-view.ensures.value in
+    let same : c.in_ok-view.view ≡ h = cc in
+    let m = c.in-Ok.ensures.makes in
+    subst (λ (v : Header). Makes g.D.Disk {A = Unit {0}} c.args.disk.now c.put_view.new.disk (Put c.args.n v.blob) c.args.self.now c.put_view.new.self (Ok tt))
+    same (record { room = m.room; changed = m.changed; full = m.full; stops = m.stops })
+
+pub returns-in-Err-clause-makes : goal.returns-in-Err-clause-makes
+returns-in-Err-clause-makes g c = λ h is.
+    let first : header c.args.blob.now ≡ Ok c.in_ok-view.view = sym c.in_ok-view.ensures.value in
+    let same : c.in_ok-view.view ≡ h = cc in
+    let m = c.in-Err.ensures.makes in
+    subst (λ (v : Header). Makes g.D.Disk {A = Unit {0}} c.args.disk.now c.put_view.new.disk (Put c.args.n v.blob) c.args.self.now c.put_view.new.self
+    (Err c.in-Err.fault)) same (record { room = m.room; changed = m.changed; full = m.full; stops = m.stops })

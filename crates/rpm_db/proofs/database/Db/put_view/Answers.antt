@@ -35,91 +35,15 @@ pub returns-in-Ok-clause-later : goal.returns-in-Ok-clause-later
 returns-in-Ok-clause-later g c =
     let same : c.self.inside.store ≡ c.args.self.now.store = ap (λ (db : Database). db.store) c.self.view_is in
     subst (λ (v : Store). (v.generation ≡ 4294967295 → ⊥) × (IsFull v (is_none c.args.n) (length c.args.view.now.blob) → ⊥)) same
-    c.in-Ok.ensures.later
-
-pub returns-in-Ok-clause-placed : goal.returns-in-Ok-clause-placed
-returns-in-Ok-clause-placed g c =
-    let same : c.self.inside.store ≡ c.args.self.now.store = ap (λ (db : Database). db.store) c.self.view_is in
-    let bytes = c.args.view.now.blob in
-    sym (put_next c.args.n bytes c.args.self.now.store)
-    ∙ subst (λ (v : Store). put_in c.args.n (length bytes) (raised v) ≡ Some (with_spare v.spare c.put_header.new.store)) same c.in-Ok.ensures.placed
-
-pub returns-in-Ok-clause-stops : goal.returns-in-Ok-clause-stops
-returns-in-Ok-clause-stops g c = λ told lawful.
-    let st = c.self.inside.store in
-    let a = c.args.disk.now in
-    let old = g.D.Disk.files a in
-    let images = g.D.Disk.left_since a (g.D.Disk.moment a) in
-    let same : c.self.inside.store ≡ c.args.self.now.store = ap (λ (db : Database). db.store) c.self.view_is in
-    let going : c.self.inside.is_stopped ≡ false = ap (λ (db : Database). db.stopped) c.self.view_is ∙ c.requires.ready.going in
-    let s = serving_inside old images st c.self.inside.index c.in-Some.index c.self.inside.is_stopped c.args.self.now c.self.view_is c.in-Some.is
-    (c.requires.ready.serving told) in
-    let current = subst (IsInOrder st.generation) c.in-Some.is (c.self.invariant.order going) in
-    let made = c.self.invariant.made (ap is_some c.in-Some.is) in
-    let has = rows_of_disk old.pkg old.idx st c.in-Some.index s.keeps made s.index current (lawful old (g.met.D.Disk.as_read a told)) in
-    stops_told g.D.Disk.moment g.D.Disk.left_since a c.put_header.new.disk images _ _ _ _ (ap (state old.pkg) same)
-    (put_goes old.pkg st c.args.self.now.store same c.args.n c.args.view.now c.requires.own) (c.in-Ok.ensures.stops told lawful has)
+    c.in-Ok.ensures.room.later
 
 pub returns-in-Err-clause-later : goal.returns-in-Err-clause-later
 returns-in-Err-clause-later g c =
     let same : c.self.inside.store ≡ c.args.self.now.store = ap (λ (db : Database). db.store) c.self.view_is in
     subst (λ (v : Store). LaterCause v.generation (IsFull v (is_none c.args.n) (length c.args.view.now.blob)) c.in-Err.fault) same
-    c.in-Err.ensures.later
-
-pub returns-in-Err-clause-placed : goal.returns-in-Err-clause-placed
-returns-in-Err-clause-placed g c =
-    let same : c.self.inside.store ≡ c.args.self.now.store = ap (λ (db : Database). db.store) c.self.view_is in
-    let bytes = c.args.view.now.blob in
-    subst (λ (o : Option Store). RoomCause o c.in-Err.fault)
-    (ap (λ (v : Store). put_in c.args.n (length bytes) (raised v)) same ∙ put_next c.args.n bytes c.args.self.now.store) c.in-Err.ensures.placed
-
-pub returns-in-Err-clause-stops : goal.returns-in-Err-clause-stops
-returns-in-Err-clause-stops g c = λ told lawful.
-    let st = c.self.inside.store in
-    let a = c.args.disk.now in
-    let old = g.D.Disk.files a in
-    let images = g.D.Disk.left_since a (g.D.Disk.moment a) in
-    let same : c.self.inside.store ≡ c.args.self.now.store = ap (λ (db : Database). db.store) c.self.view_is in
-    let going : c.self.inside.is_stopped ≡ false = ap (λ (db : Database). db.stopped) c.self.view_is ∙ c.requires.ready.going in
-    let s = serving_inside old images st c.self.inside.index c.in-Some.index c.self.inside.is_stopped c.args.self.now c.self.view_is c.in-Some.is
-    (c.requires.ready.serving told) in
-    let current = subst (IsInOrder st.generation) c.in-Some.is (c.self.invariant.order going) in
-    let made = c.self.invariant.made (ap is_some c.in-Some.is) in
-    let has = rows_of_disk old.pkg old.idx st c.in-Some.index s.keeps made s.index current (lawful old (g.met.D.Disk.as_read a told)) in
-    stops_told g.D.Disk.moment g.D.Disk.left_since a c.put_header.new.disk images _ _ _ _ (ap (state old.pkg) same)
-    (put_goes old.pkg st c.args.self.now.store same c.args.n c.args.view.now c.requires.own) (c.in-Err.ensures.stops told lawful has)
+    c.in-Err.ensures.room.later
 
 -- ---- what was made, and what is left
-
-pub returns-in-Ok-clause-changed : goal.returns-in-Ok-clause-changed
-returns-in-Ok-clause-changed g c =
-    let D = g.D.Disk in
-    let st = c.self.inside.store in
-    let now = c.args.self.now.store in
-    let h = c.args.view.now in
-    let a = c.args.disk.now in
-    let old = D.files a in
-    let new = D.files c.put_header.new.disk in
-    let e = c.in-Ok.ensures in
-    let same : st ≡ now = ap (λ (db : Database). db.store) c.self.view_is in
-    let goes = put_goes old.pkg st now same c.args.n h c.requires.own in
-    let s = λ (told : IsTrue D.tells). serving_inside old (D.left_since a (D.moment a)) st c.self.inside.index c.in-Some.index c.self.inside.is_stopped
-    c.args.self.now c.self.view_is c.in-Some.is (c.requires.ready.serving told) in
-    record {
-      state_is = λ told. e.done.state_is told ∙ goes;
-      held = λ told image here. held_by new.pkg image.pkg c.put_header.new.store _ (e.done.state_is told ∙ goes) (e.done.stands told image here);
-      reach = λ told was.
-          (let has = subst (λ (v : Store). HasRows (packages old.pkg v) old.idx) (sym same) was.rows_are in
-          omega (
-            arith,
-            e.done.reach told has,
-            (s told).index.units,
-            (e.done.ready.units told).units,
-            ap (λ (v : Store). live_of (header_rows (number_for c.args.n v) h)) same,
-            added_is old.pkg now c.args.n h c.requires.own,
-            ap (λ (t : State). units_for (rows t.packages)) goes,
-          ));
-    }
 
 pub returns-in-Ok-clause-left : goal.returns-in-Ok-clause-left
 returns-in-Ok-clause-left g c =
@@ -140,30 +64,78 @@ returns-in-Err-clause-left g c =
     (e.refused refusal).store_is (e.refused refusal).index_is
     (c.is_stopping-self-inside.ensures ∙ refusal_goes c.in-Err.fault refusal ∙ sym going))
 
-pub returns-in-Ok-clause-index : goal.returns-in-Ok-clause-index
-returns-in-Ok-clause-index g c =
+pub returns-in-Ok-clause-makes : goal.returns-in-Ok-clause-makes
+returns-in-Ok-clause-makes g c =
+    let D = g.D.Disk in
     let st = c.self.inside.store in
     let now = c.args.self.now.store in
-    let old = g.D.Disk.files c.args.disk.now in
+    let h = c.args.view.now in
+    let a = c.args.disk.now in
+    let old = D.files a in
+    let new = D.files c.put_header.new.disk in
+    let images = D.left_since a (D.moment a) in
+    let e = c.in-Ok.ensures in
     let same : st ≡ now = ap (λ (db : Database). db.store) c.self.view_is in
-    let goes = put_goes old.pkg st now same c.args.n c.args.view.now c.requires.own in
+    let goes = put_goes old.pkg st now same c.args.n h c.requires.own in
+    let inside = λ (told : IsTrue D.tells). serving_inside old images st c.self.inside.index c.in-Some.index c.self.inside.is_stopped
+    c.args.self.now c.self.view_is c.in-Some.is (c.requires.ready.serving told) in
+    let going : c.self.inside.is_stopped ≡ false = ap (λ (db : Database). db.stopped) c.self.view_is ∙ c.requires.ready.going in
+    let has = λ (told : IsTrue D.tells) (was : HasRows (packages old.pkg now) old.idx). subst (λ (v : Store). HasRows (packages old.pkg v) old.idx) (sym same) was in
     record {
-      full = λ told has.
-          subst (λ (s : State). units_for (rows s.packages) ≤ 2 ^ 28) goes
-          (c.in-Ok.ensures.index.full told (subst (λ (v : Store). HasRows (packages old.pkg v) old.idx) (sym same) has));
-      bad = λ told. tt;
+      room = sym (put_next c.args.n h.blob now)
+          ∙ subst (λ (v : Store). put_in c.args.n (length h.blob) (raised v) ≡ Some (with_spare v.spare c.put_header.new.store)) same e.room.placed;
+      changed = record {
+        state_is = λ told. e.done.state_is told ∙ goes;
+        held = λ told image here. held_by new.pkg image.pkg c.put_header.new.store _ (e.done.state_is told ∙ goes) (e.done.stands told image here);
+        reach = λ told was.
+            omega (
+              arith,
+              e.done.reach told (has told was.rows_are),
+              (inside told).index.units,
+              (e.done.ready.units told).units,
+              ap (λ (v : Store). live_of (header_rows (number_for c.args.n v) h)) same,
+              added_is old.pkg now c.args.n h c.requires.own,
+              ap (λ (t : State). units_for (rows t.packages)) goes,
+            );
+      };
+      full = λ told runs was. subst (λ (s : State). units_for (rows s.packages) ≤ 2 ^ 28) goes (e.index.full told (has told was.rows_are));
+      stops = λ told lawful.
+          (let s = inside told in
+          let current = subst (IsInOrder st.generation) c.in-Some.is (c.self.invariant.order going) in
+          let made = c.self.invariant.made (ap is_some c.in-Some.is) in
+          let here = rows_of_disk old.pkg old.idx st c.in-Some.index s.keeps made s.index current (lawful old (g.met.D.Disk.as_read a told)) in
+          stops_told D.moment D.left_since a c.put_header.new.disk images _ _ _ _ (ap (state old.pkg) same) goes (e.stops told lawful here));
     }
 
-pub returns-in-Err-clause-index : goal.returns-in-Err-clause-index
-returns-in-Err-clause-index g c =
+pub returns-in-Err-clause-makes : goal.returns-in-Err-clause-makes
+returns-in-Err-clause-makes g c =
+    let D = g.D.Disk in
     let st = c.self.inside.store in
     let now = c.args.self.now.store in
-    let old = g.D.Disk.files c.args.disk.now in
+    let h = c.args.view.now in
+    let a = c.args.disk.now in
+    let old = D.files a in
+    let images = D.left_since a (D.moment a) in
+    let e = c.in-Err.ensures in
     let same : st ≡ now = ap (λ (db : Database). db.store) c.self.view_is in
-    let goes = put_goes old.pkg st now same c.args.n c.args.view.now c.requires.own in
+    let goes = put_goes old.pkg st now same c.args.n h c.requires.own in
+    let inside = λ (told : IsTrue D.tells). serving_inside old images st c.self.inside.index c.in-Some.index c.self.inside.is_stopped
+    c.args.self.now c.self.view_is c.in-Some.is (c.requires.ready.serving told) in
+    let going : c.self.inside.is_stopped ≡ false = ap (λ (db : Database). db.stopped) c.self.view_is ∙ c.requires.ready.going in
     record {
-      full = λ told has.
+      room = subst (λ (o : Option Store). RoomCause o c.in-Err.fault)
+          (ap (λ (v : Store). put_in c.args.n (length h.blob) (raised v)) same ∙ put_next c.args.n h.blob now) e.room.placed;
+      changed = tt;
+      full = λ told runs was.
           subst (λ (s : State). FullCause (units_for (rows s.packages)) c.in-Err.fault) goes
-          (c.in-Err.ensures.index.full told (subst (λ (v : Store). HasRows (packages old.pkg v) old.idx) (sym same) has));
-      bad = λ told. c.in-Err.ensures.index.bad told;
+          (e.index.full told (subst (λ (v : Store). HasRows (packages old.pkg v) old.idx) (sym same) was.rows_are));
+      stops = λ told lawful.
+          (let s = inside told in
+          let current = subst (IsInOrder st.generation) c.in-Some.is (c.self.invariant.order going) in
+          let made = c.self.invariant.made (ap is_some c.in-Some.is) in
+          let here = rows_of_disk old.pkg old.idx st c.in-Some.index s.keeps made s.index current (lawful old (g.met.D.Disk.as_read a told)) in
+          stops_told D.moment D.left_since a c.put_header.new.disk images _ _ _ _ (ap (state old.pkg) same) goes (e.stops told lawful here));
     }
+
+pub returns-in-Err-clause-bad : goal.returns-in-Err-clause-bad
+returns-in-Err-clause-bad g c = λ told. c.in-Err.ensures.index.bad told
