@@ -1,21 +1,18 @@
 -- Runs of calls that ask a database.
 use Rattle.std.proofs.Common.{◌≡◌, ℕ, List, ◌≤◌, Ok, Err, ◌∙◌, refl, sym, ap, subst, arith}
-use Rattle.std.specs.Prelude.{IsTrue, Result, OnOk, OnErr, IfOk, IfErr, false}
+use Rattle.std.specs.Prelude.{Result, OnOk, OnErr, IfOk, IfErr, false}
 use Rattle.rpm_outside.specs.declared.disk.Disk as disk
-use Rattle.rpm_outside.specs.declared.disk.File.TheVariants.{Idx}
 use Rattle.rpm_outside.specs.Files.{Files, Units}
-use Rattle.rpm_outside.specs.Frame.{LooksAt}
 use Rattle.rpm_tags.specs.declared.kind.Kind.{Kind}
 use Rattle.rpm_db.specs.Database.{Database, Keeps}
 use Rattle.rpm_select.specs.declared.picked.PickFault.{PickFault}
 use Rattle.rpm_select.specs.declared.picked.PickFault.TheVariants as pick
 use Rattle.rpm_select.specs.Picks as picks
-use Rattle.rpm_select.specs.Reach as select
+use Rattle.rpm_select.specs.Frame.{AsksIndex}
 use Rattle.rpm_check.specs.declared.faults.CheckFault.{CheckFault}
 use Rattle.rpm_check.specs.declared.faults.CheckFault.TheVariants.{DiskFault, NoMemory}
 use Rattle.rpm_check.specs.Answers.{IsBroken, is_of_index, is_broken}
-use Rattle.rpm_check.specs.Frame as frame
-use Rattle.rpm_check.specs.Frame.{IsAskable, Kept, KeptIndex, HasRows, Glances, Asks}
+use Rattle.rpm_check.specs.Frame.{IsAskable, Kept, KeptIndex, Glances, Asks}
 use Rattle.rpm_check.specs.inner.Faults.{fault_in}
 use Rattle.rpm_check.proofs.Faulting.{broken_from}
 use Rattle.rpm_check.proofs.Glancing.{glances_none, glances_then, glances_index}
@@ -55,9 +52,12 @@ disk_in (pick.BadIndex unit) is = absurd cc
 disk_in pick.DiskFault is = refl
 disk_in pick.NoMemory is = absurd cc
 
--- an answer of this type
+-- answers of this type
 abbrev failed : (X : Type 0) → CheckFault → Result X CheckFault
 failed X fault = Err fault
+
+abbrev unpicked : (X : Type 0) → PickFault → Result X PickFault
+unpicked X fault = Err fault
 
 err_in : (X : Type 0) (a b : CheckFault) → failed X a ≡ failed X b → a ≡ b
 err_in X a b is = cc
@@ -102,15 +102,13 @@ module _ {D : Type 0} (d : disk.Ghosts D) where
   }
 
   -- a picker that failed as it was made
-  pub asks_picker : (X : Type 0) (keys : List (Kind × List ℕ)) (fault : PickFault) (a b : D) (db : Database) → IsAskable d a db → KeptIndex d b db
-      → LooksAt d Idx a b → (IsTrue d.tells → select.IsBroken keys (d.files a).idx fault)
-      → (IsTrue d.tells → HasRows d a db → picks.is_of_index fault ≡ false) → frame.DiskFault d (fault ≡ pick.DiskFault) a b
-      → Asks d a b db (failed X (fault_in fault))
-  asks_picker X keys fault a b db asked kept looks broken lawful cause = record {
-    kept = λ told. subst (λ (f : Files). Keeps f.pkg db) (sym (looks.untouched told).same) (asked.keeps told);
-    kept_index = kept;
-    broken = λ told. broken_from keys (d.files a).idx fault (broken told);
-    lawful = λ told rows. of_index_in fault ∙ lawful told rows;
-    looks = glances_index d.tells d.files d.left_since d.moment d.bytes_read d.follows a b looks;
-    cause = record { later = cause.later; rose = λ is. cause.rose (disk_in fault (err_in X _ _ is)) };
+  pub asks_picker : (X Y : Type 0) (keys : List (Kind × List ℕ)) (fault : PickFault) (a b : D) (db : Database) → IsAskable d a db
+      → AsksIndex d keys a b db (unpicked Y fault) → Asks d a b db (failed X (fault_in fault))
+  asks_picker X Y keys fault a b db asked made = record {
+    kept = λ told. subst (λ (f : Files). Keeps f.pkg db) (sym (made.looks.untouched told).same) (asked.keeps told);
+    kept_index = made.kept_index;
+    broken = λ told. broken_from keys (d.files a).idx fault (made.broken told);
+    lawful = λ told rows. of_index_in fault ∙ made.lawful told rows;
+    looks = glances_index d.tells d.files d.left_since d.moment d.bytes_read d.follows a b made.looks;
+    cause = record { later = made.cause.later; rose = λ is. made.cause.rose (ap (unpicked Y) (disk_in fault (err_in X _ _ is))) };
   }

@@ -7,10 +7,10 @@ pub mod Faulting
 pub mod Gaining
 pub mod Gathering
 pub mod Glancing
+pub mod Heading
 pub mod Joining
 pub mod Keys
 pub mod Members
-pub mod Needing
 pub mod Numbering
 pub mod Picking
 pub mod Placing

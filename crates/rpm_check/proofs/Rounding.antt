@@ -1,33 +1,17 @@
 -- The packages of a report, one after the other.
-use Rattle.std.proofs.Common.{◌≡◌, ℕ, ◌<◌, List, [], ◌++◌, Bool, true, false, Option, Some, None, is_some, Ok, Err, refl, ap, ◌∙◌}
+use Rattle.std.proofs.Common.{◌≡◌, ℕ, ◌<◌, List, [], ◌++◌, Bool, true, false, Option, Some, None, is_some, refl, ap, ◌∙◌}
 use Rattle.std.specs.List.{flat_map}
 use Rattle.std.specs.Ordering.{nat_cmp}
 use Rattle.std.specs.FinMap as finite
-use Rattle.rpm_header.specs.declared.form.HeaderFault.{HeaderFault}
-use Rattle.rpm_header.specs.Header.{Header, header}
 use Rattle.rpm_tags.specs.Wanted.{Needed}
 use Rattle.rpm_outside.specs.Files.{Units}
 use Rattle.rpm_db.specs.Database.{Database, IsNext, holds}
-use Rattle.rpm_db.specs.State.{Package, packages, package_of, read_as, above}
+use Rattle.rpm_db.specs.State.{Package, packages, above}
 use Rattle.rpm_db.specs.inner.Above.{none_is, next_above, nothing_above, all_above_zero}
 use Rattle.rpm_db.specs.inner.Laws.{is_there}
-use Rattle.rpm_db.specs.inner.Own.{header-own}
 use Rattle.rpm_check.specs.declared.list.Unmet.{Unmet}
-use Rattle.rpm_check.specs.Unmet.{required, unmet_in, unmet_read, unmet_of, lacks, unmet}
+use Rattle.rpm_check.specs.Unmet.{unmet_of, lacks, unmet}
 use Rattle.rpm_check.specs.inner.Rounds.{unmet_at}
-
--- ---- one package
-
-pub unmet_good : (is_lacking : Needed → Bool) (n : ℕ) (blob : List ℕ) (h : Header) → header blob ≡ Ok h
-    → unmet_of is_lacking (n, package_of (Some blob)) ≡ unmet_in is_lacking n (required h) 0
-unmet_good is_lacking n blob h is =
-    ap (λ r. unmet_of is_lacking (n, read_as r)) is ∙ ap (unmet_read is_lacking n) (header-own blob h is)
-
-pub unmet_bad : (is_lacking : Needed → Bool) (n : ℕ) (blob : List ℕ) (fault : HeaderFault) → header blob ≡ Err fault
-    → unmet_of is_lacking (n, package_of (Some blob)) ≡ []
-unmet_bad is_lacking n blob fault is = ap (λ r. unmet_of is_lacking (n, read_as r)) is
-
--- ---- all of them
 
 module _ (all : finite.FinMap nat_cmp Package) (is_lacking : Needed → Bool) where
   -- what the packages above a number have

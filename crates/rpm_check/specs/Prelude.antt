@@ -16,6 +16,7 @@ pub use Rattle.rpm_check.specs.declared.faults.CheckFault.TheVariants.{NoMemory}
 pub use Rattle.rpm_check.specs.inner.Ends.{BeginsBelow, BeginsUpTo, good_if, is_end, is_good_at, needs_at}
 pub use Rattle.rpm_check.specs.inner.Faults.{fault_in}
 pub use Rattle.rpm_check.specs.inner.GiverMemos.{KnowsGivers, KnowsGiversOn}
+pub use Rattle.rpm_check.specs.inner.Headers.{header_at}
 pub use Rattle.rpm_check.specs.inner.Memos.{Knows, KnowsOn, need_of}
 pub use Rattle.rpm_check.specs.inner.Needs.{needed_in}
 pub use Rattle.rpm_check.specs.inner.Nodes.{AreRising, edges_of, numbers_of}

@@ -2,6 +2,7 @@
 pub mod Ends
 pub mod Faults
 pub mod GiverMemos
+pub mod Headers
 pub mod Memos
 pub mod Needs
 pub mod Nodes

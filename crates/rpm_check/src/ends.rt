@@ -9,7 +9,8 @@ use crate::giver_memo::GiverMemo;
 use crate::giving::givers;
 use crate::lacking::REQUIRES;
 use crate::memo::Requirement;
-use rpm_db::{Db, GetFault};
+use crate::package::read_header;
+use rpm_db::Db;
 use rpm_header::View;
 use rpm_outside::Disk;
 use rpm_select::each_once;
@@ -83,6 +84,7 @@ fn push_ends_of<D: Disk>(
     disk: &mut D,
     memo: &mut GiverMemo,
     number: u32,
+    room: &mut Vec<u8>,
     ends: &mut Vec<u32>,
 ) -> Result<bool, CheckFault>
     requires asked { IsAskable D.Disk disk.old db.now }
@@ -95,17 +97,12 @@ fn push_ends_of<D: Disk>(
     ensures remembered { KnowsGiversOn D.Disk disk.old db.now memo.new }
     ensures asks { Asks D.Disk disk.old disk.new db.now result }
 {
-    match db.read(alloc, disk, number) {
-        Ok(blob) => match View::parse(&blob) {
-            Ok(view) => {
-                push_ends(alloc, db, disk, memo, &view, ends)?;
-                Ok(true)
-            }
-            Err(_) => Ok(false),
-        },
-        Err(GetFault::NoSuch | GetFault::Bad) => Ok(false),
-        Err(GetFault::DiskFault) => Err(CheckFault::DiskFault),
-        Err(GetFault::NoMemory) => Err(CheckFault::NoMemory),
+    match read_header(alloc, db, disk, number, room)? {
+        Some(view) => {
+            push_ends(alloc, db, disk, memo, &view, ends)?;
+            Ok(true)
+        }
+        None => Ok(false),
     }
 }
 
@@ -117,6 +114,7 @@ pub fn ends_of<D: Disk>(
     disk: &mut D,
     memo: &mut GiverMemo,
     number: u32,
+    room: &mut Vec<u8>,
 ) -> Result<Option<Vec<u32>>, CheckFault>
     requires asked { IsAskable D.Disk disk.old db.now }
     requires remembers { KnowsGiversOn D.Disk disk.old db.now memo.old }
@@ -130,7 +128,7 @@ pub fn ends_of<D: Disk>(
     ensures asks { Asks D.Disk disk.old disk.new db.now result }
 {
     let mut ends = Vec::new(alloc);
-    let good = push_ends_of(alloc, db, disk, memo, number, &mut ends)?;
+    let good = push_ends_of(alloc, db, disk, memo, number, room, &mut ends)?;
     if good {
         Ok(Some(each_once(ends)))
     } else {

@@ -12,6 +12,7 @@ mod meeting;
 mod memo;
 mod next;
 mod nodes;
+mod package;
 mod reading;
 mod report;
 

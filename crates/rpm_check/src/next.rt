@@ -8,7 +8,8 @@ use crate::faults::CheckFault;
 use crate::lacking::{REQUIRES, lacks, required_count};
 use crate::list::Unmet;
 use crate::memo::Memo;
-use rpm_db::{Db, GetFault};
+use crate::package::read_header;
+use rpm_db::Db;
 use rpm_header::View;
 use rpm_outside::Disk;
 use rpm_tags::dependencies;
@@ -63,6 +64,7 @@ fn next_in<D: Disk>(
     disk: &mut D,
     memo: &mut Memo,
     number: u32,
+    room: &mut Vec<u8>,
     n: u32,
     i: u32,
 ) -> Result<Option<Unmet>, CheckFault>
@@ -74,14 +76,9 @@ fn next_in<D: Disk>(
     ensures remembered { KnowsOn D.Disk disk.old db.now memo.new }
     ensures asks { Asks D.Disk disk.old disk.new db.now result }
 {
-    match db.read(alloc, disk, number) {
-        Ok(blob) => match View::parse(&blob) {
-            Ok(view) => next_lacking(alloc, db, disk, memo, number, &view, n, i),
-            Err(_) => Ok(None),
-        },
-        Err(GetFault::NoSuch | GetFault::Bad) => Ok(None),
-        Err(GetFault::DiskFault) => Err(CheckFault::DiskFault),
-        Err(GetFault::NoMemory) => Err(CheckFault::NoMemory),
+    match read_header(alloc, db, disk, number, room)? {
+        Some(view) => next_lacking(alloc, db, disk, memo, number, &view, n, i),
+        None => Ok(None),
     }
 }
 
@@ -111,9 +108,10 @@ pub fn next_unmet<D: Disk>(
     ensures asks { Asks D.Disk disk.old disk.new db.now result }
 {
     let mut memo = Memo::new(alloc);
+    let mut room = Vec::new(alloc);
     let mut passed = n.saturating_sub(1);
     while let Some(number) = db.next_above(passed) {
-        let found = next_in(alloc, db, disk, &mut memo, number, n, i)?;
+        let found = next_in(alloc, db, disk, &mut memo, number, &mut room, n, i)?;
         if found.is_some() {
             return Ok(found);
         }

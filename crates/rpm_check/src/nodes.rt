@@ -26,6 +26,7 @@ fn push_node<D: Disk>(
     disk: &mut D,
     memo: &mut GiverMemo,
     number: u32,
+    room: &mut Vec<u8>,
     nodes: &mut Vec<Node>,
 ) -> Result<(), CheckFault>
     requires asked { IsAskable D.Disk disk.old db.now }
@@ -44,7 +45,7 @@ fn push_node<D: Disk>(
     ensures remembered { KnowsGiversOn D.Disk disk.old db.now memo.new }
     ensures asks { Asks D.Disk disk.old disk.new db.now result }
 {
-    let ends = match ends_of(alloc, db, disk, memo, number) {
+    let ends = match ends_of(alloc, db, disk, memo, number, room) {
         Ok(None) => return Ok(()),
         Ok(Some(ends)) => ends,
         Err(fault) => return Err(fault),
@@ -67,10 +68,11 @@ pub fn read_nodes<D: Disk>(alloc: Global, db: &Db, disk: &mut D) -> Result<Vec<N
     ensures asks { Asks D.Disk disk.old disk.new db.now result }
 {
     let mut memo = GiverMemo::new(alloc);
+    let mut room = Vec::new(alloc);
     let mut nodes = Vec::new(alloc);
     let mut passed = 0;
     while let Some(next) = db.next_above(passed) {
-        push_node(alloc, db, disk, &mut memo, next, &mut nodes)?;
+        push_node(alloc, db, disk, &mut memo, next, &mut room, &mut nodes)?;
         passed = next;
     }
     Ok(nodes)

@@ -8,8 +8,8 @@ use crate::faults::CheckFault;
 use crate::lacking::push_lacking;
 use crate::list::{Unmet, UnmetList};
 use crate::memo::Memo;
-use rpm_db::{Db, GetFault};
-use rpm_header::View;
+use crate::package::read_header;
+use rpm_db::Db;
 use rpm_outside::Disk;
 use std::alloc::Global;
 
@@ -20,6 +20,7 @@ fn push_unmet<D: Disk>(
     disk: &mut D,
     memo: &mut Memo,
     number: u32,
+    room: &mut Vec<u8>,
     found: &mut Vec<Unmet>,
 ) -> Result<(), CheckFault>
     requires asked { IsAskable D.Disk disk.old db.now }
@@ -30,14 +31,9 @@ fn push_unmet<D: Disk>(
     ensures remembered { KnowsOn D.Disk disk.old db.now memo.new }
     ensures asks { Asks D.Disk disk.old disk.new db.now result }
 {
-    match db.read(alloc, disk, number) {
-        Ok(blob) => match View::parse(&blob) {
-            Ok(view) => push_lacking(alloc, db, disk, memo, number, &view, found),
-            Err(_) => Ok(()),
-        },
-        Err(GetFault::NoSuch | GetFault::Bad) => Ok(()),
-        Err(GetFault::DiskFault) => Err(CheckFault::DiskFault),
-        Err(GetFault::NoMemory) => Err(CheckFault::NoMemory),
+    match read_header(alloc, db, disk, number, room)? {
+        Some(view) => push_lacking(alloc, db, disk, memo, number, &view, found),
+        None => Ok(()),
     }
 }
 
@@ -65,10 +61,11 @@ pub fn unmet<D: Disk>(alloc: Global, db: &Db, disk: &mut D) -> Result<UnmetList,
     ensures asks { Asks D.Disk disk.old disk.new db.now result }
 {
     let mut memo = Memo::new(alloc);
+    let mut room = Vec::new(alloc);
     let mut found = Vec::new(alloc);
     let mut passed = 0;
     while let Some(next) = db.next_above(passed) {
-        push_unmet(alloc, db, disk, &mut memo, next, &mut found)?;
+        push_unmet(alloc, db, disk, &mut memo, next, &mut room, &mut found)?;
         passed = next;
     }
     Ok(UnmetList::of(found))

@@ -1,4 +1,5 @@
 pub mod Conflicts
 pub mod Files
+pub mod Frame
 pub mod Owners
 pub mod inner

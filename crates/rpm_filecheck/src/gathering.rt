@@ -1,12 +1,11 @@
 //! Going through all packages.
 
-ghost use Rattle.std.specs.Prelude.{◌≡◌, IsTrue, true, false, Err, OnOk, IfOk};
+ghost use Rattle.std.specs.Prelude.{◌≡◌, IsTrue, true, false, OnOk, IfOk};
 ghost use Rattle.std.specs.FinMap as finite;
-ghost use Rattle.rpm_outside.specs.Frame.{Looks, DiskFault};
-ghost use Rattle.rpm_outside.specs.declared.disk.File.TheVariants.{Pkg};
 ghost use Rattle.rpm_db.specs.Database as database;
 ghost use Rattle.rpm_db.specs.Database.{cost, cost_all};
 ghost use Rattle.rpm_db.specs.Frame.{Kept, packages_in};
+ghost use Rattle.rpm_filecheck.specs.Frame.{Asks};
 ghost use Rattle.rpm_filecheck.specs.inner.Gathered.{nothing, with_some, with_packages};
 
 use crate::fault::FileCheckFault;
@@ -14,26 +13,30 @@ use crate::found::Found;
 use rpm_db::{Db, GetFault};
 use rpm_outside::Disk;
 use std::alloc::Global;
+use std::mem::replace;
 
-/// Adds the package of a number that is there. Reads its blocks, each once.
+/// Adds the package of a number that is there. Reads its blocks, each once, into a vector of the caller's: one that
+/// held a package before has its room already.
 fn add_package<D: Disk>(
     alloc: Global,
     db: &Db,
     disk: &mut D,
     found: &mut Found,
     number: u32,
+    room: &mut Vec<u8>,
 ) -> Result<(), FileCheckFault>
     requires keeps { Kept D.Disk disk.old db.now }
     requires runs { db.now.stopped ≡ false }
     requires there { database.holds number db.now ≡ true }
-    ensures kept { Kept D.Disk disk.new db.now }
     ensures found { OnOk result (IsTrue D.tells
         → found.new ≡ with_some number (finite.get (packages_in D.Disk disk.old db.now) number) found.old) }
-    ensures looks { Looks D.Disk Pkg (cost number db.now) disk.old disk.new }
-    ensures cause { DiskFault D.Disk (result ≡ Err FileCheckFault.DiskFault) disk.old disk.new }
+    ensures asks { Asks D.Disk (cost number db.now) disk.old disk.new db.now result }
 {
-    match db.read(alloc, disk, number) {
-        Ok(blob) => found.add_blob(alloc, number, &blob)?,
+    match db.read_in(disk, number, replace(room, Vec::new(alloc))) {
+        Ok(blob) => {
+            found.add_blob(alloc, number, &blob)?;
+            *room = blob;
+        }
         Err(GetFault::NoSuch) => unreachable!(),
         Err(GetFault::Bad) => found.add_bad(number)?,
         Err(GetFault::DiskFault) => return Err(FileCheckFault::DiskFault),
@@ -46,16 +49,15 @@ fn add_package<D: Disk>(
 pub fn gather<D: Disk>(alloc: Global, db: &Db, disk: &mut D) -> Result<Found, FileCheckFault>
     requires keeps { Kept D.Disk disk.old db.now }
     requires runs { db.now.stopped ≡ false }
-    ensures kept { Kept D.Disk disk.new db.now }
     ensures found { IfOk result (λ found. IsTrue D.tells
         → found ≡ with_packages (finite.entries (packages_in D.Disk disk.old db.now)) nothing) }
-    ensures looks { Looks D.Disk Pkg (cost_all db.now) disk.old disk.new }
-    ensures cause { DiskFault D.Disk (result ≡ Err FileCheckFault.DiskFault) disk.old disk.new }
+    ensures asks { Asks D.Disk (cost_all db.now) disk.old disk.new db.now result }
 {
     let mut found = Found::new(alloc);
+    let mut room = Vec::new(alloc);
     let mut passed = 0;
     while let Some(number) = db.next_above(passed) {
-        add_package(alloc, db, disk, &mut found, number)?;
+        add_package(alloc, db, disk, &mut found, number, &mut room)?;
         passed = number;
     }
     Ok(found)

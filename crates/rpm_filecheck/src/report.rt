@@ -1,11 +1,10 @@
 //! The report of all conflicts.
 
-ghost use Rattle.std.specs.Prelude.{◌≡◌, ◌<◌, [], IsTrue, false, Some, Err, IfOk, length, slice_get, unwrap_or};
-ghost use Rattle.rpm_outside.specs.Frame.{Looks, DiskFault};
-ghost use Rattle.rpm_outside.specs.declared.disk.File.TheVariants.{Pkg};
+ghost use Rattle.std.specs.Prelude.{◌≡◌, ◌<◌, [], IsTrue, false, Some, IfOk, length, slice_get, unwrap_or};
 ghost use Rattle.rpm_db.specs.Database.{cost_all};
 ghost use Rattle.rpm_db.specs.Frame.{Kept, packages_in};
 ghost use Rattle.rpm_filecheck.specs.Conflicts.{IsReport, told_label};
+ghost use Rattle.rpm_filecheck.specs.Frame.{Asks};
 
 use crate::conflict::Conflict;
 use crate::fault::FileCheckFault;
@@ -85,10 +84,8 @@ pub fn conflicts<D: Disk>(
 ) -> Result<ConflictList, FileCheckFault>
     requires keeps { Kept D.Disk disk.old db.now }
     requires runs { db.now.stopped ≡ false }
-    ensures kept { Kept D.Disk disk.new db.now }
     ensures told { IfOk result (λ report. IsTrue D.tells → IsReport (packages_in D.Disk disk.old db.now) report) }
-    ensures looks { Looks D.Disk Pkg (cost_all db.now) disk.old disk.new }
-    ensures cause { DiskFault D.Disk (result ≡ Err FileCheckFault.DiskFault) disk.old disk.new }
+    ensures asks { Asks D.Disk (cost_all db.now) disk.old disk.new db.now result }
 {
     let found = gather(alloc, db, disk)?;
     let Found { owned, labels, bad } = found;

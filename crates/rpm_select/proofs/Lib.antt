@@ -1,3 +1,4 @@
+pub mod Asks
 pub mod Back
 pub mod Bounds
 pub mod Cutting

@@ -17,6 +17,7 @@ pub use Rattle.rpm_tags.specs.Value.{first_text, numbers_in, texts_in}
 pub use Rattle.rpm_tags.specs.Wanted.{base_name, listed}
 pub use Rattle.rpm_tags.specs.declared.kind.Kind.TheVariants.{Installtid, Providename}
 pub use Rattle.rpm_select.specs.Candidates.{cut, keys_asked, names_in, one, path_keys}
+pub use Rattle.rpm_select.specs.Frame.{AsksPackages, AsksIndex}
 pub use Rattle.rpm_select.specs.Glob.{bracketed, glob, is_close, is_member, is_turned, member_count, piece_at, pieces}
 pub use Rattle.rpm_select.specs.Glob.{takes}
 pub use Rattle.rpm_select.specs.Labels.{is_dash, is_dash_or_dot, labels, matches, with_arch, with_name, with_release}
@@ -28,6 +29,7 @@ pub use Rattle.rpm_select.specs.Reach.{reach_to, reaches, unasked}
 pub use Rattle.rpm_select.specs.Recents.{IsHeld, IsOf, Recalls, picks_at}
 pub use Rattle.rpm_select.specs.Selections.{has_any, is_among, is_elsewhere, is_file_of, is_first, is_picked, meets}
 pub use Rattle.rpm_select.specs.Selections.{picks, takes_bad, takes_header}
+pub use Rattle.rpm_select.specs.declared.picked.PickFault.TheVariants.{NoMemory}
 pub use Rattle.rpm_select.specs.inner.Asking.{Adds, AreWith, is_byte, name_keys}
 pub use Rattle.rpm_select.specs.inner.Indexed.{HasIndex}
 pub use Rattle.rpm_select.specs.inner.Members.{first_has, first_len, is_range}

@@ -1,7 +1,7 @@
 //! The packages that an index has under the keys of a selection.
 
 ghost use Rattle.std.specs.Prelude.{◌≡◌, ◌≢◌, ℕ, ◌++◌, ◌∷◌, [], IsTrue, false, map, Err, IfOk, IfErr, OnOk};
-ghost use Rattle.rpm_select.specs.Prelude.{Adds, AreWith, DiskFault, HasIndex, HasRows, Idx, is_in, is_of_index, IsBroken, IsStrictlyIncreasing, KeptIndex, keys_asked, KeysCost, LooksAt, packages_in, rows};
+ghost use Rattle.rpm_select.specs.Prelude.{Adds, AreWith, AsksIndex, DiskFault, HasIndex, HasRows, Idx, is_in, is_of_index, IsBroken, IsStrictlyIncreasing, KeptIndex, keys_asked, KeysCost, LooksAt, packages_in, rows};
 
 use crate::asked::{Asked, keys_asked};
 use crate::picked::PickFault;
@@ -27,10 +27,8 @@ fn push_hits(numbers: &mut Vec<u32>, hits: &Hits) -> Result<(), PickFault>
     ensures no_fault { result ≢ Err PickFault.DiskFault }
     ensures unbroken { IfErr result (λ fault. is_of_index fault ≡ false) }
 {
-    match push_numbers(numbers, hits) {
-        Ok(()) => Ok(()),
-        Err(_) => Err(PickFault::NoMemory),
-    }
+    push_numbers(numbers, hits)?;
+    Ok(())
 }
 
 /// Adds the numbers of the packages that have a key, each as often as it has it.
@@ -115,21 +113,9 @@ pub fn numbers_asked<D: Disk>(
     ensures with { IfOk result (λ numbers. IsTrue D.tells
         → HasRows (packages_in D.Disk disk.old db.now) (D.files disk.old).idx
         → AreWith (rows (packages_in D.Disk disk.old db.now)) (keys_asked selection.now) numbers.items) }
-    ensures kept { KeptIndex D.Disk disk.new db.now }
-    ensures broken { IsTrue D.tells → IfErr result (IsBroken (keys_asked selection.now) (D.files disk.old).idx) }
-    ensures lawful { IsTrue D.tells → HasRows (packages_in D.Disk disk.old db.now) (D.files disk.old).idx
-        → IfErr result (λ fault. is_of_index fault ≡ false) }
-    ensures cost { IsTrue D.tells → KeysCost (D.files disk.old).idx (keys_asked selection.now)
-        (D.bytes_read disk.old File.Idx) (D.bytes_read disk.new File.Idx) }
-    ensures looks { LooksAt D.Disk Idx disk.old disk.new }
-    ensures cause { DiskFault D.Disk (result ≡ Err PickFault.DiskFault) disk.old disk.new }
+    ensures asks { AsksIndex D.Disk (keys_asked selection.now) disk.old disk.new db.now result }
 {
-    let keys = match keys_asked(alloc, selection) {
-        Ok(keys) => keys,
-        Err(_) => return Err(PickFault::NoMemory),
-    };
-    match found(alloc, db, disk, &keys) {
-        Ok(numbers) => Ok(each_once(numbers)),
-        Err(fault) => Err(fault),
-    }
+    let keys = keys_asked(alloc, selection)?;
+    let numbers = found(alloc, db, disk, &keys)?;
+    Ok(each_once(numbers))
 }

@@ -2,14 +2,14 @@
 
 ghost use Rattle.std.specs.Prelude.{◌≡◌, ◌≢◌, ℕ, IsTrue, IfOk, false, true, Ok, Err, Some};
 ghost use Rattle.std.specs.FinMap as finite;
-ghost use Rattle.rpm_select.specs.Prelude.{Bad, cost, DiskFault, header, is_broken, is_elsewhere, IsNumbered, Kept, Looks, number_in, OneIs, OneOf, package_of, packages_in, Pkg, TakenIs, takes_bad};
+ghost use Rattle.rpm_select.specs.Prelude.{AsksPackages, Bad, cost, header, is_broken, is_elsewhere, IsNumbered, Kept, NoMemory, number_in, OneIs, OneOf, package_of, packages_in, TakenIs, takes_bad};
 
 use crate::rows::takes_header;
 use crate::selection::Selection;
 use rpm_db::{Db, GetFault};
 use rpm_header::View;
 use rpm_outside::{Disk, File};
-use std::alloc::Global;
+use std::alloc::{AllocError, Global};
 use std::marker::Model;
 use std::mem::replace;
 use thiserror::Error;
@@ -98,6 +98,14 @@ pub enum PickFault {
     NoMemory,
 }
 
+impl From<AllocError> for PickFault {
+    ghost from_gives = { λ _ e. e ≡ NoMemory };
+
+    fn from(_: AllocError) -> PickFault {
+        PickFault::NoMemory
+    }
+}
+
 // What a selection does with a package that was read.
 #[derive(Clone, Copy)]
 enum Taken {
@@ -170,14 +178,13 @@ fn pick_blob(
     ensures no_fault { result ≢ Err PickFault.DiskFault }
     ensures unbroken { is_broken result ≡ false }
 {
-    match taken_length(alloc, selection, number, &blob) {
-        Err(fault) => Err(fault),
-        Ok(Taken::Bad) => pick_bad(selection, number),
-        Ok(Taken::Passed) => {
+    match taken_length(alloc, selection, number, &blob)? {
+        Taken::Bad => pick_bad(selection, number),
+        Taken::Passed => {
             *room = blob;
             Ok(None)
         }
-        Ok(Taken::Good(length)) => {
+        Taken::Good(length) => {
             let mut bytes = blob;
             bytes.truncate(length);
             Ok(Some(Picked::Good {
@@ -210,13 +217,10 @@ pub fn pick<D: Disk>(
 ) -> Result<Option<Picked>, PickFault>
     requires keeps { Kept D.Disk disk.old db.now }
     requires runs { db.now.stopped ≡ false }
-    ensures kept { Kept D.Disk disk.new db.now }
     ensures told { IsTrue D.tells → OneOf selection.now number (finite.get (packages_in D.Disk disk.old db.now) number)
         result }
     ensures numbered { IsNumbered number result }
-    ensures looks { Looks D.Disk Pkg (cost number db.now) disk.old disk.new }
-    ensures cause { DiskFault D.Disk (result ≡ Err PickFault.DiskFault) disk.old disk.new }
-    ensures unbroken { is_broken result ≡ false }
+    ensures asks { AsksPackages D.Disk (cost number db.now) disk.old disk.new db.now result }
     ensures unread { is_elsewhere selection.now number ≡ true
         → D.bytes_read disk.new File.Pkg ≡ D.bytes_read disk.old File.Pkg }
 {

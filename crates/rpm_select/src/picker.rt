@@ -1,7 +1,7 @@
 //! The packages that a question picks, one at a time.
 
-ghost use Rattle.std.specs.Prelude.{◌≡◌, ◌<◌, IsTrue, IsOk, IfOk, IfErr, IfSome, ◌+◌, ◌≤◌, false, Err};
-ghost use Rattle.rpm_select.specs.Prelude.{above, AnyIs, asks, cost_after, cost_to, DiskFault, Idx, is_broken, IsBroken, IsNext, IsStrictlyIncreasing, Kept, KeptIndex, keys_asked, KeysCost, Looks, LooksAt, NextIs, number_in, packages_in, picks, Pkg, reach, reach_after, reach_to, reaches, ReadsOwn, Serves, These, unasked};
+ghost use Rattle.std.specs.Prelude.{◌≡◌, ◌<◌, IsTrue, IsOk, IfOk, IfSome, ◌+◌, ◌≤◌, false};
+ghost use Rattle.rpm_select.specs.Prelude.{above, AnyIs, AsksPackages, asks, AsksIndex, cost_after, cost_to, IsNext, IsStrictlyIncreasing, Kept, KeptIndex, keys_asked, Looks, NextIs, number_in, packages_in, picks, Pkg, reach, reach_after, reach_to, reaches, ReadsOwn, Serves, These, unasked};
 ghost use Rattle.rpm_select.specs.Frame.{HasRows};
 
 use crate::asking::numbers_asked;
@@ -99,27 +99,19 @@ impl Picker {
     ) -> Result<Picker, PickFault>
         requires keeps_index { KeptIndex D.Disk disk.old db.now }
         requires runs { db.now.stopped ≡ false }
-        ensures kept_index { KeptIndex D.Disk disk.new db.now }
         ensures begins { asks db.now selection.now ≡ false → IsOk result }
         ensures unread { asks db.now selection.now ≡ false → Looks D.Disk Pkg 0 disk.old disk.new }
-        ensures looks { LooksAt D.Disk Idx disk.old disk.new }
-        ensures cost { IsTrue D.tells → KeysCost (D.files disk.old).idx (keys_asked selection.now)
-            (D.bytes_read disk.old File.Idx) (D.bytes_read disk.new File.Idx) }
+        ensures asks { AsksIndex D.Disk (keys_asked selection.now) disk.old disk.new db.now result }
         ensures reach { IfOk result (λ picker. IsTrue D.tells → HasRows D.Disk disk.old db.now
             → picker ≡ reach (asks db.now selection.now) selection.now (packages_in D.Disk disk.old db.now)) }
         ensures serves { IfOk result (λ picker. IsTrue D.tells → HasRows D.Disk disk.old db.now
             → Serves picker (packages_in D.Disk disk.old db.now) selection.now) }
-        ensures broken { IsTrue D.tells → IfErr result (IsBroken (keys_asked selection.now) (D.files disk.old).idx) }
-        ensures lawful { IsTrue D.tells → HasRows D.Disk disk.old db.now → is_broken result ≡ false }
-        ensures cause { DiskFault D.Disk (result ≡ Err PickFault.DiskFault) disk.old disk.new }
     {
         if !asks(db, selection) {
             return Ok(unasked(alloc, selection));
         }
-        match numbers_asked(alloc, db, disk, selection) {
-            Ok(numbers) => Ok(over(alloc, numbers)),
-            Err(fault) => Err(fault),
-        }
+        let numbers = numbers_asked(alloc, db, disk, selection)?;
+        Ok(over(alloc, numbers))
     }
 
     /// Takes back a package that was picked and isn't needed any more: the next one is read into its room.
@@ -153,17 +145,14 @@ impl Picker {
     ) -> Result<Option<Picked>, PickFault>
         requires keeps { Kept D.Disk disk.old db.now }
         requires runs { db.now.stopped ≡ false }
-        ensures kept { Kept D.Disk disk.new db.now }
         ensures told { IsTrue D.tells → Serves self.old (packages_in D.Disk disk.old db.now) selection.now
             → NextIs (above n (picks (packages_in D.Disk disk.old db.now) selection.now)) result }
         ensures same { self.new ≡ self.old }
         ensures reads { D.bytes_read disk.new File.Pkg ≤ D.bytes_read disk.old File.Pkg + reach_after n self.old db.now
             result }
         ensures rises { IfOk result (λ o. IfSome o (λ picked. n < number_in picked)) }
-        ensures looks { Looks D.Disk Pkg (cost_after n db.now result) disk.old disk.new }
+        ensures asks { AsksPackages D.Disk (cost_after n db.now result) disk.old disk.new db.now result }
         ensures own { ReadsOwn selection.now db.now (D.bytes_read disk.old File.Pkg) (D.bytes_read disk.new File.Pkg) }
-        ensures unbroken { is_broken result ≡ false }
-        ensures cause { DiskFault D.Disk (result ≡ Err PickFault.DiskFault) disk.old disk.new }
     {
         let mut room = replace(&mut self.room, Vec::new(alloc));
         let mut passed = n;
@@ -195,15 +184,12 @@ impl Picker {
     ) -> Result<bool, PickFault>
         requires keeps { Kept D.Disk disk.old db.now }
         requires runs { db.now.stopped ≡ false }
-        ensures kept { Kept D.Disk disk.new db.now }
         ensures told { IsTrue D.tells → Serves self.old (packages_in D.Disk disk.old db.now) selection.now
             → AnyIs (above 0 (picks (packages_in D.Disk disk.old db.now) selection.now)) n result }
         ensures same { self.new ≡ self.old }
         ensures reads { D.bytes_read disk.new File.Pkg ≤ D.bytes_read disk.old File.Pkg + reach_to n self.old db.now }
-        ensures looks { Looks D.Disk Pkg (cost_to n db.now) disk.old disk.new }
+        ensures asks { AsksPackages D.Disk (cost_to n db.now) disk.old disk.new db.now result }
         ensures own { ReadsOwn selection.now db.now (D.bytes_read disk.old File.Pkg) (D.bytes_read disk.new File.Pkg) }
-        ensures unbroken { is_broken result ≡ false }
-        ensures cause { DiskFault D.Disk (result ≡ Err PickFault.DiskFault) disk.old disk.new }
     {
         let mut room = replace(&mut self.room, Vec::new(alloc));
         let mut passed = 0;

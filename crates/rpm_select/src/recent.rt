@@ -1,7 +1,7 @@
 //! The package that was read last.
 
 ghost use Rattle.std.specs.Prelude.{◌≡◌, ◌≢◌, ◌<◌, ℕ, IsTrue, is_some, true, false, Ok, Err, Some, IfOk, IfSome};
-ghost use Rattle.rpm_select.specs.Prelude.{above, cost, DiskFault, is_broken, is_picked, IsHeld, IsNext, IsOf, Kept, Looks, nat_cmp, NextNumberIs, number_in, Package, package_in, packages_in, picks, picks_at, Pkg, reach_next, reaches, Recalls, Serves};
+ghost use Rattle.rpm_select.specs.Prelude.{above, AsksPackages, cost, is_broken, is_picked, IsHeld, IsNext, IsOf, Kept, nat_cmp, NextNumberIs, number_in, Package, package_in, packages_in, picks, picks_at, reach_next, reaches, Recalls, Serves};
 ghost use Rattle.std.specs.FinMap as finite;
 
 use crate::picked::{PickFault, Picked, pick, takes_bad};
@@ -26,10 +26,7 @@ fn takes(alloc: Global, selection: &Selection<'_>, picked: &Picked) -> Result<bo
 {
     match picked {
         Picked::Good { number, blob } => {
-            match takes_header(alloc, selection, *number, &blob.view()) {
-                Ok(takes) => Ok(takes),
-                Err(_) => Err(PickFault::NoMemory),
-            }
+            Ok(takes_header(alloc, selection, *number, &blob.view())?)
         }
         Picked::Bad { number } => Ok(takes_bad(selection, *number)),
     }
@@ -84,16 +81,13 @@ impl Recent {
     ) -> Result<bool, PickFault>
         requires keeps { Kept D.Disk disk.old db.now }
         requires runs { db.now.stopped ≡ false }
-        ensures kept { Kept D.Disk disk.new db.now }
         ensures told { IfOk result (λ b. IsTrue D.tells → Recalls (packages_in D.Disk disk.old db.now) self.old
             → b ≡ picks_at selection.now number (finite.get (packages_in D.Disk disk.old db.now) number)) }
         ensures recalls { IsTrue D.tells → Recalls (packages_in D.Disk disk.old db.now) self.old
             → Recalls (packages_in D.Disk disk.old db.now) self.new }
         ensures held { result ≡ Ok true → IsHeld number self.new }
-        ensures looks { Looks D.Disk Pkg (cost number db.now) disk.old disk.new }
+        ensures asks { AsksPackages D.Disk (cost number db.now) disk.old disk.new db.now result }
         ensures unread { IsHeld number self.old → D.bytes_read disk.new File.Pkg ≡ D.bytes_read disk.old File.Pkg }
-        ensures unbroken { is_broken result ≡ false }
-        ensures cause { DiskFault D.Disk (result ≡ Err PickFault.DiskFault) disk.old disk.new }
     {
         if let Some(held) = self.recall(number) {
             return takes(alloc, selection, held);
@@ -125,7 +119,6 @@ impl Picker {
     ) -> Result<Option<u32>, PickFault>
         requires keeps { Kept D.Disk disk.old db.now }
         requires runs { db.now.stopped ≡ false }
-        ensures kept { Kept D.Disk disk.new db.now }
         ensures told { IsTrue D.tells → Serves self.now (packages_in D.Disk disk.old db.now) selection.now
             → Recalls (packages_in D.Disk disk.old db.now) recent.old
             → NextNumberIs (above n (picks (packages_in D.Disk disk.old db.now) selection.now)) result }
@@ -135,9 +128,7 @@ impl Picker {
         ensures unread { (m : ℕ) → IsHeld m recent.old → IsNext (reaches self.now db.now) n (Some m)
             → result ≡ Ok (Some m) → D.bytes_read disk.new File.Pkg ≡ D.bytes_read disk.old File.Pkg }
         ensures rises { IfOk result (λ o. IfSome o (λ next. n < next)) }
-        ensures looks { Looks D.Disk Pkg (reach_next n self.now db.now result) disk.old disk.new }
-        ensures unbroken { is_broken result ≡ false }
-        ensures cause { DiskFault D.Disk (result ≡ Err PickFault.DiskFault) disk.old disk.new }
+        ensures asks { AsksPackages D.Disk (reach_next n self.now db.now result) disk.old disk.new db.now result }
     {
         let mut passed = n;
         while let Some(next) = self.next_number(db, passed) {

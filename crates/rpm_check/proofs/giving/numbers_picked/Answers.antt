@@ -1,4 +1,4 @@
-use Rattle.std.proofs.Common.{◌≡◌, ℕ, List, ◌++◌, Option, Some, None, Ok, arith, sym, ap, subst, Err}
+use Rattle.std.proofs.Common.{◌≡◌, ℕ, List, ◌++◌, Option, Some, None, Ok, arith, sym, ap, subst}
 use Rattle.std.proofs.lemmas.Result.{err_from_is_err_and}
 use Rattle.rpm_outside.specs.Files.{Files}
 use Rattle.rpm_db.specs.Database.{Keeps, KeepsIndex}
@@ -17,14 +17,13 @@ use Rattle.rpm_check.proofs.Asking.{asks_picker}
 pub returns-in_err-picker-clause-asks : goal.returns-in_err-picker-clause-asks
 returns-in_err-picker-clause-asks g c =
     let p = err_from_is_err_and c.from_residual.result c.from_residual.ensures.1 in
-    let made = c.in_err-picker.ensures in
-    rw (p.1, p.2) (asks_picker g.D.Disk _ (keys_asked c.args.selection.now) c.in_err-picker.field-0.0 c.args.disk.now c.new.new.disk c.args.db.now
-    c.requires.asked made.kept_index made.looks made.broken made.lawful (record { later = made.cause.later; rose = λ is. made.cause.rose (ap Err is) }))
+    rw (p.1, p.2) (asks_picker g.D.Disk _ _ (keys_asked c.args.selection.now) c.in_err-picker.field-0.0 c.args.disk.now c.new.new.disk c.args.db.now
+    c.requires.asked c.in_err-picker.ensures.asks)
 
 pub loop-numbers-init : goal.loop-numbers-init
 loop-numbers-init g c =
     let db = c.args.db.now in
-    let begun = c.in_ok-picker.ensures in
+    let begun = c.in_ok-picker.ensures.asks in
     record {
       asking = record {
         keeps = λ told. subst (λ (f : Files). Keeps f.pkg db) (sym (begun.looks.untouched told).same) (c.requires.asked.keeps told);
@@ -51,14 +50,14 @@ loop-numbers-preserved g c =
     let is : c.in_ok-next.field-0 ≡ Some c.in-Some.next = cc in
     record {
       asking = record {
-        keeps = done.kept;
-        keeps_index = λ told. subst (λ (f : Files). KeepsIndex f.idx db) (sym (done.looks.untouched told).same) (inv.asking.keeps_index told);
+        keeps = done.asks.kept;
+        keeps_index = λ told. subst (λ (f : Files). KeepsIndex f.idx db) (sym (done.asks.looks.untouched told).same) (inv.asking.keeps_index told);
         looks =
             glances_then g.D.Disk.tells g.D.Disk.files g.D.Disk.left_since g.D.Disk.moment g.D.Disk.bytes_read g.D.Disk.follows g.met.D.Disk.follows_trans
             c.args.disk.now c.loop-numbers.disk c.next_number_after.new.disk inv.asking.looks
             (glances_packages g.D.Disk.tells g.D.Disk.files g.D.Disk.left_since g.D.Disk.moment g.D.Disk.bytes_read g.D.Disk.follows _
-            c.loop-numbers.disk c.next_number_after.new.disk done.looks);
-        faults = omega (arith, inv.asking.faults, done.cause.later);
+            c.loop-numbers.disk c.next_number_after.new.disk done.asks.looks);
+        faults = omega (arith, inv.asking.faults, done.asks.cause.later);
       };
       recalls = λ told holds.
           subst (λ (f : Files). Recalls (packages f.pkg db.store) c.loop-numbers.recent → Recalls (packages f.pkg db.store) c.next_number_after.new.recent)

@@ -1,4 +1,4 @@
-use Rattle.std.proofs.Common.{Ok, ap, ◌∙◌, subst, Err}
+use Rattle.std.proofs.Common.{Ok, ap, ◌∙◌, subst}
 use Rattle.std.proofs.lemmas.Result.{err_from_is_err_and}
 use Rattle.rpm_outside.specs.Files.{Files}
 use Rattle.rpm_db.specs.State.{packages, above}
@@ -17,9 +17,8 @@ use Rattle.rpm_check.proofs.Asking.{asks_picker}
 pub returns-in_err-picker-clause-asks : goal.returns-in_err-picker-clause-asks
 returns-in_err-picker-clause-asks g c =
     let p = err_from_is_err_and c.from_residual.result c.from_residual.ensures.1 in
-    let made = c.in_err-picker.ensures in
-    rw (p.1, p.2) (asks_picker g.D.Disk _ (keys_asked c.args.selection.now) c.in_err-picker.field-0.0 c.args.disk.now c.new.new.disk c.args.db.now
-    c.requires.asked made.kept_index made.looks made.broken made.lawful (record { later = made.cause.later; rose = λ is. made.cause.rose (ap Err is) }))
+    rw (p.1, p.2) (asks_picker g.D.Disk _ _ (keys_asked c.args.selection.now) c.in_err-picker.field-0.0 c.args.disk.now c.new.new.disk c.args.db.now
+    c.requires.asked c.in_err-picker.ensures.asks)
 
 pub returns-clause-told : goal.returns-clause-told
 returns-clause-told g c = λ told has holds.
@@ -30,7 +29,7 @@ returns-clause-told g c = λ told has holds.
     let pkg = (g.D.Disk.files c.args.disk.now).pkg in
     let next = subst (λ (f : Files). Serves picker (packages f.pkg db.store) sel
     → Recalls (packages f.pkg db.store) c.args.recent.now → NextNumberIs (above 0 (picks (packages f.pkg db.store) sel)) (Ok picked))
-    (c.in_ok-picker.ensures.looks.untouched told).same
+    (c.in_ok-picker.ensures.asks.looks.untouched told).same
     (c.in_ok-picked.ensures.told told) in
     c.is_some.ensures ∙ is_some_next (above 0 (picks (packages pkg db.store) sel)) picked (next (c.in_ok-picker.ensures.serves told has) holds)
     ∙ ap is_some_of (picks_from_one pkg db sel (from_one pkg db (c.requires.asked.keeps told)))
@@ -39,4 +38,4 @@ pub returns-clause-recalls : goal.returns-clause-recalls
 returns-clause-recalls g c = λ told holds.
     let db = c.args.db.now in
     subst (λ (f : Files). Recalls (packages f.pkg db.store) c.args.recent.now → Recalls (packages f.pkg db.store) c.next_number_after.new.recent)
-    (c.in_ok-picker.ensures.looks.untouched told).same (c.in_ok-picked.ensures.recalls told) holds
+    (c.in_ok-picker.ensures.asks.looks.untouched told).same (c.in_ok-picked.ensures.recalls told) holds

@@ -1,4 +1,4 @@
-use Rattle.std.proofs.Common.{◌≡◌, ℕ, List, ap, ◌∙◌, arith, subst}
+use Rattle.std.proofs.Common.{◌≡◌, ℕ, List, ap, ◌∙◌, arith, rules, subst}
 use Rattle.std.specs.FinMap as finite
 use Rattle.rpm_outside.specs.Files.{Files}
 use Rattle.rpm_outside.specs.inner.Looking.{looks_none, looks_then, looks_more}
@@ -36,32 +36,44 @@ loop-number-preserved g c =
     let e = c.in_ok-add_package.ensures in
     let file = (g.D.Disk.files c.args.disk.now).pkg in
     record {
-      keeps = e.kept;
+      keeps = e.asks.kept;
       looks =
           looks_then g.D.Disk.tells g.D.Disk.files g.D.Disk.left_since g.D.Disk.moment g.D.Disk.bytes_read g.D.Disk.follows Pkg g.met.D.Disk.follows_trans
           (cost_to k db) (cost m db) (cost_to m db) c.args.disk.now c.loop-number.disk c.add_package.new.disk
-          (omega (arith, cost_more db k m c.in-Some.ensures.next.0)) inv.looks e.looks;
-      faults = omega (arith, inv.faults, e.cause.later);
+          (omega (arith, cost_more db k m c.in-Some.ensures.next.0)) inv.looks e.asks.looks;
+      faults = omega (arith, inv.faults, e.asks.cause.later);
       same = λ told. next_found (packages file db.store) k m c.loop-number.found c.add_package.new.found
           (with_packages (finite.entries (packages file db.store)) nothing) (c.in-Some.ensures.told file) (inv.same told)
           (subst (λ (f : Files). c.add_package.new.found ≡ with_some m (finite.get (packages f.pkg db.store) m) c.loop-number.found)
           (inv.looks.untouched told).same (e.found told));
     }
 
-pub returns-in_err-add_package-clause-looks : goal.returns-in_err-add_package-clause-looks
-returns-in_err-add_package-clause-looks g c =
+pub returns-in_err-add_package-clause-asks : goal.returns-in_err-add_package-clause-asks
+returns-in_err-add_package-clause-asks g c =
     let db = c.args.db.now in
     let m = c.in-Some.number in
-    looks_then g.D.Disk.tells g.D.Disk.files g.D.Disk.left_since g.D.Disk.moment g.D.Disk.bytes_read g.D.Disk.follows Pkg g.met.D.Disk.follows_trans
-    (cost_to c.loop-number.passed db) (cost m db) (cost_all db) c.args.disk.now c.loop-number.disk c.add_package.new.disk
-    (omega (arith, cost_more db c.loop-number.passed m c.in-Some.ensures.next.0, cost_some db m)) c.loop-number.invariant.looks c.in_err-add_package.ensures.looks
+    let inv = c.loop-number.invariant in
+    let done = c.in_err-add_package.ensures.asks in
+    record {
+      kept = done.kept;
+      looks =
+          looks_then g.D.Disk.tells g.D.Disk.files g.D.Disk.left_since g.D.Disk.moment g.D.Disk.bytes_read g.D.Disk.follows Pkg g.met.D.Disk.follows_trans
+          (cost_to c.loop-number.passed db) (cost m db) (cost_all db) c.args.disk.now c.loop-number.disk c.add_package.new.disk
+          (omega (arith, cost_more db c.loop-number.passed m c.in-Some.ensures.next.0, cost_some db m)) inv.looks done.looks;
+      cause = search rules;
+    }
 
-pub returns-clause-looks : goal.returns-clause-looks
-returns-clause-looks g c =
+pub returns-clause-asks : goal.returns-clause-asks
+returns-clause-asks g c =
     let db = c.args.db.now in
-    looks_more g.D.Disk.tells g.D.Disk.files g.D.Disk.left_since g.D.Disk.moment g.D.Disk.bytes_read g.D.Disk.follows Pkg
-    (cost_to c.loop-number.passed db) (cost_all db) c.args.disk.now c.loop-number.disk
-    (omega (arith, cost_some db c.loop-number.passed)) c.loop-number.invariant.looks
+    let inv = c.loop-number.invariant in
+    record {
+      kept = inv.keeps;
+      looks =
+          looks_more g.D.Disk.tells g.D.Disk.files g.D.Disk.left_since g.D.Disk.moment g.D.Disk.bytes_read g.D.Disk.follows Pkg
+          (cost_to c.loop-number.passed db) (cost_all db) c.args.disk.now c.loop-number.disk (omega (arith, cost_some db c.loop-number.passed)) inv.looks;
+      cause = search rules;
+    }
 
 pub returns-clause-found : goal.returns-clause-found
 returns-clause-found g c = λ told.

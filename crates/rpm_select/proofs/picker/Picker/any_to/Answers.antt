@@ -60,11 +60,17 @@ returns-in-Ok-Some-clause-told g c = λ told serves.
     sym (ap (any_to n) (above_picks (packages file db.store) sel 0 ∙ inv.same told all)
     ∙ one_to (reach_of c.self.inside.reach) file db sel all n k m _ c.in-Some.ensures found c.if-next-n.false)
 
-pub returns-in-Ok-Some-clause-looks : goal.returns-in-Ok-Some-clause-looks
-returns-in-Ok-Some-clause-looks = reading.returns-in-Ok-Some-clause-looks
+pub returns-in-Ok-Some-clause-asks : goal.returns-in-Ok-Some-clause-asks
+returns-in-Ok-Some-clause-asks = reading.returns-in-Ok-Some-clause-asks
 
-pub returns-in-Err-clause-looks : goal.returns-in-Err-clause-looks
-returns-in-Err-clause-looks = reading.returns-in-Err-clause-looks
+pub returns-in-Err-clause-asks : goal.returns-in-Err-clause-asks
+returns-in-Err-clause-asks = reading.returns-in-Err-clause-asks
+
+pub returns-then-next-n-clause-asks : goal.returns-then-next-n-clause-asks
+returns-then-next-n-clause-asks = reading.returns-then-next-n-clause-asks
+
+pub returns-clause-asks : goal.returns-clause-asks
+returns-clause-asks = reading.returns-clause-asks
 
 pub loop-next-preserved-in-Ok-None-3 : goal.loop-next-preserved-in-Ok-None-3
 loop-next-preserved-in-Ok-None-3 g c =
@@ -76,18 +82,18 @@ loop-next-preserved-in-Ok-None-3 g c =
     let done = c.in-Ok-None.ensures in
     let more = cost_more db k m c.in-Some.ensures.0 in
     record {
-      keeps = done.kept;
+      keeps = done.asks.kept;
       below = c.if-next-n.false;
       within = cost_up db m c.args.n c.if-next-n.false;
       looks =
           looks_then g.D.Disk.tells g.D.Disk.files g.D.Disk.left_since g.D.Disk.moment g.D.Disk.bytes_read g.D.Disk.follows Pkg g.met.D.Disk.follows_trans
-          (cost_to k db) (cost m db) (cost_to m db) c.args.disk.now c.loop-next.disk c.pick.new.disk more inv.looks done.looks;
+          (cost_to k db) (cost m db) (cost_to m db) c.args.disk.now c.loop-next.disk c.pick.new.disk more inv.looks done.asks.looks;
       own =
           own_then c.args.selection.now db k m (g.D.Disk.bytes_read c.args.disk.now Pkg) (g.D.Disk.bytes_read c.loop-next.disk Pkg)
           (g.D.Disk.bytes_read c.pick.new.disk Pkg) c.in-Some.ensures.0
-          inv.own done.looks.reads.pkg done.unread;
-      reads = omega (arith, inv.reads, done.looks.reads.pkg, reach_more r db k m c.in-Some.ensures);
-      faults = omega (arith, inv.faults, done.cause.later);
+          inv.own done.asks.looks.reads.pkg done.unread;
+      reads = omega (arith, inv.reads, done.asks.looks.reads.pkg, reach_more r db k m c.in-Some.ensures);
+      faults = omega (arith, inv.faults, done.asks.cause.later);
       same = λ told serves.
           let sel = c.args.selection.now in
           let file = (g.D.Disk.files c.args.disk.now).pkg in

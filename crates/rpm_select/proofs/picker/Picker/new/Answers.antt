@@ -27,22 +27,22 @@ returns-then-not-asks-clause-serves g c = λ told has.
     let all = packages (g.D.Disk.files c.args.disk.now).pkg c.args.db.now.store in
     subst (λ (r : Reach). Serves r all c.args.selection.now) (sym c.unasked.ensures) (unasked_serves all c.args.selection.now)
 
-pub returns-in-Ok-clause-reach : goal.returns-in-Ok-clause-reach
-returns-in-Ok-clause-reach g c = λ told has.
+pub returns-clause-reach : goal.returns-clause-reach
+returns-clause-reach g c = λ told has.
     let db = c.args.db.now in
     let sel = c.args.selection.now in
     let all = packages (g.D.Disk.files c.args.disk.now).pkg db.store in
     let asked : asks db sel ≡ true = sym c.if-not-asks.ensures in
-    gone_over (asks db sel) all sel c.in-Ok.numbers.items c.over.result asked c.in-Ok.ensures.rising
-    (c.in-Ok.ensures.with told (has (and_parts (has_keys sel) (is_indexed db) asked).1)) c.over.ensures
+    gone_over (asks db sel) all sel c.in_ok-numbers.numbers.items c.over.result asked c.in_ok-numbers.ensures.rising
+    (c.in_ok-numbers.ensures.with told (has (and_parts (has_keys sel) (is_indexed db) asked).1)) c.over.ensures
 
-pub returns-in-Ok-clause-serves : goal.returns-in-Ok-clause-serves
-returns-in-Ok-clause-serves g c = λ told has.
+pub returns-clause-serves : goal.returns-clause-serves
+returns-clause-serves g c = λ told has.
     let db = c.args.db.now in
     let sel = c.args.selection.now in
     let all = packages (g.D.Disk.files c.args.disk.now).pkg db.store in
     let asked : asks db sel ≡ true = sym c.if-not-asks.ensures in
     subst (λ (r : Reach). Serves r all sel)
-    (sym (gone_over (asks db sel) all sel c.in-Ok.numbers.items c.over.result asked c.in-Ok.ensures.rising
-    (c.in-Ok.ensures.with told (has (and_parts (has_keys sel) (is_indexed db) asked).1)) c.over.ensures))
+    (sym (gone_over (asks db sel) all sel c.in_ok-numbers.numbers.items c.over.result asked c.in_ok-numbers.ensures.rising
+    (c.in_ok-numbers.ensures.with told (has (and_parts (has_keys sel) (is_indexed db) asked).1)) c.over.ensures))
     (served (asks db sel) sel all (λ is_asked. (and_parts (has_keys sel) (is_indexed db) is_asked).0))

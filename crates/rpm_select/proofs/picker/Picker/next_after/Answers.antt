@@ -29,20 +29,20 @@ loop-next-preserved g c =
     let done = c.in-Ok-None.ensures in
     let more = cost_more db k m c.in-Some.ensures.0 in
     record {
-      keeps = done.kept;
+      keeps = done.asks.kept;
       later = omega (arith, inv.later, c.in-Some.ensures.0);
       more = omega (arith, more, inv.more);
       looks =
           looks_then g.D.Disk.tells g.D.Disk.files g.D.Disk.left_since g.D.Disk.moment g.D.Disk.bytes_read g.D.Disk.follows Pkg g.met.D.Disk.follows_trans
           (cost_to k db - cost_to n db) (cost m db) (cost_to m db - cost_to n db) c.args.disk.now c.loop-next.disk c.pick.new.disk
-          (omega (arith, more, inv.more)) inv.looks done.looks;
+          (omega (arith, more, inv.more)) inv.looks done.asks.looks;
       own =
           own_then c.args.selection.now db k m (g.D.Disk.bytes_read c.args.disk.now Pkg) (g.D.Disk.bytes_read c.loop-next.disk Pkg)
           (g.D.Disk.bytes_read c.pick.new.disk Pkg) c.in-Some.ensures.0
-          inv.own done.looks.reads.pkg done.unread;
+          inv.own done.asks.looks.reads.pkg done.unread;
       up = omega (arith, inv.up, reach_more r db k m c.in-Some.ensures);
-      reads = omega (arith, inv.reads, inv.up, done.looks.reads.pkg, reach_more r db k m c.in-Some.ensures);
-      faults = omega (arith, inv.faults, done.cause.later);
+      reads = omega (arith, inv.reads, inv.up, done.asks.looks.reads.pkg, reach_more r db k m c.in-Some.ensures);
+      faults = omega (arith, inv.faults, done.asks.cause.later);
       same = λ told serves.
           let file = (g.D.Disk.files c.args.disk.now).pkg in
           let one = subst (λ (f : Files). OneOf sel m (finite.get (packages f.pkg db.store) m) (Ok None)) (inv.looks.untouched told).same
@@ -67,11 +67,11 @@ returns-in-Ok-Some-clause-told g c = λ told serves.
           ∙ picked_next (reach_of c.self.inside.reach) file db sel all k m c.in-Ok-Some.picked c.in-Some.ensures found,
     )
 
-pub returns-in-Ok-Some-clause-looks : goal.returns-in-Ok-Some-clause-looks
-returns-in-Ok-Some-clause-looks = reading.returns-in-Ok-Some-clause-looks
+pub returns-in-Ok-Some-clause-asks : goal.returns-in-Ok-Some-clause-asks
+returns-in-Ok-Some-clause-asks = reading.returns-in-Ok-Some-clause-asks
 
-pub returns-in-Err-clause-looks : goal.returns-in-Err-clause-looks
-returns-in-Err-clause-looks = reading.returns-in-Err-clause-looks
+pub returns-in-Err-clause-asks : goal.returns-in-Err-clause-asks
+returns-in-Err-clause-asks = reading.returns-in-Err-clause-asks
 
 pub returns-clause-told : goal.returns-clause-told
 returns-clause-told g c = λ told serves.
@@ -90,8 +90,8 @@ returns-in-Err-clause-reads = reading.returns-in-Err-clause-reads
 pub returns-in-Ok-Some-clause-reads : goal.returns-in-Ok-Some-clause-reads
 returns-in-Ok-Some-clause-reads = reading.returns-in-Ok-Some-clause-reads
 
-pub returns-clause-looks : goal.returns-clause-looks
-returns-clause-looks = reading.returns-clause-looks
+pub returns-clause-asks : goal.returns-clause-asks
+returns-clause-asks = reading.returns-clause-asks
 
 pub returns-in-Ok-Some-clause-own : goal.returns-in-Ok-Some-clause-own
 returns-in-Ok-Some-clause-own = reading.returns-in-Ok-Some-clause-own

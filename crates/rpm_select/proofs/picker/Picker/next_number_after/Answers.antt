@@ -1,7 +1,7 @@
-use Rattle.std.proofs.Common.{◌≡◌, ℕ, ◌<◌, ◌-◌, true, false, refl, sym, subst, ◌∙◌, arith}
+use Rattle.std.proofs.Common.{◌≡◌, ℕ, ◌<◌, ◌-◌, true, false, Some, None, refl, sym, subst, ◌∙◌, arith}
 use Rattle.std.specs.FinMap as finite
 use Rattle.rpm_outside.specs.Files.{Files}
-use Rattle.rpm_outside.specs.inner.Looking.{looks_then, looks_more}
+use Rattle.rpm_outside.specs.inner.Looking.{looks_then}
 use Rattle.rpm_db.specs.State.{packages}
 use Rattle.rpm_db.specs.Database.{cost}
 use Rattle.rpm_outside.specs.declared.disk.File.TheVariants.{Pkg}
@@ -9,6 +9,7 @@ use Rattle.rpm_select.specs.declared.recent.Recent.{Recent}
 use Rattle.rpm_select.specs.Reach.{reaches, reach_to, reach_all}
 use Rattle.rpm_select.specs.Recents.{IsHeld, Recalls, picks_at}
 use Rattle.rpm_select.specs.inner.Costing.{reach_more, reach_some}
+use Rattle.rpm_select.proofs.Asks.{asks_done, asks_then, asks_failed}
 use Rattle.rpm_select.proofs.Passing.{passed_next, taken_next, none_next}
 use Rattle.rpm_select.proofs.Picking.{left, above_picks}
 use Rattle.rpm_select.proofs.Recalling.{passed_at, at_start}
@@ -26,14 +27,14 @@ loop-next-preserved g c =
     let done = c.in-Ok-false.ensures in
     let more = reach_more r db k m c.in-Some.ensures in
     record {
-      keeps = done.kept;
+      keeps = done.asks.kept;
       later = omega (arith, inv.later, c.in-Some.ensures.0);
       up = omega (arith, inv.up, more);
       looks =
           looks_then g.D.Disk.tells g.D.Disk.files g.D.Disk.left_since g.D.Disk.moment g.D.Disk.bytes_read g.D.Disk.follows Pkg g.met.D.Disk.follows_trans
           (reach_to k r db - reach_to n r db) (cost m db) (reach_to m r db - reach_to n r db) c.args.disk.now c.loop-next.disk c.picks.new.disk
-          (omega (arith, more, inv.up)) inv.looks done.looks;
-      faults = omega (arith, inv.faults, done.cause.later);
+          (omega (arith, more, inv.up)) inv.looks done.asks.looks;
+      faults = omega (arith, inv.faults, done.asks.cause.later);
       start = λ at. (let lt : k < m = c.in-Some.ensures.0 in absurd (omega (arith, at, lt, inv.later)));
       reached = λ lt. c.in-Some.ensures.1;
       recalls = λ told holds.
@@ -63,17 +64,17 @@ returns-in-Ok-true-clause-told g c = λ told serves holds.
     let found = taken_next c.args.self.now file db sel serves k m (finite.get all m) c.in-Some.ensures refl answer in
     (found.0, left all sel m, above_picks all sel c.args.n ∙ inv.same told serves holds ∙ found.1)
 
-pub returns-in-Ok-true-clause-looks : goal.returns-in-Ok-true-clause-looks
-returns-in-Ok-true-clause-looks g c =
+pub returns-in-Ok-true-clause-asks : goal.returns-in-Ok-true-clause-asks
+returns-in-Ok-true-clause-asks g c =
     let db = c.args.db.now in
     let r = c.args.self.now in
     let n = c.args.n in
     let k = c.loop-next.passed in
     let m = c.in-Some.next in
     let inv = c.loop-next.invariant in
-    looks_then g.D.Disk.tells g.D.Disk.files g.D.Disk.left_since g.D.Disk.moment g.D.Disk.bytes_read g.D.Disk.follows Pkg g.met.D.Disk.follows_trans
-    (reach_to k r db - reach_to n r db) (cost m db) (reach_to m r db - reach_to n r db) c.args.disk.now c.loop-next.disk c.picks.new.disk
-    (omega (arith, reach_more r db k m c.in-Some.ensures, inv.up)) inv.looks c.in-Ok-true.ensures.looks
+    let more = reach_more r db k m c.in-Some.ensures in
+    asks_then g.D.Disk g.met.D.Disk.follows_trans (reach_to k r db - reach_to n r db) (cost m db) (reach_to m r db - reach_to n r db) c.args.disk.now
+    c.loop-next.disk c.picks.new.disk db (omega (arith, more, inv.up)) inv.looks inv.faults (Some m) c.in-Ok-true.ensures.asks
 
 pub returns-in-Ok-true-clause-held : goal.returns-in-Ok-true-clause-held
 returns-in-Ok-true-clause-held g c = (rw c.in-Ok-true.field-0-test at c.in-Ok-true.ensures.held) refl
@@ -105,17 +106,17 @@ returns-in-Err-clause-recalls g c = λ told holds.
     subst (λ (f : Files). Recalls (packages f.pkg db.store) c.loop-next.recent → Recalls (packages f.pkg db.store) c.picks.new.self)
     (inv.looks.untouched told).same (c.in-Err.ensures.recalls told) (inv.recalls told holds)
 
-pub returns-in-Err-clause-looks : goal.returns-in-Err-clause-looks
-returns-in-Err-clause-looks g c =
+pub returns-in-Err-clause-asks : goal.returns-in-Err-clause-asks
+returns-in-Err-clause-asks g c =
     let db = c.args.db.now in
     let r = c.args.self.now in
     let n = c.args.n in
     let k = c.loop-next.passed in
     let m = c.in-Some.next in
     let inv = c.loop-next.invariant in
-    looks_then g.D.Disk.tells g.D.Disk.files g.D.Disk.left_since g.D.Disk.moment g.D.Disk.bytes_read g.D.Disk.follows Pkg g.met.D.Disk.follows_trans
-    (reach_to k r db - reach_to n r db) (cost m db) (reach_all r db - reach_to n r db) c.args.disk.now c.loop-next.disk c.picks.new.disk
-    (omega (arith, reach_more r db k m c.in-Some.ensures, reach_some r db m, inv.up)) inv.looks c.in-Err.ensures.looks
+    let more = reach_more r db k m c.in-Some.ensures in
+    asks_failed g.D.Disk g.met.D.Disk.follows_trans (reach_to k r db - reach_to n r db) (cost m db) (reach_all r db - reach_to n r db) c.args.disk.now
+    c.loop-next.disk c.picks.new.disk db (omega (arith, more, reach_some r db m, inv.up)) inv.looks inv.faults _ _ c.in-Err.fault c.in-Err.ensures.asks
 
 pub returns-clause-told : goal.returns-clause-told
 returns-clause-told g c = λ told serves holds.
@@ -124,10 +125,12 @@ returns-clause-told g c = λ told serves holds.
     above_picks (packages file db.store) c.args.selection.now c.args.n ∙ c.loop-next.invariant.same told serves holds
     ∙ none_next c.args.self.now file db c.args.selection.now serves c.loop-next.passed c.in_default.ensures
 
-pub returns-clause-looks : goal.returns-clause-looks
-returns-clause-looks g c =
+pub returns-clause-asks : goal.returns-clause-asks
+returns-clause-asks g c =
     let db = c.args.db.now in
     let r = c.args.self.now in
-    looks_more g.D.Disk.tells g.D.Disk.files g.D.Disk.left_since g.D.Disk.moment g.D.Disk.bytes_read g.D.Disk.follows Pkg
-    (reach_to c.loop-next.passed r db - reach_to c.args.n r db) (reach_all r db - reach_to c.args.n r db) c.args.disk.now c.loop-next.disk
-    (omega (arith, reach_some r db c.loop-next.passed)) c.loop-next.invariant.looks
+    let n = c.args.n in
+    let k = c.loop-next.passed in
+    let inv = c.loop-next.invariant in
+    asks_done g.D.Disk (reach_to k r db - reach_to n r db) (reach_all r db - reach_to n r db) c.args.disk.now c.loop-next.disk db None
+    (omega (arith, reach_some r db k)) inv.keeps inv.looks inv.faults

@@ -1,36 +1,48 @@
 -- What looking for one reads.
-use Rattle.std.proofs.Common.{ap, arith}
-use Rattle.rpm_outside.specs.inner.Looking.{looks_then}
+use Rattle.std.proofs.Common.{true, false, ap, arith}
 use Rattle.rpm_db.specs.Database.{cost, cost_to}
 use Rattle.rpm_db.specs.inner.Laws.{cost_more, cost_up}
 use Rattle.rpm_outside.specs.declared.disk.File.TheVariants.{Pkg}
+use Rattle.rpm_select.proofs.Asks.{asks_done, asks_then, asks_failed}
 use Rattle.rpm_select.proofs.Owning.{own_then, own_all}
 use Rattle.rpm_select.specs.Reach.{Reach, reach_to}
 use Rattle.rpm_select.specs.inner.Reaching.{reach_of}
 use Rattle.rpm_select.specs.inner.Costing.{reach_more, reach_up}
 use Rattle.rpm_select.proofs.picker.Picker.any_to.Goals as goal
 
-pub returns-in-Ok-Some-clause-looks : goal.returns-in-Ok-Some-clause-looks
-returns-in-Ok-Some-clause-looks g c =
+pub returns-in-Ok-Some-clause-asks : goal.returns-in-Ok-Some-clause-asks
+returns-in-Ok-Some-clause-asks g c =
     let db = c.args.db.now in
     let k = c.loop-next.passed in
     let m = c.in-Some.next in
-    let more = cost_more db k m c.in-Some.ensures.0 in
+    let inv = c.loop-next.invariant in
     let up = cost_up db m c.args.n c.if-next-n.false in
-    looks_then g.D.Disk.tells g.D.Disk.files g.D.Disk.left_since g.D.Disk.moment g.D.Disk.bytes_read g.D.Disk.follows Pkg g.met.D.Disk.follows_trans
-    (cost_to k db) (cost m db) (cost_to c.args.n db) c.args.disk.now c.loop-next.disk c.pick.new.disk
-    (omega (arith, more, up)) c.loop-next.invariant.looks c.in-Ok-Some.ensures.looks
+    asks_then g.D.Disk g.met.D.Disk.follows_trans (cost_to k db) (cost m db) (cost_to c.args.n db) c.args.disk.now c.loop-next.disk
+    c.pick.new.disk db (omega (arith, cost_more db k m c.in-Some.ensures.0, up)) inv.looks inv.faults true c.in-Ok-Some.ensures.asks
 
-pub returns-in-Err-clause-looks : goal.returns-in-Err-clause-looks
-returns-in-Err-clause-looks g c =
+pub returns-in-Err-clause-asks : goal.returns-in-Err-clause-asks
+returns-in-Err-clause-asks g c =
     let db = c.args.db.now in
     let k = c.loop-next.passed in
     let m = c.in-Some.next in
-    let more = cost_more db k m c.in-Some.ensures.0 in
+    let inv = c.loop-next.invariant in
     let up = cost_up db m c.args.n c.if-next-n.false in
-    looks_then g.D.Disk.tells g.D.Disk.files g.D.Disk.left_since g.D.Disk.moment g.D.Disk.bytes_read g.D.Disk.follows Pkg g.met.D.Disk.follows_trans
-    (cost_to k db) (cost m db) (cost_to c.args.n db) c.args.disk.now c.loop-next.disk c.pick.new.disk
-    (omega (arith, more, up)) c.loop-next.invariant.looks c.in-Err.ensures.looks
+    asks_failed g.D.Disk g.met.D.Disk.follows_trans (cost_to k db) (cost m db) (cost_to c.args.n db) c.args.disk.now c.loop-next.disk
+    c.pick.new.disk db (omega (arith, cost_more db k m c.in-Some.ensures.0, up)) inv.looks inv.faults _ _ c.in-Err.fault c.in-Err.ensures.asks
+
+pub returns-then-next-n-clause-asks : goal.returns-then-next-n-clause-asks
+returns-then-next-n-clause-asks g c =
+    let db = c.args.db.now in
+    let inv = c.loop-next.invariant in
+    asks_done g.D.Disk (cost_to c.loop-next.passed db) (cost_to c.args.n db) c.args.disk.now c.loop-next.disk db false inv.within inv.keeps inv.looks
+    inv.faults
+
+pub returns-clause-asks : goal.returns-clause-asks
+returns-clause-asks g c =
+    let db = c.args.db.now in
+    let inv = c.loop-next.invariant in
+    asks_done g.D.Disk (cost_to c.loop-next.passed db) (cost_to c.args.n db) c.args.disk.now c.loop-next.disk db false inv.within inv.keeps inv.looks
+    inv.faults
 
 pub returns-clause-reads : goal.returns-clause-reads
 returns-clause-reads g c =
@@ -58,7 +70,7 @@ returns-in-Err-clause-reads g c =
     omega (
       arith,
       c.loop-next.invariant.reads,
-      c.in-Err.ensures.looks.reads.pkg,
+      c.in-Err.ensures.asks.looks.reads.pkg,
       reach_more r db c.loop-next.passed m c.in-Some.ensures,
       reach_up r db m c.args.n c.if-next-n.false,
       ap (λ (x : Reach). reach_to c.args.n x db) c.self.view_is,
@@ -72,7 +84,7 @@ returns-in-Ok-Some-clause-reads g c =
     omega (
       arith,
       c.loop-next.invariant.reads,
-      c.in-Ok-Some.ensures.looks.reads.pkg,
+      c.in-Ok-Some.ensures.asks.looks.reads.pkg,
       reach_more r db c.loop-next.passed m c.in-Some.ensures,
       reach_up r db m c.args.n c.if-next-n.false,
       ap (λ (x : Reach). reach_to c.args.n x db) c.self.view_is,
@@ -84,7 +96,7 @@ returns-in-Ok-Some-clause-own g c =
     own_all c.args.selection.now c.args.db.now c.in-Some.next (g.D.Disk.bytes_read c.args.disk.now Pkg) (g.D.Disk.bytes_read c.pick.new.disk Pkg)
     (own_then c.args.selection.now c.args.db.now c.loop-next.passed c.in-Some.next (g.D.Disk.bytes_read c.args.disk.now Pkg)
     (g.D.Disk.bytes_read c.loop-next.disk Pkg) (g.D.Disk.bytes_read c.pick.new.disk Pkg)
-    c.in-Some.ensures.0 c.loop-next.invariant.own done.looks.reads.pkg done.unread)
+    c.in-Some.ensures.0 c.loop-next.invariant.own done.asks.looks.reads.pkg done.unread)
 
 pub returns-in-Err-clause-own : goal.returns-in-Err-clause-own
 returns-in-Err-clause-own g c =
@@ -92,7 +104,7 @@ returns-in-Err-clause-own g c =
     own_all c.args.selection.now c.args.db.now c.in-Some.next (g.D.Disk.bytes_read c.args.disk.now Pkg) (g.D.Disk.bytes_read c.pick.new.disk Pkg)
     (own_then c.args.selection.now c.args.db.now c.loop-next.passed c.in-Some.next (g.D.Disk.bytes_read c.args.disk.now Pkg)
     (g.D.Disk.bytes_read c.loop-next.disk Pkg) (g.D.Disk.bytes_read c.pick.new.disk Pkg)
-    c.in-Some.ensures.0 c.loop-next.invariant.own done.looks.reads.pkg done.unread)
+    c.in-Some.ensures.0 c.loop-next.invariant.own done.asks.looks.reads.pkg done.unread)
 
 pub returns-clause-own : goal.returns-clause-own
 returns-clause-own g c =

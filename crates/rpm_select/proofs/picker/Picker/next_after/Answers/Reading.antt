@@ -1,10 +1,10 @@
 -- What going to the next one reads.
-use Rattle.std.proofs.Common.{◌≡◌, ℕ, ◌-◌, sym, ap, subst, ◌∙◌, arith}
-use Rattle.rpm_outside.specs.Looks.{Looks}
-use Rattle.rpm_outside.specs.inner.Looking.{looks_then, looks_more}
+use Rattle.std.proofs.Common.{◌≡◌, ℕ, ◌-◌, Some, None, Ok, sym, ap, subst, ◌∙◌, arith}
 use Rattle.rpm_db.specs.Database.{cost, cost_to, cost_all}
 use Rattle.rpm_db.specs.inner.Laws.{cost_more, cost_some}
 use Rattle.rpm_outside.specs.declared.disk.File.TheVariants.{Pkg}
+use Rattle.rpm_select.specs.Frame.{AsksPackages}
+use Rattle.rpm_select.proofs.Asks.{asks_done, asks_then, asks_failed}
 use Rattle.rpm_select.proofs.Owning.{own_then, own_all}
 use Rattle.rpm_select.specs.Picks.{number_in}
 use Rattle.rpm_select.specs.Reach.{Reach, reach_to, reach_all}
@@ -12,33 +12,30 @@ use Rattle.rpm_select.specs.inner.Reaching.{reach_of}
 use Rattle.rpm_select.specs.inner.Costing.{reach_more, reach_some}
 use Rattle.rpm_select.proofs.picker.Picker.next_after.Goals as goal
 
-pub returns-in-Ok-Some-clause-looks : goal.returns-in-Ok-Some-clause-looks
-returns-in-Ok-Some-clause-looks g c =
+pub returns-in-Ok-Some-clause-asks : goal.returns-in-Ok-Some-clause-asks
+returns-in-Ok-Some-clause-asks g c =
     let db = c.args.db.now in
     let n = c.args.n in
     let k = c.loop-next.passed in
     let m = c.in-Some.next in
     let inv = c.loop-next.invariant in
-    let more = cost_more db k m c.in-Some.ensures.0 in
+    let picked = c.in-Ok-Some.picked in
     let number = rw c.in-Ok-Some.field-0-is at c.in-Ok-Some.ensures.numbered in
-    subst (λ (i : ℕ). Looks g.D.Disk.tells g.D.Disk.files g.D.Disk.left_since g.D.Disk.moment g.D.Disk.bytes_read g.D.Disk.follows Pkg
-    (cost_to i db - cost_to n db) c.args.disk.now c.pick.new.disk) (sym number)
-    (looks_then g.D.Disk.tells g.D.Disk.files g.D.Disk.left_since g.D.Disk.moment g.D.Disk.bytes_read g.D.Disk.follows Pkg g.met.D.Disk.follows_trans
-    (cost_to k db - cost_to n db) (cost m db) (cost_to m db - cost_to n db) c.args.disk.now c.loop-next.disk c.pick.new.disk
-    (omega (arith, more, inv.more)) inv.looks c.in-Ok-Some.ensures.looks)
+    subst (λ (i : ℕ). AsksPackages g.D.Disk (cost_to i db - cost_to n db) c.args.disk.now c.pick.new.disk db (Ok (Some picked))) (sym number)
+    (asks_then g.D.Disk g.met.D.Disk.follows_trans (cost_to k db - cost_to n db) (cost m db) (cost_to m db - cost_to n db) c.args.disk.now
+    c.loop-next.disk c.pick.new.disk db (omega (arith, cost_more db k m c.in-Some.ensures.0, inv.more)) inv.looks inv.faults (Some picked)
+    c.in-Ok-Some.ensures.asks)
 
-pub returns-in-Err-clause-looks : goal.returns-in-Err-clause-looks
-returns-in-Err-clause-looks g c =
+pub returns-in-Err-clause-asks : goal.returns-in-Err-clause-asks
+returns-in-Err-clause-asks g c =
     let db = c.args.db.now in
     let n = c.args.n in
     let k = c.loop-next.passed in
     let m = c.in-Some.next in
     let inv = c.loop-next.invariant in
-    let more = cost_more db k m c.in-Some.ensures.0 in
-    let all = cost_some db m in
-    looks_then g.D.Disk.tells g.D.Disk.files g.D.Disk.left_since g.D.Disk.moment g.D.Disk.bytes_read g.D.Disk.follows Pkg g.met.D.Disk.follows_trans
-    (cost_to k db - cost_to n db) (cost m db) (cost_all db - cost_to n db) c.args.disk.now c.loop-next.disk c.pick.new.disk
-    (omega (arith, more, all, inv.more)) inv.looks c.in-Err.ensures.looks
+    asks_failed g.D.Disk g.met.D.Disk.follows_trans (cost_to k db - cost_to n db) (cost m db) (cost_all db - cost_to n db) c.args.disk.now
+    c.loop-next.disk c.pick.new.disk db (omega (arith, cost_more db k m c.in-Some.ensures.0, cost_some db m, inv.more)) inv.looks inv.faults _ _
+    c.in-Err.fault c.in-Err.ensures.asks
 
 pub returns-clause-reads : goal.returns-clause-reads
 returns-clause-reads g c =
@@ -61,7 +58,7 @@ returns-in-Err-clause-reads g c =
       arith,
       c.loop-next.invariant.reads,
       c.loop-next.invariant.up,
-      c.in-Err.ensures.looks.reads.pkg,
+      c.in-Err.ensures.asks.looks.reads.pkg,
       reach_more r db c.loop-next.passed m c.in-Some.ensures,
       reach_some r db m,
       ap (λ (x : Reach). reach_to c.args.n x db) c.self.view_is,
@@ -81,18 +78,19 @@ returns-in-Ok-Some-clause-reads g c =
       same,
       c.loop-next.invariant.reads,
       c.loop-next.invariant.up,
-      c.in-Ok-Some.ensures.looks.reads.pkg,
+      c.in-Ok-Some.ensures.asks.looks.reads.pkg,
       reach_more r db c.loop-next.passed m c.in-Some.ensures,
       ap (λ (x : Reach). reach_to c.args.n x db) c.self.view_is,
     )
 
-pub returns-clause-looks : goal.returns-clause-looks
-returns-clause-looks g c =
+pub returns-clause-asks : goal.returns-clause-asks
+returns-clause-asks g c =
     let db = c.args.db.now in
-    let all = cost_some db c.loop-next.passed in
-    looks_more g.D.Disk.tells g.D.Disk.files g.D.Disk.left_since g.D.Disk.moment g.D.Disk.bytes_read g.D.Disk.follows Pkg
-    (cost_to c.loop-next.passed db - cost_to c.args.n db) (cost_all db - cost_to c.args.n db) c.args.disk.now c.loop-next.disk
-    (omega (arith, all)) c.loop-next.invariant.looks
+    let inv = c.loop-next.invariant in
+    let k = c.loop-next.passed in
+    let n = c.args.n in
+    asks_done g.D.Disk (cost_to k db - cost_to n db) (cost_all db - cost_to n db) c.args.disk.now c.loop-next.disk db None
+    (omega (arith, cost_some db k)) inv.keeps inv.looks inv.faults
 
 pub returns-in-Ok-Some-clause-own : goal.returns-in-Ok-Some-clause-own
 returns-in-Ok-Some-clause-own g c =
@@ -100,7 +98,7 @@ returns-in-Ok-Some-clause-own g c =
     own_all c.args.selection.now c.args.db.now c.in-Some.next (g.D.Disk.bytes_read c.args.disk.now Pkg) (g.D.Disk.bytes_read c.pick.new.disk Pkg)
     (own_then c.args.selection.now c.args.db.now c.loop-next.passed c.in-Some.next (g.D.Disk.bytes_read c.args.disk.now Pkg)
     (g.D.Disk.bytes_read c.loop-next.disk Pkg) (g.D.Disk.bytes_read c.pick.new.disk Pkg)
-    c.in-Some.ensures.0 c.loop-next.invariant.own done.looks.reads.pkg done.unread)
+    c.in-Some.ensures.0 c.loop-next.invariant.own done.asks.looks.reads.pkg done.unread)
 
 pub returns-in-Err-clause-own : goal.returns-in-Err-clause-own
 returns-in-Err-clause-own g c =
@@ -108,7 +106,7 @@ returns-in-Err-clause-own g c =
     own_all c.args.selection.now c.args.db.now c.in-Some.next (g.D.Disk.bytes_read c.args.disk.now Pkg) (g.D.Disk.bytes_read c.pick.new.disk Pkg)
     (own_then c.args.selection.now c.args.db.now c.loop-next.passed c.in-Some.next (g.D.Disk.bytes_read c.args.disk.now Pkg)
     (g.D.Disk.bytes_read c.loop-next.disk Pkg) (g.D.Disk.bytes_read c.pick.new.disk Pkg)
-    c.in-Some.ensures.0 c.loop-next.invariant.own done.looks.reads.pkg done.unread)
+    c.in-Some.ensures.0 c.loop-next.invariant.own done.asks.looks.reads.pkg done.unread)
 
 pub returns-clause-own : goal.returns-clause-own
 returns-clause-own g c =

@@ -1,0 +1,24 @@
+-- What a package has whose header was read.
+use Rattle.std.proofs.Common.{◌≡◌, ℕ, Bool, List, Option, Some, None, Ok, Err, ap, ◌∙◌}
+use Rattle.std.specs.Prelude.{Result}
+use Rattle.rpm_header.specs.declared.form.HeaderFault.{HeaderFault}
+use Rattle.rpm_header.specs.Header.{Header, header}
+use Rattle.rpm_tags.specs.Wanted.{Needed}
+use Rattle.rpm_db.specs.State.{Package, Good, Bad, package_of, read_as}
+use Rattle.rpm_db.specs.inner.Own.{header-own}
+use Rattle.rpm_check.specs.Unmet.{required, unmet_in, unmet_read}
+use Rattle.rpm_check.specs.inner.Headers.{header_at, header_read}
+use Rattle.rpm_check.specs.inner.Rounds.{unmet_at}
+
+pub header_good : (blob : List ℕ) (h : Header) → header blob ≡ Ok h → header_at (Some (package_of (Some blob))) ≡ Some h
+header_good blob h is = ap (λ r. header_at (Some (read_as r))) is ∙ ap header_read (header-own blob h is)
+
+read_is : (r : Result Header HeaderFault) (h : Header) → header_read r ≡ Some h → r ≡ Ok h
+read_is (Ok g) h is = (let same : g ≡ h = cc in ap Ok same)
+read_is (Err fault) h is = absurd cc
+
+pub unmet_some : (is_lacking : Needed → Bool) (n : ℕ) (o : Option Package) (h : Header) → header_at o ≡ Some h
+    → unmet_at is_lacking n o ≡ unmet_in is_lacking n (required h) 0
+unmet_some is_lacking n None h is = absurd cc
+unmet_some is_lacking n (Some (Good bytes)) h is = ap (unmet_read is_lacking n) (read_is (header bytes) h is)
+unmet_some is_lacking n (Some Bad) h is = absurd cc
