@@ -1,8 +1,7 @@
 -- What dropping one package is: its change, and its line.
-use Rattle.std.proofs.Common.{◌≡◌, ◌≢◌, ℕ, ◌+◌, ◌^◌, ◌≤◌, Bool, List, [], ◌++◌, take, Option, Some, Result, Ok, Err, refl, sym, ap, ◌∙◌, subst, true}
+use Rattle.std.proofs.Common.{◌≡◌, ◌≢◌, ℕ, ◌+◌, ◌^◌, ◌≤◌, Bool, List, [], ◌++◌, take, Option, Some, Result, Ok, Err, refl, sym, ap, ◌∙◌, true}
 use Rattle.std.specs.Prelude.{IfErr}
 use Rattle.std.proofs.lemmas.List.{append-nil}
-use Rattle.rpm_outside.specs.Files.{Files}
 use Rattle.rpm_outside.specs.Sinks.{Gained, GainedPart}
 use Rattle.rpm_outside.specs.inner.Taken.{gained_none}
 use Rattle.rpm_db.specs.declared.change_fault.ChangeFault.{ChangeFault}
@@ -19,11 +18,13 @@ use Rattle.rpm_pkgdb.specs.Written.{with_spare}
 use Rattle.rpm_change.specs.declared.tally.Tally.{Tally}
 use Rattle.rpm_change.specs.declared.tally.Halt.{Halt}
 use Rattle.rpm_change.specs.declared.tally.Halt.TheVariants as halt
-use Rattle.rpm_change.specs.Steps.{Course, ToOut, bearer}
-use Rattle.rpm_change.specs.Endings.{Outputs, outputs, Through, ThroughSome, Done, Ended, halt_of}
+use Rattle.rpm_change.specs.Steps.{ToOut, bearer}
+use Rattle.rpm_outside.specs.Files.{Files, Units}
+use Rattle.rpm_db.specs.Lawful.{IsWholeIndex}
+use Rattle.rpm_change.specs.Endings.{WholeTurn, outputs, Done, Ended, halt_of}
 use Rattle.rpm_change.specs.Limits.{needed, LimitsTurn}
 use Rattle.rpm_change.specs.Rebuilding.{dropped_line, dropped, IsOfRebuilding}
-use Rattle.rpm_change.specs.inner.Single.{one_made, none_made, other_stop}
+use Rattle.rpm_change.specs.inner.Single.{one_made, other_stop}
 
 -- ---- the line of a package that is dropped
 
@@ -79,23 +80,10 @@ good_is o p bytes good is = cc
 pub bad_is : (o : Option Package) (p : Package) → o ≡ Some Bad → o ≡ Some p → p ≡ Bad
 bad_is o p bad is = cc
 
--- nothing was done of a course
-pub none_gone : (course : Course) (old new : Outputs) → Through [] old new → ThroughSome course.steps old new
-none_gone course old new none = record { done = []; rest = course.steps; all_is = refl; through = none }
-
--- nothing is done of a package that is Good
-module _ (n : ℕ) (p : Package) (o : Option Package) (bytes : List ℕ) (s : State) (good : o ≡ Some (Good bytes)) (is : o ≡ Some p) where
-  pub kept_done : (ot et : Bool) (out err : List ℕ) (t : State) → t ≡ s
-      → Done (dropped n p) s t (record { failed = 0; changes = 0 }) (outputs ot out et err) (outputs ot out et err)
-  kept_done ot et out err t same =
-      subst (λ (q : Package). Done (dropped n q) s t (record { failed = 0; changes = 0 }) (outputs ot out et err) (outputs ot out et err))
-      (sym (good_is o p bytes good is))
-      (record { steps = record { out = gained_none ot out; err = gained_none et err }; failed = refl; changes = refl; state_is = same })
-
-  pub kept_limits : {files : Files} (i : Bool) (v : Store) → LimitsTurn i s v v files files (dropped n p).changes (Ok (record { failed = 0; changes = 0 }))
-  kept_limits {files = files} i v =
-      subst (λ (q : Package). LimitsTurn i s v v files files (dropped n q).changes (Ok (record { failed = 0; changes = 0 }))) (sym (good_is o p bytes good is))
-      (none_made i s v v v.spare (record { failed = 0; changes = 0 }) refl)
+-- a change was made, and its line may not be written
+pub whole_out : (idx : Units) (r : Result Tally Halt) → IfErr r (λ h. h ≡ halt.OutFault) → IsWholeIndex idx → WholeTurn idx r
+whole_out idx (Ok tally) kinds whole = whole
+whole_out idx (Err h) kinds whole = rw kinds tt
 
 pub out_only : (r : Result Tally Halt) → IfErr r (λ h. h ≡ halt.OutFault) → r ≡ Err halt.DiskFault → ⊥
 out_only (Ok tally) kinds is = cc

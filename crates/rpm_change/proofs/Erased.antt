@@ -1,5 +1,5 @@
 -- What erasing one number is.
-use Rattle.std.proofs.Common.{◌≡◌, ℕ, Bool, true, false, [], Option, Some, None, is_some, Err, refl, sym, ◌∙◌, subst}
+use Rattle.std.proofs.Common.{◌≡◌, ℕ, Bool, true, false, Option, Some, None, is_some, Err, refl, sym, ◌∙◌, subst}
 use Rattle.std.specs.FinMap as finite
 use Rattle.rpm_outside.specs.Files.{Units, Files}
 use Rattle.rpm_db.specs.declared.change_fault.ChangeFault.{ChangeFault}
@@ -7,13 +7,13 @@ use Rattle.rpm_db.specs.declared.change_fault.ChangeFault.TheVariants as fault
 use Rattle.rpm_db.specs.Changes.{Erase}
 use Rattle.rpm_db.specs.Database.{Database, IsIndexed, holds}
 use Rattle.rpm_db.specs.Refusals.{EraseCause, FullCause}
-use Rattle.rpm_db.specs.State.{State, Package, state, packages}
+use Rattle.rpm_db.specs.State.{Package, state, packages}
 use Rattle.rpm_pkgdb.specs.Store.{Store}
 use Rattle.rpm_db.specs.inner.Laws.{is_there}
 use Rattle.rpm_change.specs.declared.tally.Halt.{Halt}
 use Rattle.rpm_change.specs.declared.tally.Halt.TheVariants as halt
 use Rattle.rpm_change.specs.Steps.{Course, changing}
-use Rattle.rpm_change.specs.Endings.{Outputs, Through, ThroughSome, Ended, IsOfErasing, halt_of}
+use Rattle.rpm_change.specs.Endings.{IsOfErasing, halt_of}
 use Rattle.rpm_change.specs.Erasing.{missing, erased, erase_one}
 use Rattle.rpm_change.specs.Limits.{needed, is_limit, LimitsTurn}
 use Rattle.rpm_change.specs.inner.Single.{one_refused, other_stop, erase_fault}
@@ -41,25 +41,6 @@ indexed_same f g a b files same i =
     subst (λ (x : Files). IsIndexed x.pkg x.idx b) (sym files) (subst (λ (d : Database). IsIndexed f.pkg f.idx d) (sym same) i)
 
 -- ---- a change that is refused
-
-none_done : (course : Course) (old new : Outputs) → Through [] old new → ThroughSome course.steps old new
-none_done course old new none = record { done = []; rest = course.steps; all_is = refl; through = none }
-
--- a fault of a change leaves some of the steps done
-pub stopped_ended : (course : Course) (s t : State) (f : ChangeFault) (old new : Outputs) → ThroughSome course.steps old new → Ended course s t (Err (halt_of f)) old new
-stopped_ended course s t fault.NumbersSpent old new some = some
-stopped_ended course s t fault.GenerationSpent old new some = some
-stopped_ended course s t fault.StoreFull old new some = some
-stopped_ended course s t (fault.IndexFull needed) old new some = some
-stopped_ended course s t (fault.BadIndex unit) old new some = some
-stopped_ended course s t fault.DiskFault old new some = some
-stopped_ended course s t fault.NoMemory old new some = some
-stopped_ended course s t (fault.BadHeader why) old new some = some
-stopped_ended course s t fault.NoSuch old new some = some
-stopped_ended course s t fault.Stopped old new some = some
-
-pub refused_ended : (course : Course) (s t : State) (f : ChangeFault) (old new : Outputs) → Through [] old new → Ended course s t (Err (halt_of f)) old new
-refused_ended course s t f old new none = stopped_ended course s t f old new (none_done course old new none)
 
 pub erase_kinds : (db : Database) (n : ℕ) (f : ChangeFault) → EraseCause db n f → IsOfErasing (halt_of f)
 erase_kinds db n fault.NumbersSpent cause = absurd cause.2

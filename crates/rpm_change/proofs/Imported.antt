@@ -1,9 +1,11 @@
 -- What adding one header of a list is.
 use Rattle.std.proofs.Common.{◌≡◌, ℕ, Bool, true, List, Option, Some, None, Result, Ok, Err, refl, sym, ap, subst, min, codes}
-use Rattle.std.specs.Prelude.{IfOk}
 use Rattle.rpm_header.specs.Header.{Header, header}
 use Rattle.rpm_outside.specs.declared.disk.Disk as disk
-use Rattle.rpm_outside.specs.Files.{Files}
+use Rattle.rpm_outside.specs.declared.sink.Sink as sink
+use Rattle.rpm_outside.specs.declared.buffered.Buffered.{Buffered}
+use Rattle.rpm_outside.specs.Files.{Files, Units}
+use Rattle.rpm_db.specs.Frame.{state_in}
 use Rattle.rpm_outside.specs.Browses.{left}
 use Rattle.rpm_db.specs.declared.change_fault.ChangeFault.{ChangeFault}
 use Rattle.rpm_db.specs.declared.change_fault.ChangeFault.TheVariants as fault
@@ -17,31 +19,19 @@ use Rattle.rpm_change.specs.declared.tally.Tally.{Tally}
 use Rattle.rpm_change.specs.declared.tally.Halt.{Halt}
 use Rattle.rpm_change.specs.declared.tally.Halt.TheVariants as halt
 use Rattle.rpm_change.specs.Steps.{Course, ToErr, whole, changing, failing}
-use Rattle.rpm_change.specs.Endings.{Outputs, Ended, halt_of}
+use Rattle.rpm_change.specs.Endings.{Outputs, Ended, WholeTurn, halt_of}
+use Rattle.rpm_change.specs.inner.Courses.{stop_by}
 use Rattle.rpm_change.specs.Importing.{imported, once, import_listed, import_list, listed}
 use Rattle.rpm_change.specs.Texts.{absent_line}
 use Rattle.rpm_change.specs.Limits.{needed, LimitsTurn}
-use Rattle.rpm_change.specs.Turns.{counted_once, IsOfHeaders}
-use Rattle.rpm_change.specs.Went.{LeftOn}
-use Rattle.rpm_change.specs.inner.Leaving.{left_counted}
+use Rattle.rpm_change.specs.Went.{EndedOnErr, LeftOn, Went}
+use Rattle.rpm_change.specs.inner.Leaving.{left_after}
 use Rattle.rpm_change.specs.inner.Single.{one_refused, other_stop, add_fault}
 
 -- ---- a header that is added, or refused
 
 pub imported_good : (k : ℕ) (bytes : List ℕ) (h : Header) → header bytes ≡ Ok h → imported k (header bytes) ≡ changing (Add h.blob)
 imported_good k bytes h is = ap (imported k) is
-
-pub add_kinds : (f : ChangeFault) → IsOfHeaders (halt_of f)
-add_kinds fault.NumbersSpent = tt
-add_kinds fault.GenerationSpent = tt
-add_kinds fault.StoreFull = tt
-add_kinds (fault.IndexFull needed) = tt
-add_kinds (fault.BadIndex unit) = tt
-add_kinds fault.DiskFault = tt
-add_kinds fault.NoMemory = tt
-add_kinds (fault.BadHeader why) = tt
-add_kinds fault.NoSuch = tt
-add_kinds fault.Stopped = tt
 
 module _ {old new : Files} (i : Bool) (db : Database) (s : State) (w : Store) (k : ℕ) (bytes : List ℕ) (law : next s ≡ next_number db) where
   read_limits : (f : ChangeFault) (h : Header) → header bytes ≡ Ok h → AddIs {A = ℕ} db bytes (Err f) → RoomCause (next_store (Add h.blob) db.store) f
@@ -68,40 +58,41 @@ module _ {old new : Files} (i : Bool) (db : Database) (s : State) (w : Store) (k
   add_limits fault.NoSuch cause room full = other_stop i s db.store w (imported k (header bytes)).changes halt.NoMemory refl
   add_limits fault.Stopped cause room full = other_stop i s db.store w (imported k (header bytes)).changes halt.NoMemory refl
 
--- what holds anyway holds after an Ok
-pub any_ok : (r : Result Tally Halt) (C : Type 0) → C → IfOk r (λ _tally. C)
-any_ok (Ok tally) C p = p
-any_ok (Err h) C p = tt
-
 -- ---- the command counts once
 
-module _ (c : Course) (s t : State) (old new : Outputs) where
-  stop_once : (h : Halt) → Ended c s t (Err h) old new → Ended (once c) s t (Err h) old new
-  stop_once halt.NumbersSpent p = p
-  stop_once halt.GenerationSpent p = p
-  stop_once halt.StoreFull p = p
-  stop_once (halt.IndexFull needed) p = p
-  stop_once (halt.BadIndex unit) p = p
-  stop_once halt.DiskFault p = p
-  stop_once halt.ShelfFault p = p
-  stop_once halt.OutFault p = p
-  stop_once halt.ErrFault p = p
-  stop_once halt.NoMemory p = p
+-- one argument failed, or none
+abbrev pub counted_once : Result Tally Halt → Result Tally Halt
+counted_once (Ok tally) = Ok (record { failed = min 1 tally.failed; changes = tally.changes })
+counted_once (Err halt) = Err halt
 
-  pub ended_once : (r : Result Tally Halt) → Ended c s t r old new → Ended (once c) s t (counted_once r) old new
-  ended_once (Ok tally) d = record { steps = d.steps; failed = ap (min 1) d.failed; changes = d.changes; state_is = d.state_is }
-  ended_once (Err h) p = stop_once h p
+ended_once : (c : Course) (s t : State) (old new : Outputs) (r : Result Tally Halt) → Ended c s t r old new → Ended (once c) s t (counted_once r) old new
+ended_once c s t old new (Ok tally) d = record { steps = d.steps; failed = ap (min 1) d.failed; changes = d.changes; state_is = d.state_is }
+ended_once c s t old new (Err h) p = stop_by h c (once c) s t s t old new old new (λ some. some) (λ at within. within) p
 
-pub limits_once : {old new : Files} (i : Bool) (changes : List Change) (s : State) (v w : Store) (r : Result Tally Halt)
+limits_once : {old new : Files} (i : Bool) (changes : List Change) (s : State) (v w : Store) (r : Result Tally Halt)
     → LimitsTurn i s v w old new changes r → LimitsTurn i s v w old new changes (counted_once r)
 limits_once i changes s v w (Ok tally) p = record { first = p.first; stores = p.stores; raised = p.raised; reached = p.reached }
 limits_once i changes s v w (Err h) p = p
 
-pub left_once : {D : Type 0} (d : disk.Ghosts D) (old new : D) (before after : Database) (r : Result Tally Halt)
-    → LeftOn d old new before after r → LeftOn d old new before after (counted_once r)
-left_once d old new before after (Ok tally) left =
-    left_counted d old new before after tally (record { failed = min 1 tally.failed; changes = tally.changes }) left
-left_once d old new before after (Err h) left = left
+whole_once : (idx : Units) (r : Result Tally Halt) → WholeTurn idx r → WholeTurn idx (counted_once r)
+whole_once idx (Ok tally) turn = turn
+whole_once idx (Err h) turn = turn
+
+module _ {D S : Type 0} (d : disk.Ghosts D) (e : sink.Ghosts S) where
+  left_once : {old new : D} {before after : Database} (r : Result Tally Halt) → LeftOn d old new before after r
+      → LeftOn d old new before after (counted_once r)
+  left_once {old = old} {new = new} {before = before} {after = after} (Ok tally) left =
+      left_after d old new before after tally left (counted_once (Ok tally)) (λ is. absurd cc)
+  left_once (Err h) left = left
+
+  pub went_once : {T : Type 0} {old new : D} {before after : Database} (x y : Buffered S) (course : Course) (r : Result Tally Halt)
+      → Went d T old new before after r (EndedOnErr e x y) course → Went d T old new before after (counted_once r) (EndedOnErr e x y) (once course)
+  went_once {old = old} {new = new} {before = before} {after = after} x y course r w = record {
+    ended = λ told ot o. ended_once course (state_in d old before) (state_in d new after) _ _ r (w.ended told ot o);
+    limits = λ told i rows. limits_once i course.changes (state_in d old before) before.store after.store r (w.limits told i rows);
+    whole = λ told was. whole_once (d.files new).idx r (w.whole told was);
+    left = left_once r w.left;
+  }
 
 -- ---- the path that is opened
 

@@ -13,18 +13,18 @@ use Rattle.rpm_db.specs.declared.change_fault.ChangeFault.TheVariants as fault
 use Rattle.rpm_db.specs.Changed.{IsReady}
 use Rattle.rpm_db.specs.Changes.{Change}
 use Rattle.rpm_db.specs.Database.{Database}
+use Rattle.rpm_db.specs.Frame.{IsIndexed}
 use Rattle.rpm_db.specs.Gathering.{IsGathering, IsOrdered, IsSettledUp, OwesOn, due, due_units, sealed_in, suspended}
 use Rattle.rpm_db.specs.Refusals.{IsOfIndex, IsOfReading}
 use Rattle.rpm_db.specs.State.{State, packages}
 use Rattle.rpm_db.specs.inner.RowLaws.{times_none}
 use Rattle.rpm_change.specs.declared.tally.Tally.{Tally}
 use Rattle.rpm_change.specs.declared.tally.Halt.{Halt}
-use Rattle.rpm_change.specs.declared.tally.Halt.TheVariants as halt
 use Rattle.rpm_change.specs.Endings.{halt_of}
 use Rattle.rpm_change.specs.Limits.{LimitsTurn, next_stores, is_limit}
 use Rattle.rpm_change.specs.Steps.{Course}
-use Rattle.rpm_change.specs.Went.{CarriedOn, IndexedOn, IsOwing, LeftBy, LeftOn, WentOwing}
-use Rattle.rpm_change.specs.inner.Leaving.{none_by, after_by, then_by}
+use Rattle.rpm_change.specs.Went.{CarriedOn, IsOwing, LeftBy, LeftOn, WentOwing}
+use Rattle.rpm_change.specs.inner.Leaving.{then_by}
 use Rattle.rpm_change.specs.inner.ReachLaws.{idx_more}
 
 -- a fault of the index is no limit where the index held the rows, and none of the lines and the shelf
@@ -42,42 +42,18 @@ end_limit i (fault.BadHeader why) kind other = absurd kind
 end_limit i fault.NoSuch kind other = absurd kind
 end_limit i fault.Stopped kind other = absurd kind
 
-pub end_halts : (f : ChangeFault) → (halt_of f ≡ halt.ShelfFault → ⊥) × (halt_of f ≡ halt.ErrFault → ⊥)
-end_halts fault.NumbersSpent = (λ is. cc, λ is. cc)
-end_halts fault.GenerationSpent = (λ is. cc, λ is. cc)
-end_halts fault.StoreFull = (λ is. cc, λ is. cc)
-end_halts (fault.IndexFull needed) = (λ is. cc, λ is. cc)
-end_halts (fault.BadIndex unit) = (λ is. cc, λ is. cc)
-end_halts fault.DiskFault = (λ is. cc, λ is. cc)
-end_halts fault.NoMemory = (λ is. cc, λ is. cc)
-end_halts (fault.BadHeader why) = (λ is. cc, λ is. cc)
-end_halts fault.NoSuch = (λ is. cc, λ is. cc)
-end_halts fault.Stopped = (λ is. cc, λ is. cc)
-
 owing_asked : {A B : Type 0} (r : Result Tally Halt) → (A → B) → IfOk r (λ tally. A) → IfOk r (λ tally. B)
 owing_asked (Ok tally) f a = f a
 owing_asked (Err h) f a = tt
 
 module _ {D : Type 0} (d : disk.Ghosts D) where
-  pub owing_none : ((x : D) → d.follows x x) → (at : D) (db : Database) (owed : List Row) → IsGathering d at db owed → (r : Result Tally Halt)
-      → (r ≡ Err halt.DiskFault → ⊥) → LeftBy d (IsOwing d (OwesOn d at db owed) at db owed) at at db r
-  owing_none stays at db owed g r other =
-      none_by d stays (IsOwing d (OwesOn d at db owed) at db owed) (record { gathering = g; owes = λ told has. has }) at db g.indexed r other
+  pub owing_none : (at : D) (db : Database) (owed : List Row) → IsGathering d at db owed → IsOwing d (OwesOn d at db owed) at db owed
+  owing_none at db owed g = record { gathering = g; owes = λ told has. has }
 
-  pub owing_then : ((x y z : D) → d.follows x y → d.follows y z → d.follows x z) → (Asked : Type 0) (old mid new : D) (before after : Database)
-      (owed more : List Row) (tally : Tally) (r : Result Tally Halt) → LeftBy d (IsOwing d Asked mid before owed) old mid before (Ok tally)
-      → LeftBy d (IsOwing d (OwesOn d mid before owed) new after more) mid new after r → LeftBy d (IsOwing d Asked new after more) old new after r
-  owing_then joins Asked old mid new before after owed more =
-      then_by d joins (IsOwing d Asked mid before owed) (IsOwing d (OwesOn d mid before owed) new after more) (IsOwing d Asked new after more)
-      (λ first second. record { gathering = second.gathering; owes = λ told asked. second.owes told (first.owes told asked) }) old mid new before after
-
-  pub owing_more : ((x y z : D) → d.follows x y → d.follows y z → d.follows x z) → (Asked : Type 0) (old mid new : D) (before after : Database)
-      (owed more : List Row) (one two all : Tally) → LeftBy d (IsOwing d Asked mid before owed) old mid before (Ok one)
-      → LeftBy d (IsOwing d (OwesOn d mid before owed) new after more) mid new after (Ok two)
-      → LeftBy d (IsOwing d Asked new after more) old new after (Ok all)
-  owing_more joins Asked old mid new before after owed more one two all first second =
-      after_by d (IsOwing d Asked new after more) old new after two
-      (owing_then joins Asked old mid new before after owed more one (Ok two) first second) (Ok all) (λ is. cc)
+  pub owing_then : {Asked : Type 0} (mid new : D) (before after : Database) (owed more : List Row) → IsOwing d Asked mid before owed
+      → IsOwing d (OwesOn d mid before owed) new after more → IsOwing d Asked new after more
+  owing_then mid new before after owed more first second =
+      record { gathering = second.gathering; owes = λ told asked. second.owes told (first.owes told asked) }
 
   -- where nothing changed
   pub owing_same : (Told : Type 0) (old new : D) (before after : Database) (owed more : List Row) (r : Result Tally Halt)
@@ -90,7 +66,7 @@ module _ {D : Type 0} (d : disk.Ghosts D) where
 
   -- they begin
   pub owing_begun : (at : D) (db : Database) (owed : List Row) → IsReady d at db → db.store.is_stopped ≡ false → IsOrdered db.index
-      → sealed_in db.index ≡ db.store.generation → owed ≡ [] → IsOwing d (IndexedOn d at db) at (suspended db) owed
+      → sealed_in db.index ≡ db.store.generation → owed ≡ [] → IsOwing d (IsIndexed d at db) at (suspended db) owed
   owing_begun at db owed ready going ordered sealed none = record {
     gathering = record {
       indexed = ready.indexed;
@@ -148,10 +124,10 @@ module _ {D : Type 0} (d : disk.Ghosts D) where
   }
 
   pub left_over : ((x y z : D) → d.follows x y → d.follows y z → d.follows x z) → (old mid new : D) (start db after : Database) (owed : List Row)
-      (tally : Tally) → LeftBy d (IsOwing d (IndexedOn d old start) mid db owed) old mid db (Ok tally)
+      (tally : Tally) → LeftBy d (IsOwing d (IsIndexed d old start) mid db owed) old mid db (Ok tally)
       → LeftBy d (IsSettledUp d mid new db after owed) mid new after (Ok tally) → LeftOn d old new start after (Ok tally)
   left_over joins old mid new start db after owed tally =
-      then_by d joins (IsOwing d (IndexedOn d old start) mid db owed) (IsSettledUp d mid new db after owed) (CarriedOn d old new start after)
+      then_by d joins (IsOwing d (IsIndexed d old start) mid db owed) (IsSettledUp d mid new db after owed) (CarriedOn d old new start after)
       (λ first second. record {
         going = second.going;
         serving = second.serving;

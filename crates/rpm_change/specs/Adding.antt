@@ -1,5 +1,5 @@
 -- What package files make of the database.
-use Rattle.std.specs.Prelude.{◌≡◌, ℕ, List, Option, Some, None, Result, Ok, Err, Vec}
+use Rattle.std.specs.Prelude.{◌≡◌, ◌≢◌, ℕ, List, Option, Some, None, Result, Ok, Err, Vec}
 use Rattle.std.specs.FinMap as finite
 use Rattle.std.specs.declared.alloc.Global.{Global}
 use Rattle.rpm_header.specs.Header.{Header}
@@ -85,18 +85,13 @@ stop_in file.ReadFault = Some halt.ShelfFault
 stop_in file.NoMemory = Some halt.NoMemory
 stop_in fault = None
 
--- a change of the database reads no shelf and writes no line; and only a new number can be spent
-abbrev pub IsOfPlacing : Option ℕ → Halt → Type 0
-IsOfPlacing number halt.ShelfFault = ⊥
-IsOfPlacing number halt.OutFault = ⊥
-IsOfPlacing number halt.ErrFault = ⊥
-IsOfPlacing None halt.NumbersSpent = Unit {0}
-IsOfPlacing (Some n) halt.NumbersSpent = ⊥
-IsOfPlacing number others = Unit {0}
-
 -- nothing is written to out; and only a new number can be spent
 abbrev pub IsOfPutting : Option ℕ → Halt → Type 0
 IsOfPutting number halt.OutFault = ⊥
 IsOfPutting None halt.NumbersSpent = Unit {0}
 IsOfPutting (Some n) halt.NumbersSpent = ⊥
 IsOfPutting number others = Unit {0}
+
+-- and a change of the database reads no shelf and writes no line
+abbrev pub IsOfPlacing : Option ℕ → Halt → Type 0
+IsOfPlacing number h = (h ≢ halt.ShelfFault) × (h ≢ halt.ErrFault) × IsOfPutting number h

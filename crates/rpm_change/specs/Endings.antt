@@ -1,5 +1,5 @@
 -- How far a command went, and why it was stopped.
-use Rattle.std.specs.Prelude.{◌≡◌, ℕ, List, [], ◌∷◌, ◌++◌, length, Bool, true, false, IsTrue, Result, Ok, Err}
+use Rattle.std.specs.Prelude.{◌≡◌, ◌⊎◌, ℕ, List, [], ◌∷◌, ◌++◌, length, Bool, true, false, IsTrue, Result, Ok, Err}
 use Rattle.std.specs.List.{flat_map}
 use Rattle.rpm_outside.specs.Sinks.{Gained}
 use Rattle.rpm_outside.specs.Files.{Units, Files}
@@ -79,9 +79,7 @@ WholeTurn idx (Err others) = Unit {0}
 
 -- a line can't be written, or there is no memory for it
 abbrev pub IsOfLines : Halt → Type 0
-IsOfLines halt.ErrFault = Unit {0}
-IsOfLines halt.NoMemory = Unit {0}
-IsOfLines others = ⊥
+IsOfLines h = (h ≡ halt.ErrFault) ⊎ (h ≡ halt.NoMemory)
 
 -- erasing takes no new number and no room in the store, reads no shelf and writes no line to out
 abbrev pub IsOfErasing : Halt → Type 0

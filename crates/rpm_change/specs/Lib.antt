@@ -6,6 +6,7 @@ pub mod Hands
 pub mod Importing
 pub mod Installs
 pub mod Limits
+pub mod Lines
 pub mod Reaches
 pub mod Rebuilding
 pub mod Steps

@@ -1,5 +1,5 @@
 -- What is done with what stands in front of a list.
-use Rattle.std.specs.Prelude.{◌≡◌, ℕ, min, List, Bool, true, false, codes, nat_lt, if◌then◌else◌, Option, Some, None, Result, Ok, Err}
+use Rattle.std.specs.Prelude.{◌≡◌, ◌≢◌, ℕ, List, Bool, true, false, codes, nat_lt, if◌then◌else◌, Option, Some, None, Result, Ok, Err}
 use Rattle.rpm_header.specs.Header.{header}
 use Rattle.rpm_file.specs.declared.fault.ListFault.{ListFault}
 use Rattle.rpm_file.specs.declared.fault.ListFault.TheVariants as list
@@ -38,30 +38,16 @@ abbrev pub tally_of : Result Turn Halt → Result Tally Halt
 tally_of (Ok turn) = Ok turn.tally
 tally_of (Err halt) = Err halt
 
--- what the command came to: one argument failed, or none
-abbrev pub counted_once : Result Tally Halt → Result Tally Halt
-counted_once (Ok tally) = Ok (record { failed = min 1 tally.failed; changes = tally.changes })
-counted_once (Err halt) = Err halt
-
 -- ---- faults
-
--- adding a header reads no shelf and writes no line to out
-abbrev pub IsOfHeaders : Halt → Type 0
-IsOfHeaders halt.ShelfFault = ⊥
-IsOfHeaders halt.OutFault = ⊥
-IsOfHeaders others = Unit {0}
-
--- what ends a list changes nothing
-abbrev pub IsOfEnding : Halt → Type 0
-IsOfEnding halt.ShelfFault = Unit {0}
-IsOfEnding halt.ErrFault = Unit {0}
-IsOfEnding halt.NoMemory = Unit {0}
-IsOfEnding others = ⊥
 
 -- importing writes no line to out
 abbrev pub IsOfImporting : Halt → Type 0
 IsOfImporting halt.OutFault = ⊥
 IsOfImporting others = Unit {0}
+
+-- and adding a header reads no shelf
+abbrev pub IsOfHeaders : Halt → Type 0
+IsOfHeaders h = (h ≢ halt.ShelfFault) × IsOfImporting h
 
 -- a failed read and want of memory stop the command; the others are faults of the list
 abbrev pub StopIs : ListFault → Option Halt → Type 0

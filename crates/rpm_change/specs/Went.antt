@@ -4,16 +4,16 @@ use Rattle.rpm_outside.specs.declared.disk.Disk as disk
 use Rattle.rpm_outside.specs.declared.sink.Sink as sink
 use Rattle.rpm_outside.specs.declared.buffered.Buffered.{Buffered}
 use Rattle.rpm_outside.specs.Buffered.{inner}
-use Rattle.rpm_outside.specs.Causes.{HasCauseAt}
 use Rattle.rpm_outside.specs.Files.{Files}
+use Rattle.rpm_outside.specs.Frame.{DiskFault, images}
 use Rattle.rpm_hindex.specs.Rows.{Row}
 use Rattle.rpm_db.specs.Changed.{IsReady}
 use Rattle.rpm_db.specs.Changes.{Change}
-use Rattle.rpm_db.specs.Database.{Database, IsIndexed, is_indexed}
+use Rattle.rpm_db.specs.Database.{Database, is_indexed}
+use Rattle.rpm_db.specs.Frame.{IsIndexed, Runs, state_in}
 use Rattle.rpm_db.specs.Gathering.{IsGathering, OwesOn, due}
 use Rattle.rpm_db.specs.Lawful.{IsWholeIndex}
-use Rattle.rpm_db.specs.Runs.{Runs}
-use Rattle.rpm_db.specs.State.{State, state}
+use Rattle.rpm_db.specs.State.{State}
 use Rattle.rpm_db.specs.inner.Writes.{SameLog}
 use Rattle.rpm_change.specs.declared.tally.Tally.{Tally}
 use Rattle.rpm_change.specs.declared.tally.Halt.{Halt}
@@ -53,30 +53,20 @@ module _ {S : Type 0} (of : sink.Ghosts S) where
 -- ---- the disk and the database
 
 module _ {D : Type 0} (d : disk.Ghosts D) where
-  -- the state that a database has on this disk
-  abbrev pub state_on : D → Database → State
-  state_on at db = state (d.files at).pkg db.store
-
-  -- its index holds the rows of its packages
-  abbrev pub IndexedOn : D → Database → Type 0
-  IndexedOn at db = IsIndexed (d.files at).pkg (d.files at).idx db
-
   -- it can be changed further, and its index holds the rows where it did before
   abbrev pub CarriedOn : (old new : D) (before after : Database) → Type 0
-  CarriedOn old new before after =
-      IsCarried d.tells (d.files old) (d.files new) (d.left_since new (d.moment new)) before after
+  CarriedOn old new before after = IsCarried d.tells (d.files old) (d.files new) (images d new) before after
 
   -- the first of these changes that is refused decides; the index is asked where it held the rows
   abbrev pub LimitsOn : D → D → Database → Database → List Change → Result Tally Halt → Type 0
   LimitsOn old new before after changes r =
-      (indexed : Bool) → (indexed ≡ true → IndexedOn old before)
-      → LimitsTurn indexed (state_on old before) before.store after.store
-      (d.files old) (d.files new) changes r
+      (indexed : Bool) → (indexed ≡ true → IsIndexed d old before)
+      → LimitsTurn indexed (state_in d old before) before.store after.store (d.files old) (d.files new) changes r
 
   -- it can be changed further, and its index holds the rows of its packages
   pub record IsCurrent (at : D) (db : Database) : Type 0 where
     pub ready : IsReady d at db
-    pub index : IsTrue d.tells → IndexedOn at db
+    pub index : IsTrue d.tells → IsIndexed d at db
 
   -- ---- the course
 
@@ -84,8 +74,8 @@ module _ {D : Type 0} (d : disk.Ghosts D) where
   pub record LeftBy (Carried : Type 0) (old new : D) (after : Database) (r : Result Tally Halt) : Type 0 where
     pub carried : IfOk r (λ tally. Carried)
     pub indexed : is_indexed after ≡ true
-    pub runs : Runs d.tells d.files d.left_since d.moment d.bytes_read d.follows SameLog old new
-    pub disk : HasCauseAt (r ≡ Err halt.DiskFault) (d.faults old) (d.faults new)
+    pub runs : Runs d SameLog old new
+    pub disk : DiskFault d (r ≡ Err halt.DiskFault) old new
 
   -- of a database that can be changed further
   abbrev pub LeftOn : D → D → Database → Database → Result Tally Halt → Type 0
@@ -95,9 +85,9 @@ module _ {D : Type 0} (d : disk.Ghosts D) where
   -- where this holds, and the files reach as far as these
   pub record WentBy (Carried Asked Told : Type 0) (from to : Files) (old new : D) (before after : Database)
       (r : Result Tally Halt) (Ends : Course → State → State → Result Tally Halt → Type 0) (course : Course) : Type 0 where
-    pub ended : Told → Ends course (state_on old before) (state_on new after) r
+    pub ended : Told → Ends course (state_in d old before) (state_in d new after) r
     pub limits : Told → (indexed : Bool) → (indexed ≡ true → Asked)
-        → LimitsTurn indexed (state_on old before) before.store after.store from to course.changes r
+        → LimitsTurn indexed (state_in d old before) before.store after.store from to course.changes r
     pub whole : IsTrue d.tells → IsWholeIndex (d.files old).idx → WholeTurn (d.files new).idx r
     pub left : LeftBy Carried old new after r
 
@@ -105,7 +95,7 @@ module _ {D : Type 0} (d : disk.Ghosts D) where
   abbrev pub Went : Type 0 → D → D → Database → Database → Result Tally Halt
       → (Course → State → State → Result Tally Halt → Type 0) → Course → Type 0
   Went Told old new before after r Ends course =
-      WentBy (CarriedOn old new before after) (IndexedOn old before) Told (d.files old) (d.files new) old new
+      WentBy (CarriedOn old new before after) (IsIndexed d old before) Told (d.files old) (d.files new) old new
       before after r Ends course
 
   -- ---- additions whose rows are gathered

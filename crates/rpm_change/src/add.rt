@@ -1,7 +1,7 @@
 //! Adding package files.
 
 ghost use Rattle.std.specs.Prelude.{◌≡◌, ℕ, ◌+◌, ◌^◌, ◌<◌, Some, None, length, map, true, IsTrue, Ok, Err, IfOk, IfErr, IfSome};
-ghost use Rattle.rpm_change.specs.Prelude.{Add, add_files, change_at, changing, EndedOnErr, EndedQuietly, Hand, HasCauseAt, header, holds, IsOfPlacing, IsOfPutting, IsReady, left, Put, put_file, put_read, read_again, state_on, stop_in, Went};
+ghost use Rattle.rpm_change.specs.Prelude.{Add, add_files, change_at, changing, EndedOnErr, EndedQuietly, Hand, KeepsShelf, header, holds, IsOfPlacing, IsOfPutting, IsReady, left, Put, put_file, put_read, read_again, state_in, stop_in, Went};
 
 use crate::faults::{put_absent, put_refused};
 use crate::install::read_installed;
@@ -111,8 +111,7 @@ fn put_opened<D: Disk, S: Shelf, E: Sink + Drop>(
         (EndedOnErr E.Sink err.old err.new) (put_read how j path.now (left (S.rest shelf.old))) }
     ensures one { IfOk result (λ tally. tally.failed + tally.changes ≡ 1) }
     ensures kinds { IfErr result (IsOfPutting how.number) }
-    ensures paths { IsTrue S.tells → S.paths shelf.new ≡ S.paths shelf.old }
-    ensures shelf { HasCauseAt (result ≡ Err Halt.ShelfFault) (S.faults shelf.old) (S.faults shelf.new) }
+    ensures shelf { KeepsShelf S.Shelf (result ≡ Err Halt.ShelfFault) shelf.old shelf.new }
     ensures err { Hand E.Sink (result ≡ Err Halt.ErrFault) err.old err.new }
 {
     match read_installed(alloc, shelf, how.moment) {
@@ -140,8 +139,7 @@ pub fn put_file<D: Disk, S: Shelf, E: Sink + Drop>(
         (EndedOnErr E.Sink err.old err.new) (put_file how (S.paths shelf.old) j path.now) }
     ensures one { IfOk result (λ tally. tally.failed + tally.changes ≡ 1) }
     ensures kinds { IfErr result (IsOfPutting how.number) }
-    ensures paths { IsTrue S.tells → S.paths shelf.new ≡ S.paths shelf.old }
-    ensures shelf { HasCauseAt (result ≡ Err Halt.ShelfFault) (S.faults shelf.old) (S.faults shelf.new) }
+    ensures shelf { KeepsShelf S.Shelf (result ≡ Err Halt.ShelfFault) shelf.old shelf.new }
     ensures err { Hand E.Sink (result ≡ Err Halt.ErrFault) err.old err.new }
 {
     match shelf.open(path) {
@@ -187,10 +185,9 @@ pub fn add_files<D: Disk, S: Shelf, E: Sink + Drop>(
     requires ready { IsReady D.Disk disk.old db.old }
     ensures went { Went D.Disk (IsTrue D.tells × IsTrue S.tells) disk.old disk.new db.old db.new result
         (EndedOnErr E.Sink err.old err.new)
-        (add_files (S.paths shelf.old) now (state_on D.Disk disk.old db.old) (map (λ path. path.now) paths.now)) }
+        (add_files (S.paths shelf.old) now (state_in D.Disk disk.old db.old) (map (λ path. path.now) paths.now)) }
     ensures kinds { IfErr result (IsOfPutting None) }
-    ensures paths { IsTrue S.tells → S.paths shelf.new ≡ S.paths shelf.old }
-    ensures shelf { HasCauseAt (result ≡ Err Halt.ShelfFault) (S.faults shelf.old) (S.faults shelf.new) }
+    ensures shelf { KeepsShelf S.Shelf (result ≡ Err Halt.ShelfFault) shelf.old shelf.new }
     ensures err { Hand E.Sink (result ≡ Err Halt.ErrFault) err.old err.new }
 {
     let how = Placing {

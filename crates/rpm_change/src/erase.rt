@@ -1,7 +1,7 @@
 //! Erasing packages.
 
 ghost use Rattle.std.specs.Prelude.{◌≡◌, ℕ, ◌+◌, ◌^◌, ◌<◌, length, IsTrue, Err, IfOk, IfErr};
-ghost use Rattle.rpm_change.specs.Prelude.{EndedOnErr, erase, erase_one, Hand, IsOfErasing, IsReady, state_on, Went};
+ghost use Rattle.rpm_change.specs.Prelude.{EndedOnErr, erase, erase_one, Hand, IsOfErasing, IsReady, state_in, Went};
 
 use crate::lines::put_missing;
 use crate::tally::{Halt, Tally, halt_of};
@@ -19,7 +19,7 @@ fn erase_one<D: Disk, E: Sink + Drop>(
 ) -> Result<Tally, Halt>
     requires ready { IsReady D.Disk disk.old db.old }
     ensures went { (j : ℕ) → Went D.Disk (IsTrue D.tells) disk.old disk.new db.old db.new result
-        (EndedOnErr E.Sink err.old err.new) (erase_one (state_on D.Disk disk.old db.old) j number) }
+        (EndedOnErr E.Sink err.old err.new) (erase_one (state_in D.Disk disk.old db.old) j number) }
     ensures one { IfOk result (λ tally. tally.failed + tally.changes ≡ 1) }
     ensures kinds { IfErr result IsOfErasing }
     ensures err { Hand E.Sink (result ≡ Err Halt.ErrFault) err.old err.new }
@@ -65,7 +65,7 @@ pub fn erase_numbers<D: Disk, E: Sink + Drop>(
     requires few { length numbers.now < 2 ^ 32 }
     requires ready { IsReady D.Disk disk.old db.old }
     ensures went { Went D.Disk (IsTrue D.tells) disk.old disk.new db.old db.new result
-        (EndedOnErr E.Sink err.old err.new) (erase (state_on D.Disk disk.old db.old) numbers.now) }
+        (EndedOnErr E.Sink err.old err.new) (erase (state_in D.Disk disk.old db.old) numbers.now) }
     ensures kinds { IfErr result IsOfErasing }
     ensures err { Hand E.Sink (result ≡ Err Halt.ErrFault) err.old err.new }
 {

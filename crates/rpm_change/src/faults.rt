@@ -1,7 +1,7 @@
 //! What is told of package files that aren't read.
 
-ghost use Rattle.std.specs.Prelude.{◌≡◌, ◌++◌, ℕ, Err, IfOk, IfErr};
-ghost use Rattle.rpm_change.specs.Prelude.{absent_line, at_entry, EndedOnErr, failing, file_text, Hand, header_text, IsOfLines, refused_line, State, ToErr, whole};
+ghost use Rattle.std.specs.Prelude.{◌≡◌, ◌++◌, IfOk};
+ghost use Rattle.rpm_change.specs.Prelude.{absent_line, at_entry, Fails, file_text, header_text, refused_line};
 
 use crate::lines::put_failing;
 use crate::tally::{Halt, Tally};
@@ -109,11 +109,7 @@ pub fn put_refused<E: Sink + Drop>(
     path: &[u8],
     fault: FileFault,
 ) -> Result<Tally, Halt>
-    ensures ended { (j : ℕ) (s : State) → EndedOnErr E.Sink err.old err.new
-        (failing (ToErr (whole j) (refused_line path.now fault))) s s result }
-    ensures one { IfOk result (λ tally. tally ≡ record { failed = 1; changes = 0 }) }
-    ensures kinds { IfErr result IsOfLines }
-    ensures err { Hand E.Sink (result ≡ Err Halt.ErrFault) err.old err.new }
+    ensures { Fails E.Sink (refused_line path.now fault) err.old err.new result }
 {
     match refused_line(alloc, path, fault) {
         Ok(line) => put_failing(err, &line),
@@ -127,11 +123,7 @@ pub fn put_absent<E: Sink + Drop>(
     err: &mut Buffered<E>,
     path: &[u8],
 ) -> Result<Tally, Halt>
-    ensures ended { (j : ℕ) (s : State) → EndedOnErr E.Sink err.old err.new
-        (failing (ToErr (whole j) (absent_line path.now))) s s result }
-    ensures one { IfOk result (λ tally. tally ≡ record { failed = 1; changes = 0 }) }
-    ensures kinds { IfErr result IsOfLines }
-    ensures err { Hand E.Sink (result ≡ Err Halt.ErrFault) err.old err.new }
+    ensures { Fails E.Sink (absent_line path.now) err.old err.new result }
 {
     match absent_line(alloc, path) {
         Ok(line) => put_failing(err, &line),

@@ -1,7 +1,7 @@
 //! Importing a list of headers.
 
 ghost use Rattle.std.specs.Prelude.{◌≡◌, ◌^◌, ◌<◌, codes, IsTrue, Err, IfErr};
-ghost use Rattle.rpm_change.specs.Prelude.{Browses, bytes_at, counted_once, EndedOnErr, Hand, HasCauseAt, import_list, import_listed, IsGathering, IsOfImporting, IsReady, left, listed, max_headers, Went, WentOwing};
+ghost use Rattle.rpm_change.specs.Prelude.{bytes_at, EndedOnErr, Hand, KeepsShelf, import_list, import_listed, IsGathering, IsOfImporting, IsReady, left, listed, max_headers, Went, WentOwing};
 
 use crate::lines::put_failing;
 use crate::tally::{Halt, Tally, halt_of};
@@ -29,8 +29,7 @@ fn import_all<D: Disk, S: Shelf, E: Sink + Drop>(
         additions.new result (EndedOnErr E.Sink err.old err.new)
         (import_listed most (listed (left (S.rest shelf.old)))) }
     ensures kinds { IfErr result IsOfImporting }
-    ensures browses { Browses S.tells S.paths S.rest S.absences S.faults shelf.old shelf.new }
-    ensures shelf { HasCauseAt (result ≡ Err Halt.ShelfFault) (S.faults shelf.old) (S.faults shelf.new) }
+    ensures shelf { KeepsShelf S.Shelf (result ≡ Err Halt.ShelfFault) shelf.old shelf.new }
     ensures err { Hand E.Sink (result ≡ Err Halt.ErrFault) err.old err.new }
 {
     let mut failed = 0u32;
@@ -64,30 +63,15 @@ fn import_open<D: Disk, S: Shelf, E: Sink + Drop>(
     ensures went { Went D.Disk (IsTrue D.tells × IsTrue S.tells) disk.old disk.new db.old db.new result
         (EndedOnErr E.Sink err.old err.new) (import_listed most (listed (left (S.rest shelf.old)))) }
     ensures kinds { IfErr result IsOfImporting }
-    ensures browses { Browses S.tells S.paths S.rest S.absences S.faults shelf.old shelf.new }
-    ensures shelf { HasCauseAt (result ≡ Err Halt.ShelfFault) (S.faults shelf.old) (S.faults shelf.new) }
+    ensures shelf { KeepsShelf S.Shelf (result ≡ Err Halt.ShelfFault) shelf.old shelf.new }
     ensures err { Hand E.Sink (result ≡ Err Halt.ErrFault) err.old err.new }
 {
     let mut additions = Additions::begin(alloc, db);
-    let tally = match import_all(alloc, db, disk, shelf, &mut additions, most, err) {
-        Ok(tally) => tally,
-        Err(halt) => return Err(halt),
-    };
+    let tally = import_all(alloc, db, disk, shelf, &mut additions, most, err)?;
     match additions.finish(alloc, db, disk) {
         Ok(()) => Ok(tally),
         Err(fault) => Err(halt_of(fault)),
     }
-}
-
-/// One argument fails, however many lines there were.
-fn counted_once(done: Result<Tally, Halt>) -> Result<Tally, Halt>
-    ensures { result ≡ counted_once done }
-{
-    let tally = done?;
-    Ok(Tally {
-        failed: tally.failed.min(1),
-        changes: tally.changes,
-    })
 }
 
 /// Imports the list under the path `-` as [`import_list`] does, of at most `most` headers, which are below 2^31: a
@@ -105,12 +89,16 @@ pub fn import_most<D: Disk, S: Shelf, E: Sink + Drop>(
     ensures went { Went D.Disk (IsTrue D.tells × IsTrue S.tells) disk.old disk.new db.old db.new result
         (EndedOnErr E.Sink err.old err.new) (import_list most (bytes_at (S.paths shelf.old) (codes "-"))) }
     ensures kinds { IfErr result IsOfImporting }
-    ensures paths { IsTrue S.tells → S.paths shelf.new ≡ S.paths shelf.old }
-    ensures shelf { HasCauseAt (result ≡ Err Halt.ShelfFault) (S.faults shelf.old) (S.faults shelf.new) }
+    ensures shelf { KeepsShelf S.Shelf (result ≡ Err Halt.ShelfFault) shelf.old shelf.new }
     ensures err { Hand E.Sink (result ≡ Err Halt.ErrFault) err.old err.new }
 {
     match shelf.open("-") {
-        Ok(()) => counted_once(import_open(alloc, db, disk, shelf, most, err)),
+        Ok(()) => {
+            let tally = import_open(alloc, db, disk, shelf, most, err)?;
+            let failed = tally.failed.min(1);
+            let changes = tally.changes;
+            Ok(Tally { failed, changes })
+        }
         Err(Absent) => put_failing(err, b"error: open of - failed\n"),
     }
 }
@@ -152,8 +140,7 @@ pub fn import_list<D: Disk, S: Shelf, E: Sink + Drop>(
     ensures went { Went D.Disk (IsTrue D.tells × IsTrue S.tells) disk.old disk.new db.old db.new result
         (EndedOnErr E.Sink err.old err.new) (import_list max_headers (bytes_at (S.paths shelf.old) (codes "-"))) }
     ensures kinds { IfErr result IsOfImporting }
-    ensures paths { IsTrue S.tells → S.paths shelf.new ≡ S.paths shelf.old }
-    ensures shelf { HasCauseAt (result ≡ Err Halt.ShelfFault) (S.faults shelf.old) (S.faults shelf.new) }
+    ensures shelf { KeepsShelf S.Shelf (result ≡ Err Halt.ShelfFault) shelf.old shelf.new }
     ensures err { Hand E.Sink (result ≡ Err Halt.ErrFault) err.old err.new }
 {
     import_most(alloc, db, disk, shelf, MAX_HEADERS, err)

@@ -1,7 +1,7 @@
 //! What a package's header gains where it is installed.
 
 ghost use Rattle.std.specs.Prelude.{◌≡◌, IsTrue, Ok, Err, IfOk};
-ghost use Rattle.rpm_change.specs.Prelude.{as_installed, GivesInstalled, HasCauseAt, header, install_items, installed, Installs, left, package_header, read_again};
+ghost use Rattle.rpm_change.specs.Prelude.{as_installed, GivesInstalled, header, install_items, installed, Installs, KeepsShelf, left, package_header, read_again};
 
 use rpm_file::{FileFault, read_package};
 use rpm_header::{BuildFault, Builder, Form, View, with_dribbles};
@@ -47,8 +47,7 @@ pub fn read_installed<S: Shelf>(
     ensures gives { IsTrue S.tells
         → GivesInstalled (as_installed now (package_header (left (S.rest shelf.old)))) result }
     ensures own { IfOk result (λ blob. header blob.items ≡ Ok (read_again blob.items)) }
-    ensures paths { IsTrue S.tells → S.paths shelf.new ≡ S.paths shelf.old }
-    ensures cause { HasCauseAt (result ≡ Err FileFault.ReadFault) (S.faults shelf.old) (S.faults shelf.new) }
+    ensures shelf { KeepsShelf S.Shelf (result ≡ Err FileFault.ReadFault) shelf.old shelf.new }
 {
     let found = read_package(alloc, shelf)?;
     installed(alloc, &View::of_checked(found.header()), now)

@@ -1,7 +1,7 @@
 //! Lines for which an argument fails.
 
-ghost use Rattle.std.specs.Prelude.{◌≡◌, ℕ, Err, IfOk, IfErr};
-ghost use Rattle.rpm_change.specs.Prelude.{Bearer, EndedOnErr, failing, Hand, IsOfLines, missing, missing_line, State, ToErr};
+ghost use Rattle.std.specs.Prelude.{◌≡◌, IfOk};
+ghost use Rattle.rpm_change.specs.Prelude.{Fails, missing_line};
 
 use crate::tally::{Halt, Tally};
 use itoa::Buffer;
@@ -10,11 +10,7 @@ use std::alloc::{AllocError, Global};
 
 /// Writes a line to err; then the argument fails.
 pub fn put_failing<E: Sink + Drop>(err: &mut Buffered<E>, line: &[u8]) -> Result<Tally, Halt>
-    ensures ended { (for : Bearer) (s : State)
-        → EndedOnErr E.Sink err.old err.new (failing (ToErr for line.now)) s s result }
-    ensures one { IfOk result (λ tally. tally ≡ record { failed = 1; changes = 0 }) }
-    ensures kinds { IfErr result IsOfLines }
-    ensures err { Hand E.Sink (result ≡ Err Halt.ErrFault) err.old err.new }
+    ensures { Fails E.Sink line.now err.old err.new result }
 {
     err.clear();
     match put_and_flush(err, line) {
@@ -45,10 +41,7 @@ pub fn put_missing<E: Sink + Drop>(
     err: &mut Buffered<E>,
     number: u32,
 ) -> Result<Tally, Halt>
-    ensures ended { (j : ℕ) (s : State) → EndedOnErr E.Sink err.old err.new (missing j number) s s result }
-    ensures one { IfOk result (λ tally. tally ≡ record { failed = 1; changes = 0 }) }
-    ensures kinds { IfErr result IsOfLines }
-    ensures err { Hand E.Sink (result ≡ Err Halt.ErrFault) err.old err.new }
+    ensures { Fails E.Sink (missing_line number) err.old err.new result }
 {
     match missing_line(alloc, number) {
         Ok(line) => put_failing(err, &line),

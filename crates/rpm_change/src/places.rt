@@ -1,7 +1,7 @@
 //! Lines of the headers of a list.
 
-ghost use Rattle.std.specs.Prelude.{◌≡◌, Err, IfOk, IfErr};
-ghost use Rattle.rpm_change.specs.Prelude.{EndedOnErr, Hand, header_text, IsOfLines, list_text, place_fails, place_line, State};
+ghost use Rattle.std.specs.Prelude.{◌≡◌, IfOk};
+ghost use Rattle.rpm_change.specs.Prelude.{Fails, header_text, list_text, place_line};
 
 use crate::faults::push_header_text;
 use crate::lines::put_failing;
@@ -48,10 +48,7 @@ pub fn put_place<E: Sink + Drop>(
     place: u32,
     text: &[u8],
 ) -> Result<Tally, Halt>
-    ensures ended { (s : State) → EndedOnErr E.Sink err.old err.new (place_fails place text.now) s s result }
-    ensures one { IfOk result (λ tally. tally ≡ record { failed = 1; changes = 0 }) }
-    ensures kinds { IfErr result IsOfLines }
-    ensures err { Hand E.Sink (result ≡ Err Halt.ErrFault) err.old err.new }
+    ensures { Fails E.Sink (place_line place text.now) err.old err.new result }
 {
     match place_line(alloc, place, text) {
         Ok(line) => put_failing(err, &line),
@@ -66,11 +63,7 @@ pub fn put_bad_header<E: Sink + Drop>(
     place: u32,
     fault: HeaderFault,
 ) -> Result<Tally, Halt>
-    ensures ended { (s : State)
-        → EndedOnErr E.Sink err.old err.new (place_fails place (header_text fault)) s s result }
-    ensures one { IfOk result (λ tally. tally ≡ record { failed = 1; changes = 0 }) }
-    ensures kinds { IfErr result IsOfLines }
-    ensures err { Hand E.Sink (result ≡ Err Halt.ErrFault) err.old err.new }
+    ensures { Fails E.Sink (place_line place (header_text fault)) err.old err.new result }
 {
     let mut text = Vec::new(alloc);
     match push_header_text(&mut text, fault) {

@@ -2,7 +2,7 @@
 
 ghost use Rattle.std.specs.Prelude.{◌≡◌, ◌+◌, ◌≤◌, true, IsTrue, Some, Err, IfOk, IfErr, OnOk};
 ghost use Rattle.std.specs.FinMap as finite;
-ghost use Rattle.rpm_change.specs.Prelude.{apply, Bad, DiskFault, dropped, dropped_line, EndedOnOut, Erase, first_limit, Hand, is_indexed, IsCurrent, IsOfRebuilding, IsReady, next_stores, Package, ReachedAnew, rebuild, Runs, SameLog, State, state_on, StopsAt, Went, with_spare};
+ghost use Rattle.rpm_change.specs.Prelude.{apply, Bad, DiskFault, dropped, dropped_line, EndedOnOut, Erase, first_limit, Hand, is_indexed, IsCurrent, IsOfRebuilding, IsReady, next_stores, Package, ReachedAnew, rebuild, Runs, SameLog, State, state_in, StopsAt, Went, with_spare};
 ghost use Rattle.rpm_db.specs.Database as database;
 
 use crate::tally::{Halt, Tally, halt_of};
@@ -85,7 +85,7 @@ fn drop_one<D: Disk, O: Sink + Drop>(
     requires held { database.holds number db.old ≡ true }
     requires ready { IsReady D.Disk disk.old db.old }
     ensures went { (p : Package) → Went D.Disk
-        (IsTrue D.tells × (finite.get (state_on D.Disk disk.old db.old).packages number ≡ Some p))
+        (IsTrue D.tells × (finite.get (state_in D.Disk disk.old db.old).packages number ≡ Some p))
         disk.old disk.new db.old db.new result (EndedOnOut O.Sink out.old out.new) (dropped number p) }
     ensures one { IfOk result (λ tally. tally.failed + tally.changes ≤ 1) }
     ensures kinds { IfErr result IsOfRebuilding }
@@ -116,7 +116,7 @@ fn drop_each<D: Disk, O: Sink + Drop>(
 ) -> Result<Tally, Halt>
     requires ready { IsReady D.Disk disk.old db.old }
     ensures went { Went D.Disk (IsTrue D.tells) disk.old disk.new db.old db.new result
-        (EndedOnOut O.Sink out.old out.new) (rebuild (state_on D.Disk disk.old db.old)) }
+        (EndedOnOut O.Sink out.old out.new) (rebuild (state_in D.Disk disk.old db.old)) }
     ensures kinds { IfErr result IsOfRebuilding }
     ensures out { Hand O.Sink (result ≡ Err Halt.OutFault) out.old out.new }
 {
@@ -161,16 +161,16 @@ pub fn rebuild<D: Disk, O: Sink + Drop>(
     out: &mut Buffered<O>,
 ) -> Result<Tally, Halt>
     requires ready { IsReady D.Disk disk.old db.old }
-    ensures ended { IsTrue D.tells → EndedOnOut O.Sink out.old out.new (rebuild (state_on D.Disk disk.old db.old))
-        (state_on D.Disk disk.old db.old) (state_on D.Disk disk.new db.new) result }
-    ensures limits { IsTrue D.tells → StopsAt true (first_limit true (state_on D.Disk disk.old db.old) db.old.store
-        (rebuild (state_on D.Disk disk.old db.old)).changes) result }
+    ensures ended { IsTrue D.tells → EndedOnOut O.Sink out.old out.new (rebuild (state_in D.Disk disk.old db.old))
+        (state_in D.Disk disk.old db.old) (state_in D.Disk disk.new db.new) result }
+    ensures limits { IsTrue D.tells → StopsAt true (first_limit true (state_in D.Disk disk.old db.old) db.old.store
+        (rebuild (state_in D.Disk disk.old db.old)).changes) result }
     ensures current { IfOk result (λ _tally. IsCurrent D.Disk disk.new db.new) }
     ensures indexed { is_indexed db.new ≡ true }
-    ensures stores { OnOk result (IsTrue D.tells → next_stores (rebuild (state_on D.Disk disk.old db.old)).changes
+    ensures stores { OnOk result (IsTrue D.tells → next_stores (rebuild (state_in D.Disk disk.old db.old)).changes
         db.old.store ≡ Some (with_spare db.old.store.spare db.new.store)) }
-    ensures reach { OnOk result (IsTrue D.tells → ReachedAnew (state_on D.Disk disk.old db.old) db.old.store
-        (rebuild (state_on D.Disk disk.old db.old)).changes (D.files disk.old) (D.files disk.new)) }
+    ensures reach { OnOk result (IsTrue D.tells → ReachedAnew (state_in D.Disk disk.old db.old) db.old.store
+        (rebuild (state_in D.Disk disk.old db.old)).changes (D.files disk.old) (D.files disk.new)) }
     ensures kinds { IfErr result IsOfRebuilding }
     ensures runs { Runs D.Disk SameLog disk.old disk.new }
     ensures disk { DiskFault D.Disk (result ≡ Err Halt.DiskFault) disk.old disk.new }

@@ -1,7 +1,7 @@
 //! A package file in place of a package.
 
 ghost use Rattle.std.specs.Prelude.{◌≡◌, ◌+◌, Some, false, IsTrue, Err, IfOk, IfErr};
-ghost use Rattle.rpm_change.specs.Prelude.{EndedOnErr, Hand, HasCauseAt, holds, IsOfPutting, IsReady, replace, state_on, Went};
+ghost use Rattle.rpm_change.specs.Prelude.{EndedOnErr, Hand, KeepsShelf, holds, IsOfPutting, IsReady, replace, state_in, Went};
 
 use crate::add::{Placing, put_file};
 use crate::lines::put_missing;
@@ -43,12 +43,11 @@ pub fn replace_package<D: Disk, S: Shelf, E: Sink + Drop>(
     requires ready { IsReady D.Disk disk.old db.old }
     ensures went { Went D.Disk (IsTrue D.tells × IsTrue S.tells) disk.old disk.new db.old db.new result
         (EndedOnErr E.Sink err.old err.new)
-        (replace (S.paths shelf.old) now (state_on D.Disk disk.old db.old) number path.now) }
+        (replace (S.paths shelf.old) now (state_in D.Disk disk.old db.old) number path.now) }
     ensures one { IfOk result (λ tally. tally.failed + tally.changes ≡ 1) }
     ensures kinds { IfErr result (IsOfPutting (Some number)) }
     ensures untried { holds number db.old ≡ false → shelf.new ≡ shelf.old }
-    ensures paths { IsTrue S.tells → S.paths shelf.new ≡ S.paths shelf.old }
-    ensures shelf { HasCauseAt (result ≡ Err Halt.ShelfFault) (S.faults shelf.old) (S.faults shelf.new) }
+    ensures shelf { KeepsShelf S.Shelf (result ≡ Err Halt.ShelfFault) shelf.old shelf.new }
     ensures err { Hand E.Sink (result ≡ Err Halt.ErrFault) err.old err.new }
 {
     if db.holds(number) {

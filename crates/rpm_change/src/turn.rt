@@ -1,7 +1,7 @@
 //! One step through a list of headers.
 
-ghost use Rattle.std.specs.Prelude.{◌≡◌, ℕ, ◌+◌, ◌<◌, ◌≤◌, Bool, List, true, IsTrue, Option, Result, Err, IfOk, IfErr, OnOk};
-ghost use Rattle.rpm_change.specs.Prelude.{Browses, EndedOnErr, Files, Found, Hand, HasCauseAt, header, imported, IsGathering, IsListFault, IsOfEnding, IsOfHeaders, IsOfImporting, Leaves, left, LimitsTurn, list_head, ListFault, State, StopIs, Store, tally_of, turn, turn_found, WentOwing};
+ghost use Rattle.std.specs.Prelude.{◌≡◌, ◌+◌, ◌<◌, ◌≤◌, true, IsTrue, Err, IfOk, IfErr};
+ghost use Rattle.rpm_change.specs.Prelude.{EndedOnErr, Hand, header, imported, IsGathering, IsOfHeaders, IsOfImporting, KeepsShelf, Leaves, left, list_head, StopIs, tally_of, turn, turn_found, WentOwing};
 
 use crate::places::{list_text, put_bad_header, put_place};
 use crate::tally::{Halt, Tally, halt_of};
@@ -15,15 +15,6 @@ use std::alloc::Global;
 pub struct Turn {
     pub tally: Tally,
     pub is_last: bool,
-}
-
-/// What a step came to, told with whether the list ends there.
-fn as_turn(done: Result<Tally, Halt>, is_last: bool) -> Result<Turn, Halt>
-    ensures value { tally_of result ≡ done }
-    ensures last { IfOk result (λ turn. turn.is_last ≡ is_last) }
-{
-    let tally = done?;
-    Ok(Turn { tally, is_last })
 }
 
 /// Why the command stops where a header can't be taken from the list; `None` for a fault of the list itself.
@@ -92,31 +83,6 @@ fn import_within<D: Disk, E: Sink + Drop>(
     }
 }
 
-/// What a fault of the list comes to: the command stops, or the list ends with a line on err.
-fn end_list<E: Sink + Drop>(
-    alloc: Global,
-    place: u32,
-    fault: ListFault,
-    err: &mut Buffered<E>,
-) -> Result<Tally, Halt>
-    ensures ended { (most : ℕ) (head : Result (Option Found) ListFault) → IsListFault head fault
-        → (s : State) → EndedOnErr E.Sink err.old err.new (turn most place head) s s result }
-    ensures limits { (most : ℕ) (head : Result (Option Found) ListFault) → IsListFault head fault
-        → (s : State) (store : Store) (files : Files) (indexed : Bool)
-        → LimitsTurn indexed s store store files files (turn most place head).changes result }
-    ensures leaves { OnOk result ((most : ℕ) (head : Result (Option Found) ListFault) → IsListFault head fault
-        → (bytes : List ℕ) → Leaves most place head true bytes) }
-    ensures one { IfOk result (λ tally. tally.failed + tally.changes ≤ 1) }
-    ensures kinds { IfErr result IsOfEnding }
-    ensures shelf { result ≡ Err Halt.ShelfFault → fault ≡ ListFault.ReadFault }
-    ensures err { Hand E.Sink (result ≡ Err Halt.ErrFault) err.old err.new }
-{
-    match stop_of(fault) {
-        Some(halt) => Err(halt),
-        None => put_place(alloc, err, place, list_text(fault)),
-    }
-}
-
 /// Takes what stands at a place of the list, and imports it, or writes to err what is wrong with it. The header is read
 /// into `room`.
 pub fn import_next<D: Disk, S: Shelf, E: Sink + Drop>(
@@ -139,14 +105,15 @@ pub fn import_next<D: Disk, S: Shelf, E: Sink + Drop>(
     ensures last { IfOk result (λ done. most < place → done.is_last ≡ true) }
     ensures one { IfOk result (λ done. done.tally.failed + done.tally.changes ≤ 1) }
     ensures kinds { IfErr result IsOfImporting }
-    ensures browses { Browses S.tells S.paths S.rest S.absences S.faults shelf.old shelf.new }
-    ensures shelf { HasCauseAt (result ≡ Err Halt.ShelfFault) (S.faults shelf.old) (S.faults shelf.new) }
+    ensures shelf { KeepsShelf S.Shelf (result ≡ Err Halt.ShelfFault) shelf.old shelf.new }
     ensures err { Hand E.Sink (result ≡ Err Halt.ErrFault) err.old err.new }
 {
     match read_header(shelf, room) {
         Ok(Some(size)) => {
-            let done = import_within(alloc, db, disk, additions, most, place, &room[..size], err);
-            as_turn(done, most < place)
+            let blob = &room[..size];
+            let tally = import_within(alloc, db, disk, additions, most, place, blob, err)?;
+            let is_last = most < place;
+            Ok(Turn { tally, is_last })
         }
         Ok(None) => Ok(Turn {
             tally: Tally {
@@ -155,6 +122,13 @@ pub fn import_next<D: Disk, S: Shelf, E: Sink + Drop>(
             },
             is_last: true,
         }),
-        Err(fault) => as_turn(end_list(alloc, place, fault, err), true),
+        Err(fault) => match stop_of(fault) {
+            Some(halt) => Err(halt),
+            None => {
+                let tally = put_place(alloc, err, place, list_text(fault))?;
+                let is_last = true;
+                Ok(Turn { tally, is_last })
+            }
+        },
     }
 }

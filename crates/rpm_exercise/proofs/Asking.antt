@@ -1,6 +1,6 @@
 -- Questions, and calls that only read.
 use Rattle.std.proofs.Common.{◌≡◌, ℕ, ◌≤◌, Ok, Err, refl, sym, subst, arith}
-use Rattle.std.specs.Prelude.{IsTrue, Result, IfErr, false}
+use Rattle.std.specs.Prelude.{IsTrue, Result, false}
 use Rattle.rpm_outside.specs.Causes.{HasCauseAt, Rose}
 use Rattle.rpm_outside.specs.declared.disk.Disk as disk
 use Rattle.rpm_outside.specs.declared.disk.File.TheVariants.{Pkg, Idx}

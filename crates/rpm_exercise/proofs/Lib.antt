@@ -5,6 +5,7 @@ pub mod Made
 pub mod Named
 pub mod Parts
 pub mod Reading
+pub mod Through
 pub mod Told
 pub mod Turned
 pub mod Walked

@@ -1,8 +1,6 @@
 -- What the exercise leaves once its changes are made.
 use Rattle.std.proofs.Common.{◌≡◌, ℕ, Bool, List, [], ◌++◌, Err, take, refl, sym, ap, ◌∙◌, subst}
-use Rattle.rpm_outside.specs.declared.disk.Disk as disk
 use Rattle.std.proofs.lemmas.List.{append-nil}
-use Rattle.std.specs.FinMap as finite
 use Rattle.rpm_outside.specs.Files.{Units, Files}
 use Rattle.rpm_outside.specs.Sinks.{Gained, GainedPart}
 use Rattle.rpm_outside.specs.inner.Taken.{gained_none}
@@ -15,10 +13,10 @@ use Rattle.rpm_change.specs.declared.tally.Tally.{Tally}
 use Rattle.rpm_change.specs.declared.tally.Halt.{Halt}
 use Rattle.rpm_change.specs.declared.tally.Halt.TheVariants as halt
 use Rattle.rpm_change.specs.Steps.{Course, ToOut, whole, apply_all}
-use Rattle.rpm_change.specs.Endings.{outputs, ThroughSome, Done, Ended}
+use Rattle.rpm_change.specs.Endings.{Outputs, outputs, ThroughSome, Done, Ended}
 use Rattle.rpm_exercise.specs.Endings.{IsCutOff, IsOfTelling}
 use Rattle.rpm_exercise.specs.Exercised.{summary, exercise}
-use Rattle.rpm_exercise.specs.Rounds.{changes, Made}
+use Rattle.rpm_exercise.specs.Rounds.{changes, making}
 use Rattle.rpm_exercise.proofs.Halts.{telling_cases}
 
 -- ---- files that stay
@@ -42,7 +40,8 @@ module _ (ot et : Bool) (o o' e : List ℕ) (course : Course) where
   none_done none = record { done = []; rest = course.steps; all_is = refl; through = record { out = none; err = gained_none et e } }
 
 -- the changes were made, and the summary was told or not
-module _ (ot et : Bool) (o o' e : List ℕ) (n : ℕ) (s t u : State) (tally : Tally) (made : Made (changes n s) s t tally) (stays : u ≡ t) where
+module _ (ot et : Bool) (o o' e : List ℕ) (n : ℕ) (s t u : State) (tally : Tally) {x y : Outputs}
+    (made : Done (making (changes n s)) s t tally x y) (stays : u ≡ t) where
   text_is : summary t.packages ≡ summary (apply_all (changes n s) s).packages
   text_is = ap (λ (v : State). summary v.packages) made.state_is
 
@@ -67,8 +66,8 @@ module _ (ot et : Bool) (o o' e : List ℕ) (n : ℕ) (s t u : State) (tally : T
       out = λ told. gained told ∙ ap (λ (b : List ℕ). o ++ b) (text_is ∙ sym (append-nil (summary (apply_all (changes n s) s).packages)));
       err = gained_none et e;
     };
-    failed = sym made.failed;
-    changes = made.count;
+    failed = made.failed;
+    changes = made.changes;
     state_is = stays ∙ made.state_is;
   }
 

@@ -1,18 +1,18 @@
 -- What a part of the exercise leaves of the database.
-use Rattle.std.specs.Prelude.{◌≡◌, List, true, IsTrue, IfOk, IfErr, Result, Err}
+use Rattle.std.specs.Prelude.{◌≡◌, List, true, IsTrue, IfErr, Result, Err}
 use Rattle.rpm_outside.specs.declared.disk.Disk as disk
 use Rattle.rpm_outside.specs.Frame.{DiskFault}
 use Rattle.rpm_db.specs.Changes.{Change}
 use Rattle.rpm_db.specs.Database.{Database, is_indexed}
-use Rattle.rpm_db.specs.Frame.{Runs, state_in}
+use Rattle.rpm_db.specs.Frame.{Runs}
 use Rattle.rpm_db.specs.inner.Writes.{SameFiles}
 use Rattle.rpm_select.specs.Frame.{HasRows}
 use Rattle.rpm_change.specs.declared.tally.Tally.{Tally}
 use Rattle.rpm_change.specs.declared.tally.Halt.{Halt}
 use Rattle.rpm_change.specs.declared.tally.Halt.TheVariants as halt
-use Rattle.rpm_change.specs.Went.{LimitsOn, LeftOn}
+use Rattle.rpm_change.specs.Went.{EndedQuietly, Went}
 use Rattle.rpm_exercise.specs.Endings.{IsOfReading, IsOfAsking, IsOfExercise}
-use Rattle.rpm_exercise.specs.Rounds.{Made, IsOfChanges, IsSpent}
+use Rattle.rpm_exercise.specs.Rounds.{IsOfChanges, IsSpent, making}
 
 module _ {D : Type 0} (d : disk.Ghosts D) where
   -- packages were read, and nothing else happened
@@ -31,9 +31,7 @@ module _ {D : Type 0} (d : disk.Ghosts D) where
   -- these changes were made, or the first that is refused stopped them; and what is left
   pub record WentThrough (changes : List Change) (old new : D) (before after : Database)
       (r : Result Tally Halt) : Type 0 where
-    pub made : IsTrue d.tells → IfOk r (Made changes (state_in d old before) (state_in d new after))
-    pub limits : IsTrue d.tells → LimitsOn d old new before after changes r
-    pub left : LeftOn d old new before after r
+    pub course : Went d (IsTrue d.tells) old new before after r EndedQuietly (making changes)
     -- numbers or generations are said to be spent only where they are
     pub spent : IfErr r (IsSpent after)
     pub kinds : IfErr r IsOfChanges

@@ -1,16 +1,14 @@
 -- The changes that the exercise makes, round by round.
-use Rattle.std.specs.Prelude.{◌≡◌, ℕ, ◌+◌, ◌-◌, ◌%◌, ◌==◌, List, [], ◌∷◌, ◌++◌, length, false, if◌then◌else◌}
+use Rattle.std.specs.Prelude.{◌≡◌, ℕ, ◌+◌, ◌-◌, ◌%◌, ◌==◌, List, [], ◌∷◌, ◌++◌, false, if◌then◌else◌}
 use Rattle.std.specs.List.{flat_map, range_with_len}
-use Rattle.std.specs.FinMap as finite
 use Rattle.rpm_header.specs.Laid.{laid}
 use Rattle.rpm_db.specs.Changes.{Change, Add, Put, Erase, next}
 use Rattle.rpm_db.specs.Database.{Database, next_number}
 use Rattle.rpm_db.specs.State.{State}
-use Rattle.rpm_change.specs.declared.tally.Tally.{Tally}
 use Rattle.rpm_change.specs.declared.tally.Halt.{Halt}
 use Rattle.rpm_change.specs.declared.tally.Halt.TheVariants as halt
 use Rattle.rpm_change.specs.Exercise.{generated}
-use Rattle.rpm_change.specs.Steps.{apply_all}
+use Rattle.rpm_change.specs.Steps.{Course}
 use Rattle.rpm_exercise.specs.declared.rounds.Round.{Round}
 use Rattle.rpm_exercise.specs.declared.rounds.Round.TheVariants as round
 
@@ -38,11 +36,9 @@ changes n s = changes_after (next s - 1) n
 
 -- ---- what making changes leaves
 
--- these changes and no others were made, and none failed
-pub record Made (changes : List Change) (s t : State) (tally : Tally) : Type 0 where
-  pub failed : tally.failed ≡ 0
-  pub count : length changes ≡ tally.changes
-  pub state_is : t ≡ apply_all changes s
+-- these changes and no others, without a line and without a fault
+abbrev pub making : List Change → Course
+making changes = record { steps = []; failed = 0; changes = changes }
 
 -- a change reads no shelf and writes no line
 abbrev pub IsOfChanges : Halt → Type 0

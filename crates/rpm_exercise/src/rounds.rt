@@ -70,10 +70,7 @@ fn replace_one<D: Disk>(
     ensures went { WentThrough D.Disk (Put (b + i) (made i 2) ∷ []) disk.old disk.new db.old db.new result }
     ensures few { IfOk result (λ tally. tally.changes ≤ 1) }
 {
-    let number = match number_of(b, i) {
-        Ok(number) => number,
-        Err(halt) => return Err(halt),
-    };
+    let number = number_of(b, i)?;
     let Ok(blob) = generated(alloc, i, 2) else {
         return Err(Halt::NoMemory);
     };
@@ -95,10 +92,7 @@ fn erase_one<D: Disk>(
     ensures went { WentThrough D.Disk (Erase (b + i) ∷ []) disk.old disk.new db.old db.new result }
     ensures few { IfOk result (λ tally. tally.changes ≤ 1) }
 {
-    let number = match number_of(b, i) {
-        Ok(number) => number,
-        Err(halt) => return Err(halt),
-    };
+    let number = number_of(b, i)?;
     match db.erase(alloc, disk, number) {
         Ok(()) => Ok(CHANGED),
         Err(fault) => Err(halt_of(fault)),
@@ -154,10 +148,8 @@ fn go_round<D: Disk>(
 {
     let mut changes = 0u32;
     for done in 0..n {
-        match take_turn(alloc, db, disk, round, b, done + 1) {
-            Ok(tally) => changes += tally.changes,
-            Err(halt) => return Err(halt),
-        }
+        let tally = take_turn(alloc, db, disk, round, b, done + 1)?;
+        changes += tally.changes;
     }
     Ok(Tally { failed: 0, changes })
 }
@@ -194,19 +186,11 @@ pub fn change_all<D: Disk>(alloc: Global, db: &mut Db, disk: &mut D, n: u32) -> 
         result }
 {
     let b = db.next_number().saturating_sub(1);
-    let added = match go_round(alloc, db, disk, Round::Adding, b, n) {
-        Ok(tally) => tally,
-        Err(halt) => return Err(halt),
-    };
-    let replaced = match go_round(alloc, db, disk, Round::Replacing, b, n) {
-        Ok(tally) => tally,
-        Err(halt) => return Err(halt),
-    };
-    match go_round(alloc, db, disk, Round::Erasing, b, n) {
-        Ok(erased) => Ok(Tally {
-            failed: 0,
-            changes: added.changes + replaced.changes + erased.changes,
-        }),
-        Err(halt) => Err(halt),
-    }
+    let added = go_round(alloc, db, disk, Round::Adding, b, n)?;
+    let replaced = go_round(alloc, db, disk, Round::Replacing, b, n)?;
+    let erased = go_round(alloc, db, disk, Round::Erasing, b, n)?;
+    Ok(Tally {
+        failed: 0,
+        changes: added.changes + replaced.changes + erased.changes,
+    })
 }

@@ -37,10 +37,7 @@ fn tell<D: Disk, O: Sink + Drop>(
     ensures disk { DiskFault D.Disk (result ≡ Err Halt.DiskFault) disk.old disk.new }
     ensures out { Hand O.Sink (result ≡ Err Halt.OutFault) out.old out.new }
 {
-    let text = match summary(alloc, db, disk) {
-        Ok(text) => text,
-        Err(halt) => return Err(halt),
-    };
+    let text = summary(alloc, db, disk)?;
     out.clear();
     match put_and_flush(out, &text) {
         Ok(()) => Ok(()),
@@ -67,14 +64,9 @@ fn change_and_tell<D: Disk, O: Sink + Drop>(
     ensures stop { IfErr result (IsStop db.new) }
     ensures out { Hand O.Sink (result ≡ Err Halt.OutFault) out.old out.new }
 {
-    let tally = match change_all(alloc, db, disk, n) {
-        Ok(tally) => tally,
-        Err(halt) => return Err(halt),
-    };
-    match tell(alloc, db, disk, out) {
-        Ok(()) => Ok(tally),
-        Err(halt) => Err(halt),
-    }
+    let tally = change_all(alloc, db, disk, n)?;
+    tell(alloc, db, disk, out)?;
+    Ok(tally)
 }
 
 /// Makes the index anew, whatever it was. There are no packages, so it has room.
@@ -117,10 +109,8 @@ fn exercise_all<D: Disk, O: Sink + Drop>(
     ensures disk { DiskFault D.Disk (result ≡ Err Halt.DiskFault) disk.old disk.new }
     ensures out { Hand O.Sink (result ≡ Err Halt.OutFault) out.old out.new }
 {
-    match renew(alloc, db, disk) {
-        Ok(()) => change_and_tell(alloc, db, disk, n, out),
-        Err(halt) => Err(halt),
-    }
+    renew(alloc, db, disk)?;
+    change_and_tell(alloc, db, disk, n, out)
 }
 
 /// The exercise: on a database without packages it makes the changes of `n` headers, and then writes to `out` how many

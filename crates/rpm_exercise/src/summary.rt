@@ -30,10 +30,7 @@ fn push_capability<D: Disk>(
     let Ok(name) = capability_name(alloc, c) else {
         return Err(Halt::NoMemory);
     };
-    let count = match count_provided(alloc, db, disk, &name) {
-        Ok(count) => count,
-        Err(halt) => return Err(halt),
-    };
+    let count = count_provided(alloc, db, disk, &name)?;
     match push_count(text, name.as_bytes(), count) {
         Ok(()) => Ok(()),
         Err(_) => Err(Halt::NoMemory),
@@ -53,10 +50,7 @@ fn push_capabilities<D: Disk>(
     ensures asks { Asks D.Disk disk.old disk.new db.now result }
 {
     for c in 0..7u32 {
-        match push_capability(alloc, db, disk, text, c) {
-            Ok(()) => {}
-            Err(halt) => return Err(halt),
-        }
+        push_capability(alloc, db, disk, text, c)?;
     }
     Ok(())
 }
@@ -74,10 +68,7 @@ fn push_packages<D: Disk>(
         (picked (packages_in D.Disk disk.old db.now) question.All)) }
     ensures asks { Asks D.Disk disk.old disk.new db.now result }
 {
-    let count = match count_picked(alloc, db, disk, &Selection::All) {
-        Ok(count) => count,
-        Err(halt) => return Err(halt),
-    };
+    let count = count_picked(alloc, db, disk, &Selection::All)?;
     match push_count(text, b"packages", count) {
         Ok(()) => Ok(()),
         Err(_) => Err(Halt::NoMemory),

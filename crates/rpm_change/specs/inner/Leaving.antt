@@ -8,14 +8,16 @@ use Rattle.rpm_db.specs.declared.change_fault.ChangeFault.{ChangeFault}
 use Rattle.rpm_db.specs.declared.change_fault.ChangeFault.TheVariants as fault
 use Rattle.rpm_db.specs.Changed.{IsReady, IsLeft}
 use Rattle.rpm_db.specs.Database.{Database, is_indexed}
-use Rattle.rpm_db.specs.Runs.{Runs}
+use Rattle.rpm_db.specs.Frame.{IsIndexed, Runs}
 use Rattle.rpm_db.specs.inner.Running.{runs_none, runs_then}
 use Rattle.rpm_db.specs.inner.Writes.{SameLog}
 use Rattle.rpm_change.specs.declared.tally.Tally.{Tally}
 use Rattle.rpm_change.specs.declared.tally.Halt.{Halt}
 use Rattle.rpm_change.specs.declared.tally.Halt.TheVariants as halt
-use Rattle.rpm_change.specs.Endings.{halt_of}
-use Rattle.rpm_change.specs.Went.{IndexedOn, CarriedOn, IsCurrent, LeftBy, LeftOn}
+use Rattle.rpm_outside.specs.Files.{Units}
+use Rattle.rpm_db.specs.Refusals.{WholeCause}
+use Rattle.rpm_change.specs.Endings.{WholeTurn, halt_of}
+use Rattle.rpm_change.specs.Went.{CarriedOn, IsCurrent, LeftBy, LeftOn}
 
 of_disk : (f : ChangeFault) → halt_of f ≡ halt.DiskFault → f ≡ fault.DiskFault
 of_disk fault.NumbersSpent is = absurd cc
@@ -29,9 +31,22 @@ of_disk (fault.BadHeader why) is = absurd cc
 of_disk fault.NoSuch is = absurd cc
 of_disk fault.Stopped is = absurd cc
 
+-- a change was refused
+pub whole_halt : (idx : Units) (f : ChangeFault) → WholeCause f → WholeTurn idx (Err (halt_of f))
+whole_halt idx (fault.BadIndex unit) cause = cause
+whole_halt idx (fault.IndexFull needed) cause = tt
+whole_halt idx fault.NumbersSpent cause = tt
+whole_halt idx fault.GenerationSpent cause = tt
+whole_halt idx fault.StoreFull cause = tt
+whole_halt idx fault.DiskFault cause = tt
+whole_halt idx fault.NoMemory cause = tt
+whole_halt idx (fault.BadHeader why) cause = tt
+whole_halt idx fault.NoSuch cause = tt
+whole_halt idx fault.Stopped cause = tt
+
 module _ {D : Type 0} (d : disk.Ghosts D) where
   abbrev Ran : D → D → Type 0
-  Ran = Runs d.tells d.files d.left_since d.moment d.bytes_read d.follows SameLog
+  Ran = Runs d SameLog
 
   -- ---- whatever is left where it was done
 
@@ -125,7 +140,7 @@ module _ {D : Type 0} (d : disk.Ghosts D) where
 
     -- and then something else that writes no file
     pub left_refused : (e : Result A ChangeFault) → IsLeft d old new before after refused e → (e ≡ Err fault.DiskFault → ⊥)
-        → before.stopped ≡ false → after.stopped ≡ false → (IsTrue d.tells → IndexedOn d old before → IndexedOn d new after)
+        → before.stopped ≡ false → after.stopped ≡ false → (IsTrue d.tells → IsIndexed d old before → IsIndexed d new after)
         → (r : Result Tally Halt) → (r ≡ Err halt.DiskFault → ⊥) → LeftOn d old new before after r
     left_refused e left kept going goes index r other = record {
       carried = carried_any old new before after
@@ -135,35 +150,17 @@ module _ {D : Type 0} (d : disk.Ghosts D) where
       disk = record { later = later; rose = λ is. absurd (other is) };
     }
 
-  pub left_halted : (old new : D) (before after : Database) → Ran old new → d.faults old ≤ d.faults new → is_indexed after ≡ true
-      → (f : ChangeFault) → (f ≡ fault.DiskFault → Rose (d.faults old) (d.faults new)) → LeftOn d old new before after (Err (halt_of f))
-  left_halted old new before after = halted_by (CarriedOn d old new before after) old new after
-
   -- ---- one call and then another
 
-  pub left_then : ((x y z : D) → d.follows x y → d.follows y z → d.follows x z) → (old mid new : D) (start before after : Database)
-      (tally : Tally) (r : Result Tally Halt) → LeftOn d old mid start before (Ok tally) → LeftOn d mid new before after r
-      → LeftOn d old new start after r
-  left_then joins old mid new start before after =
-      then_by joins (CarriedOn d old mid start before) (CarriedOn d mid new before after) (CarriedOn d old new start after)
-      (λ first second. record { going = second.going; serving = second.serving; index = λ told rows. second.index told (first.index told rows) })
-      old mid new before after
+  pub carried_then : (old mid new : D) (start before after : Database) → CarriedOn d old mid start before → CarriedOn d mid new before after
+      → CarriedOn d old new start after
+  carried_then old mid new start before after first second =
+      record { going = second.going; serving = second.serving; index = λ told rows. second.index told (first.index told rows) }
 
   -- nothing was changed after it
   pub left_after : (old new : D) (before after : Database) (tally : Tally) → LeftOn d old new before after (Ok tally)
       → (r : Result Tally Halt) → (r ≡ Err halt.DiskFault → ⊥) → LeftOn d old new before after r
   left_after old new before after = after_by (CarriedOn d old new before after) old new after
-
-  -- however many arguments failed, and changes were made
-  pub left_counted : (old new : D) (before after : Database) (one other : Tally) → LeftOn d old new before after (Ok one)
-      → LeftOn d old new before after (Ok other)
-  left_counted old new before after one other left = left_after old new before after one left (Ok other) (λ is. cc)
-
-  pub left_more : ((x y z : D) → d.follows x y → d.follows y z → d.follows x z) → (old mid new : D) (start before after : Database)
-      (one two all : Tally) → LeftOn d old mid start before (Ok one) → LeftOn d mid new before after (Ok two)
-      → LeftOn d old new start after (Ok all)
-  left_more joins old mid new start before after one two all first second =
-      left_counted old new start after two all (left_then joins old mid new start before after one (Ok two) first second)
 
   -- it can be changed further
   pub ready_left : (old new : D) (before after : Database) (tally : Tally) → LeftOn d old new before after (Ok tally) → IsReady d new after
@@ -171,7 +168,7 @@ module _ {D : Type 0} (d : disk.Ghosts D) where
       record { indexed = left.indexed; going = left.carried.going; serving = left.carried.serving }
 
   pub current_left : (old new : D) (before after : Database) (r : Result Tally Halt) → LeftOn d old new before after r
-      → (IsTrue d.tells → IndexedOn d old before) → IfOk r (λ tally. IsCurrent d new after)
+      → (IsTrue d.tells → IsIndexed d old before) → IfOk r (λ tally. IsCurrent d new after)
   current_left old new before after (Ok tally) left rows =
       record { ready = ready_left old new before after tally left; index = λ told. left.carried.index told (rows told) }
   current_left old new before after (Err h) left rows = tt

@@ -1,30 +1,25 @@
-mod Stopped
-use Rattle.std.proofs.Common.{◌+◌, true, [], get_or, drop, refl, arith, Ok}
+use Rattle.std.proofs.Common.{◌+◌, get_or, drop, refl, arith}
+use Rattle.std.proofs.lemmas.Result.{err_from_is_err_and}
 use Rattle.rpm_outside.specs.Buffered.{inner}
-use Rattle.rpm_db.specs.State.{state}
-use Rattle.rpm_change.specs.Steps.{in_turn}
+use Rattle.rpm_db.specs.Frame.{state_in}
 use Rattle.rpm_change.specs.Erasing.{erase_one, erase}
-use Rattle.rpm_change.proofs.Courses.{halfway_start, halfway_more, halfway_end}
+use Rattle.rpm_change.specs.Steps.{in_turn, apply_all}
+use Rattle.rpm_change.specs.inner.Leaving.{unchanged, carried_then, ready_left}
 use Rattle.rpm_change.proofs.Arguments.{turn_next, turn_none}
-use Rattle.rpm_change.proofs.Limits.{limited_start, limited_more, limited_end}
-use Rattle.rpm_change.proofs.erase.erase_numbers.Answers.Stopped as stopped
-use Rattle.rpm_change.specs.inner.Leaving.{left_none, left_more, ready_left}
+use Rattle.rpm_change.specs.inner.Going.{err_joins, err_none, none_went, going_start, going_more, going_stop, going_end}
 use Rattle.rpm_change.proofs.erase.erase_numbers.Goals as goal
 
 pub loop-number-init : goal.loop-number-init
-loop-number-init g c = record {
-  goes = λ told out_tells out.
-      let s = state (g.D.Disk.files c.args.disk.now).pkg c.args.db.now.store in
-      halfway_start out_tells g.E.Sink.tells (erase s c.args.numbers.now) s out (g.E.Sink.taken (inner c.args.err.now));
-  limited = λ told i rows.
-      let s = state (g.D.Disk.files c.args.disk.now).pkg c.args.db.now.store in
-      limited_start i (erase s c.args.numbers.now) s c.args.db.now.store;
-  few = refl;
-  whole = λ told whole. whole;
-  left = left_none g.D.Disk g.met.D.Disk.follows_refl c.args.disk.now c.args.db.now c.requires.ready (Ok (record { failed = 0; changes = 0 })) (λ is. cc);
-  err = omega arith;
-  err_rest = g.met.E.Sink.follows_refl (inner c.args.err.now);
-}
+loop-number-init g c =
+    let s = state_in g.D.Disk c.args.disk.now c.args.db.now in
+    record {
+      goes = going_start g.D.Disk (erase s c.args.numbers.now)
+          (none_went g.D.Disk g.met.D.Disk.follows_refl (unchanged g.D.Disk c.args.disk.now c.args.db.now c.requires.ready) c.args.disk.now c.args.db.now
+          c.requires.ready.indexed (err_none g.E.Sink c.args.err.now s));
+      few = refl;
+      err = omega arith;
+      err_rest = g.met.E.Sink.follows_refl (inner c.args.err.now);
+    }
 
 pub loop-number-preserved : goal.loop-number-preserved
 loop-number-preserved g c =
@@ -32,49 +27,38 @@ loop-number-preserved g c =
     let xs = c.args.numbers.now in
     let inv = c.loop-number.invariant in
     let done = c.in_ok-tally.ensures in
-    let s = state (g.D.Disk.files c.args.disk.now).pkg c.args.db.now.store in
-    let t = state (g.D.Disk.files c.loop-number.disk).pkg c.loop-number.db.store in
-    let u = state (g.D.Disk.files c.erase_one.new.disk).pkg c.erase_one.new.db.store in
+    let t = state_in g.D.Disk c.loop-number.disk c.loop-number.db in
+    let u = state_in g.D.Disk c.erase_one.new.disk c.erase_one.new.db in
+    let turn = erase_one t k (get_or xs k 0) in
     record {
-      goes = λ told out_tells out.
-          let turn = erase_one t k (get_or xs k 0) in
-          let ended = (done.went k).ended told out_tells out in
-          halfway_more out_tells g.E.Sink.tells (erase s xs) (in_turn erase_one t k (drop k xs)) turn (in_turn erase_one u (k + 1) (drop (k + 1) xs)) s t u
-          c.loop-number.failed c.loop-number.changes out out out (g.E.Sink.taken (inner c.args.err.now)) (g.E.Sink.taken (inner c.loop-number.err))
-          (g.E.Sink.taken (inner c.erase_one.new.err)) (turn_next erase_one xs k 0 t u (omega arith) ended.state_is) (inv.goes told out_tells out)
-          c.in_ok-tally.tally ended;
-      limited = λ told i rows.
-          let after = ((done.went k).ended told true []).state_is in
-          limited_more i _ _ _ (in_turn erase_one u (k + 1) (drop (k + 1) xs)) _ _ _ _ _ (turn_next erase_one xs k 0 t u (omega arith) after)
-          (inv.limited told i rows) u c.in_ok-tally.tally after ((done.went k).limits told i (λ is. inv.left.carried.index told (rows is)));
+      goes = going_more g.D.Disk g.met.D.Disk.follows_trans (err_joins g.E.Sink c.args.err.now c.loop-number.err c.erase_one.new.err)
+          (carried_then g.D.Disk c.args.disk.now c.loop-number.disk c.erase_one.new.disk c.args.db.now c.loop-number.db c.erase_one.new.db)
+          (λ carried told rows. carried.index told rows) turn (in_turn erase_one u (k + 1) (drop (k + 1) xs))
+          inv.goes (λ told after. turn_next erase_one xs k 0 t u (omega arith) after) (done.went k);
       few = omega (arith, inv.few, done.one);
-      whole = λ told whole. (done.went k).whole told (inv.whole told whole);
-      left = left_more g.D.Disk g.met.D.Disk.follows_trans c.args.disk.now c.loop-number.disk c.erase_one.new.disk c.args.db.now c.loop-number.db
-          c.erase_one.new.db
-          _ _ _ inv.left (done.went k).left;
       err = omega (arith, inv.err, done.err.cause.later);
       err_rest = g.met.E.Sink.follows_trans (inner c.args.err.now) (inner c.loop-number.err) (inner c.erase_one.new.err) inv.err_rest done.err.goes_on;
     }
 
 pub erase_one-requires : goal.erase_one-requires
-erase_one-requires g c = record { ready = ready_left g.D.Disk c.args.disk.now c.loop-number.disk c.args.db.now c.loop-number.db _ c.loop-number.invariant.left }
+erase_one-requires g c = record {
+  ready = ready_left g.D.Disk c.args.disk.now c.loop-number.disk c.args.db.now c.loop-number.db _ c.loop-number.invariant.goes.went.left;
+}
 
 pub returns-in_err-tally-clause-went : goal.returns-in_err-tally-clause-went
-returns-in_err-tally-clause-went = stopped.returns-in_err-tally-clause-went
+returns-in_err-tally-clause-went g c =
+    let k = c.loop-number.number-index in
+    let xs = c.args.numbers.now in
+    let t = state_in g.D.Disk c.loop-number.disk c.loop-number.db in
+    let turn = erase_one t k (get_or xs k 0) in
+    let u = apply_all turn.changes t in
+    let p = err_from_is_err_and c.from_residual.result c.from_residual.ensures.1 in
+    rw (p.1, p.2) (going_stop g.D.Disk g.met.D.Disk.follows_trans (err_joins g.E.Sink c.args.err.now c.loop-number.err c.erase_one.new.err)
+    (carried_then g.D.Disk c.args.disk.now c.loop-number.disk c.erase_one.new.disk c.args.db.now c.loop-number.db c.erase_one.new.db)
+    (λ carried told rows. carried.index told rows) turn (in_turn erase_one u (k + 1) (drop (k + 1) xs))
+    c.loop-number.invariant.goes (λ told. turn_next erase_one xs k 0 t u (omega arith) refl) (c.in_err-tally.ensures.went k))
 
 pub returns-clause-went : goal.returns-clause-went
-returns-clause-went g c = record {
-  ended = λ told out_tells out.
-      let k = c.loop-number.number-index in
-      let xs = c.args.numbers.now in
-      let s = state (g.D.Disk.files c.args.disk.now).pkg c.args.db.now.store in
-      let t = state (g.D.Disk.files c.loop-number.disk).pkg c.loop-number.db.store in
-      halfway_end out_tells g.E.Sink.tells (erase s xs) (in_turn erase_one t k (drop k xs)) s t c.loop-number.failed c.loop-number.changes out out
-      (g.E.Sink.taken (inner c.args.err.now)) (g.E.Sink.taken (inner c.loop-number.err)) (turn_none erase_one xs k t (omega arith))
-      (c.loop-number.invariant.goes told out_tells out);
-  limits = λ told i rows.
-      limited_end i _ _ _ _ _ _ (record { failed = c.loop-number.failed; changes = c.loop-number.changes })
-      (turn_none erase_one c.args.numbers.now c.loop-number.number-index _ (omega arith)) (c.loop-number.invariant.limited told i rows);
-  whole = λ told whole. c.loop-number.invariant.whole told whole;
-  left = c.loop-number.invariant.left;
-}
+returns-clause-went g c =
+    going_end g.D.Disk (λ told. turn_none erase_one c.args.numbers.now c.loop-number.number-index
+    (state_in g.D.Disk c.loop-number.disk c.loop-number.db) (omega arith)) c.loop-number.invariant.goes

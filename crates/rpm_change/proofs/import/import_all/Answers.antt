@@ -1,38 +1,31 @@
-mod Stopped
-use Rattle.std.proofs.Common.{◌≡◌, ◌+◌, true, false, [], refl, arith, Ok}
+use Rattle.std.proofs.Common.{◌≡◌, ◌+◌, true, false, refl, arith, ◌∙◌}
+use Rattle.std.proofs.lemmas.Result.{err_from_is_err_and}
 use Rattle.rpm_outside.specs.Browses.{left}
 use Rattle.rpm_outside.specs.Buffered.{inner}
-use Rattle.rpm_outside.specs.inner.Browsing.{browses_none, browses_then}
 use Rattle.rpm_file.specs.List.{list_head}
-use Rattle.rpm_db.specs.Gathering.{OwesOn}
-use Rattle.rpm_db.specs.State.{state}
+use Rattle.rpm_db.specs.Frame.{state_in}
 use Rattle.rpm_change.specs.Importing.{import_listed, listed}
 use Rattle.rpm_change.specs.Turns.{turn, from_place}
-use Rattle.rpm_change.proofs.Courses.{halfway_start, halfway_more, halfway_end}
-use Rattle.rpm_change.proofs.Limits.{limited_start, limited_more, limited_end}
-use Rattle.rpm_change.proofs.Listed.{turn_splits, within_next}
-use Rattle.rpm_change.proofs.import.import_all.Answers.Stopped as stopped
-use Rattle.rpm_change.proofs.Owing.{owing_none, owing_more}
+use Rattle.rpm_change.specs.inner.Going.{hand_then, err_joins, err_none, none_went, going_start, going_more, going_stop, going_end}
+use Rattle.rpm_change.proofs.Listed.{turn_splits, turn_ahead, within_next}
+use Rattle.rpm_change.proofs.Owing.{owing_none, owing_then}
 use Rattle.rpm_change.proofs.import.import_all.Goals as goal
 
 pub loop-is_last-init : goal.loop-is_last-init
-loop-is_last-init g c = record {
-  goes = λ both out_tells out.
-      let s = state (g.D.Disk.files c.args.disk.now).pkg c.args.db.now.store in
-      halfway_start out_tells g.E.Sink.tells (import_listed c.args.most (listed (left (g.S.Shelf.rest c.args.shelf.now)))) s out (g.E.Sink.taken
-      (inner c.args.err.now));
-  limited = λ both i rows.
-      limited_start i (import_listed c.args.most (listed (left (g.S.Shelf.rest c.args.shelf.now))))
-      (state (g.D.Disk.files c.args.disk.now).pkg c.args.db.now.store) c.args.db.now.store;
-  few = omega arith;
-  within = λ going. omega arith;
-  below = omega arith;
-  whole = λ told whole. whole;
-  left = owing_none g.D.Disk g.met.D.Disk.follows_refl c.args.disk.now c.args.db.now c.args.additions.now c.requires.gathering (Ok (record { failed = 0; changes = 0 })) (λ is. cc);
-  browses = browses_none g.S.Shelf.tells g.S.Shelf.paths g.S.Shelf.rest g.S.Shelf.absences g.S.Shelf.faults c.args.shelf.now;
-  err = omega arith;
-  err_rest = g.met.E.Sink.follows_refl (inner c.args.err.now);
-}
+loop-is_last-init g c =
+    let owing = owing_none g.D.Disk c.args.disk.now c.args.db.now c.args.additions.now c.requires.gathering in
+    record {
+      goes = going_start g.D.Disk (import_listed c.args.most (listed (left (g.S.Shelf.rest c.args.shelf.now))))
+          (none_went g.D.Disk g.met.D.Disk.follows_refl owing c.args.disk.now c.args.db.now c.requires.gathering.indexed
+          (err_none g.E.Sink c.args.err.now (state_in g.D.Disk c.args.disk.now c.args.db.now)));
+      few = omega arith;
+      within = λ going. omega arith;
+      below = omega arith;
+      paths = λ told. refl;
+      shelf = omega arith;
+      err = omega arith;
+      err_rest = g.met.E.Sink.follows_refl (inner c.args.err.now);
+    }
 
 pub loop-is_last-preserved : goal.loop-is_last-preserved
 loop-is_last-preserved g c =
@@ -41,68 +34,49 @@ loop-is_last-preserved g c =
     let inv = c.loop-is_last.invariant in
     let done = c.in_ok-turn.ensures in
     let going : c.loop-is_last.is_last ≡ false = cc in
-    let s = state (g.D.Disk.files c.args.disk.now).pkg c.args.db.now.store in
-    let t = state (g.D.Disk.files c.loop-is_last.disk).pkg c.loop-is_last.db.store in
-    let u = state (g.D.Disk.files c.import_next.new.disk).pkg c.import_next.new.db.store in
     let bytes = left (g.S.Shelf.rest c.loop-is_last.shelf) in
     let behind = left (g.S.Shelf.rest c.import_next.new.shelf) in
-    let all = import_listed most (listed (left (g.S.Shelf.rest c.args.shelf.now))) in
-    let said = c.in_ok-turn.turn in
+    let is_last = c.in_ok-turn.turn.is_last in
     record {
-      goes = λ both out_tells out.
-          let ended = done.went.ended both out_tells out in
-          halfway_more out_tells g.E.Sink.tells all (from_place false most k (listed bytes)) (turn most k (list_head bytes))
-          (from_place said.is_last most (k + 1) (listed behind)) s t u c.loop-is_last.failed c.loop-is_last.changes out out out
-          (g.E.Sink.taken (inner c.args.err.now)) (g.E.Sink.taken (inner c.loop-is_last.err)) (g.E.Sink.taken (inner c.import_next.new.err))
-          (turn_splits most k bytes said.is_last behind (done.leaves both.1)) (rw going at (inv.goes both out_tells out))
-          said.tally ended;
-      limited = λ both i rows.
-          limited_more i all (from_place false most k (listed bytes)) (turn most k (list_head bytes)) (from_place said.is_last most (k + 1) (listed behind)) s t
-          c.args.db.now.store c.loop-is_last.db.store c.import_next.new.db.store (turn_splits most k bytes said.is_last behind (done.leaves both.1))
-          (rw going at (inv.limited both i rows)) u said.tally (done.went.ended both true []).state_is
-          (done.went.limits both i (λ is. inv.left.carried.owes both.0 (rows is)));
+      goes = going_more g.D.Disk g.met.D.Disk.follows_trans (err_joins g.E.Sink c.args.err.now c.loop-is_last.err c.import_next.new.err)
+          (owing_then g.D.Disk c.loop-is_last.disk c.import_next.new.disk c.loop-is_last.db c.import_next.new.db c.loop-is_last.additions
+          c.import_next.new.additions) (λ owing both rows. owing.owes both.0 rows) (turn most k (list_head bytes))
+          (from_place is_last most (k + 1) (listed behind)) (rw going at inv.goes)
+          (λ both after. turn_splits most k bytes is_last behind (done.leaves both.1)) done.went;
       few = omega (arith, inv.few, done.one);
-      within = λ more. within_next most k said.is_last more done.last;
+      within = λ more. within_next most k is_last more done.last;
       below = omega (arith, inv.within going);
-      whole = λ told whole. done.went.whole told (inv.whole told whole);
-      left = owing_more g.D.Disk g.met.D.Disk.follows_trans (OwesOn g.D.Disk c.args.disk.now c.args.db.now c.args.additions.now) c.args.disk.now
-          c.loop-is_last.disk c.import_next.new.disk c.loop-is_last.db c.import_next.new.db c.loop-is_last.additions c.import_next.new.additions
-          _ _ _ inv.left done.went.left;
-      browses = browses_then g.S.Shelf.tells g.S.Shelf.paths g.S.Shelf.rest g.S.Shelf.absences g.S.Shelf.faults c.args.shelf.now c.loop-is_last.shelf
-          c.import_next.new.shelf inv.browses done.browses;
+      paths = λ told. done.shelf.paths told ∙ inv.paths told;
+      shelf = omega (arith, inv.shelf, done.shelf.cause.later);
       err = omega (arith, inv.err, done.err.cause.later);
       err_rest = g.met.E.Sink.follows_trans (inner c.args.err.now) (inner c.loop-is_last.err) (inner c.import_next.new.err) inv.err_rest done.err.goes_on;
     }
 
 pub import_next-requires : goal.import_next-requires
-import_next-requires g c = record { gathering = c.loop-is_last.invariant.left.carried.gathering }
-
-pub returns-in_err-turn-clause-browses : goal.returns-in_err-turn-clause-browses
-returns-in_err-turn-clause-browses = stopped.returns-in_err-turn-clause-browses
+import_next-requires g c = record { gathering = c.loop-is_last.invariant.goes.went.left.carried.gathering }
 
 pub returns-in_err-turn-clause-went : goal.returns-in_err-turn-clause-went
-returns-in_err-turn-clause-went = stopped.returns-in_err-turn-clause-went
+returns-in_err-turn-clause-went g c =
+    let most = c.args.most in
+    let k = c.loop-is_last.place in
+    let going : c.loop-is_last.is_last ≡ false = cc in
+    let bytes = left (g.S.Shelf.rest c.loop-is_last.shelf) in
+    let split = turn_ahead most k (list_head bytes) in
+    let p = err_from_is_err_and c.from_residual.result c.from_residual.ensures.1 in
+    rw (p.1, p.2) (going_stop g.D.Disk g.met.D.Disk.follows_trans (err_joins g.E.Sink c.args.err.now c.loop-is_last.err c.import_next.new.err)
+    (owing_then g.D.Disk c.loop-is_last.disk c.import_next.new.disk c.loop-is_last.db c.import_next.new.db c.loop-is_last.additions
+    c.import_next.new.additions) (λ owing both rows. owing.owes both.0 rows) (turn most k (list_head bytes))
+    (from_place split.0 most (k + 1) (listed split.1.0)) (rw going at c.loop-is_last.invariant.goes)
+    (λ both. turn_splits most k bytes split.0 split.1.0 split.1.1) c.in_err-turn.ensures.went)
+
+pub returns-in_err-turn-clause-err : goal.returns-in_err-turn-clause-err
+returns-in_err-turn-clause-err g c =
+    let inv = c.loop-is_last.invariant in
+    let p = err_from_is_err_and c.from_residual.result c.from_residual.ensures.1 in
+    rw (p.1, p.2) (hand_then g.E.Sink g.met.E.Sink.follows_trans c.args.err.now c.loop-is_last.err c.import_next.new.err inv.err inv.err_rest
+    (λ is. cc) c.in_err-turn.ensures.err)
 
 pub returns-clause-went : goal.returns-clause-went
-returns-clause-went g c = record {
-  ended = λ both out_tells out.
-      let most = c.args.most in
-      let k = c.loop-is_last.place in
-      let past : c.loop-is_last.is_last ≡ true = cc in
-      let s = state (g.D.Disk.files c.args.disk.now).pkg c.args.db.now.store in
-      let t = state (g.D.Disk.files c.loop-is_last.disk).pkg c.loop-is_last.db.store in
-      let bytes = left (g.S.Shelf.rest c.loop-is_last.shelf) in
-      halfway_end out_tells g.E.Sink.tells (import_listed most (listed (left (g.S.Shelf.rest c.args.shelf.now)))) (from_place true most k (listed bytes)) s t
-      c.loop-is_last.failed c.loop-is_last.changes out out (g.E.Sink.taken (inner c.args.err.now)) (g.E.Sink.taken (inner c.loop-is_last.err)) refl
-      (rw past at (c.loop-is_last.invariant.goes both out_tells out));
-  limits = λ both i rows.
-      let past : c.loop-is_last.is_last ≡ true = cc in
-      let s = state (g.D.Disk.files c.args.disk.now).pkg c.args.db.now.store in
-      let t = state (g.D.Disk.files c.loop-is_last.disk).pkg c.loop-is_last.db.store in
-      let bytes = left (g.S.Shelf.rest c.loop-is_last.shelf) in
-      limited_end i (import_listed c.args.most (listed (left (g.S.Shelf.rest c.args.shelf.now))))
-      (from_place true c.args.most c.loop-is_last.place (listed bytes)) s t c.args.db.now.store c.loop-is_last.db.store
-      (record { failed = c.loop-is_last.failed; changes = c.loop-is_last.changes }) refl (rw past at (c.loop-is_last.invariant.limited both i rows));
-  whole = λ told whole. c.loop-is_last.invariant.whole told whole;
-  left = c.loop-is_last.invariant.left;
-}
+returns-clause-went g c =
+    let past : c.loop-is_last.is_last ≡ true = cc in
+    going_end g.D.Disk (λ both. refl) (rw past at c.loop-is_last.invariant.goes)

@@ -10,8 +10,7 @@ use Rattle.rpm_change.specs.Limits.{StopsAt}
 use Rattle.rpm_change.specs.inner.LimitLaws.{makes_small}
 use Rattle.rpm_change.specs.Endings.{outputs, Ended}
 use Rattle.rpm_change.specs.Rebuilding.{rebuild}
-use Rattle.rpm_change.proofs.Courses.{through_none}
-use Rattle.rpm_change.proofs.Erased.{refused_ended}
+use Rattle.rpm_change.specs.inner.Going.{out_refused}
 use Rattle.rpm_change.proofs.Dropped.{state_remade}
 use Rattle.rpm_change.proofs.Rebuilt.{rebuild_kinds, unbuilt_limits, remade_limits, remade_stores, remade_reached, runs_weaker}
 use Rattle.rpm_change.specs.inner.Leaving.{current_left}
@@ -92,12 +91,10 @@ returns-in-Ok-clause-runs g c =
     c.in-Ok.ensures.runs c.drop_each.ensures.went.left.runs
 
 pub returns-in-Err-clause-ended : goal.returns-in-Err-clause-ended
-returns-in-Err-clause-ended g c = λ told et e.
+returns-in-Err-clause-ended g c = λ told.
     let s = state (g.D.Disk.files c.args.disk.now).pkg c.args.db.now.store in
     let t = state (g.D.Disk.files c.rebuild.new.disk).pkg c.rebuild.new.self.store in
-    let now = outputs g.O.Sink.tells (g.O.Sink.taken (inner c.args.out.now)) et e in
-    rw c.halt_of.ensures
-    (refused_ended (rebuild s) s t c.in-Err.fault now now (through_none {ot = g.O.Sink.tells} {et = et} (g.O.Sink.taken (inner c.args.out.now)) e))
+    rw c.halt_of.ensures (out_refused g.O.Sink c.args.out.now (rebuild s) c.in-Err.fault s t)
 
 pub returns-in-Err-clause-limits : goal.returns-in-Err-clause-limits
 returns-in-Err-clause-limits g c = λ told.

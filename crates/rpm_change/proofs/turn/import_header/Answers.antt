@@ -1,109 +1,79 @@
-use Rattle.std.proofs.Common.{Ok, refl, sym, subst, ap, ◌∙◌}
-use Rattle.rpm_outside.specs.Buffered.{inner}
+use Rattle.std.proofs.Common.{refl, sym, subst, ap, ◌∙◌}
 use Rattle.rpm_header.specs.Header.{header}
 use Rattle.rpm_db.specs.Changes.{Add}
-use Rattle.rpm_db.specs.Gathering.{due, resumed}
+use Rattle.rpm_db.specs.Frame.{state_in}
+use Rattle.rpm_db.specs.Gathering.{resumed}
 use Rattle.rpm_db.specs.Lawful.{IsWholeIndex}
-use Rattle.rpm_db.specs.State.{state}
 use Rattle.rpm_db.specs.inner.States.{next-state}
-use Rattle.rpm_change.specs.Steps.{Course}
-use Rattle.rpm_change.specs.Endings.{outputs, Done, Ended}
-use Rattle.rpm_change.specs.Importing.{imported}
-use Rattle.rpm_change.specs.Limits.{LimitsTurn}
-use Rattle.rpm_change.proofs.Courses.{through_none}
-use Rattle.rpm_change.proofs.Erased.{refused_ended}
-use Rattle.rpm_change.proofs.Imported.{imported_good, add_kinds, add_limits}
+use Rattle.rpm_change.specs.Importing.{imported, place_fails}
+use Rattle.rpm_change.specs.Steps.{changing, whole}
+use Rattle.rpm_change.specs.Texts.{header_text}
 use Rattle.rpm_change.specs.inner.Single.{one_made}
-use Rattle.rpm_change.proofs.Unchanged.{line_limits}
-use Rattle.rpm_change.proofs.Wholes.{whole_turn, whole_halt, line_unbroken}
-use Rattle.rpm_change.specs.inner.Leaving.{halted_by}
+use Rattle.rpm_change.specs.Went.{EndedOnErr}
+use Rattle.rpm_change.specs.inner.Courses.{through_none}
+use Rattle.rpm_change.specs.inner.Going.{took, err_refused, went_as, line_went, halted_went}
+use Rattle.rpm_change.proofs.Imported.{imported_good, add_limits}
 use Rattle.rpm_change.proofs.Owing.{owing_none, owing_same}
-use Rattle.rpm_change.proofs.Turned.{lines_only}
-use Rattle.rpm_change.specs.declared.tally.Halt.TheVariants as halt
+use Rattle.rpm_change.proofs.Placed.{header_kinds}
 use Rattle.rpm_change.proofs.turn.import_header.Goals as goal
 
 pub returns-in-Ok-clause-went : goal.returns-in-Ok-clause-went
-returns-in-Ok-clause-went g c = record {
-  ended = λ told out_tells out.
-      let s = state (g.D.Disk.files c.args.disk.now).pkg c.args.db.now.store in
-      let t = state (g.D.Disk.files c.add.new.disk).pkg c.add.new.db.store in
-      let now = outputs out_tells out g.E.Sink.tells (g.E.Sink.taken (inner c.args.err.now)) in
-      let put = c.in-Ok.ensures.causes.1 in
-      subst (λ (x : Course). Done x s t (record { failed = 0; changes = 1 }) now now)
-      (sym (imported_good c.args.place c.args.blob.now put.own put.read))
-      (record {
-        steps = through_none {ot = out_tells} {et = g.E.Sink.tells} out (g.E.Sink.taken (inner c.args.err.now));
+returns-in-Ok-clause-went g c =
+    let k = c.args.place in
+    let done = c.in-Ok.ensures in
+    let put = done.causes.1 in
+    let gathers = done.gathers put.own put.read in
+    let made = gathers.gathered in
+    let v = c.args.db.now.store in
+    let law = next-state (g.D.Disk.files c.args.disk.now).pkg v in
+    went_as g.D.Disk {E = EndedOnErr g.E.Sink c.args.err.now c.args.err.now} (changing (Add put.own.blob)) (imported k (header c.args.blob.now)) (λ told. told)
+    (λ told. sym (imported_good k c.args.blob.now put.own put.read)) (λ s t e. e)
+    (record {
+      ended = λ told ot o. record {
+        steps = through_none {ot = ot} {et = g.E.Sink.tells} o (took g.E.Sink c.args.err.now);
         failed = refl;
         changes = refl;
-        state_is = (c.in-Ok.ensures.gathered put.own put.read).state_is told;
-      });
-  limits = λ told i rows.
-      let file = (g.D.Disk.files c.args.disk.now).pkg in
-      let s = state file c.args.db.now.store in
-      let done = c.in-Ok.ensures in
-      let put = done.causes.1 in
-      subst (λ (x : Course). LimitsTurn i s c.args.db.now.store c.add.new.db.store
-      (due (g.D.Disk.files c.args.disk.now) c.args.db.now c.args.additions.now) (due (g.D.Disk.files c.add.new.disk) c.add.new.db c.add.new.self) x.changes
-      (Ok (record { failed = 0; changes = 1 }))) (sym (imported_good c.args.place c.args.blob.now put.own put.read))
-      (one_made i s (Add put.own.blob) c.args.db.now.store c.add.new.db.store (record { failed = 0; changes = 1 })
-      (λ is. done.causes.0 (sym (next-state file c.args.db.now.store) ∙ is)) put.later.0 (done.placed put.own put.read)
-      (done.gathered put.own put.read).generation (λ is. done.full told (rows is) put.own put.read) (done.end told)
-      (λ is. (done.gathered put.own put.read).reach told (rows is)));
-  whole = λ told whole. subst IsWholeIndex (sym (c.in-Ok.ensures.index told)) whole;
-  left =
-      let done = c.in-Ok.ensures in
-      let made = done.gathered done.causes.1.own done.causes.1.read in
-      record {
+        state_is = made.state_is told;
+      };
+      limits = λ told i rows.
+          one_made i (state_in g.D.Disk c.args.disk.now c.args.db.now) (Add put.own.blob) v c.add.new.db.store (record { failed = 0; changes = 1 })
+          (λ is. done.causes.0 (sym law ∙ is)) put.later.0 gathers.room made.generation
+          (λ is. gathers.full told (rows is)) (done.end told) (λ is. made.reach told (rows is));
+      whole = λ told whole. subst IsWholeIndex (sym (done.index told)) whole;
+      left = record {
         carried = record { gathering = made.gathering; owes = λ told has. made.owes told has };
-        indexed = done.indexed;
+        indexed = done.left.indexed;
         runs = done.runs;
         disk = record { later = done.cause.later; rose = λ is. absurd cc };
       };
-}
+    })
 
 pub returns-in-Err-BadHeader-clause-went : goal.returns-in-Err-BadHeader-clause-went
 returns-in-Err-BadHeader-clause-went g c =
+    let D = g.D.Disk in
+    let k = c.args.place in
+    let fault = c.in-Err-BadHeader.fault in
     let said = rw c.in-Err-BadHeader.field-0-is at c.in-Err-BadHeader.ensures in
-    let course = sym (ap (imported c.args.place) said.causes.1) in
-    let f = g.D.Disk.files c.args.disk.now in
-    let s = state f.pkg c.args.db.now.store in
-    let v = c.args.db.now.store in
-    let r = c.put_bad_header.result in
-    let same = said.refused c.in-Err-BadHeader.fault refl in
-    owing_same g.D.Disk _ c.args.disk.now c.add.new.disk c.args.db.now c.add.new.db c.args.additions.now c.add.new.self r _ _ same.0 same.1 same.2
-    (record {
-      ended = λ told out_tells out.
-          let old = outputs out_tells out g.E.Sink.tells (g.E.Sink.taken (inner c.args.err.now)) in
-          let new = outputs out_tells out g.E.Sink.tells (g.E.Sink.taken (inner c.put_bad_header.new.err)) in
-          subst (λ (x : Course). Ended x s s r old new) course (c.put_bad_header.ensures.ended s out_tells out);
-      limits = λ told i rows.
-          let reach = due f c.args.db.now c.args.additions.now in
-          subst (λ (x : Course). LimitsTurn i s v v reach reach x.changes r) course (line_limits i s v v v.spare r refl c.put_bad_header.ensures.kinds);
-      whole = λ told whole. whole_turn f f r refl whole (line_unbroken r c.put_bad_header.ensures.kinds);
-      left = owing_none g.D.Disk g.met.D.Disk.follows_refl c.args.disk.now c.args.db.now c.args.additions.now c.requires.gathering r
-          (lines_only r halt.DiskFault c.put_bad_header.ensures.kinds);
-    })
+    let same = said.refused fault refl in
+    let owing = owing_none D c.args.disk.now c.args.db.now c.args.additions.now c.requires.gathering in
+    owing_same D _ c.args.disk.now c.add.new.disk c.args.db.now c.add.new.db c.args.additions.now c.add.new.self c.put_bad_header.result _ _
+    same.0 same.1 same.2
+    (went_as D (place_fails k (header_text fault)) (imported k (header c.args.blob.now)) (λ told. told)
+    (λ told. sym (ap (imported k) said.causes.1)) (λ s t e. e)
+    (line_went D g.met.D.Disk.follows_refl owing c.args.disk.now c.args.db.now c.requires.gathering.indexed g.E.Sink c.put_bad_header.result (whole 0)
+    c.put_bad_header.ensures))
 
 pub returns-in-Err-clause-went : goal.returns-in-Err-clause-went
-returns-in-Err-clause-went g c = record {
-  ended = λ told out_tells out.
-      let s = state (g.D.Disk.files c.args.disk.now).pkg c.args.db.now.store in
-      let t = state (g.D.Disk.files c.add.new.disk).pkg c.add.new.db.store in
-      let now = outputs out_tells out g.E.Sink.tells (g.E.Sink.taken (inner c.args.err.now)) in
-      rw c.halt_of.ensures
-      (refused_ended (imported c.args.place (header c.args.blob.now)) s t c.in-Err.fault now now
-      (through_none {ot = out_tells} {et = g.E.Sink.tells} out (g.E.Sink.taken (inner c.args.err.now))));
-  limits = λ told i rows.
-      let file = (g.D.Disk.files c.args.disk.now).pkg in
-      rw c.halt_of.ensures
-      (add_limits i (resumed c.args.db.now) (state file c.args.db.now.store) c.add.new.db.store c.args.place c.args.blob.now
-      (next-state file c.args.db.now.store) c.in-Err.fault c.in-Err.ensures.causes c.in-Err.ensures.placed
-      (λ is. c.in-Err.ensures.full told (rows is)));
-  whole = λ told whole.
-      rw c.halt_of.ensures (whole_halt (g.D.Disk.files c.add.new.disk).idx c.in-Err.fault (c.in-Err.ensures.whole told whole));
-  left = rw c.halt_of.ensures (halted_by g.D.Disk _ _ _ _ c.in-Err.ensures.runs c.in-Err.ensures.cause.later c.in-Err.ensures.indexed c.in-Err.fault
-      (λ is. c.in-Err.ensures.cause.rose (cc)));
-}
+returns-in-Err-clause-went g c =
+    let said = c.in-Err.ensures in
+    let f = c.in-Err.fault in
+    let db = c.args.db.now in
+    let law = next-state (g.D.Disk.files c.args.disk.now).pkg db.store in
+    let course = imported c.args.place (header c.args.blob.now) in
+    halted_went g.D.Disk course f c.halt_of.result c.halt_of.ensures (err_refused g.E.Sink c.args.err.now course f)
+    (λ told i rows. add_limits i (resumed db) (state_in g.D.Disk c.args.disk.now db) c.add.new.db.store c.args.place c.args.blob.now law f said.causes
+    (λ h read. (said.gathers h read).room) (λ is h read. (said.gathers h read).full told (rows is)))
+    (λ told whole. said.whole told whole) said.left.indexed said.runs said.cause (λ is. cc)
 
 pub returns-in-Err-clause-kinds : goal.returns-in-Err-clause-kinds
-returns-in-Err-clause-kinds g c = rw c.halt_of.ensures (add_kinds c.in-Err.fault)
+returns-in-Err-clause-kinds g c = rw c.halt_of.ensures (header_kinds c.in-Err.fault)

@@ -1,102 +1,85 @@
-mod Front
-mod Fault
-use Rattle.std.proofs.Common.{true, refl, sym, subst, Result, Option, nat_lt, Ok, arith}
-use Rattle.std.proofs.lemmas.Bool.Decides.{nat_tests}
+use Rattle.std.proofs.Common.{ℕ, List, take, sym, ap, ◌∙◌}
+use Rattle.std.proofs.lemmas.Result.{err_from_is_err_and}
 use Rattle.rpm_outside.specs.Browses.{left}
-use Rattle.rpm_outside.specs.Buffered.{inner}
-use Rattle.rpm_file.specs.declared.fault.ListFault.{ListFault}
-use Rattle.rpm_file.specs.List.{Found}
-use Rattle.rpm_db.specs.Gathering.{due}
-use Rattle.rpm_db.specs.State.{state}
-use Rattle.rpm_change.specs.declared.tally.Halt.TheVariants as halt
-use Rattle.rpm_change.specs.Limits.{LimitsTurn}
-use Rattle.rpm_change.specs.Steps.{Course}
-use Rattle.rpm_change.specs.Turns.{Leaves}
-use Rattle.rpm_change.specs.inner.Single.{none_made}
-use Rattle.rpm_change.proofs.Taken.{at_end, nothing_done, ending_kinds}
-use Rattle.rpm_change.proofs.Turned.{turn_kinds, turn_cause, no_shelf, turn_last}
-use Rattle.rpm_change.proofs.turn.import_next.Answers.Front as front
-use Rattle.rpm_change.proofs.turn.import_next.Answers.Fault as fault
+use Rattle.rpm_file.specs.List.{list_head}
+use Rattle.rpm_db.specs.Frame.{state_in}
+use Rattle.rpm_change.specs.Importing.{place_fails}
+use Rattle.rpm_change.specs.Steps.{idle, whole}
+use Rattle.rpm_change.specs.Turns.{turn, turn_found}
+use Rattle.rpm_change.specs.Went.{EndedOnErr}
+use Rattle.rpm_change.specs.inner.Going.{err_none, none_went, went_as, line_went, reading_went}
 use Rattle.rpm_change.proofs.Owing.{owing_none}
+use Rattle.rpm_change.proofs.Turned.{of_list, stop_is, reading_importing}
 use Rattle.rpm_change.proofs.turn.import_next.Goals as goal
 
 -- a header stands in front
 
-pub returns-in-Ok-Some-clause-went : goal.returns-in-Ok-Some-clause-went
-returns-in-Ok-Some-clause-went = front.returns-in-Ok-Some-clause-went
+pub returns-in_ok-tally-in-Ok-Some-clause-went : goal.returns-in_ok-tally-in-Ok-Some-clause-went
+returns-in_ok-tally-in-Ok-Some-clause-went g c =
+    let turns = turn c.args.most c.args.place in
+    let found = λ (blob : List ℕ). turn_found c.args.most c.args.place blob in
+    let head = list_head (left (g.S.Shelf.rest c.args.shelf.now)) in
+    let said = rw c.in-Ok-Some.field-0-is at c.in-Ok-Some.ensures in
+    let room = ap (take c.in-Ok-Some.size) c.deref.ensures.value in
+    went_as g.D.Disk (found (take c.in-Ok-Some.size c.deref.result.now)) (turns head) (λ both. both.0)
+    (λ both. ap found room ∙ sym (ap turns (said.answers both.1))) (λ s t e. e) c.in_ok-tally-in-Ok-Some.ensures.went
 
-pub returns-in-Ok-Some-clause-leaves : goal.returns-in-Ok-Some-clause-leaves
-returns-in-Ok-Some-clause-leaves = front.returns-in-Ok-Some-clause-leaves
-
-pub returns-in-Ok-Some-clause-last : goal.returns-in-Ok-Some-clause-last
-returns-in-Ok-Some-clause-last g c =
-    turn_last c.as_turn.result (nat_lt c.args.most c.args.place) c.args.most c.args.place c.as_turn.ensures.last (λ past. grind (arith, nat_tests))
-
-pub returns-in-Ok-Some-clause-one : goal.returns-in-Ok-Some-clause-one
-returns-in-Ok-Some-clause-one = front.returns-in-Ok-Some-clause-one
-
-pub returns-in-Ok-Some-clause-kinds : goal.returns-in-Ok-Some-clause-kinds
-returns-in-Ok-Some-clause-kinds g c = turn_kinds c.as_turn.result c.import_within-done.result c.as_turn.ensures.value c.import_within-done.ensures.kinds
-
-pub returns-in-Ok-Some-clause-shelf : goal.returns-in-Ok-Some-clause-shelf
-returns-in-Ok-Some-clause-shelf g c =
-    no_shelf c.as_turn.result c.import_within-done.result c.as_turn.ensures.value c.import_within-done.ensures.kinds _ _ c.read_header.ensures.cause.later
-
-pub returns-in-Ok-Some-clause-err : goal.returns-in-Ok-Some-clause-err
-returns-in-Ok-Some-clause-err g c = record {
-  cause = turn_cause c.as_turn.result c.import_within-done.result c.as_turn.ensures.value halt.ErrFault _ _ c.import_within-done.ensures.err.cause;
-  goes_on = c.import_within-done.ensures.err.goes_on;
-}
+pub returns-in_err-tally-in-Ok-Some-clause-went : goal.returns-in_err-tally-in-Ok-Some-clause-went
+returns-in_err-tally-in-Ok-Some-clause-went g c =
+    let turns = turn c.args.most c.args.place in
+    let found = λ (blob : List ℕ). turn_found c.args.most c.args.place blob in
+    let head = list_head (left (g.S.Shelf.rest c.args.shelf.now)) in
+    let said = rw c.in-Ok-Some.field-0-is at c.in-Ok-Some.ensures in
+    let room = ap (take c.in-Ok-Some.size) c.deref.ensures.value in
+    let p = err_from_is_err_and c.from_residual.result c.from_residual.ensures.1 in
+    rw (p.1, p.2) (went_as g.D.Disk (found (take c.in-Ok-Some.size c.deref.result.now)) (turns head) (λ both. both.0)
+    (λ both. ap found room ∙ sym (ap turns (said.answers both.1))) (λ s t e. e) c.in_err-tally-in-Ok-Some.ensures.went)
 
 -- the list is at its end
 
 pub returns-in-Ok-None-clause-went : goal.returns-in-Ok-None-clause-went
-returns-in-Ok-None-clause-went g c = record {
-  ended = λ both ot o.
-      let said = rw c.in-Ok-None.field-0-is at c.in-Ok-None.ensures in
-      nothing_done c.args.most c.args.place _ (said.answers both.1).0 (state (g.D.Disk.files c.args.disk.now).pkg c.args.db.now.store) ot g.E.Sink.tells o
-      (g.E.Sink.taken (inner c.args.err.now));
-  limits = λ both i rows.
-      let s = state (g.D.Disk.files c.args.disk.now).pkg c.args.db.now.store in
-      let v = c.args.db.now.store in
-      let said = rw c.in-Ok-None.field-0-is at c.in-Ok-None.ensures in
-      let f = due (g.D.Disk.files c.args.disk.now) c.args.db.now c.args.additions.now in
-      at_end (λ (course : Course). LimitsTurn i s v v f f course.changes (Ok (record { failed = 0; changes = 0 }))) c.args.most c.args.place _
-      (said.answers both.1).0
-      (none_made i s v v v.spare (record { failed = 0; changes = 0 }) refl);
-  whole = λ told whole. whole;
-  left = owing_none g.D.Disk g.met.D.Disk.follows_refl c.args.disk.now c.args.db.now c.args.additions.now c.requires.gathering (Ok (record { failed = 0; changes = 0 })) (λ is. cc);
-}
-
-pub returns-in-Ok-None-clause-leaves : goal.returns-in-Ok-None-clause-leaves
-returns-in-Ok-None-clause-leaves g c = λ heard.
+returns-in-Ok-None-clause-went g c =
+    let turns = turn c.args.most c.args.place in
     let said = rw c.in-Ok-None.field-0-is at c.in-Ok-None.ensures in
-    subst (λ (r : Result (Option Found) ListFault). Leaves c.args.most c.args.place r true (left (g.S.Shelf.rest c.read_header.new.shelf)))
-    (sym (said.answers heard).0) refl
+    let owing = owing_none g.D.Disk c.args.disk.now c.args.db.now c.args.additions.now c.requires.gathering in
+    went_as g.D.Disk {E = EndedOnErr g.E.Sink c.args.err.now c.args.err.now} idle (turns (list_head (left (g.S.Shelf.rest c.args.shelf.now)))) (λ both. both) (λ both. sym (ap turns (said.answers both.1).0))
+    (λ s t e. e)
+    (none_went g.D.Disk g.met.D.Disk.follows_refl owing c.args.disk.now c.args.db.now c.requires.gathering.indexed
+    (err_none g.E.Sink c.args.err.now (state_in g.D.Disk c.args.disk.now c.args.db.now)))
 
 -- a fault of the list
 
-pub returns-in-Err-clause-went : goal.returns-in-Err-clause-went
-returns-in-Err-clause-went = fault.returns-in-Err-clause-went
+pub returns-in-Some-clause-went : goal.returns-in-Some-clause-went
+returns-in-Some-clause-went g c =
+    let owing = owing_none g.D.Disk c.args.disk.now c.args.db.now c.args.additions.now c.requires.gathering in
+    reading_went g.D.Disk g.met.D.Disk.follows_refl owing c.args.disk.now c.args.db.now c.requires.gathering.indexed g.E.Sink c.args.err.now
+    (turn c.args.most c.args.place (list_head (left (g.S.Shelf.rest c.args.shelf.now)))) c.in-Some.halt
+    (stop_is c.in-Err.fault c.in-Some.halt c.in-Some.ensures).0
 
-pub returns-in-Err-clause-leaves : goal.returns-in-Err-clause-leaves
-returns-in-Err-clause-leaves = fault.returns-in-Err-clause-leaves
+pub returns-in-Some-clause-kinds : goal.returns-in-Some-clause-kinds
+returns-in-Some-clause-kinds g c = reading_importing c.in-Some.halt (stop_is c.in-Err.fault c.in-Some.halt c.in-Some.ensures).0
 
-pub returns-in-Err-clause-last : goal.returns-in-Err-clause-last
-returns-in-Err-clause-last g c =
-    turn_last c.as_turn-in-Err.result true c.args.most c.args.place c.as_turn-in-Err.ensures.last (λ past. refl)
+pub returns-in_ok-tally-in-None-clause-went : goal.returns-in_ok-tally-in-None-clause-went
+returns-in_ok-tally-in-None-clause-went g c =
+    let turns = turn c.args.most c.args.place in
+    let fails = place_fails c.args.place in
+    let head = list_head (left (g.S.Shelf.rest c.args.shelf.now)) in
+    let owing = owing_none g.D.Disk c.args.disk.now c.args.db.now c.args.additions.now c.requires.gathering in
+    went_as g.D.Disk (fails c.list_text.result.now) (turns head) (λ both. both)
+    (λ both. ap fails c.list_text.ensures ∙ sym (ap turns (of_list head c.in-Err.fault c.in-None.ensures (c.in-Err.ensures.answers both.1))))
+    (λ s t e. e)
+    (line_went g.D.Disk g.met.D.Disk.follows_refl owing c.args.disk.now c.args.db.now c.requires.gathering.indexed g.E.Sink _
+    (whole 0) c.in_ok-tally-in-None.ensures)
 
-pub returns-in-Err-clause-one : goal.returns-in-Err-clause-one
-returns-in-Err-clause-one = fault.returns-in-Err-clause-one
-
-pub returns-in-Err-clause-kinds : goal.returns-in-Err-clause-kinds
-returns-in-Err-clause-kinds g c = ending_kinds c.as_turn-in-Err.result c.end_list.result c.as_turn-in-Err.ensures.value c.end_list.ensures.kinds
-
-pub returns-in-Err-clause-shelf : goal.returns-in-Err-clause-shelf
-returns-in-Err-clause-shelf = fault.returns-in-Err-clause-shelf
-
-pub returns-in-Err-clause-err : goal.returns-in-Err-clause-err
-returns-in-Err-clause-err g c = record {
-  cause = turn_cause c.as_turn-in-Err.result c.end_list.result c.as_turn-in-Err.ensures.value halt.ErrFault _ _ c.end_list.ensures.err.cause;
-  goes_on = c.end_list.ensures.err.goes_on;
-}
+pub returns-in_err-tally-in-None-clause-went : goal.returns-in_err-tally-in-None-clause-went
+returns-in_err-tally-in-None-clause-went g c =
+    let turns = turn c.args.most c.args.place in
+    let fails = place_fails c.args.place in
+    let head = list_head (left (g.S.Shelf.rest c.args.shelf.now)) in
+    let owing = owing_none g.D.Disk c.args.disk.now c.args.db.now c.args.additions.now c.requires.gathering in
+    let p = err_from_is_err_and c.from_residual-in_err-tally-in-None.result c.from_residual-in_err-tally-in-None.ensures.1 in
+    rw (p.1, p.2) (went_as g.D.Disk (fails c.list_text.result.now) (turns head) (λ both. both)
+    (λ both. ap fails c.list_text.ensures ∙ sym (ap turns (of_list head c.in-Err.fault c.in-None.ensures (c.in-Err.ensures.answers both.1))))
+    (λ s t e. e)
+    (line_went g.D.Disk g.met.D.Disk.follows_refl owing c.args.disk.now c.args.db.now c.requires.gathering.indexed g.E.Sink _
+    (whole 0) c.in_err-tally-in-None.ensures))

@@ -11,7 +11,7 @@ use Rattle.rpm_exercise.proofs.counts.count_picked.Goals as goal
 
 pub count_served-requires-clause-keeps : goal.count_served-requires-clause-keeps
 count_served-requires-clause-keeps g c = λ told.
-    subst (λ (f : Files). Keeps f.pkg c.args.db.now) (sym (c.in-Ok.ensures.looks.untouched told).same) (c.requires.asked.keeps told)
+    subst (λ (f : Files). Keeps f.pkg c.args.db.now) (sym (c.in-Ok.ensures.asks.looks.untouched told).same) (c.requires.asked.keeps told)
 
 pub returns-in-Ok-clause-told : goal.returns-in-Ok-clause-told
 returns-in-Ok-clause-told g c = λ told rows.
@@ -19,7 +19,7 @@ returns-in-Ok-clause-told g c = λ told rows.
     let sel = c.args.selection.now in
     let start = g.D.Disk.files c.args.disk.now in
     let mid = g.D.Disk.files c.new.new.disk in
-    let same = (c.in-Ok.ensures.looks.untouched told).same in
+    let same = (c.in-Ok.ensures.asks.looks.untouched told).same in
     let serves = served sel db c.in-Ok.picker c.in-Ok.picker mid start refl same (c.in-Ok.ensures.serves told rows) in
     let whole = picks_from_one mid.pkg db sel (from_one start.pkg db (c.requires.asked.keeps told)) ∙ ap (λ (f : Files). picks (packages f.pkg db.store) sel) same in
     rw (← whole) (c.count_served.ensures.told told serves)
@@ -27,10 +27,10 @@ returns-in-Ok-clause-told g c = λ told rows.
 pub returns-in-Ok-clause-asks : goal.returns-in-Ok-clause-asks
 returns-in-Ok-clause-asks g c =
     asks_served g.D.Disk g.met.D.Disk.follows_trans c.count_served.result c.args.disk.now c.new.new.disk c.count_served.new.disk c.args.db.now
-    c.in-Ok.ensures.looks c.in-Ok.ensures.cause.later c.count_served.ensures.reads
+    c.in-Ok.ensures.asks.looks c.in-Ok.ensures.asks.cause.later c.count_served.ensures.reads
 
 pub returns-in-Err-clause-asks : goal.returns-in-Err-clause-asks
 returns-in-Err-clause-asks g c =
     let said = c.in-Err.ensures in
-    rw c.halt_of.ensures (asks_unserved g.D.Disk g.met.D.Disk.follows_trans _ c.in-Err.fault c.args.disk.now c.new.new.disk c.args.db.now said.looks said.lawful
-    (record { later = said.cause.later; rose = λ is. said.cause.rose (ap Err is) }))
+    rw c.halt_of.ensures (asks_unserved g.D.Disk g.met.D.Disk.follows_trans _ c.in-Err.fault c.args.disk.now c.new.new.disk c.args.db.now said.asks.looks said.asks.lawful
+    (record { later = said.asks.cause.later; rose = λ is. said.asks.cause.rose (ap Err is) }))

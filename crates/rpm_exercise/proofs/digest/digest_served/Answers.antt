@@ -34,7 +34,7 @@ loop-picked-preserved g c =
     let start = g.D.Disk.files c.args.disk.now in
     let mid = g.D.Disk.files c.loop-picked.disk in
     record {
-      keeps = done.kept;
+      keeps = done.asks.kept;
       same = done.same ∙ inv.same;
       goes = λ told serves.
           let same = inv.runs.reads_as told in
@@ -50,8 +50,8 @@ loop-picked-preserved g c =
                   (flat_map exported (above 0 (picks (packages start.pkg db.store) sel))) fed.1.1),
             ),
           );
-      runs = looks_on g.D.Disk g.met.D.Disk.follows_trans _ c.args.disk.now c.loop-picked.disk c.next_after.new.disk inv.runs done.looks;
-      disk = omega (arith, inv.disk, done.cause.later);
+      runs = looks_on g.D.Disk g.met.D.Disk.follows_trans _ c.args.disk.now c.loop-picked.disk c.next_after.new.disk inv.runs done.asks.looks;
+      disk = omega (arith, inv.disk, done.asks.cause.later);
     }
 
 pub returns-in-Ok-None-clause-told : goal.returns-in-Ok-None-clause-told
@@ -74,11 +74,11 @@ pub returns-in-Ok-None-clause-reads : goal.returns-in-Ok-None-clause-reads
 returns-in-Ok-None-clause-reads g c =
     let inv = c.loop-picked.invariant in
     let last = c.in-Ok-None.ensures in
-    reads_done g.D.Disk g.met.D.Disk.follows_trans _ c.args.disk.now c.loop-picked.disk c.next_after.new.disk inv.runs inv.disk last.looks last.cause.later
+    reads_done g.D.Disk g.met.D.Disk.follows_trans _ c.args.disk.now c.loop-picked.disk c.next_after.new.disk inv.runs inv.disk last.asks.looks last.asks.cause.later
 
 pub returns-in-Err-clause-reads : goal.returns-in-Err-clause-reads
 returns-in-Err-clause-reads g c =
     let inv = c.loop-picked.invariant in
     let said = c.in-Err.ensures in
     rw c.halt_of.ensures (reads_failed g.D.Disk g.met.D.Disk.follows_trans _ c.in-Err.fault _ c.args.disk.now c.loop-picked.disk c.next_after.new.disk inv.runs
-    inv.disk said.looks said.unbroken (record { later = said.cause.later; rose = λ is. said.cause.rose (ap Err is) }))
+    inv.disk said.asks.looks said.asks.unbroken (record { later = said.asks.cause.later; rose = λ is. said.asks.cause.rose (ap Err is) }))

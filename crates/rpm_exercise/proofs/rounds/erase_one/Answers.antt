@@ -1,50 +1,48 @@
-use Rattle.std.proofs.Common.{◌+◌, arith, Err, rules}
-use Rattle.rpm_db.specs.State.{state}
-use Rattle.rpm_exercise.proofs.Limited.{memory_limits}
+use Rattle.std.proofs.Common.{[], ◌∷◌, ◌+◌, rules}
+use Rattle.std.proofs.lemmas.Result.{err_from_is_err_and}
+use Rattle.rpm_db.specs.Changes.{Erase}
+use Rattle.rpm_db.specs.Frame.{state_in}
+use Rattle.rpm_change.specs.inner.Courses.{refused_quietly}
+use Rattle.rpm_change.specs.inner.Going.{halted_went}
+use Rattle.rpm_change.specs.inner.Leaving.{left_made}
+use Rattle.rpm_exercise.specs.Rounds.{making}
 use Rattle.rpm_exercise.proofs.Made.{erased_one}
+use Rattle.rpm_exercise.proofs.Through.{one_through, memory_through}
 use Rattle.rpm_exercise.proofs.Turned.{erased_limits, erase_refused}
-use Rattle.rpm_change.specs.inner.Leaving.{left_none, left_made, left_halted}
-use Rattle.rpm_change.specs.declared.tally.Halt.TheVariants as halt
 use Rattle.rpm_exercise.proofs.rounds.erase_one.Goals as goal
 
-pub returns-in-Ok-erase-clause-went : goal.returns-in-Ok-erase-clause-went
-returns-in-Ok-erase-clause-went g c = record {
-  made = λ told.
-      erased_one c.in-Ok.number (c.args.b + c.args.i) (state (g.D.Disk.files c.args.disk.now).pkg c.args.db.now.store)
-      (state (g.D.Disk.files c.erase.new.disk).pkg c.erase.new.self.store) c.in-Ok.ensures.value
-      (c.in-Ok-erase.ensures.changed.state_is told);
-  limits = λ told j rows.
-      let done = c.in-Ok-erase.ensures in
-      erased_limits j (state (g.D.Disk.files c.args.disk.now).pkg c.args.db.now.store) c.args.db.now c.erase.new.self.store c.in-Ok.number
-      (c.args.b + c.args.i) c.in-Ok.ensures.value (record { failed = 0; changes = 1 }) done.causes done.placed done.left.generation (λ yes. done.full
-      told c.requires.ready.going (rows yes))
-      (done.end told) (λ yes. done.changed.reach told (rows yes));
-  left = left_made g.D.Disk _ _ _ _ _ c.in-Ok-erase.ensures.runs c.in-Ok-erase.ensures.cause.later _ _ c.in-Ok-erase.ensures.left c.requires.ready.going;
-  spent = tt;
-  kinds = tt;
-}
+pub returns-in-Ok-clause-went : goal.returns-in-Ok-clause-went
+returns-in-Ok-clause-went g c =
+    let done = c.in-Ok.ensures in
+    let s = state_in g.D.Disk c.args.disk.now c.args.db.now in
+    let t = state_in g.D.Disk c.erase.new.disk c.erase.new.self in
+    let n = c.in_ok-number.number in
+    let k = c.args.b + c.args.i in
+    one_through g.D.Disk (Erase k) c.args.disk.now c.erase.new.disk c.args.db.now c.erase.new.self
+    (λ told. erased_one n k s t c.in_ok-number.ensures.value (done.makes.changed.state_is told))
+    (λ told j rows. erased_limits j s c.args.db.now c.erase.new.self.store n k c.in_ok-number.ensures.value (record { failed = 0; changes = 1 }) done.causes
+    done.makes.room done.left.generation (λ yes. done.makes.full told c.requires.ready.going (rows yes)) (done.end told) (λ yes. done.makes.changed.reach told (rows yes)))
+    (λ told whole. done.left.whole told whole)
+    (left_made g.D.Disk _ _ _ _ _ done.runs done.cause.later _ _ done.left c.requires.ready.going)
+
+pub returns-in_err-number-clause-went : goal.returns-in_err-number-clause-went
+returns-in_err-number-clause-went g c =
+    let p = err_from_is_err_and c.from_residual.result c.from_residual.ensures.1 in
+    rw (p.1, p.2, c.in_err-number.ensures.kinds)
+    (memory_through g.D.Disk g.met.D.Disk.follows_refl c.args.disk.now c.args.db.now c.requires.ready (Erase (c.args.b + c.args.i) ∷ []))
 
 pub returns-in-Err-clause-went : goal.returns-in-Err-clause-went
-returns-in-Err-clause-went g c = record {
-  made = λ told. tt;
-  limits = λ told j rows.
-      rw c.in-Err.ensures.kinds (memory_limits j (state (g.D.Disk.files c.args.disk.now).pkg c.args.db.now.store) c.args.db.now.store c.args.db.now.store _);
-  left = rw c.in-Err.ensures.kinds (left_none g.D.Disk g.met.D.Disk.follows_refl c.args.disk.now c.args.db.now c.requires.ready (Err halt.NoMemory) (λ is. cc));
-  spent = rw c.in-Err.ensures.kinds tt;
-  kinds = rw c.in-Err.ensures.kinds tt;
-}
-
-pub returns-in-Err-erase-clause-went : goal.returns-in-Err-erase-clause-went
-returns-in-Err-erase-clause-went g c = record {
-  made = λ told. tt;
-  limits = λ told j rows.
-      rw c.halt_of.ensures
-      (erase_refused j (state (g.D.Disk.files c.args.disk.now).pkg c.args.db.now.store) c.args.db.now c.erase.new.self.store c.in-Ok.number
-      (c.args.b + c.args.i) c.in-Ok.ensures.value c.in-Err-erase.fault c.in-Err-erase.ensures.causes
-      (λ yes. c.in-Err-erase.ensures.full told c.requires.ready.going (rows yes)));
-  left = rw c.halt_of.ensures (left_halted g.D.Disk _ _ _ _ c.in-Err-erase.ensures.runs c.in-Err-erase.ensures.cause.later
-      c.in-Err-erase.ensures.left.indexed c.in-Err-erase.fault
-      (λ is. c.in-Err-erase.ensures.cause.rose (cc)));
-  spent = search rules;
-  kinds = search rules;
-}
+returns-in-Err-clause-went g c =
+    let k = c.args.b + c.args.i in
+    let course = making (Erase k ∷ []) in
+    let s = state_in g.D.Disk c.args.disk.now c.args.db.now in
+    let f = c.in-Err.fault in
+    let said = c.in-Err.ensures in
+    record {
+      course = halted_went g.D.Disk course f c.halt_of.result c.halt_of.ensures (refused_quietly course f)
+          (λ told j rows. erase_refused j s c.args.db.now c.erase.new.self.store c.in_ok-number.number k c.in_ok-number.ensures.value f said.causes
+          (λ yes. said.makes.full told c.requires.ready.going (rows yes)))
+          (λ told whole. said.left.whole told whole) said.left.indexed said.runs said.cause (λ is. cc);
+      spent = search rules;
+      kinds = search rules;
+    }

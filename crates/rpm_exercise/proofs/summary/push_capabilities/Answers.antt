@@ -1,4 +1,5 @@
 use Rattle.std.proofs.Common.{◌++◌, refl, arith}
+use Rattle.std.proofs.lemmas.Result.{err_from_is_err_and}
 use Rattle.rpm_db.specs.State.{packages}
 use Rattle.rpm_db.specs.inner.Running.{runs_none}
 use Rattle.rpm_db.specs.inner.Writes.{SameFiles}
@@ -24,7 +25,7 @@ push_capability-requires-clause-asked g c =
 pub loop-c-preserved : goal.loop-c-preserved
 loop-c-preserved g c =
     let inv = c.loop-c.invariant in
-    let done = c.in-Ok.ensures in
+    let done = c.in_ok-push_capability.ensures in
     let db = c.args.db.now in
     let start = g.D.Disk.files c.args.disk.now in
     let mid = g.D.Disk.files c.loop-c.disk in
@@ -41,10 +42,11 @@ loop-c-preserved g c =
       disk = omega (arith, inv.disk, done.asks.disk.later);
     }
 
-pub returns-in-Err-clause-asks : goal.returns-in-Err-clause-asks
-returns-in-Err-clause-asks g c =
-    asks_failed g.D.Disk g.met.D.Disk.follows_trans _ _ c.in-Err.halt c.args.disk.now c.loop-c.disk c.push_capability.new.disk c.args.db.now
-    c.loop-c.invariant.runs c.loop-c.invariant.disk c.in-Err.ensures.asks
+pub returns-in_err-push_capability-clause-asks : goal.returns-in_err-push_capability-clause-asks
+returns-in_err-push_capability-clause-asks g c =
+    let p = err_from_is_err_and c.from_residual.result c.from_residual.ensures.1 in
+    rw (p.1, p.2) (asks_failed g.D.Disk g.met.D.Disk.follows_trans _ _ c.in_err-push_capability.field-0.0 c.args.disk.now c.loop-c.disk
+    c.push_capability.new.disk c.args.db.now c.loop-c.invariant.runs c.loop-c.invariant.disk c.in_err-push_capability.ensures.asks)
 
 pub returns-clause-asks : goal.returns-clause-asks
 returns-clause-asks g c =

@@ -1,0 +1,10 @@
+use Rattle.std.proofs.Common.{◌∙◌}
+use Rattle.rpm_change.specs.Texts.{refused_line}
+use Rattle.rpm_change.proofs.Told.{of_line, unwritten}
+use Rattle.rpm_change.proofs.faults.put_refused.Goals as goal
+
+pub returns-in-Ok : goal.returns-in-Ok
+returns-in-Ok g c = of_line g.E.Sink _ (refused_line c.args.path.now c.args.fault) (c.deref.ensures.value ∙ c.in-Ok.ensures) c.put_failing.ensures
+
+pub returns-in-Err : goal.returns-in-Err
+returns-in-Err g c = unwritten g.E.Sink g.met.E.Sink.follows_refl (refused_line c.args.path.now c.args.fault) c.args.err.now

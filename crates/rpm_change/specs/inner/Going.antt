@@ -1,0 +1,345 @@
+-- A course on a disk and a database: another one that is the same, one and then another, and one that is gone through part by part.
+use Rattle.std.proofs.Common.{◌≡◌, ◌+◌, ◌≤◌, ◌⊎◌, inl, inr, ℕ, Bool, true, false, List, [], ◌++◌, Result, Ok, Err, refl, sym, ap, ◌∙◌, subst, arith}
+use Rattle.std.proofs.lemmas.List.{append-nil}
+use Rattle.std.specs.Prelude.{IsTrue, IfErr}
+use Rattle.rpm_outside.specs.declared.disk.Disk as disk
+use Rattle.rpm_outside.specs.declared.sink.Sink as sink
+use Rattle.rpm_outside.specs.declared.buffered.Buffered.{Buffered}
+use Rattle.rpm_outside.specs.Buffered.{inner}
+use Rattle.rpm_outside.specs.Causes.{HasCauseAt, Rose}
+use Rattle.rpm_outside.specs.Files.{Files, Units}
+use Rattle.rpm_pkgdb.specs.Store.{Store}
+use Rattle.rpm_pkgdb.specs.Written.{with_spare}
+use Rattle.rpm_db.specs.declared.change_fault.ChangeFault.{ChangeFault}
+use Rattle.rpm_db.specs.declared.change_fault.ChangeFault.TheVariants as fault
+use Rattle.rpm_db.specs.Changes.{Change}
+use Rattle.rpm_db.specs.Database.{Database, is_indexed}
+use Rattle.rpm_db.specs.Frame.{Runs, state_in}
+use Rattle.rpm_db.specs.Lawful.{IsWholeIndex}
+use Rattle.rpm_db.specs.Refusals.{WholeCause}
+use Rattle.rpm_db.specs.State.{State}
+use Rattle.rpm_db.specs.inner.Writes.{SameLog}
+use Rattle.rpm_change.specs.declared.tally.Tally.{Tally}
+use Rattle.rpm_change.specs.declared.tally.Halt.{Halt}
+use Rattle.rpm_change.specs.declared.tally.Halt.TheVariants as halt
+use Rattle.rpm_change.specs.Endings.{outputs, ThroughSome, WholeTurn, IsOfLines, halt_of}
+use Rattle.rpm_change.specs.Hands.{Hand}
+use Rattle.rpm_change.specs.Limits.{LimitsTurn, is_limit}
+use Rattle.rpm_change.specs.Lines.{Fails}
+use Rattle.rpm_change.specs.Steps.{Bearer, Course, ToErr, failing, idle, joined, apply_all}
+use Rattle.rpm_change.specs.Went.{EndedOnErr, EndedOnOut, EndedQuietly, LeftBy, WentBy}
+use Rattle.rpm_change.specs.inner.Leaving.{none_by, after_by, then_by, halted_by, whole_halt}
+use Rattle.rpm_change.specs.inner.LimitLaws.{limits_none, limits_more, limits_stop, limits_counted}
+use Rattle.rpm_change.specs.inner.Single.{none_made, other_stop}
+use Rattle.rpm_change.specs.inner.Courses.{plus, joined_idle, idle_joined, joined_assoc, through_none, none_gone, stopped_ended, ended_none, ended_then, ended_ahead}
+
+-- nothing yet
+abbrev pub uncounted : Tally
+uncounted = record { failed = 0; changes = 0 }
+
+-- ---- on a sink
+
+-- one part and then another, and one that was stopped, whatever was to come after it
+pub record Joins (E F G : Course → State → State → Result Tally Halt → Type 0) : Type 0 where
+  pub state_is : (a : Course) (s t : State) (one : Tally) → E a s t (Ok one) → t ≡ apply_all a.changes s
+  pub next_is : (b : Course) (t u : State) (one : Tally) → F b t u (Ok one) → u ≡ apply_all b.changes t
+  pub both : (a b : Course) (s t u : State) (one : Tally) (r : Result Tally Halt) → E a s t (Ok one) → F b t u r → G (joined a b) s u (plus one r)
+  pub ahead : (a b : Course) (s t : State) (h : Halt) → F a s t (Err h) → F (joined a b) s t (Err h)
+
+module _ {S : Type 0} (of : sink.Ghosts S) where
+  abbrev pub took : Buffered S → List ℕ
+  took at = of.taken (inner at)
+
+  pub err_joins : (x y z : Buffered S) → Joins (EndedOnErr of x y) (EndedOnErr of y z) (EndedOnErr of x z)
+  err_joins x y z = record {
+    state_is = λ a s t one ends. (ends true []).state_is;
+    next_is = λ b t u one ends. (ends true []).state_is;
+    both = λ a b s t u one r first second. λ ot o.
+        ended_then ot of.tells o o o (took x) (took y) (took z) a b s t u one (first ot o) r (second ot o);
+    ahead = λ a b s t h ends. λ ot o. ended_ahead a b _ _ s t h (ends ot o);
+  }
+
+  pub out_joins : (x y z : Buffered S) → Joins (EndedOnOut of x y) (EndedOnOut of y z) (EndedOnOut of x z)
+  out_joins x y z = record {
+    state_is = λ a s t one ends. (ends true []).state_is;
+    next_is = λ b t u one ends. (ends true []).state_is;
+    both = λ a b s t u one r first second. λ et e.
+        ended_then of.tells et (took x) (took y) (took z) e e e a b s t u one (first et e) r (second et e);
+    ahead = λ a b s t h ends. λ et e. ended_ahead a b _ _ s t h (ends et e);
+  }
+
+  -- nothing was done of a course
+  pub err_gone : (x : Buffered S) (course : Course) (ot : Bool) (o : List ℕ)
+      → ThroughSome course.steps (outputs ot o of.tells (took x)) (outputs ot o of.tells (took x))
+  err_gone x course ot o = none_gone course _ _ (through_none {ot = ot} {et = of.tells} o (took x))
+
+  pub out_gone : (x : Buffered S) (course : Course) (et : Bool) (e : List ℕ)
+      → ThroughSome course.steps (outputs of.tells (took x) et e) (outputs of.tells (took x) et e)
+  out_gone x course et e = none_gone course _ _ (through_none {ot = of.tells} {et = et} (took x) e)
+
+  -- and a change was refused
+  pub err_refused : (x : Buffered S) (course : Course) (f : ChangeFault) (s t : State) → EndedOnErr of x x course s t (Err (halt_of f))
+  err_refused x course f s t = λ ot o. stopped_ended course s t f _ _ (err_gone x course ot o)
+
+  pub out_refused : (x : Buffered S) (course : Course) (f : ChangeFault) (s t : State) → EndedOnOut of x x course s t (Err (halt_of f))
+  out_refused x course f s t = λ et e. stopped_ended course s t f _ _ (out_gone x course et e)
+
+  -- what a part before a call kept of it
+  pub hand_then : {fails now : Type 0} → ((x y z : S) → of.follows x y → of.follows y z → of.follows x z) → (x y z : Buffered S)
+      → of.faults (inner x) ≤ of.faults (inner y) → of.follows (inner x) (inner y) → (now → fails) → Hand of fails y z → Hand of now x z
+  hand_then joins x y z later on same hand = record {
+    cause = record {
+      later = omega (arith, later, hand.cause.later);
+      rose = λ is. (let rose : Rose (of.faults (inner y)) (of.faults (inner z)) = hand.cause.rose (same is) in omega (arith, later, rose));
+    };
+    goes_on = joins (inner x) (inner y) (inner z) on hand.goes_on;
+  }
+
+  pub err_none : (x : Buffered S) (s : State) → EndedOnErr of x x idle s s (Ok uncounted)
+  err_none x s = λ ot o. ended_none ot of.tells o (took x) s
+
+  pub out_none : (x : Buffered S) (s : State) → EndedOnOut of x x idle s s (Ok uncounted)
+  out_none x s = λ et e. ended_none of.tells et (took x) e s
+
+-- on no sink
+pub quiet_joins : Joins EndedQuietly EndedQuietly EndedQuietly
+quiet_joins = record {
+  state_is = λ a s t one ends. (ends true true [] []).state_is;
+  next_is = λ b t u one ends. (ends true true [] []).state_is;
+  both = λ a b s t u one r first second. λ ot et o e. ended_then ot et o o o e e e a b s t u one (first ot et o e) r (second ot et o e);
+  ahead = λ a b s t h ends. λ ot et o e. ended_ahead a b _ _ s t h (ends ot et o e);
+}
+
+pub quiet_none : (s : State) → EndedQuietly idle s s (Ok uncounted)
+quiet_none s = λ ot et o e. ended_none ot et o e s
+
+-- ---- lines
+
+pub line_limits : {files : Files} (i : Bool) (s : State) (v w : Store) (k : ℕ) (r : Result Tally Halt) → w ≡ with_spare k v → IfErr r IsOfLines
+    → LimitsTurn i s v w files files [] r
+line_limits i s v w k (Ok tally) same kinds = none_made i s v w k tally same
+line_limits i s v w k (Err h) same kinds = other_stop i s v w [] h (elim kinds [ inl is ↦ rw is refl | inr is ↦ rw is refl ])
+
+line_whole : (idx : Units) (r : Result Tally Halt) → IfErr r IsOfLines → IsWholeIndex idx → WholeTurn idx r
+line_whole idx (Ok tally) kinds whole = whole
+line_whole idx (Err h) kinds whole = elim kinds [ inl is ↦ rw is tt | inr is ↦ rw is tt ]
+
+line_disk : (r : Result Tally Halt) → IfErr r IsOfLines → r ≡ Err halt.DiskFault → ⊥
+line_disk (Ok tally) kinds is = cc
+line_disk (Err h) kinds is = elim kinds [ inl line ↦ cc | inr none ↦ cc ]
+
+-- ---- on a disk and a database
+
+whole_plus : (idx : Units) (one : Tally) (r : Result Tally Halt) → WholeTurn idx r → WholeTurn idx (plus one r)
+whole_plus idx one (Ok more) whole = whole
+whole_plus idx one (Err h) whole = whole
+
+module _ {D : Type 0} (d : disk.Ghosts D) where
+  left_plus : (C : Type 0) (old new : D) (after : Database) (one : Tally) (r : Result Tally Halt) → LeftBy d C old new after r
+      → LeftBy d C old new after (plus one r)
+  left_plus C old new after one (Ok more) left = after_by d C old new after more left (plus one (Ok more)) (λ is. absurd cc)
+  left_plus C old new after one (Err h) left = left
+
+  -- the same course, where it is told
+  pub went_as : {C A T U : Type 0} {from to : Files} {old new : D} {before after : Database} {r : Result Tally Halt}
+      {E F : Course → State → State → Result Tally Halt → Type 0} (a b : Course) → (U → T) → (U → a ≡ b) → ((s t : State) → E a s t r → F a s t r)
+      → WentBy d C A T from to old new before after r E a → WentBy d C A U from to old new before after r F b
+  went_as {from = from} {to = to} {old = old} {new = new} {before = before} {after = after} {r = r} {F = F} a b told same ends w = record {
+    ended = λ u.
+        subst (λ (x : Course). F x (state_in d old before) (state_in d new after) r) (same u)
+        (ends (state_in d old before) (state_in d new after) (w.ended (told u)));
+    limits = λ u i rows.
+        subst (λ (x : Course). LimitsTurn i (state_in d old before) before.store after.store from to x.changes r) (same u) (w.limits (told u) i rows);
+    whole = w.whole;
+    left = w.left;
+  }
+
+  -- it was stopped, and not by a limit
+  pub stopped_went : {C A T : Type 0} {from to : Files} {old new : D} {before after : Database}
+      {E : Course → State → State → Result Tally Halt → Type 0} (course : Course) (h : Halt)
+      → ((s t : State) → E course s t (Err h)) → ((i : Bool) → is_limit i h ≡ false) → WholeTurn (d.files new).idx (Err h)
+      → LeftBy d C old new after (Err h) → WentBy d C A T from to old new before after (Err h) E course
+  stopped_went {old = old} {new = new} {before = before} {after = after} course h ends other whole left = record {
+    ended = λ told. ends (state_in d old before) (state_in d new after);
+    limits = λ told i rows. other_stop i (state_in d old before) before.store after.store course.changes h (other i);
+    whole = λ told was. whole;
+    left = left;
+  }
+
+  -- nothing was done
+  module _ (stays : (x : D) → d.follows x x) {C A T : Type 0} {from : Files} (carried : C) (at : D) (db : Database) (indexed : is_indexed db ≡ true) where
+    pub none_went : {E : Course → State → State → Result Tally Halt → Type 0} → E idle (state_in d at db) (state_in d at db) (Ok uncounted)
+        → WentBy d C A T from from at at db db (Ok uncounted) E idle
+    none_went ends = record {
+      ended = λ told. ends;
+      limits = λ told i rows. none_made i (state_in d at db) db.store db.store db.store.spare uncounted refl;
+      whole = λ told whole. whole;
+      left = none_by d stays C carried at db indexed (Ok uncounted) (λ is. cc);
+    }
+
+  -- but for a line
+  pub line_by : {S C A T : Type 0} {from to : Files} {old new : D} {before after : Database} (e : sink.Ghosts S) {line : List ℕ} {x y : Buffered S}
+      (r : Result Tally Halt) (for : Bearer) → (T → state_in d new after ≡ state_in d old before) → after.store ≡ before.store → (T → to ≡ from)
+      → (IsTrue d.tells → (d.files new).idx ≡ (d.files old).idx) → ((r ≡ Err halt.DiskFault → ⊥) → LeftBy d C old new after r) → Fails e line x y r
+      → WentBy d C A T from to old new before after r (EndedOnErr e x y) (failing (ToErr for line))
+  line_by {from = from} {old = old} {new = new} {before = before} {after = after} e {line = line} {x = x} {y = y} r for state store files idx left fails = record {
+    ended = λ told.
+        subst (λ (t : State). EndedOnErr e x y (failing (ToErr for line)) (state_in d old before) t r) (sym (state told))
+        (fails.ended for (state_in d old before));
+    limits = λ told i rows.
+        subst (λ (f : Files). LimitsTurn i (state_in d old before) before.store after.store from f [] r) (sym (files told))
+        (line_limits i (state_in d old before) before.store after.store before.store.spare r store fails.kinds);
+    whole = λ told was. line_whole (d.files new).idx r fails.kinds (subst IsWholeIndex (sym (idx told)) was);
+    left = left (line_disk r fails.kinds);
+  }
+
+  module _ (stays : (x : D) → d.follows x x) {S C A T : Type 0} {from : Files} (carried : C) (at : D) (db : Database) (indexed : is_indexed db ≡ true)
+      (e : sink.Ghosts S) where
+    pub line_went : {line : List ℕ} {x y : Buffered S} (r : Result Tally Halt) (for : Bearer) → Fails e line x y r
+        → WentBy d C A T from from at at db db r (EndedOnErr e x y) (failing (ToErr for line))
+    line_went r for =
+        line_by e r for (λ told. refl) refl (λ told. refl) (λ told. refl) (λ other. none_by d stays C carried at db indexed r other)
+
+    -- or for a read that fails
+    pub reading_went : (x : Buffered S) (course : Course) (h : Halt) → (h ≡ halt.ShelfFault) ⊎ (h ≡ halt.NoMemory) → WentBy d C A T from from at at db db (Err h) (EndedOnErr e x x) course
+    reading_went x course h kind = elim kind [
+      | inl is ↦ rw is (stopped_went course halt.ShelfFault (λ s t. err_gone e x course) (λ i. refl) tt
+          (none_by d stays C carried at db indexed (Err halt.ShelfFault) (λ same. cc)))
+      | inr is ↦ rw is (stopped_went course halt.NoMemory (λ s t. err_gone e x course) (λ i. refl) tt
+          (none_by d stays C carried at db indexed (Err halt.NoMemory) (λ same. cc)))
+    ]
+
+  -- a change was refused
+  pub halted_went : {C A T X : Type 0} {from to : Files} {old new : D} {before after : Database}
+      {E : Course → State → State → Result Tally Halt → Type 0} (course : Course) (f : ChangeFault) (h : Halt) → h ≡ halt_of f
+      → ((s t : State) → E course s t (Err (halt_of f)))
+      → (T → (i : Bool) → (i ≡ true → A)
+      → LimitsTurn i (state_in d old before) before.store after.store from to course.changes (Err (halt_of f)))
+      → (IsTrue d.tells → IsWholeIndex (d.files old).idx → WholeCause f) → is_indexed after ≡ true → Runs d SameLog old new
+      → HasCauseAt X (d.faults old) (d.faults new) → (f ≡ fault.DiskFault → X)
+      → WentBy d C A T from to old new before after (Err h) E course
+  halted_went {C = C} {old = old} {new = new} {before = before} {after = after} course f h is ends limits whole indexed runs cause failed = rw is (record {
+    ended = λ told. ends (state_in d old before) (state_in d new after);
+    limits = limits;
+    whole = λ told was. whole_halt (d.files new).idx f (whole told was);
+    left = halted_by d C old new after runs cause.later indexed f (λ at. cause.rose (failed at));
+  })
+
+  -- ---- one part and then another
+
+  limits_then : {from mid to : Files} (i : Bool) (xs ys : List Change) (s t : State) (v w x : Store) (one : Tally) → t ≡ apply_all xs s
+      → LimitsTurn i s v w from mid xs (Ok one) → (r : Result Tally Halt) → LimitsTurn i t w x mid to ys r
+      → LimitsTurn i s v x from to (xs ++ ys) (plus one r)
+  limits_then i xs ys s t v w x one is first (Ok more) second =
+      limits_more i xs ys s t v w x one is first more (record { failed = one.failed + more.failed; changes = one.changes + more.changes }) second
+  limits_then {from = from} {to = to} i xs ys s t v w x one is first (Err h) second =
+      subst (λ (cs : List Change). LimitsTurn i s v x from to (xs ++ cs) (Err h)) (append-nil ys) (limits_stop i xs ys s t v w x one is first [] h second)
+
+  module _ (joins : (x y z : D) → d.follows x y → d.follows y z → d.follows x z) {A B C P Q T : Type 0} {from mid to : Files} {old at new : D}
+      {before db after : Database} {one : Tally} {E F G : Course → State → State → Result Tally Halt → Type 0} (ends : Joins E F G)
+      (carries : A → B → C) (asks : A → T → P → Q) (a : Course) (first : WentBy d A P T from mid old at before db (Ok one) E a) where
+    pub went_then : (b : Course) (r : Result Tally Halt) → WentBy d B Q T mid to at new db after r F b
+        → WentBy d C P T from to old new before after (plus one r) G (joined a b)
+    went_then b r second = record {
+      ended = λ told.
+          ends.both a b (state_in d old before) (state_in d at db) (state_in d new after) one r (first.ended told) (second.ended told);
+      limits = λ told i rows.
+          limits_then i a.changes b.changes (state_in d old before) (state_in d at db) before.store db.store after.store one
+          (ends.state_is a (state_in d old before) (state_in d at db) one (first.ended told)) (first.limits told i rows) r
+          (second.limits told i (λ is. asks first.left.carried told (rows is)));
+      whole = λ told was. whole_plus (d.files new).idx one r (second.whole told (first.whole told was));
+      left = left_plus C old new after one r (then_by d joins A B C carries old at new db after one r first.left second.left);
+    }
+
+  abbrev ok_of : ℕ → ℕ → Result Tally Halt
+  ok_of failed changes = Ok (record { failed = failed; changes = changes })
+
+  plus_none : (r : Result Tally Halt) → plus uncounted r ≡ r
+  plus_none (Ok tally) =
+      let a : 0 + tally.failed ≡ tally.failed = omega arith in
+      let b : 0 + tally.changes ≡ tally.changes = omega arith in
+      ap (λ (n : ℕ). ok_of n (0 + tally.changes)) a ∙ ap (ok_of tally.failed) b
+  plus_none (Err h) = refl
+
+  -- nothing, and then a course
+  pub went_behind : (joins : (x y z : D) → d.follows x y → d.follows y z → d.follows x z) {A B C P Q T : Type 0} {from mid to : Files} {old at new : D}
+      {before db after : Database} {E F G : Course → State → State → Result Tally Halt → Type 0} (ends : Joins E F G) (carries : A → B → C)
+      (asks : A → T → P → Q) (b : Course) (r : Result Tally Halt) → WentBy d A P T from mid old at before db (Ok uncounted) E idle
+      → WentBy d B Q T mid to at new db after r F b → WentBy d C P T from to old new before after r G b
+  went_behind joins {C = C} {P = P} {T = T} {from = from} {to = to} {old = old} {new = new} {before = before} {after = after} {G = G} ends carries asks b r
+      first second =
+      subst (λ (x : Result Tally Halt). WentBy d C P T from to old new before after x G b) (plus_none r)
+      (went_as (joined idle b) b (λ told. told) (λ told. idle_joined b) (λ s t e. e) (went_then joins ends carries asks idle first b r second))
+
+  -- a course that was stopped, whatever was to come after it
+  pub went_ahead : {C P T : Type 0} {from to : Files} {old new : D} {before after : Database} {h : Halt}
+      {F : Course → State → State → Result Tally Halt → Type 0}
+      → ((a b : Course) (s t : State) (h : Halt) → F a s t (Err h) → F (joined a b) s t (Err h)) → (a b : Course)
+      → WentBy d C P T from to old new before after (Err h) F a → WentBy d C P T from to old new before after (Err h) F (joined a b)
+  went_ahead {from = from} {old = old} {new = new} {before = before} {after = after} {h = h} ahead a b w = record {
+    ended = λ told. ahead a b (state_in d old before) (state_in d new after) h (w.ended told);
+    limits = λ told i rows.
+        limits_stop i [] a.changes (state_in d old before) (state_in d old before) before.store before.store after.store uncounted refl
+        (limits_none {files = from} i (state_in d old before) before.store uncounted) b.changes h (w.limits told i rows);
+    whole = w.whole;
+    left = w.left;
+  }
+
+  -- however it is counted
+  pub counted_went : {C A T : Type 0} {from to : Files} {old new : D} {before after : Database}
+      {E : Course → State → State → Result Tally Halt → Type 0} (course : Course) (a b : Tally) → (T → a ≡ b)
+      → WentBy d C A T from to old new before after (Ok a) E course → WentBy d C A T from to old new before after (Ok b) E course
+  counted_went {C = C} {old = old} {new = new} {before = before} {after = after} {E = E} course a b same w = record {
+    ended = λ told. subst (λ (tally : Tally). E course (state_in d old before) (state_in d new after) (Ok tally)) (same told) (w.ended told);
+    limits = λ told i rows.
+        limits_counted i (state_in d old before) before.store after.store course.changes a b (w.limits told i rows);
+    whole = w.whole;
+    left = after_by d C old new after a w.left (Ok b) (λ is. absurd cc);
+  }
+
+  -- ---- part by part
+
+  -- a part of a course was gone through, and this is left of it
+  pub record Going (C A T : Type 0) (from to : Files) (old new : D) (before after : Database) (tally : Tally)
+      (E : Course → State → State → Result Tally Halt → Type 0) (all left : Course) : Type 0 where
+    pub done : Course
+    pub all_is : T → all ≡ joined done left
+    pub went : WentBy d C A T from to old new before after (Ok tally) E done
+
+  pub going_begin : {C A T : Type 0} {from : Files} {at : D} {db : Database} {E : Course → State → State → Result Tally Halt → Type 0}
+      (all left : Course) → (T → all ≡ left) → WentBy d C A T from from at at db db (Ok uncounted) E idle
+      → Going C A T from from at at db db uncounted E all left
+  going_begin all left same w = record { done = idle; all_is = λ told. same told ∙ sym (idle_joined left); went = w }
+
+  pub going_start : {C A T : Type 0} {from : Files} {at : D} {db : Database} {E : Course → State → State → Result Tally Halt → Type 0} (all : Course)
+      → WentBy d C A T from from at at db db (Ok uncounted) E idle → Going C A T from from at at db db uncounted E all all
+  going_start all = going_begin all all (λ told. refl)
+
+  pub going_end : {C A T : Type 0} {from to : Files} {old new : D} {before after : Database} {tally : Tally}
+      {E : Course → State → State → Result Tally Halt → Type 0} {all left : Course} → (T → left ≡ idle)
+      → Going C A T from to old new before after tally E all left → WentBy d C A T from to old new before after (Ok tally) E all
+  going_end {all = all} none g =
+      went_as g.done all (λ told. told) (λ told. sym (g.all_is told ∙ ap (joined g.done) (none told) ∙ joined_idle g.done)) (λ s t e. e) g.went
+
+  module _ (joins : (x y z : D) → d.follows x y → d.follows y z → d.follows x z) {A B C P Q T : Type 0} {from mid to : Files} {old at new : D}
+      {before db after : Database} {one : Tally} {E F G : Course → State → State → Result Tally Halt → Type 0} {all left : Course}
+      (ends : Joins E F G) (carries : A → B → C) (asks : A → T → P → Q) (turn rest : Course) (g : Going A P T from mid old at before db one E all left)
+    where
+      pub going_more : {more : Tally} → (T → state_in d new after ≡ apply_all turn.changes (state_in d at db) → left ≡ joined turn rest)
+          → WentBy d B Q T mid to at new db after (Ok more) F turn
+          → Going C P T from to old new before after (record { failed = one.failed + more.failed; changes = one.changes + more.changes }) G all rest
+      going_more {more = more} split w = record {
+        done = joined g.done turn;
+        all_is = λ told.
+            let after_it = ends.next_is turn (state_in d at db) (state_in d new after) more (w.ended told) in
+            g.all_is told ∙ ap (joined g.done) (split told after_it) ∙ sym (joined_assoc g.done turn rest);
+        went = went_then joins ends carries asks g.done g.went turn (Ok more) w;
+      }
+
+      -- the next part was stopped
+      pub going_stop : {h : Halt} → (T → left ≡ joined turn rest) → WentBy d B Q T mid to at new db after (Err h) F turn
+          → WentBy d C P T from to old new before after (Err h) G all
+      going_stop {h = h} split w =
+          let ahead = went_ahead ends.ahead turn rest w in
+          went_as (joined g.done (joined turn rest)) all (λ told. told) (λ told. sym (g.all_is told ∙ ap (joined g.done) (split told))) (λ s t e. e)
+          (went_then joins ends carries asks g.done g.went (joined turn rest) (Err h) ahead)
