@@ -14,8 +14,7 @@ module _ {D : Type 0} (d : disk.Ghosts D) (old new : D) (db : Database) where
   asked_still untouched asked = record {
     keeps = λ told. subst (λ (f : Files). Keeps f.pkg db) (sym (untouched told).same) (asked.keeps told);
     keeps_index = λ told. subst (λ (f : Files). KeepsIndex f.idx db) (sym (untouched told).same) (asked.keeps_index told);
-    runs = asked.runs;
-    from_one = asked.from_one;
+    going = asked.going;
   }
 
 -- without an index nothing is kept of one

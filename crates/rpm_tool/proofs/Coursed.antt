@@ -3,7 +3,7 @@ use Rattle.std.proofs.Common.{◌≡◌, ℕ, ◌≤◌, Bool, true, false, [], 
 use Rattle.std.specs.Prelude.{IsTrue, IfOk, IfErr, OnOk}
 use Rattle.rpm_outside.specs.declared.disk.Disk as disk
 use Rattle.rpm_outside.specs.Causes.{Rose, HasCauseAt}
-use Rattle.rpm_pkgdb.specs.Store.{Store, store}
+use Rattle.rpm_pkgdb.specs.Store.{store}
 use Rattle.rpm_pkgdb.specs.Written.{with_spare}
 use Rattle.rpm_db.specs.Database.{Database, IsNext, holds}
 use Rattle.rpm_db.specs.Openings.{units_needed}
@@ -27,7 +27,7 @@ use Rattle.rpm_tool.specs.declared.answer.Why.{Why}
 use Rattle.rpm_tool.specs.declared.answer.Why.TheVariants as why
 use Rattle.rpm_tool.specs.Changing.{EmptyBy, is_held}
 use Rattle.rpm_tool.specs.Frame.{Runs, DiskFault, state_in}
-use Rattle.rpm_tool.specs.Working.{OpensBy, IsOfOpening, is_halt, why_of, why_of_halt, why_of_exercise, ended_as, exercise_ended}
+use Rattle.rpm_tool.specs.Working.{OpensBy, IsOfOpening, is_halt, why_of_halt, why_of_exercise, ended_as, exercise_ended}
 use Rattle.rpm_tool.specs.inner.OneChange.{OpensOn, WorksOn}
 use Rattle.rpm_tool.proofs.Anew.{done_anew, halted_anew}
 use Rattle.rpm_tool.proofs.Emptied.{unheld}
@@ -286,7 +286,7 @@ module _ {D : Type 0} (d : disk.Ghosts D) (trans : (a b c : D) → d.follows a b
         → IfOk r (λ _tally. IsCurrent d new last) → Runs d SameLog mid new → DiskFault d (r ≡ Err (Halted halt.DiskFault)) mid new
         → WorksOn d true false true (λ s. exercise n s) (Told d reads Telling) before behind old new (exercise_ended r)
     exercise_works (Ok tally) empty refused ended turns current more fault = record {
-      worked = λ t. done_exercise n (d.files old) (d.files mid) (d.files new) db last before behind (opens t.0) (opened.from_one t.0) tally empty
+      worked = λ t. done_exercise n (d.files old) (d.files mid) (d.files new) db last before behind (opens t.0) (opened.ready.serving t.0).keeps tally empty
           (current.ready.serving t.0).keeps (ended t)
           (still_paged (exercise n found).changes db last.store opened.not_blank (turns t.0).holds.stores) (current.index t.0)
           (λ indexed may. reached_renewed indexed (λ s. exercise n s) (d.files old) (d.files mid) (d.files new) db (opens t.0)
@@ -294,7 +294,7 @@ module _ {D : Type 0} (d : disk.Ghosts D) (trans : (a b c : D) → d.follows a b
           (let turn = turns t.0 in
           reached_anew found db.store (exercise n found).changes (d.files mid) turn.mid (d.files new) turn.same turn.made turn.holds.reached));
       limits = λ t indexed may. limits_worked indexed true (λ s. exercise n s) (d.files old) (d.files mid) db (opens t.0) (opened.store_is t.0) tally
-          (λ s stored. exercise_stops indexed n (d.files mid) db last (Ok tally) (opened.from_one t.0) empty (turns t.0).holds.first);
+          (λ s stored. exercise_stops indexed n (d.files mid) db last (Ok tally) (opened.ready.serving t.0).keeps empty (turns t.0).holds.first);
       empty = λ t. empty_done (d.files old) (d.files mid) db (opens t) tally.failed empty;
       halted = tt;
       runs = runs_then d.tells d.files d.left_since d.moment d.bytes_read d.follows trans SameLog SameLog SameLog old mid new (λ x y log. log)
@@ -303,10 +303,10 @@ module _ {D : Type 0} (d : disk.Ghosts D) (trans : (a b c : D) → d.follows a b
           (later_cause (d.faults old) (d.faults mid) (d.faults new) later fault);
     }
     exercise_works (Err why_not) empty refused ended turns current more fault = record {
-      worked = λ t. stopped_exercise n (d.files old) (d.files mid) (d.files new) db last before behind (opens t.0) (opened.from_one t.0) why_not
+      worked = λ t. stopped_exercise n (d.files old) (d.files mid) (d.files new) db last before behind (opens t.0) (opened.ready.serving t.0).keeps why_not
           (state_in d new last) empty (ended t) (turns t.0) (λ held is. refused held (ap Err is));
       limits = λ t indexed may. limits_exercised indexed n (d.files old) (d.files mid) (d.files new) db last (opens t.0) (opened.store_is t.0)
-          (opened.from_one t.0) why_not empty (turns t.0);
+          (opened.ready.serving t.0).keeps why_not empty (turns t.0);
       empty = λ t. empty_stopped (d.files old) (d.files mid) db (opens t) why_not empty;
       halted = exercise_halts why_not;
       runs = runs_then d.tells d.files d.left_since d.moment d.bytes_read d.follows trans SameLog SameLog SameLog old mid new (λ x y log. log)

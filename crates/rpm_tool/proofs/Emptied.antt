@@ -19,6 +19,7 @@ use Rattle.rpm_tool.specs.Changing.{EmptyIs, EmptyBy, is_held}
 use Rattle.rpm_tool.specs.Working.{EndsAs, IsUncommitted, done_why, why_of}
 use Rattle.rpm_tool.proofs.Standing.{if_ok, if_ok_at}
 use Rattle.rpm_tool.proofs.Outcomes.{done_is}
+use Rattle.rpm_tool.proofs.ByEnding.{by_uncommitted}
 
 -- a command that was done isn't refused so
 done_unheld : (k : ℕ) → is_held (done_why k) ≡ false
@@ -64,27 +65,14 @@ full_empty map k units done = elim (done_is k) [
   | inr some ↦ subst (λ (w : Why). EmptyIs map w) some.1 done
 ]
 
-uncommitted_empty : (asks : Bool) (files : Files) (k : ℕ) (w : Why) → IsUncommitted w → EmptyBy asks files (done_why k) → EmptyBy asks files w
-uncommitted_empty asks files k why.Done un done = absurd un
-uncommitted_empty asks files k (why.Failed n) un done = absurd un
-uncommitted_empty asks files k (why.Usage f) un done = absurd un
-uncommitted_empty asks files k (why.BadFormat f) un done = absurd un
-uncommitted_empty asks files k (why.BadLog u) un done = absurd un
-uncommitted_empty asks files k (why.Damaged d) un done = absurd un
-uncommitted_empty asks files k why.NumbersSpent un done = absurd un
-uncommitted_empty asks files k why.GenerationSpent un done = absurd un
-uncommitted_empty asks files k why.StoreFull un done = absurd un
-uncommitted_empty asks files k (why.NotEmpty held) un done = absurd un
-uncommitted_empty asks files k (why.BadIndex u) un done = absurd un
-uncommitted_empty asks files k (why.IndexFull u) un done = absurd un
-uncommitted_empty true files k (why.LogFull u) un done =
+full_by : (asks : Bool) (files : Files) (k u : ℕ) → EmptyBy asks files (done_why k) → EmptyBy asks files (why.LogFull u)
+full_by true files k u done =
     if_ok (store files.pkg) (λ value is. full_empty (packages files.pkg value) k u (if_ok_at _ (store files.pkg) value is done))
-uncommitted_empty false files k (why.LogFull u) un done = refl
-uncommitted_empty asks files k why.DiskFault un done = outside_empty files why.DiskFault (λ value. tt) refl asks
-uncommitted_empty asks files k why.ShelfFault un done = absurd un
-uncommitted_empty asks files k why.OutFault un done = absurd un
-uncommitted_empty asks files k why.ErrFault un done = absurd un
-uncommitted_empty asks files k why.NoMemory un done = memory_empty asks files
+full_by false files k u done = refl
+
+uncommitted_empty : (asks : Bool) (files : Files) (k : ℕ) (w : Why) → IsUncommitted w → EmptyBy asks files (done_why k) → EmptyBy asks files w
+uncommitted_empty asks files k w un done = by_uncommitted (EmptyBy asks files) (λ u. full_by asks files k u done)
+    (outside_empty files why.DiskFault (λ value. tt) refl asks) (memory_empty asks files) w un
 
 pub group_empty : (asks : Bool) (files : Files) (ended : Result Tally Why) (given : Why) (n : ℕ) → EndsAs ended given n → EmptyBy asks files (why_of ended)
     → EmptyBy asks files given

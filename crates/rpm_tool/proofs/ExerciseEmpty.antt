@@ -20,27 +20,11 @@ use Rattle.rpm_tool.specs.Changing.{EmptyIs, EmptyOn}
 use Rattle.rpm_tool.specs.Working.{OpensIn, OpensBy, done_why, why_of_halt, why_of_exercise}
 use Rattle.rpm_tool.proofs.Standing.{if_ok}
 use Rattle.rpm_tool.proofs.Outcomes.{done_is}
+use Rattle.rpm_tool.proofs.ByEnding.{by_opening}
 
 empty_in : (packages : finite.FinMap nat_cmp Package) (making : _) (needed : ℕ) (s : State) (new : Files) (w : Why) → OpensIn making needed s new (Err w)
     → EmptyIs packages w
-empty_in packages making needed s new why.Done opens = absurd opens
-empty_in packages making needed s new (why.Failed n) opens = absurd opens
-empty_in packages making needed s new (why.Usage f) opens = absurd opens
-empty_in packages making needed s new (why.BadFormat f) opens = absurd opens
-empty_in packages making needed s new (why.BadLog u) opens = absurd opens
-empty_in packages making needed s new (why.Damaged d) opens = absurd opens
-empty_in packages making needed s new why.NumbersSpent opens = absurd opens
-empty_in packages making needed s new why.GenerationSpent opens = absurd opens
-empty_in packages making needed s new why.StoreFull opens = absurd opens
-empty_in packages making needed s new (why.NotEmpty held) opens = absurd opens
-empty_in packages making needed s new (why.BadIndex u) opens = absurd opens
-empty_in packages making needed s new (why.IndexFull u) opens = tt
-empty_in packages making needed s new (why.LogFull u) opens = absurd opens
-empty_in packages making needed s new why.DiskFault opens = tt
-empty_in packages making needed s new why.ShelfFault opens = absurd opens
-empty_in packages making needed s new why.OutFault opens = absurd opens
-empty_in packages making needed s new why.ErrFault opens = absurd opens
-empty_in packages making needed s new why.NoMemory opens = tt
+empty_in packages making needed s new w opens = by_opening making needed s new (EmptyIs packages) (λ u full. tt) tt tt w opens
 
 pub empty_unopened : (old new : Files) (w : Why) → OpensBy old (store old.pkg) new (Err w) → EmptyOn old w
 empty_unopened old new w opens = if_ok (store old.pkg)

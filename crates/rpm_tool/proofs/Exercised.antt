@@ -10,7 +10,7 @@ use Rattle.rpm_hindex.specs.Sizes.{units_for}
 use Rattle.rpm_pkgdb.specs.declared.slot.Damage.{Damage}
 use Rattle.rpm_pkgdb.specs.Store.{Store, store, in_file}
 use Rattle.rpm_db.specs.Changes.{Change}
-use Rattle.rpm_db.specs.Database.{Database, IsIndexed, IsNext, holds}
+use Rattle.rpm_db.specs.Database.{Database, IsIndexed, IsNext, Keeps, holds}
 use Rattle.rpm_db.specs.Lawful.{IsLawful}
 use Rattle.rpm_db.specs.Openings.{units_needed}
 use Rattle.rpm_db.specs.Rows.{rows, rows_in}
@@ -42,22 +42,22 @@ no_rows map none =
     let is : units_for [] ≡ 18 = refl in
     subst (λ (all : List Row). units_for all ≤ 2 ^ 28) (sym same) (omega (arith, is))
 
-room_of_none : (file : Units) (db : Database) → holds 0 db ≡ false → IsNext (λ m. holds m db) 0 None → units_for (rows (packages file db.store)) ≤ 2 ^ 28
-room_of_none file db zero none =
+room_of_none : (file : Units) (db : Database) → Keeps file db → IsNext (λ m. holds m db) 0 None → units_for (rows (packages file db.store)) ≤ 2 ^ 28
+room_of_none file db kept none =
     no_rows (packages file db.store)
-    (sym (from_one file db zero) ∙ no_entry (packages file db.store) 0 (λ k above. is_there file db k ∙ none k above))
+    (sym (from_one file db kept) ∙ no_entry (packages file db.store) 0 (λ k above. is_there file db k ∙ none k above))
 
 -- so what refuses the first change that is refused comes first
-pub renewed : (file : Units) (db : Database) (changes : List Change) (r : Result Tally Halt) → holds 0 db ≡ false → IsNext (λ m. holds m db) 0 None
+pub renewed : (file : Units) (db : Database) (changes : List Change) (r : Result Tally Halt) → Keeps file db → IsNext (λ m. holds m db) 0 None
     → StopsAt true (first_refusal true (state file db.store) db.store changes) r
     → StopsAt true (first_limit true (state file db.store) db.store changes) r
-renewed file db changes r zero none stops = subst (λ (first : Option Halt). StopsAt true first r)
-    (sym (makes_small true (state file db.store) db.store changes (λ made. room_of_none file db zero none))) stops
+renewed file db changes r kept none stops = subst (λ (first : Option Halt). StopsAt true first r)
+    (sym (makes_small true (state file db.store) db.store changes (λ made. room_of_none file db kept none))) stops
 
 -- ---- what was worked
 
 module _ (n : ℕ) (old mid new : Files) (db last : Database) (before now : Outputs) (opens : OpensBy old (store old.pkg) mid (Ok db))
-    (zero : holds 0 db ≡ false) where
+    (kept : Keeps mid.pkg db) where
   abbrev found : State
   found = state mid.pkg db.store
 
@@ -81,7 +81,7 @@ module _ (n : ℕ) (old mid new : Files) (db last : Database) (before now : Outp
   }
   stopped_exercise (Halted h) t refused ended turn nothing =
       halted_anew (λ s. exercise n s) old mid new db last before now h t opens ended
-      (renewed mid.pkg db (exercise n found).changes (Err h) zero refused turn.holds.first)
+      (renewed mid.pkg db (exercise n found).changes (Err h) kept refused turn.holds.first)
 
   pub done_exercise : (tally : Tally) → IsNext (λ m. holds m db) 0 None → store new.pkg ≡ Ok (in_file last.store)
       → Done (exercise n found) found (state new.pkg last.store) tally before now → 1 ≤ last.store.pages → IsIndexed new.pkg new.idx last
@@ -91,22 +91,22 @@ module _ (n : ℕ) (old mid new : Files) (db last : Database) (before now : Outp
 
 -- ---- its limits
 
-pub exercise_stops : (indexed : Bool) (n : ℕ) (mid : Files) (db last : Database) (r : Result Tally Halt) → holds 0 db ≡ false
+pub exercise_stops : (indexed : Bool) (n : ℕ) (mid : Files) (db last : Database) (r : Result Tally Halt) → Keeps mid.pkg db
     → IsNext (λ m. holds m db) 0 None
     → StopsAt true (first_refusal true (state mid.pkg db.store) db.store (exercise n (state mid.pkg db.store)).changes) r
     → StopsAt indexed (command_limit indexed true (state mid.pkg db.store) db.store (exercise n (state mid.pkg db.store)).changes) r
-exercise_stops indexed n mid db last r zero none turn =
+exercise_stops indexed n mid db last r kept none turn =
     made_stops indexed true (state mid.pkg db.store) db.store (exercise n (state mid.pkg db.store)).changes r
-    (renewed mid.pkg db (exercise n (state mid.pkg db.store)).changes r zero none turn)
+    (renewed mid.pkg db (exercise n (state mid.pkg db.store)).changes r kept none turn)
 
 pub limits_exercised : (indexed : Bool) (n : ℕ) (old mid new : Files) (db last : Database) (opens : OpensBy old (store old.pkg) mid (Ok db))
-    → IfOk (store old.pkg) (λ value. db.store ≡ begun value) → holds 0 db ≡ false → (fault : ExerciseFault)
+    → IfOk (store old.pkg) (λ value. db.store ≡ begun value) → Keeps mid.pkg db → (fault : ExerciseFault)
     → IsRefused (IsNext (λ m. holds m db) 0) (Err fault)
     → OnceBegun (λ r. Renewed (units_needed mid.pkg (Ok db.store)) (λ files. LimitsTurn true (state mid.pkg db.store) db.store last.store files new
     (exercise n (state mid.pkg db.store)).changes r) mid) (Err fault)
     → LimitsOn indexed true (λ s. exercise n s) old (why_of_exercise fault)
-limits_exercised indexed n old mid new db last opens begins zero (NotEmpty held) refused turn =
+limits_exercised indexed n old mid new db last opens begins kept (NotEmpty held) refused turn =
     limits_refused indexed true (λ s. exercise n s) old mid db opens begins held
-limits_exercised indexed n old mid new db last opens begins zero (Halted h) refused turn =
-    limits_halted indexed true (λ s. exercise n s) old mid db opens begins h (λ s stored. exercise_stops indexed n mid db last (Err h) zero refused
+limits_exercised indexed n old mid new db last opens begins kept (Halted h) refused turn =
+    limits_halted indexed true (λ s. exercise n s) old mid db opens begins h (λ s stored. exercise_stops indexed n mid db last (Err h) kept refused
     turn.holds.first)

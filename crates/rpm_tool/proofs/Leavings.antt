@@ -12,6 +12,7 @@ use Rattle.rpm_tool.specs.Changing.{Did, LeavesState, HasState, after, is_done_o
 use Rattle.rpm_tool.specs.Limits.{MeetsFirst}
 use Rattle.rpm_tool.specs.Working.{IsUncommitted, done_why}
 use Rattle.rpm_tool.proofs.Outcomes.{done_is}
+use Rattle.rpm_tool.proofs.ByEnding.{by_done, by_uncommitted}
 
 -- nothing changed
 pub leaves_start : (course : State → Course) (s : State) (w : Why) (n : ℕ) (files : Files) → (is_done w ≡ true → ⊥) → n ≡ 0 → HasState s files
@@ -37,24 +38,9 @@ leaves_start course s why.NoMemory m files undone none has = (none, has)
 
 pub uncommitted_leaves : (course : State → Course) (s : State) (w : Why) (n : ℕ) (files : Files) → IsUncommitted w → n ≡ 0
     → HasState s files ⊎ HasState (after course s) files → (is_done_or_fault w ≡ false → HasState s files) → LeavesState course s w n files
-uncommitted_leaves course s why.Done m files un none either stays = absurd un
-uncommitted_leaves course s (why.Failed n) m files un none either stays = absurd un
-uncommitted_leaves course s (why.Usage f) m files un none either stays = absurd un
-uncommitted_leaves course s (why.BadFormat f) m files un none either stays = absurd un
-uncommitted_leaves course s (why.BadLog u) m files un none either stays = absurd un
-uncommitted_leaves course s (why.Damaged d) m files un none either stays = absurd un
-uncommitted_leaves course s why.NumbersSpent m files un none either stays = absurd un
-uncommitted_leaves course s why.GenerationSpent m files un none either stays = absurd un
-uncommitted_leaves course s why.StoreFull m files un none either stays = absurd un
-uncommitted_leaves course s (why.NotEmpty held) m files un none either stays = absurd un
-uncommitted_leaves course s (why.BadIndex u) m files un none either stays = absurd un
-uncommitted_leaves course s (why.IndexFull u) m files un none either stays = absurd un
-uncommitted_leaves course s (why.LogFull u) m files un none either stays = (none, stays refl)
-uncommitted_leaves course s why.DiskFault m files un none either stays = (none, either)
-uncommitted_leaves course s why.ShelfFault m files un none either stays = absurd un
-uncommitted_leaves course s why.OutFault m files un none either stays = absurd un
-uncommitted_leaves course s why.ErrFault m files un none either stays = absurd un
-uncommitted_leaves course s why.NoMemory m files un none either stays = (none, stays refl)
+uncommitted_leaves course s w n files un none either =
+    by_uncommitted (λ (given : Why). (is_done_or_fault given ≡ false → HasState s files) → LeavesState course s given n files)
+    (λ u stays. (none, stays refl)) (λ stays. (none, either)) (λ stays. (none, stays refl)) w un
 
 pub leaves_done : (course : State → Course) (s : State) (k n : ℕ) (files : Files) → n ≡ length (course s).changes → HasState (after course s) files
     → LeavesState course s (done_why k) n files
@@ -65,24 +51,8 @@ leaves_done course s k n files is has = elim (done_is k) [
 
 pub leaves_after : (course : State → Course) (s : State) (w : Why) (n : ℕ) (files : Files) → is_done w ≡ true → LeavesState course s w n files
     → HasState (after course s) files
-leaves_after course s why.Done m files is leaves = leaves.1
-leaves_after course s (why.Failed n) m files is leaves = leaves.1
-leaves_after course s (why.Usage f) m files is leaves = absurd cc
-leaves_after course s (why.BadFormat f) m files is leaves = absurd cc
-leaves_after course s (why.BadLog u) m files is leaves = absurd cc
-leaves_after course s (why.Damaged d) m files is leaves = absurd cc
-leaves_after course s why.NumbersSpent m files is leaves = absurd cc
-leaves_after course s why.GenerationSpent m files is leaves = absurd cc
-leaves_after course s why.StoreFull m files is leaves = absurd cc
-leaves_after course s (why.NotEmpty held) m files is leaves = absurd cc
-leaves_after course s (why.BadIndex u) m files is leaves = absurd cc
-leaves_after course s (why.IndexFull u) m files is leaves = absurd cc
-leaves_after course s (why.LogFull u) m files is leaves = absurd cc
-leaves_after course s why.DiskFault m files is leaves = absurd cc
-leaves_after course s why.ShelfFault m files is leaves = absurd cc
-leaves_after course s why.OutFault m files is leaves = absurd cc
-leaves_after course s why.ErrFault m files is leaves = absurd cc
-leaves_after course s why.NoMemory m files is leaves = absurd cc
+leaves_after course s w n files is =
+    by_done (λ (given : Why). LeavesState course s given n files → HasState (after course s) files) (λ leaves. leaves.1) (λ k leaves. leaves.1) w is
 
 pub lawful_ending : (c : Course) (first : Option Halt) (w : Why) (old new : Outputs) → Did c w old new → MeetsFirst true first w → is_of_lawful w ≡ true
 lawful_ending c first why.Done old new did meets = refl

@@ -7,6 +7,7 @@ mod Asking
 mod Begun
 mod Behind
 mod Brokens
+mod ByEnding
 mod Chained
 mod Checked
 mod Closed
@@ -26,6 +27,7 @@ mod FileReach
 mod Filed
 mod Fitting
 mod Fixtures
+mod Going
 mod Greatest
 mod Grouped
 mod Histories
@@ -60,6 +62,7 @@ mod Reaching
 mod Recovered
 mod Regrouped
 mod Rising
+mod Rowed
 mod RowsFit
 mod SoFar
 mod Standing

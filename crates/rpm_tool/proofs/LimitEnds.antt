@@ -18,26 +18,10 @@ use Rattle.rpm_tool.specs.Limits.{MeetsFirst, LimitsOn}
 use Rattle.rpm_tool.specs.Working.{EndsAs, IsUncommitted, why_of}
 use Rattle.rpm_tool.proofs.Standing.{if_ok, if_ok_at}
 use Rattle.rpm_tool.proofs.Limited.{none_done}
+use Rattle.rpm_tool.proofs.ByEnding.{by_uncommitted}
 
 limits_uncommitted : (indexed : Bool) (first : Option Halt) (w : Why) → IsUncommitted w → first ≡ None → MeetsFirst indexed first w
-limits_uncommitted indexed first why.Done un none = absurd un
-limits_uncommitted indexed first (why.Failed n) un none = absurd un
-limits_uncommitted indexed first (why.Usage f) un none = absurd un
-limits_uncommitted indexed first (why.BadFormat f) un none = absurd un
-limits_uncommitted indexed first (why.BadLog u) un none = absurd un
-limits_uncommitted indexed first (why.Damaged d) un none = absurd un
-limits_uncommitted indexed first why.NumbersSpent un none = absurd un
-limits_uncommitted indexed first why.GenerationSpent un none = absurd un
-limits_uncommitted indexed first why.StoreFull un none = absurd un
-limits_uncommitted indexed first (why.NotEmpty held) un none = absurd un
-limits_uncommitted indexed first (why.BadIndex u) un none = absurd un
-limits_uncommitted indexed first (why.IndexFull u) un none = absurd un
-limits_uncommitted indexed first (why.LogFull u) un none = none
-limits_uncommitted indexed first why.DiskFault un none = tt
-limits_uncommitted indexed first why.ShelfFault un none = absurd un
-limits_uncommitted indexed first why.OutFault un none = absurd un
-limits_uncommitted indexed first why.ErrFault un none = absurd un
-limits_uncommitted indexed first why.NoMemory un none = tt
+limits_uncommitted indexed first w un none = by_uncommitted (λ (given : Why). MeetsFirst indexed first given) (λ u. none) tt tt w un
 
 limits_ended : (indexed : Bool) (first : Option Halt) (ended : Result Tally Why) (given : Why) (n : ℕ) → EndsAs ended given n
     → MeetsFirst indexed first (why_of ended) → MeetsFirst indexed first given

@@ -24,6 +24,7 @@ use Rattle.rpm_tool.specs.Limits.{begun, command_limit, MeetsFirst, LimitsOn}
 use Rattle.rpm_tool.specs.Working.{OpensIn, OpensBy, done_why, why_of_halt}
 use Rattle.rpm_tool.proofs.Standing.{if_ok, if_ok_at}
 use Rattle.rpm_tool.proofs.Outcomes.{done_is}
+use Rattle.rpm_tool.proofs.ByEnding.{by_opening}
 
 -- a blank database is made, and any other stays
 pub begun_blank : (value : Store) → (value.pages == 0) ≡ true → made_new value ≡ begun value
@@ -54,25 +55,8 @@ module _ (indexed made making : Bool) (more : making ≡ true → made ≡ true)
   first = command_limit indexed made s v changes
 
   limits_in : (w : Why) → OpensIn making (units_for (rows s.packages)) t new (Err w) → MeetsFirst indexed first w
-  limits_in why.Done opens = absurd opens
-  limits_in (why.Failed n) opens = absurd opens
-  limits_in (why.Usage f) opens = absurd opens
-  limits_in (why.BadFormat f) opens = absurd opens
-  limits_in (why.BadLog u) opens = absurd opens
-  limits_in (why.Damaged d) opens = absurd opens
-  limits_in why.NumbersSpent opens = absurd opens
-  limits_in why.GenerationSpent opens = absurd opens
-  limits_in why.StoreFull opens = absurd opens
-  limits_in (why.NotEmpty held) opens = absurd opens
-  limits_in (why.BadIndex u) opens = absurd opens
-  limits_in (why.IndexFull u) opens = λ asked.
-      large_command indexed made s v changes u (more opens.0) (subst (λ (n : ℕ). 2 ^ 28 < n) (sym opens.2) opens.1) opens.2 asked
-  limits_in (why.LogFull u) opens = absurd opens
-  limits_in why.DiskFault opens = tt
-  limits_in why.ShelfFault opens = absurd opens
-  limits_in why.OutFault opens = absurd opens
-  limits_in why.ErrFault opens = absurd opens
-  limits_in why.NoMemory opens = tt
+  limits_in w opens = by_opening making (units_for (rows s.packages)) t new (λ (given : Why). MeetsFirst indexed first given)
+      (λ u full asked. large_command indexed made s v changes u (more full.0) (subst (λ (n : ℕ). 2 ^ 28 < n) (sym full.2) full.1) full.2 asked) tt tt w opens
 
 pub limits_unopened : (indexed anew : Bool) (course : State → Course) (old new : Files) (w : Why) → OpensBy old (store old.pkg) new (Err w)
     → LimitsOn indexed anew course old w

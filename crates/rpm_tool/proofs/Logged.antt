@@ -26,6 +26,7 @@ use Rattle.rpm_tool.specs.Working.{CommittedAs, WorkedBy, EndsAs, is_halt, done_
 use Rattle.rpm_tool.proofs.Ended.{worked_state}
 use Rattle.rpm_tool.proofs.Standing.{if_ok, if_ok_at}
 use Rattle.rpm_tool.proofs.Outcomes.{done_is}
+use Rattle.rpm_tool.proofs.ByEnding.{by_starved}
 
 -- ---- the commit
 
@@ -65,29 +66,8 @@ log_halt made why.ErrFault is = tt
 log_halt made why.NoMemory is = tt
 
 -- nor where a write found no memory
-log_memory : (made : Files) (w : Why) → is_halt w ≡ true → LogIs made (unless_starved true w)
-log_memory made why.Done is = tt
-log_memory made (why.Failed n) is = tt
-log_memory made (why.Usage f) is = tt
-log_memory made (why.BadFormat f) is = tt
-log_memory made (why.BadLog u) is = tt
-log_memory made (why.Damaged d) is = tt
-log_memory made why.NumbersSpent is = tt
-log_memory made why.GenerationSpent is = tt
-log_memory made why.StoreFull is = tt
-log_memory made (why.NotEmpty held) is = tt
-log_memory made (why.BadIndex u) is = tt
-log_memory made (why.IndexFull u) is = tt
-log_memory made (why.LogFull u) is = absurd cc
-log_memory made why.DiskFault is = tt
-log_memory made why.ShelfFault is = tt
-log_memory made why.OutFault is = tt
-log_memory made why.ErrFault is = tt
-log_memory made why.NoMemory is = tt
-
 pub log_starved : (made : Files) (starved : Bool) (w : Why) → is_halt w ≡ true → LogIs made (unless_starved starved w)
-log_starved made false w is = log_halt made w is
-log_starved made true w is = log_memory made w is
+log_starved made starved w = by_starved (λ (was given : Why). is_halt was ≡ true → LogIs made given) (log_halt made) (λ is. tt) starved w
 
 -- ---- a group
 

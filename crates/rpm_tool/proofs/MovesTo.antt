@@ -1,5 +1,5 @@
 -- To which state a call moves, by its ending.
-use Rattle.std.proofs.Common.{◌≡◌, true, false, refl, inl, inr}
+use Rattle.std.proofs.Common.{◌≡◌, ◌⊎◌, true, false, refl, inl, inr}
 use Rattle.rpm_db.specs.State.{State}
 use Rattle.rpm_tool.specs.declared.answer.Why.{Why}
 use Rattle.rpm_tool.specs.declared.answer.Why.TheVariants as why
@@ -7,67 +7,42 @@ use Rattle.rpm_tool.specs.Keyed.{is_done}
 use Rattle.rpm_tool.specs.Changing.{is_done_or_fault}
 use Rattle.rpm_tool.specs.History.{Moves}
 use Rattle.rpm_tool.proofs.Brokens.{by_bool}
+use Rattle.rpm_tool.proofs.ByEnding.{by_done}
+
+-- made, made where the disk failed, or left as it was
+moves_are : (w : Why) (s made : State) → (is_done_or_fault w ≡ true → Moves w made s made) × (is_done w ≡ false → Moves w made s s)
+    × ((t : State) → Moves w made s t → (t ≡ s) ⊎ (t ≡ made))
+moves_are why.Done s made = (λ is. refl, λ is. absurd cc, λ t is. inr is)
+moves_are (why.Failed n) s made = (λ is. refl, λ is. absurd cc, λ t is. inr is)
+moves_are (why.Usage f) s made = (λ is. absurd cc, λ is. refl, λ t is. inl is)
+moves_are (why.BadFormat f) s made = (λ is. absurd cc, λ is. refl, λ t is. inl is)
+moves_are (why.BadLog u) s made = (λ is. absurd cc, λ is. refl, λ t is. inl is)
+moves_are (why.Damaged d) s made = (λ is. absurd cc, λ is. refl, λ t is. inl is)
+moves_are why.NumbersSpent s made = (λ is. absurd cc, λ is. refl, λ t is. inl is)
+moves_are why.GenerationSpent s made = (λ is. absurd cc, λ is. refl, λ t is. inl is)
+moves_are why.StoreFull s made = (λ is. absurd cc, λ is. refl, λ t is. inl is)
+moves_are (why.NotEmpty held) s made = (λ is. absurd cc, λ is. refl, λ t is. inl is)
+moves_are (why.BadIndex u) s made = (λ is. absurd cc, λ is. refl, λ t is. inl is)
+moves_are (why.IndexFull u) s made = (λ is. absurd cc, λ is. refl, λ t is. inl is)
+moves_are (why.LogFull u) s made = (λ is. absurd cc, λ is. refl, λ t is. inl is)
+moves_are why.DiskFault s made = (λ is. inr refl, λ is. inl refl, λ t is. is)
+moves_are why.ShelfFault s made = (λ is. absurd cc, λ is. refl, λ t is. inl is)
+moves_are why.OutFault s made = (λ is. absurd cc, λ is. refl, λ t is. inl is)
+moves_are why.ErrFault s made = (λ is. absurd cc, λ is. refl, λ t is. inl is)
+moves_are why.NoMemory s made = (λ is. absurd cc, λ is. refl, λ t is. inl is)
 
 pub moves_done : (w : Why) (s made : State) → is_done w ≡ true → Moves w made s made
-moves_done why.Done s made is = refl
-moves_done (why.Failed n) s made is = refl
-moves_done (why.Usage f) s made is = absurd cc
-moves_done (why.BadFormat f) s made is = absurd cc
-moves_done (why.BadLog u) s made is = absurd cc
-moves_done (why.Damaged d) s made is = absurd cc
-moves_done why.NumbersSpent s made is = absurd cc
-moves_done why.GenerationSpent s made is = absurd cc
-moves_done why.StoreFull s made is = absurd cc
-moves_done (why.BadIndex u) s made is = absurd cc
-moves_done (why.NotEmpty n) s made is = absurd cc
-moves_done (why.IndexFull u) s made is = absurd cc
-moves_done (why.LogFull u) s made is = absurd cc
-moves_done why.DiskFault s made is = absurd cc
-moves_done why.ShelfFault s made is = absurd cc
-moves_done why.OutFault s made is = absurd cc
-moves_done why.ErrFault s made is = absurd cc
-moves_done why.NoMemory s made is = absurd cc
+moves_done w s made is = by_done (λ (given : Why). Moves given made s made) refl (λ n. refl) w is
 
 -- not done, it may have left all as it was
 pub moves_none : (w : Why) (s made : State) → is_done w ≡ false → Moves w made s s
-moves_none why.Done s made is = absurd cc
-moves_none (why.Failed n) s made is = absurd cc
-moves_none (why.Usage f) s made is = refl
-moves_none (why.BadFormat f) s made is = refl
-moves_none (why.BadLog u) s made is = refl
-moves_none (why.Damaged d) s made is = refl
-moves_none why.NumbersSpent s made is = refl
-moves_none why.GenerationSpent s made is = refl
-moves_none why.StoreFull s made is = refl
-moves_none (why.BadIndex u) s made is = refl
-moves_none (why.NotEmpty n) s made is = refl
-moves_none (why.IndexFull u) s made is = refl
-moves_none (why.LogFull u) s made is = refl
-moves_none why.DiskFault s made is = inl refl
-moves_none why.ShelfFault s made is = refl
-moves_none why.OutFault s made is = refl
-moves_none why.ErrFault s made is = refl
-moves_none why.NoMemory s made is = refl
+moves_none w s made is = (moves_are w s made).1 is
 
 pub moves_fault : (w : Why) (s made : State) → is_done_or_fault w ≡ true → Moves w made s made
-moves_fault why.Done s made is = refl
-moves_fault (why.Failed n) s made is = refl
-moves_fault (why.Usage f) s made is = absurd cc
-moves_fault (why.BadFormat f) s made is = absurd cc
-moves_fault (why.BadLog u) s made is = absurd cc
-moves_fault (why.Damaged d) s made is = absurd cc
-moves_fault why.NumbersSpent s made is = absurd cc
-moves_fault why.GenerationSpent s made is = absurd cc
-moves_fault why.StoreFull s made is = absurd cc
-moves_fault (why.BadIndex u) s made is = absurd cc
-moves_fault (why.NotEmpty n) s made is = absurd cc
-moves_fault (why.IndexFull u) s made is = absurd cc
-moves_fault (why.LogFull u) s made is = absurd cc
-moves_fault why.DiskFault s made is = inr refl
-moves_fault why.ShelfFault s made is = absurd cc
-moves_fault why.OutFault s made is = absurd cc
-moves_fault why.ErrFault s made is = absurd cc
-moves_fault why.NoMemory s made is = absurd cc
+moves_fault w s made is = (moves_are w s made).0 is
+
+pub moves_one : (w : Why) (s made t : State) → Moves w made s t → (t ≡ s) ⊎ (t ≡ made)
+moves_one w s made t is = (moves_are w s made).2 t is
 
 -- nothing to make
 pub moves_idle : (w : Why) (s : State) → Moves w s s s

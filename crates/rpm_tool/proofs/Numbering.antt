@@ -1,5 +1,5 @@
 -- The numbers that command lines give to new packages rise, and each image that a crash leaves has a next number above them.
-use Rattle.std.proofs.Common.{◌≡◌, ◌⊎◌, ℕ, Bool, true, false, List, [], ◌++◌, refl, sym, subst, inl, inr, ⊎_elim}
+use Rattle.std.proofs.Common.{◌≡◌, ℕ, Bool, true, false, List, [], ◌++◌, refl, sym, subst, ⊎_elim}
 use Rattle.std.specs.Prelude.{Result, Ok, Err, if◌then◌else◌}
 use Rattle.rpm_outside.specs.Files.{Files}
 use Rattle.rpm_outside.specs.Logs.{reopened}
@@ -9,12 +9,12 @@ use Rattle.rpm_db.specs.Changes.{next}
 use Rattle.rpm_db.specs.State.{State, state}
 use Rattle.rpm_change.specs.Steps.{Course, idle}
 use Rattle.rpm_tool.specs.declared.answer.Why.{Why}
-use Rattle.rpm_tool.specs.declared.answer.Why.TheVariants as why
 use Rattle.rpm_tool.specs.Changing.{after}
 use Rattle.rpm_tool.specs.Given.{IsAhead, RiseWithin, numbers_given, given_in, given_on}
 use Rattle.rpm_tool.specs.History.{Moves}
 use Rattle.rpm_tool.specs.Keyed.{is_done}
 use Rattle.rpm_tool.proofs.Ahead.{Ahead, Fits, ahead_of, changes_rise, rise_least, rise_later, rise_then}
+use Rattle.rpm_tool.proofs.MovesTo.{moves_one}
 
 -- ---- what is given
 
@@ -37,26 +37,6 @@ given_done course files w value undamaged done = rw (done, undamaged) refl
 
 -- ---- to where a line moves
 
-moves_one : (w : Why) (made s t : State) → Moves w made s t → (t ≡ s) ⊎ (t ≡ made)
-moves_one why.Done made s t is = inr is
-moves_one (why.Failed n) made s t is = inr is
-moves_one why.DiskFault made s t is = is
-moves_one (why.Usage f) made s t is = inl is
-moves_one (why.BadFormat f) made s t is = inl is
-moves_one (why.BadLog u) made s t is = inl is
-moves_one (why.Damaged d) made s t is = inl is
-moves_one why.NumbersSpent made s t is = inl is
-moves_one why.GenerationSpent made s t is = inl is
-moves_one why.StoreFull made s t is = inl is
-moves_one (why.BadIndex u) made s t is = inl is
-moves_one (why.NotEmpty n) made s t is = inl is
-moves_one (why.IndexFull u) made s t is = inl is
-moves_one (why.LogFull u) made s t is = inl is
-moves_one why.ShelfFault made s t is = inl is
-moves_one why.OutFault made s t is = inl is
-moves_one why.ErrFault made s t is = inl is
-moves_one why.NoMemory made s t is = inl is
-
 -- the numbers given so far rise from this one on to the next number of such a state, which is its field
 abbrev pub Numbered : ℕ → List ℕ → State → Type 0
 Numbered from given t = IsAhead t × RiseWithin from given (next t)
@@ -76,4 +56,4 @@ module _ (course : State → Course) (fits : (s : State) → Ahead s → Fits (c
         rise_later from (next s) (next (after course s)) given (rise_least (next s) (next (after course s)) (numbers_given (course s).changes s)
             rises.0) is.1,
       )))
-      (moves_one w (after course s) s t moves)
+      (moves_one w s (after course s) t moves)

@@ -11,6 +11,7 @@ use Rattle.rpm_tool.specs.Answers.{Refused}
 use Rattle.rpm_tool.specs.Keyed.{is_done}
 use Rattle.rpm_tool.specs.Changing.{Did, is_done_or_fault}
 use Rattle.rpm_tool.specs.Working.{Stopped, IsUncommitted, done_why}
+use Rattle.rpm_tool.proofs.ByEnding.{by_done, by_uncommitted}
 
 -- ---- one ending
 
@@ -39,24 +40,9 @@ some_all : (c : Course) (old new : Outputs) → Through c.steps old new → Thro
 some_all c old new through = record { done = c.steps; rest = []; all_is = sym (append-nil c.steps); through = through }
 
 pub uncommitted_did : (c : Course) (w : Why) (old new : Outputs) → IsUncommitted w → Through c.steps old new → Did c w old new
-uncommitted_did c why.Done old new un through = absurd un
-uncommitted_did c (why.Failed n) old new un through = absurd un
-uncommitted_did c (why.Usage f) old new un through = absurd un
-uncommitted_did c (why.BadFormat f) old new un through = absurd un
-uncommitted_did c (why.BadLog u) old new un through = absurd un
-uncommitted_did c (why.Damaged d) old new un through = absurd un
-uncommitted_did c why.NumbersSpent old new un through = absurd un
-uncommitted_did c why.GenerationSpent old new un through = absurd un
-uncommitted_did c why.StoreFull old new un through = absurd un
-uncommitted_did c (why.NotEmpty held) old new un through = absurd un
-uncommitted_did c (why.BadIndex u) old new un through = absurd un
-uncommitted_did c (why.IndexFull u) old new un through = absurd un
-uncommitted_did c (why.LogFull u) old new un through = some_all c old new through
-uncommitted_did c why.DiskFault old new un through = some_all c old new through
-uncommitted_did c why.ShelfFault old new un through = absurd un
-uncommitted_did c why.OutFault old new un through = absurd un
-uncommitted_did c why.ErrFault old new un through = absurd un
-uncommitted_did c why.NoMemory old new un through = some_all c old new through
+uncommitted_did c w old new un through =
+    let some = some_all c old new through in
+    by_uncommitted (λ (given : Why). Did c given old new) (λ u. some) some some w un
 
 -- done, with or without arguments that failed
 pub done_is : (n : ℕ) → ((n ≡ 0) × (done_why n ≡ why.Done)) ⊎ ((0 < n) × (done_why n ≡ why.Failed n))
@@ -84,61 +70,10 @@ fault_done_why n = elim (done_is n) [
 ]
 
 pub uncommitted_undone : (w : Why) → IsUncommitted w → is_done w ≡ true → ⊥
-uncommitted_undone why.Done un is = absurd un
-uncommitted_undone (why.Failed n) un is = absurd un
-uncommitted_undone (why.Usage f) un is = absurd un
-uncommitted_undone (why.BadFormat f) un is = absurd un
-uncommitted_undone (why.BadLog u) un is = absurd un
-uncommitted_undone (why.Damaged d) un is = absurd un
-uncommitted_undone why.NumbersSpent un is = absurd un
-uncommitted_undone why.GenerationSpent un is = absurd un
-uncommitted_undone why.StoreFull un is = absurd un
-uncommitted_undone (why.NotEmpty held) un is = absurd un
-uncommitted_undone (why.BadIndex u) un is = absurd un
-uncommitted_undone (why.IndexFull u) un is = absurd un
-uncommitted_undone (why.LogFull u) un is = absurd cc
-uncommitted_undone why.DiskFault un is = absurd cc
-uncommitted_undone why.ShelfFault un is = absurd un
-uncommitted_undone why.OutFault un is = absurd un
-uncommitted_undone why.ErrFault un is = absurd un
-uncommitted_undone why.NoMemory un is = absurd cc
+uncommitted_undone w un is = by_done (λ (given : Why). IsUncommitted given → ⊥) (λ of. of) (λ n of. of) w is un
 
 pub stopped_undone : (c : Course) (w : Why) (old new : Outputs) → Stopped c w old new → is_done w ≡ true → ⊥
-stopped_undone c why.Done old new s is = absurd s
-stopped_undone c (why.Failed n) old new s is = absurd s
-stopped_undone c (why.Usage f) old new s is = absurd cc
-stopped_undone c (why.BadFormat f) old new s is = absurd cc
-stopped_undone c (why.BadLog u) old new s is = absurd cc
-stopped_undone c (why.Damaged d) old new s is = absurd cc
-stopped_undone c why.NumbersSpent old new s is = absurd cc
-stopped_undone c why.GenerationSpent old new s is = absurd cc
-stopped_undone c why.StoreFull old new s is = absurd cc
-stopped_undone c (why.NotEmpty held) old new s is = absurd cc
-stopped_undone c (why.BadIndex u) old new s is = absurd cc
-stopped_undone c (why.IndexFull u) old new s is = absurd cc
-stopped_undone c (why.LogFull u) old new s is = absurd cc
-stopped_undone c why.DiskFault old new s is = absurd cc
-stopped_undone c why.ShelfFault old new s is = absurd cc
-stopped_undone c why.OutFault old new s is = absurd cc
-stopped_undone c why.ErrFault old new s is = absurd cc
-stopped_undone c why.NoMemory old new s is = absurd cc
+stopped_undone c w old new s is = by_done (λ (given : Why). Stopped c given old new → ⊥) (λ of. of) (λ n of. of) w is s
 
 pub refused_undone : (d : Damage) (w : Why) → Refused d w → is_done w ≡ true → ⊥
-refused_undone y why.Done r is = absurd r
-refused_undone y (why.Failed n) r is = absurd r
-refused_undone y (why.Usage f) r is = absurd r
-refused_undone y (why.BadFormat f) r is = absurd r
-refused_undone y (why.BadLog u) r is = absurd r
-refused_undone y (why.Damaged d) r is = absurd cc
-refused_undone y why.NumbersSpent r is = absurd r
-refused_undone y why.GenerationSpent r is = absurd r
-refused_undone y why.StoreFull r is = absurd r
-refused_undone y (why.NotEmpty held) r is = absurd r
-refused_undone y (why.BadIndex u) r is = absurd r
-refused_undone y (why.IndexFull u) r is = absurd r
-refused_undone y (why.LogFull u) r is = absurd r
-refused_undone y why.DiskFault r is = absurd cc
-refused_undone y why.ShelfFault r is = absurd r
-refused_undone y why.OutFault r is = absurd r
-refused_undone y why.ErrFault r is = absurd r
-refused_undone y why.NoMemory r is = absurd cc
+refused_undone d w r is = by_done (λ (given : Why). Refused d given → ⊥) (λ of. of) (λ n of. of) w is r

@@ -5,22 +5,31 @@ use Rattle.rpm_outside.specs.declared.sink.Sink as sink
 use Rattle.rpm_outside.specs.declared.buffered.Buffered.{Buffered}
 use Rattle.rpm_outside.specs.Buffered.{inner}
 use Rattle.rpm_outside.specs.Causes.{Rose}
+use Rattle.rpm_db.specs.Database.{Database}
+use Rattle.rpm_check.specs.declared.faults.CheckFault.{CheckFault}
+use Rattle.rpm_check.specs.Frame.{Asks, Glances}
 use Rattle.rpm_change.specs.Hands.{Hand}
 use Rattle.rpm_tool.specs.declared.step.Stop.{Stop}
 use Rattle.rpm_tool.specs.declared.step.Stop.TheVariants as stop
 use Rattle.rpm_tool.specs.Frame.{DiskFault, Peeks, ReadsBy, TellsOut, TellsErr}
-use Rattle.rpm_tool.proofs.Peeking.{peeks_none, peeks_then}
+use Rattle.rpm_tool.specs.Requirements.{stop_of_check}
+use Rattle.rpm_tool.proofs.Checked.{checks_no_out, checks_no_err, checks_read}
+use Rattle.rpm_tool.proofs.Peeking.{peeks_none, peeks_then, peeks_glances}
 
 abbrev failed : (T : Type 0) → Stop → Result T Stop
 failed T what = Err what
 
+abbrev wrong : (X : Type 0) → CheckFault → Result X CheckFault
+wrong X fault = Err fault
+
 abbrev done : (T : Type 0) → T → Result T Stop
 done T u = Ok u
 
+stopped : (T : Type 0) (what other : Stop) → failed T what ≡ failed T other → what ≡ other
+stopped T what other is = cc
+
 again : (T U : Type 0) (what other : Stop) → failed U what ≡ failed U other → failed T what ≡ failed T other
-again T U what other is =
-    let same : what ≡ other = cc in
-    ap (failed T) same
+again T U what other is = ap (failed T) (stopped U what other is)
 
 higher : (a b c : ℕ) → a ≤ b → Rose b c → Rose a c
 higher a b c le rose = omega (arith, le, rose)
@@ -28,6 +37,9 @@ higher a b c le rose = omega (arith, le, rose)
 -- ---- calls that only read
 
 module _ {D : Type 0} (d : disk.Ghosts D) (old new : D) where
+  pub glances : Glances d old new → Peeks d true old new
+  glances = peeks_glances d.tells d.files d.left_since d.moment d.bytes_read d.follows old new
+
   pub reads_done : (T : Type 0) (u : T) → Peeks d true old new → d.faults old ≤ d.faults new → ReadsBy d (done T u) old new
   reads_done T u looks later = record {
     looks = looks;
@@ -42,6 +54,16 @@ module _ {D : Type 0} (d : disk.Ghosts D) (old new : D) where
     no_out = λ is. read.no_out (again T U what stop.OutFault is);
     no_err = λ is. read.no_err (again T U what stop.ErrFault is);
     disk = record { later = read.disk.later; rose = λ is. read.disk.rose (again T U what stop.ReadFault is) };
+  }
+
+  -- a question that found a fault
+  pub asked_stops : (X T : Type 0) (db : Database) (fault : CheckFault) → Asks d old new db (wrong X fault)
+      → ReadsBy d (failed T (stop_of_check fault)) old new
+  asked_stops X T db fault asks = record {
+    looks = glances asks.looks;
+    no_out = λ is. checks_no_out fault (stopped T (stop_of_check fault) stop.OutFault is);
+    no_err = λ is. checks_no_err fault (stopped T (stop_of_check fault) stop.ErrFault is);
+    disk = record { later = asks.cause.later; rose = λ is. asks.cause.rose (ap Err (checks_read fault (stopped T (stop_of_check fault) stop.ReadFault is))) };
   }
 
 -- ---- and that write to a sink

@@ -10,8 +10,9 @@ use Rattle.rpm_header.specs.Header.{Header, header}
 use Rattle.rpm_outside.specs.Files.{Units, Files}
 use Rattle.rpm_pkgdb.specs.Store.{Store}
 use Rattle.rpm_db.specs.State.{Package, packages, package_of, read_as, above}
-use Rattle.rpm_db.specs.Database.{Database, IsNext, holds}
+use Rattle.rpm_db.specs.Database.{Database, IsNext, Keeps}
 use Rattle.rpm_db.specs.inner.Above.{next_above}
+use Rattle.rpm_db.specs.inner.FromOne.{from_one}
 use Rattle.rpm_db.specs.inner.Laws.{is_there}
 use Rattle.rpm_db.specs.inner.Own.{header-own}
 use Rattle.rpm_tool.specs.declared.step.Stop.{Stop}
@@ -50,9 +51,9 @@ first_package packages n m (Some p) there lt some none =
     (p, there, next_above packages n m p lt there (λ k a b. none_is (finite.get packages k) (none k a b)))
 
 -- no package has the number 0
-pub none_held : (file : Units) (db : Database) → holds 0 db ≡ false → IsRead (packages file db.store) 0 []
-none_held file db none = λ text.
-    ap (package_text text) (none_is (finite.get (packages file db.store) 0) (is_there file db 0 ∙ none)) ∙ sym (nothing_read text)
+pub none_held : (file : Units) (db : Database) → Keeps file db → IsRead (packages file db.store) 0 []
+none_held file db keeps = λ text.
+    ap (package_text text) (none_is (finite.get (packages file db.store) 0) (is_there file db 0 ∙ from_one file db keeps)) ∙ sym (nothing_read text)
 
 -- the next of the packages above a number
 pub next_package : (packages : finite.FinMap nat_cmp Package) (n m : ℕ) → IsNext (λ k. is_some (finite.get packages k)) n (Some m)

@@ -12,7 +12,8 @@ use Rattle.rpm_pkgdb.specs.declared.slot.Damage.{Damage}
 use Rattle.rpm_pkgdb.specs.Store.{Store, store}
 use Rattle.rpm_db.specs.State.{State, state}
 use Rattle.rpm_change.specs.Steps.{Course}
-use Rattle.rpm_change.specs.Endings.{Outputs, Through, ThroughSome}
+use Rattle.rpm_change.specs.Endings.{Outputs, Through}
+use Rattle.rpm_change.specs.inner.Courses.{none_gone}
 use Rattle.rpm_tool.specs.declared.answer.Why.{Why}
 use Rattle.rpm_tool.specs.declared.answer.Why.TheVariants as why
 use Rattle.rpm_tool.specs.Keyed.{StandsStill, why_of_recover}
@@ -25,13 +26,10 @@ use Rattle.rpm_tool.proofs.Regrouped.{recovering, recovered_still, recovering_fi
 pub through_none : (x : Outputs) → Through [] x x
 through_none x = record { out = λ told. sym (append-nil x.out); err = λ told. sym (append-nil x.err) }
 
-pub none_done : (c : Course) (old new : Outputs) → Through [] old new → ThroughSome c.steps old new
-none_done c old new none = record { done = []; rest = c.steps; all_is = refl; through = none }
-
 -- ---- a database that isn't recovered
 
 opened_fault : (course : Store → Course) (sr : Result Store Damage) (old new : Outputs) → Through [] old new → DidOpened course sr why.DiskFault old new
-opened_fault course (Ok s) old new none = none_done (course s) old new none
+opened_fault course (Ok s) old new none = none_gone (course s) old new none
 opened_fault course (Err d) old new none = (tt, none)
 
 loaded_fault : (course : Store → Course) (sr : Result Store Damage) (log : LogState) (old new : Outputs) → Through [] old new

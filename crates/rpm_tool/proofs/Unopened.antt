@@ -1,40 +1,23 @@
 -- A command that was stopped before its first change.
-use Rattle.std.proofs.Common.{ℕ, Bool, [], Result, Ok, Err, refl}
+use Rattle.std.proofs.Common.{ℕ, Bool, [], Result, Ok, Err}
 use Rattle.rpm_outside.specs.Files.{Files}
 use Rattle.rpm_pkgdb.specs.declared.slot.Damage.{Damage}
 use Rattle.rpm_pkgdb.specs.Store.{Store, store}
 use Rattle.rpm_db.specs.Openings.{must_make, units_needed}
 use Rattle.rpm_db.specs.State.{State, state}
 use Rattle.rpm_change.specs.Steps.{Course}
-use Rattle.rpm_change.specs.Endings.{Outputs, Through, ThroughSome}
+use Rattle.rpm_change.specs.Endings.{Outputs, Through}
+use Rattle.rpm_change.specs.inner.Courses.{none_gone}
 use Rattle.rpm_tool.specs.declared.answer.Why.{Why}
-use Rattle.rpm_tool.specs.declared.answer.Why.TheVariants as why
 use Rattle.rpm_tool.specs.Working.{OpensIn, OpensBy, Stopped, WorkedBy, WorkedWith}
 use Rattle.rpm_tool.proofs.Brokens.{open_unbroken}
-
-none_done : (c : Course) (old new : Outputs) → Through [] old new → ThroughSome c.steps old new
-none_done c old new none = record { done = []; rest = c.steps; all_is = refl; through = none }
+use Rattle.rpm_tool.proofs.ByEnding.{by_opening}
 
 stopped_open : (c : Course) (making : Bool) (needed : ℕ) (s : State) (new : Files) (w : Why) (before now : Outputs)
     → OpensIn making needed s new (Err w) → Through [] before now → Stopped c w before now
-stopped_open c making needed s new why.Done before now opens none = absurd opens
-stopped_open c making needed s new (why.Failed n) before now opens none = absurd opens
-stopped_open c making needed s new (why.Usage f) before now opens none = absurd opens
-stopped_open c making needed s new (why.BadFormat f) before now opens none = absurd opens
-stopped_open c making needed s new (why.BadLog u) before now opens none = absurd opens
-stopped_open c making needed s new (why.Damaged d) before now opens none = absurd opens
-stopped_open c making needed s new why.NumbersSpent before now opens none = absurd opens
-stopped_open c making needed s new why.GenerationSpent before now opens none = absurd opens
-stopped_open c making needed s new why.StoreFull before now opens none = absurd opens
-stopped_open c making needed s new (why.NotEmpty held) before now opens none = absurd opens
-stopped_open c making needed s new (why.BadIndex u) before now opens none = absurd opens
-stopped_open c making needed s new (why.IndexFull u) before now opens none = none_done c before now none
-stopped_open c making needed s new (why.LogFull u) before now opens none = absurd opens
-stopped_open c making needed s new why.DiskFault before now opens none = none_done c before now none
-stopped_open c making needed s new why.ShelfFault before now opens none = absurd opens
-stopped_open c making needed s new why.OutFault before now opens none = absurd opens
-stopped_open c making needed s new why.ErrFault before now opens none = absurd opens
-stopped_open c making needed s new why.NoMemory before now opens none = none_done c before now none
+stopped_open c making needed s new w before now opens none =
+    let some = none_gone c before now none in
+    by_opening making needed s new (λ (given : Why). Stopped c given before now) (λ u full. some) some some w opens
 
 unopened : (course : State → Course) (old new last : Files) (sr : Result Store Damage) (w : Why) (before now : Outputs) → OpensBy old sr new (Err w)
     → Through [] before now → WorkedBy course old.pkg sr last (Err w) before now

@@ -12,6 +12,7 @@ use Rattle.rpm_words.specs.declared.ask.Mode.TheVariants as mode
 use Rattle.rpm_words.specs.Ask.{AskParts}
 use Rattle.rpm_change.specs.Steps.{Course}
 use Rattle.rpm_change.specs.Endings.{Outputs}
+use Rattle.rpm_change.specs.inner.Courses.{none_gone}
 use Rattle.rpm_tool.specs.declared.answer.Why.TheVariants as why
 use Rattle.rpm_tool.specs.Asked.{is_query, is_package, needs_no_index, opens_index, is_changing_in, is_changing, of_files, by_key}
 use Rattle.rpm_tool.specs.Changing.{DidOpened, DidLoaded, DidOn, ChangesWith, StandsStillOr, after}
@@ -21,10 +22,10 @@ use Rattle.rpm_outside.specs.Shelves.{Paths}
 use Rattle.rpm_tool.specs.Tasks.{TaskParts, task_course, is_anew}
 use Rattle.rpm_tool.specs.inner.OneChange.{OneChange}
 use Rattle.rpm_tool.proofs.LimitEnds.{limits_starved}
-use Rattle.rpm_tool.proofs.Unmade.{through_none, none_done}
+use Rattle.rpm_tool.proofs.Unmade.{through_none}
 
 opened_memory : (course : Store → Course) (sr : Result Store Damage) (x : Outputs) → DidOpened course sr why.NoMemory x x
-opened_memory course (Ok s) x = none_done (course s) x x (through_none x)
+opened_memory course (Ok s) x = none_gone (course s) x x (through_none x)
 opened_memory course (Err d) x = (tt, through_none x)
 
 loaded_memory : (course : Store → Course) (sr : Result Store Damage) (log : LogState) (x : Outputs) → DidLoaded course sr log why.NoMemory x x

@@ -13,7 +13,7 @@ use Rattle.rpm_change.specs.Endings.{Outputs, Through}
 use Rattle.rpm_tool.specs.declared.answer.Why.TheVariants as why
 use Rattle.rpm_tool.specs.Answers.{why_of_load}
 use Rattle.rpm_tool.specs.Working.{WorkedWith, WorkedBy, IsOutside, is_halt}
-use Rattle.rpm_tool.proofs.Unmade.{none_done}
+use Rattle.rpm_change.specs.inner.Courses.{none_gone}
 
 -- a fault of the disk, or want of memory
 pub closed_load : (log : LogState) (fault : LoadFault) → log ≡ Closed → LoadSays log (Err fault) → IsOutside (why_of_load fault)
@@ -28,12 +28,12 @@ load_halts load.NoMemory = refl
 
 worked_fault : (course : State → Course) (pkg : Units) (sr : Result Store Damage) (new : Files) (old now : Outputs) → Through [] old now
     → WorkedBy course pkg sr new (Err why.DiskFault) old now
-worked_fault course pkg (Ok s) new old now none = none_done (course (state pkg s)) old now none
+worked_fault course pkg (Ok s) new old now none = none_gone (course (state pkg s)) old now none
 worked_fault course pkg (Err d) new old now none = (tt, none)
 
 worked_memory : (course : State → Course) (pkg : Units) (sr : Result Store Damage) (new : Files) (old now : Outputs) → Through [] old now
     → WorkedBy course pkg sr new (Err why.NoMemory) old now
-worked_memory course pkg (Ok s) new old now none = none_done (course (state pkg s)) old now none
+worked_memory course pkg (Ok s) new old now none = none_gone (course (state pkg s)) old now none
 worked_memory course pkg (Err d) new old now none = (tt, none)
 
 -- so nothing was done

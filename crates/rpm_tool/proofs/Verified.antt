@@ -5,8 +5,9 @@ use Rattle.std.specs.Ordering.{nat_cmp}
 use Rattle.std.specs.FinMap as finite
 use Rattle.rpm_outside.specs.Files.{Units, Files}
 use Rattle.rpm_db.specs.State.{Package, packages, above}
-use Rattle.rpm_db.specs.Database.{Database, IsNext, holds}
+use Rattle.rpm_db.specs.Database.{Database, IsNext, Keeps}
 use Rattle.rpm_db.specs.inner.Above.{none_is, next_above, nothing_above, all_above_zero}
+use Rattle.rpm_db.specs.inner.FromOne.{from_one as none_zero}
 use Rattle.rpm_db.specs.inner.Laws.{is_there}
 use Rattle.rpm_db.specs.Verdicts.{verdict}
 use Rattle.rpm_tool.specs.Reports.{verdict_part}
@@ -33,9 +34,10 @@ pub no_entry : (map : finite.FinMap nat_cmp Package) (n : ℕ) → IsNext (λ k.
 no_entry map n none = nothing_above map n (λ k lt. none_is (finite.get map k) (none k lt))
 
 -- none has the number 0
-pub from_one : (file : Units) (db : Database) → holds 0 db ≡ false
+pub from_one : (file : Units) (db : Database) → Keeps file db
     → above 0 (finite.entries (packages file db.store)) ≡ finite.entries (packages file db.store)
-from_one file db none = all_above_zero (packages file db.store) (none_is (finite.get (packages file db.store) 0) (is_there file db 0 ∙ none))
+from_one file db keeps =
+    all_above_zero (packages file db.store) (none_is (finite.get (packages file db.store) 0) (is_there file db 0 ∙ none_zero file db keeps))
 
 -- what is said of the files as they read is said of the files as they were
 pub verdict_here : (f f' : Files) (db : Database) (m : ℕ) (r : Result Bool Stop) (old new : Outputs) (reads_to : Bearer → Type 0) → f ≡ f'

@@ -1,6 +1,6 @@
 -- What stands around a call: a disk, a shelf, two sinks and a database, each by the ghost members of its kind, which a clause names `D.Disk`,
 -- `S.Shelf`, `O.Sink`. Short words for all clauses; of them `images`, `pkg_read` and `Leaves` stand on the page (Theorem.antt).
-use Rattle.std.specs.Prelude.{◌≡◌, ◌≢◌, ℕ, Bool, true, false, List, IsTrue, Result, Err}
+use Rattle.std.specs.Prelude.{◌≡◌, ◌≢◌, ℕ, Bool, true, List, Result, Err}
 use Rattle.rpm_outside.specs.declared.disk.Disk as disk
 use Rattle.rpm_outside.specs.declared.disk.File.TheVariants.{Pkg}
 use Rattle.rpm_outside.specs.declared.shelf.Shelf as shelf
@@ -8,8 +8,6 @@ use Rattle.rpm_outside.specs.declared.sink.Sink as sink
 use Rattle.rpm_outside.specs.declared.buffered.Buffered.{Buffered}
 use Rattle.rpm_outside.specs.Buffered.{inner}
 use Rattle.rpm_outside.specs.Causes.{HasCauseAt}
-use Rattle.rpm_db.specs.Database.{Database, holds}
-use Rattle.rpm_select.specs.Reach.{HasIndexRows}
 use Rattle.rpm_change.specs.Endings.{Outputs, outputs}
 use Rattle.rpm_change.specs.Hands.{Hand}
 use Rattle.rpm_tool.specs.declared.step.Stop.{Stop}
@@ -19,7 +17,9 @@ use Rattle.rpm_tool.specs.declared.answer.Why.TheVariants as why
 use Rattle.rpm_tool.specs.Answers as tool
 use Rattle.rpm_tool.specs.Reads as reads
 pub use Rattle.rpm_outside.specs.Frame.{images, Looks, LooksAt, LeavesIn, DiskFault}
+pub use Rattle.rpm_db.specs.Asked.{IsAskable}
 pub use Rattle.rpm_db.specs.Frame.{Runs, Kept, KeptIndex, Serving, IsIndexed, state_in, packages_in}
+pub use Rattle.rpm_select.specs.Frame.{HasRows}
 
 -- ---- a disk
 
@@ -35,17 +35,6 @@ module _ {D : Type 0} (d : disk.Ghosts D) where
   -- a command that writes nothing leaves files, images and moment
   abbrev pub Leaves : D → D → Type 0
   Leaves = tool.Leaves d.tells d.files d.left_since d.moment d.bytes_read d.follows
-
-  -- the index of a database is current and has the rows of its packages
-  abbrev pub HasRows : D → Database → Type 0
-  HasRows it db = HasIndexRows db (d.files it).pkg (d.files it).idx
-
-  -- a database can be asked: its value is that of both files, it wasn't stopped, and it has no package 0
-  pub record IsAskable (it : D) (db : Database) : Type 0 where
-    pub keeps : Kept d it db
-    pub keeps_index : KeptIndex d it db
-    pub runs : db.stopped ≡ false
-    pub from_one : holds 0 db ≡ false
 
   -- a call only read the database, with its index: no sink stops it, and a fault has its cause
   pub record ReadsBy {T : Type 0} (result : Result T Stop) (old new : D) : Type 0 where

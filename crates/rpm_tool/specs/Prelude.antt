@@ -6,7 +6,6 @@ pub use Rattle.rpm_change.specs.Endings.{Outputs, outputs}
 pub use Rattle.rpm_change.specs.Hands.{Hand}
 pub use Rattle.rpm_change.specs.Steps.{Bearer, ToErr, ToOut, bearer, idle, whole}
 pub use Rattle.rpm_change.specs.Texts.{absent_line, refused_line}
-pub use Rattle.rpm_check.specs.Edges.{graph_of}
 pub use Rattle.rpm_check.specs.Unmet.{required}
 pub use Rattle.rpm_check.specs.inner.Needs.{needed_in}
 pub use Rattle.rpm_db.specs.Changes.{next}
@@ -16,7 +15,6 @@ pub use Rattle.rpm_db.specs.State.{Good, State, above}
 pub use Rattle.rpm_db.specs.Verdicts.{verdict}
 pub use Rattle.rpm_db.specs.inner.Writes.{SameLog}
 pub use Rattle.rpm_file.specs.Package.{package_header}
-pub use Rattle.rpm_graph.specs.Orders.{IsOrder}
 pub use Rattle.rpm_group.specs.Layers.{laid_files}
 pub use Rattle.rpm_group.specs.Overlay.{overlay_below, overlay_held, overlay_starved}
 pub use Rattle.rpm_header.specs.Digest.{magic}
@@ -64,9 +62,9 @@ pub use Rattle.rpm_tool.specs.Queries.{missing_record, packages_part, printed, q
 pub use Rattle.rpm_tool.specs.Reads.{IsOfChain, IsOfChains, ReadsIn, ReadsOf, argument_reach, reach_sum, reach_until}
 pub use Rattle.rpm_tool.specs.Reads.{reached_by, reaches_by}
 pub use Rattle.rpm_tool.specs.Reports.{course, entry_verdict, step_by, unsound, verdict_line, verdict_part, verify}
-pub use Rattle.rpm_tool.specs.Requirements.{ClassesAre, IsHeld, IsOfSome, IsRead, OrderPartIs, StopsOfSome, bad_at}
-pub use Rattle.rpm_tool.specs.Requirements.{bad_parts, class_steps, cycle_line, label_step, label_text, range_text}
-pub use Rattle.rpm_tool.specs.Requirements.{read_text, stop_of_check, unmet_line, unmet_part, unmet_step, unmet_text}
+pub use Rattle.rpm_tool.specs.Requirements.{ClassesAre, IsOfSome, IsRead, OrderPartIs, StopsOfSome, bad_at}
+pub use Rattle.rpm_tool.specs.Requirements.{bad_parts, class_steps, cycle_line, label_step, label_text, line_of, range_text}
+pub use Rattle.rpm_tool.specs.Requirements.{read_text, stop_of_check, unmet_line, unmet_lines, unmet_part, unmet_step}
 pub use Rattle.rpm_tool.specs.Requirements.{unsatisfied, unsatisfied_part, why_of_report}
 pub use Rattle.rpm_tool.specs.Steps.{Portion, before, fails, in_turn, together, told}
 pub use Rattle.rpm_tool.specs.Tasks.{IsCountable, TaskParts, asked_task, changes_index, is_anew, needs_none}

@@ -19,7 +19,6 @@ use Rattle.rpm_check.specs.declared.faults.CheckFault.{CheckFault}
 use Rattle.rpm_check.specs.declared.faults.CheckFault.TheVariants as check
 use Rattle.rpm_check.specs.Answers.{IsFaultOfSome}
 use Rattle.rpm_qfeval.specs.Numbers.{letters, depflags}
-use Rattle.rpm_tool.specs.declared.unreadable.Held.{Held}
 use Rattle.rpm_tool.specs.declared.step.Stop.{Stop}
 use Rattle.rpm_tool.specs.declared.step.Stop.TheVariants as stop
 use Rattle.rpm_tool.specs.declared.answer.Why.{Why}
@@ -46,10 +45,6 @@ package_text text others = []
 -- a number's package is read from these bytes
 abbrev pub IsRead : FinMap nat_cmp Package → ℕ → List ℕ → Type 0
 IsRead packages n bytes = (text : Header → List ℕ) → package_text text (get packages n) ≡ read_text text (header bytes)
-
--- what is held is read from the package of its number
-abbrev pub IsHeld : FinMap nat_cmp Package → Held → Type 0
-IsHeld packages held = IsRead packages held.number held.blob.items
 
 -- one part after another
 abbrev pub behind : Portion → Portion → Portion
@@ -89,6 +84,10 @@ line_of label (Some need) = unmet_line label need
 -- of the requirement at a place of a number's header
 abbrev pub unmet_text : ℕ → ℕ → Header → List ℕ
 unmet_text place n h = line_of (header_label n h) (slice_get (required h) place)
+
+-- of these requirements of a number's header, one line after the other
+abbrev pub unmet_lines : List Unmet → ℕ → Header → List ℕ
+unmet_lines row n h = flat_map (λ u. unmet_text u.place n h) row
 
 -- a requirement that nothing meets, as a step for its package
 abbrev pub unmet_step : FinMap nat_cmp Package → Unmet → Step

@@ -109,18 +109,15 @@ fn answer_question<D: Disk, O: Sink + Drop, E: Sink + Drop>(
     ensures hands { StopHands O.Sink E.Sink result out.old err.old out.new err.new }
 {
     let way = Way::Format(format);
-    let printed = match print_above(alloc, picker, db, disk, selection, after, &way, out, err) {
-        Ok(printed) => printed,
-        Err(stop) => return Err(stop),
-    };
+    let printed = print_above(alloc, picker, db, disk, selection, after, &way, out, err)?;
     if printed.some {
         return Ok(printed.fails);
     }
-    match is_any_passed(alloc, picker, db, disk, selection, after) {
-        Ok(true) => Ok(false),
-        Ok(false) => put_missing_part(chosen, text.as_bytes(), out, err),
-        Err(stop) => Err(stop),
+    let is_passed = is_any_passed(alloc, picker, db, disk, selection, after)?;
+    if is_passed {
+        return Ok(false);
     }
+    put_missing_part(chosen, text.as_bytes(), out, err)
 }
 
 /// Prints what an argument picks, or the line that it picks nothing. Says whether the argument fails.

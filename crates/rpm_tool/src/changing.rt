@@ -139,8 +139,9 @@ fn change_recovered<D: Disk, S: Shelf, O: Sink + Drop, E: Sink + Drop>(
     }
 }
 
-/// Finishes what a crash left of a change, and makes the changes of a command, one after the other and all as one
-/// change. An argument that fails has its line, and the others go on. Where there is no database, one is made.
+/// Finishes what a crash left of a change, and makes the changes that the words of a command ask for, one after the
+/// other and all as one change. An argument that fails has its line, and the others go on. Where there is no
+/// database, one is made.
 ///
 /// The changes are held in memory, over the disk, and committed after the last one: a crash at any moment leaves all
 /// of them or none. The ending is `Done`, or `Failed` with how many arguments failed; only then are changes counted,
@@ -164,32 +165,6 @@ fn change_recovered<D: Disk, S: Shelf, O: Sink + Drop, E: Sink + Drop>(
 /// each package that is replaced or erased. It syncs three times before the changes and five times for them, and
 /// keeps a page of 4 KiB in memory for each 4 KiB that are written. `now` is the moment of an installation, in
 /// seconds since 1970.
-fn change<D: Disk, S: Shelf, O: Sink + Drop, E: Sink + Drop>(
-    alloc: Global,
-    disk: D,
-    shelf: &mut S,
-    task: &Task<'_>,
-    now: u32,
-    out: &mut Buffered<O>,
-    err: &mut Buffered<E>,
-) -> (CommandEnding, D)
-    requires countable { IsCountable (task_parts task.now) }
-    ensures one { IsTrue D.tells → (reads_shelf (task_parts task.now) ≡ true → IsTrue S.tells)
-        → OneChange D.files D.left_since D.moment (S.paths shelf.old) now (task_parts task.now) result.0.why
-        result.0.changes disk result.1 (shown O.Sink E.Sink out.old err.old) (shown O.Sink E.Sink out.new err.new) }
-    ensures empty { IsTrue D.tells → EmptyBy (needs_none (task_parts task.now)) (reopened (D.files disk)) result.0.why }
-    ensures keeps { Keeps D.Disk result.0 disk result.1 }
-    ensures streams { Streams S.Shelf O.Sink E.Sink (reads_shelf (task_parts task.now)) (λ why. result.0.why ≡ why)
-        (shelf.old, out.old, err.old) (shelf.new, out.new, err.new) }
-{
-    let mut disk = disk;
-    match recover(&mut disk) {
-        Ok(_) => change_recovered(alloc, disk, shelf, task, now, out, err),
-        Err(fault) => (unchanged(why_of_recover(fault)), disk),
-    }
-}
-
-/// Does a command that changes packages, or makes the database: what its words ask for.
 pub fn change_asked<D: Disk, S: Shelf, O: Sink + Drop, E: Sink + Drop>(
     alloc: Global,
     words: &Words,
@@ -211,8 +186,13 @@ pub fn change_asked<D: Disk, S: Shelf, O: Sink + Drop, E: Sink + Drop>(
         (λ why. result.0.why ≡ why) (shelf.old, out.old, err.old)
         (shelf.new, out.new, err.new) }
 {
-    match task_of(alloc, words, ask) {
-        Ok(task) => change(alloc, disk, shelf, &task, now, out, err),
-        Err(AllocError) => (unchanged(Why::NoMemory), disk),
+    let task = match task_of(alloc, words, ask) {
+        Ok(task) => task,
+        Err(AllocError) => return (unchanged(Why::NoMemory), disk),
+    };
+    let mut disk = disk;
+    match recover(&mut disk) {
+        Ok(_) => change_recovered(alloc, disk, shelf, &task, now, out, err),
+        Err(fault) => (unchanged(why_of_recover(fault)), disk),
     }
 }

@@ -1,7 +1,7 @@
 //! The line that closes a command on standard error.
 
-ghost use Rattle.std.specs.Prelude.{◌≡◌, []};
-ghost use Rattle.rpm_tool.specs.Prelude.{closing, damage_line, fault_text, format_line, held_line, holds, index_line, inner, log_line, reason_text, rule_text, text_at, usage_line, word_told, Writes};
+ghost use Rattle.std.specs.Prelude.{◌≡◌};
+ghost use Rattle.rpm_tool.specs.Prelude.{closing, damage_line, fault_text, format_line, held_line, index_line, inner, log_line, reason_text, rule_text, text_at, usage_line, word_told, Writes};
 
 use crate::answer::Why;
 use crate::pieces::put_pieces;
@@ -181,16 +181,7 @@ fn put_line<E: Sink>(err: &mut E, words: &Words, why: Why) -> Result<(), Failed>
     }
 }
 
-/// Writes that line, and gives the sink behind the buffer all of it.
-fn put_flushed<E: Sink + Drop>(err: &mut Buffered<E>, words: &Words, why: Why) -> Result<(), Failed>
-    requires { holds err.old ≡ [] }
-    ensures { Writes E.tells E.taken E.faults E.follows (inner err.old) (inner err.new) (closing words.now why) result }
-{
-    put_line(err, words, why)?;
-    err.flush()
-}
-
-/// Writes it so. What the buffer held is let go.
+/// Writes that line, and gives the sink behind the buffer all of it. What the buffer held is let go.
 pub fn put_closing<E: Sink + Drop>(
     err: &mut Buffered<E>,
     words: &Words,
@@ -199,5 +190,6 @@ pub fn put_closing<E: Sink + Drop>(
     ensures { Writes E.tells E.taken E.faults E.follows (inner err.old) (inner err.new) (closing words.now why) result }
 {
     err.clear();
-    put_flushed(err, words, why)
+    put_line(err, words, why)?;
+    err.flush()
 }

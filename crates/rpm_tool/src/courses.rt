@@ -68,10 +68,7 @@ pub(crate) fn change_on<D: Disk, S: Shelf, O: Sink + Drop, E: Sink + Drop>(
     ensures streams { Streams S.Shelf O.Sink E.Sink (reads_shelf (task_parts task.now)) (λ why. result ≡ Err why)
         (shelf.old, out.old, err.old) (shelf.new, out.new, err.new) }
 {
-    let mut db = match open_to_change(alloc, disk) {
-        Ok(db) => db,
-        Err(why) => return Err(why),
-    };
+    let mut db = open_to_change(alloc, disk)?;
     match task {
         Task::Make => Ok(Tally {
             failed: 0,

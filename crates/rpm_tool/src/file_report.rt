@@ -32,10 +32,7 @@ fn put_unread<E: Sink + Drop>(
     ensures err { Hand E.Sink (result ≡ Err Stop.ErrFault) err.old err.new }
 {
     for number in numbers {
-        match put_bad(alloc, err, *number) {
-            Ok(_) => {}
-            Err(stop) => return Err(stop),
-        }
+        put_bad(alloc, err, *number)?;
     }
     Ok(())
 }
@@ -87,10 +84,7 @@ fn put_conflicts<O: Sink + Drop>(out: &mut Buffered<O>, report: &ConflictList) -
     ensures out { Hand O.Sink (result ≡ Err Stop.OutFault) out.old out.new }
 {
     for i in 0..report.len() {
-        match put_conflict(out, report, report.at(i)) {
-            Ok(_) => {}
-            Err(stop) => return Err(stop),
-        }
+        put_conflict(out, report, report.at(i))?;
     }
     Ok(())
 }
@@ -114,13 +108,9 @@ fn tell_report<O: Sink + Drop, E: Sink + Drop>(
     ensures no_read { result ≢ Err Stop.ReadFault }
     ensures hands { StopHands O.Sink E.Sink result out.old err.old out.new err.new }
 {
-    match put_unread(alloc, report.bad(), err) {
-        Ok(()) => match put_conflicts(out, report) {
-            Ok(()) => Ok(has_lines(report)),
-            Err(stop) => Err(stop),
-        },
-        Err(stop) => Err(stop),
-    }
+    put_unread(alloc, report.bad(), err)?;
+    put_conflicts(out, report)?;
+    Ok(has_lines(report))
 }
 
 /// Tells the packages that can't be read, and then the paths that several packages own and that differ. Reads all

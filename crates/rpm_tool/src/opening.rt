@@ -52,8 +52,6 @@ pub(crate) fn open_to_change<D: Disk>(alloc: Global, disk: &mut D) -> Result<Db,
         Ok(db) => db,
         Err(fault) => return Err(why_of_open(fault)),
     };
-    match make_blank(alloc, &mut db, disk) {
-        Ok(()) => Ok(db),
-        Err(why) => Err(why),
-    }
+    make_blank(alloc, &mut db, disk)?;
+    Ok(db)
 }

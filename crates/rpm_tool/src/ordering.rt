@@ -1,10 +1,10 @@
 //! An order in which the packages could be installed.
 
-ghost use Rattle.std.specs.Prelude.{◌≡◌, ◌≢◌, ℕ, ◌<◌, map, true, false, IsTrue, Err, IfOk, IfErr};
-ghost use Rattle.rpm_tool.specs.Prelude.{Anywhere, class_steps, ClassesAre, cycle_line, DiskFault, flat_map, graph_of, Hand, HasRows, header, is_of_sink, IsAskable, IsOrder, label_step, label_text, OrderPartIs, OutTakes, packages_in, Peeks, Reached, read_text, ReadsBy, shown, StepIs, StopHands, StopsOfSome, TellsOut, ToOut, whole};
+ghost use Rattle.std.specs.Prelude.{◌≡◌, ◌≢◌, ℕ, ◌<◌, map, true, IsTrue, Err, IfOk, IfErr};
+ghost use Rattle.rpm_tool.specs.Prelude.{Anywhere, class_steps, ClassesAre, cycle_line, DiskFault, flat_map, Hand, HasRows, header, IsAskable, label_step, label_text, OrderPartIs, OutTakes, packages_in, Peeks, Reached, read_text, shown, StepIs, StopHands, StopsOfSome, TellsOut, ToOut, whole};
 
 use crate::step::{Stop, put_text};
-use crate::unreadable::{read_blob, stop_of_check, tell_each_bad};
+use crate::unreadable::{read_into, stop_of_check, tell_each_bad};
 use itoa::Buffer;
 use rpm_check::read_graph;
 use rpm_db::Db;
@@ -46,13 +46,14 @@ fn read_label_text(
     }
 }
 
-/// Writes the label of a package, which is read for it, after an indent.
+/// Writes the label of a package, which is read for it into this room, after an indent.
 fn put_label<D: Disk, O: Sink + Drop>(
     alloc: Global,
     db: &Db,
     disk: &mut D,
     number: u32,
     indent: &[u8],
+    room: &mut Vec<u8>,
     out: &mut Buffered<O>,
 ) -> Result<bool, Stop>
     requires asked { IsAskable D.Disk disk.old db.now }
@@ -61,11 +62,8 @@ fn put_label<D: Disk, O: Sink + Drop>(
     ensures unbroken { (unit : ℕ) → result ≢ Err (Stop.BadIndex unit) }
     ensures tells { TellsOut D.Disk O.Sink result disk.old disk.new out.old out.new }
 {
-    let blob = match read_blob(alloc, db, disk, number) {
-        Ok(blob) => blob,
-        Err(stop) => return Err(stop),
-    };
-    match read_label_text(alloc, &blob, number, indent) {
+    read_into(alloc, db, disk, number, room)?;
+    match read_label_text(alloc, room, number, indent) {
         Ok(line) => put_text(out, &line),
         Err(_) => Err(Stop::NoMemory),
     }
@@ -78,6 +76,7 @@ fn put_labels<D: Disk, O: Sink + Drop>(
     disk: &mut D,
     class: &[u32],
     indent: &[u8],
+    room: &mut Vec<u8>,
     out: &mut Buffered<O>,
 ) -> Result<(), Stop>
     requires asked { IsAskable D.Disk disk.old db.now }
@@ -88,10 +87,7 @@ fn put_labels<D: Disk, O: Sink + Drop>(
     ensures tells { TellsOut D.Disk O.Sink result disk.old disk.new out.old out.new }
 {
     for number in class {
-        match put_label(alloc, db, disk, *number, indent, out) {
-            Ok(_) => {}
-            Err(stop) => return Err(stop),
-        }
+        put_label(alloc, db, disk, *number, indent, room, out)?;
     }
     Ok(())
 }
@@ -133,6 +129,7 @@ fn put_class<D: Disk, O: Sink + Drop>(
     db: &Db,
     disk: &mut D,
     class: &[u32],
+    room: &mut Vec<u8>,
     out: &mut Buffered<O>,
 ) -> Result<(), Stop>
     requires asked { IsAskable D.Disk disk.old db.now }
@@ -143,15 +140,13 @@ fn put_class<D: Disk, O: Sink + Drop>(
 {
     let count = class.len();
     if count == 1 {
-        return put_labels(alloc, db, disk, class, b"", out);
+        return put_labels(alloc, db, disk, class, b"", room, out);
     }
-    match put_cycle(alloc, count, out) {
-        Ok(_) => put_labels(alloc, db, disk, class, b"  ", out),
-        Err(stop) => Err(stop),
-    }
+    put_cycle(alloc, count, out)?;
+    put_labels(alloc, db, disk, class, b"  ", room, out)
 }
 
-/// Writes the packages, class by class.
+/// Writes the packages, class by class. All are read into one room.
 fn put_classes<D: Disk, O: Sink + Drop>(
     alloc: Global,
     db: &Db,
@@ -166,32 +161,11 @@ fn put_classes<D: Disk, O: Sink + Drop>(
     ensures unbroken { (unit : ℕ) → result ≢ Err (Stop.BadIndex unit) }
     ensures tells { TellsOut D.Disk O.Sink result disk.old disk.new out.old out.new }
 {
+    let mut room = Vec::new(alloc);
     for k in 0..list.classes() {
-        match put_class(alloc, db, disk, list.class(k), out) {
-            Ok(()) => {}
-            Err(stop) => return Err(stop),
-        }
+        put_class(alloc, db, disk, list.class(k), &mut room, out)?;
     }
     Ok(())
-}
-
-/// The packages in an order in which they could be installed.
-fn list_classes<D: Disk>(alloc: Global, db: &Db, disk: &mut D) -> Result<ClassList, Stop>
-    requires asked { IsAskable D.Disk disk.old db.now }
-    ensures told { IfOk result (λ list. IsTrue D.tells → HasRows D.Disk disk.old db.now
-        → IsOrder (graph_of (packages_in D.Disk disk.old db.now)) list) }
-    ensures broken { IsTrue D.tells → IfErr result (StopsOfSome (D.files disk.old).idx) }
-    ensures lawful { IsTrue D.tells → HasRows D.Disk disk.old db.now → IfErr result (λ stop. is_of_sink stop ≡ false) }
-    ensures reads { ReadsBy D.Disk result disk.old disk.new }
-{
-    let graph = match read_graph(alloc, db, disk) {
-        Ok(graph) => graph,
-        Err(fault) => return Err(stop_of_check(fault)),
-    };
-    match order(alloc, &graph) {
-        Ok(list) => Ok(list),
-        Err(_) => Err(Stop::NoMemory),
-    }
 }
 
 /// Tells the packages in an order in which they could be installed, with their labels on out.
@@ -207,9 +181,13 @@ fn tell_order<D: Disk, O: Sink + Drop>(
     ensures broken { IsTrue D.tells → IfErr result (StopsOfSome (D.files disk.old).idx) }
     ensures tells { TellsOut D.Disk O.Sink result disk.old disk.new out.old out.new }
 {
-    match list_classes(alloc, db, disk) {
+    let graph = match read_graph(alloc, db, disk) {
+        Ok(graph) => graph,
+        Err(fault) => return Err(stop_of_check(fault)),
+    };
+    match order(alloc, &graph) {
         Ok(list) => put_classes(alloc, db, disk, &list, out),
-        Err(stop) => Err(stop),
+        Err(_) => Err(Stop::NoMemory),
     }
 }
 
@@ -236,12 +214,7 @@ pub fn report_order<D: Disk, O: Sink + Drop, E: Sink + Drop>(
     ensures disk { DiskFault D.Disk (result ≡ Err Stop.ReadFault) disk.old disk.new }
     ensures hands { StopHands O.Sink E.Sink result out.old err.old out.new err.new }
 {
-    let bad = match tell_each_bad(alloc, db, disk, err) {
-        Ok(bad) => bad,
-        Err(stop) => return Err(stop),
-    };
-    match tell_order(alloc, db, disk, out) {
-        Ok(()) => Ok(bad),
-        Err(stop) => Err(stop),
-    }
+    let bad = tell_each_bad(alloc, db, disk, err)?;
+    tell_order(alloc, db, disk, out)?;
+    Ok(bad)
 }

@@ -72,10 +72,8 @@ fn print_package<O: Sink + Drop, E: Sink + Drop>(
     ensures hands { StopHands O.Sink E.Sink result out.old err.old out.new err.new }
 {
     let view = View::of_checked(found.header());
-    match print_header(format, &view, 0, out, err) {
-        Ok(to_out) => Ok(!to_out),
-        Err(stop) => Err(stop),
-    }
+    let to_out = print_header(format, &view, 0, out, err)?;
+    Ok(!to_out)
 }
 
 /// What stops a command where a package file isn't read; None where the file itself is refused.

@@ -140,14 +140,13 @@ pub fn print_above<D: Disk, O: Sink + Drop, E: Sink + Drop>(
     let mut some = false;
     let mut fails = false;
     loop {
-        match print_next(alloc, picker, db, disk, selection, number, way, out, err) {
-            Ok(Some((next, to_out))) => {
+        match print_next(alloc, picker, db, disk, selection, number, way, out, err)? {
+            Some((next, to_out)) => {
                 number = next;
                 some = true;
                 fails |= !to_out;
             }
-            Ok(None) => return Ok(PrintedPackages { some, fails }),
-            Err(stop) => return Err(stop),
+            None => return Ok(PrintedPackages { some, fails }),
         }
     }
 }

@@ -8,7 +8,7 @@ use rpm_header::{MAGIC, View};
 use rpm_outside::{Buffered, Failed, Sink, put_and_flush};
 use rpm_qfeval::{DirectFault, print_direct};
 use rpm_qfparse::Format;
-use rpm_select::{Blob, Picked};
+use rpm_select::Picked;
 use std::alloc::{AllocError, Global};
 
 /// What stops a command before its end.
@@ -176,29 +176,6 @@ pub enum Way<'a> {
     Export,
 }
 
-/// Prints a header, to out (true), or a message, to err (false).
-fn print_good<O: Sink + Drop, E: Sink + Drop>(
-    alloc: Global,
-    way: &Way<'_>,
-    number: u32,
-    blob: &Blob,
-    out: &mut Buffered<O>,
-    err: &mut Buffered<E>,
-) -> Result<bool, Stop>
-    ensures step { (j : ℕ) → StepIs (step_by way.now j (number, Good blob.now)) result
-        (shown O.Sink E.Sink out.old err.old) (shown O.Sink E.Sink out.new err.new) }
-    ensures no_read { result ≢ Err Stop.ReadFault }
-    ensures hands { StopHands O.Sink E.Sink result out.old err.old out.new err.new }
-{
-    match way {
-        Way::Format(format) => {
-            let view = blob.view();
-            print_header(format, &view, number, out, err)
-        }
-        Way::Export => put_export(alloc, blob.as_slice(), out),
-    }
-}
-
 /// Prints a package that was picked, to out (true), or a message, to err (false).
 pub fn print_picked<O: Sink + Drop, E: Sink + Drop>(
     alloc: Global,
@@ -213,7 +190,13 @@ pub fn print_picked<O: Sink + Drop, E: Sink + Drop>(
     ensures hands { StopHands O.Sink E.Sink result out.old err.old out.new err.new }
 {
     match picked {
-        Picked::Good { number, blob } => print_good(alloc, way, *number, blob, out, err),
+        Picked::Good { number, blob } => match way {
+            Way::Format(format) => {
+                let view = blob.view();
+                print_header(format, &view, *number, out, err)
+            }
+            Way::Export => put_export(alloc, blob.as_slice(), out),
+        },
         Picked::Bad { number } => put_bad(alloc, err, *number),
     }
 }

@@ -2,13 +2,14 @@
 
 ghost use Rattle.std.specs.Prelude.{◌≡◌, ◌≢◌, ℕ, true, false, IsTrue, Err, IfOk};
 ghost use Rattle.std.specs.FinMap as finite;
-ghost use Rattle.rpm_tool.specs.Prelude.{Anywhere, bad_at, bad_parts, bad_step, ErrTakes, fails, Hand, IsAskable, IsHeld, IsRead, packages_in, PartIs, ReadsBy, stop_of_check, TellsErr};
+ghost use Rattle.rpm_tool.specs.Prelude.{Anywhere, bad_at, bad_parts, bad_step, ErrTakes, fails, Hand, IsAskable, IsRead, packages_in, PartIs, ReadsBy, stop_of_check, TellsErr};
 
 use crate::step::{Stop, put_bad};
 use rpm_check::CheckFault;
 use rpm_db::{Db, GetFault};
 use rpm_outside::{Buffered, Disk, Sink};
 use std::alloc::Global;
+use std::mem::replace;
 
 /// What stops a report.
 pub fn stop_of_check(fault: CheckFault) -> Stop
@@ -21,61 +22,29 @@ pub fn stop_of_check(fault: CheckFault) -> Stop
     }
 }
 
-/// The bytes that a package is read from; none where there are none. Reads its blocks once.
-pub fn read_blob<D: Disk>(
+/// Reads into this room the bytes that a package is read from, each of its blocks once; no bytes where there are none.
+pub fn read_into<D: Disk>(
     alloc: Global,
     db: &Db,
     disk: &mut D,
     number: u32,
-) -> Result<Vec<u8>, Stop>
-    requires asked { IsAskable D.Disk disk.old db.now }
-    ensures told { IfOk result (λ blob. IsTrue D.tells
-        → IsRead (packages_in D.Disk disk.old db.now) number blob.items) }
-    ensures unbroken { (unit : ℕ) → result ≢ Err (Stop.BadIndex unit) }
-    ensures reads { ReadsBy D.Disk result disk.old disk.new }
-{
-    match db.read(alloc, disk, number) {
-        Ok(blob) => Ok(blob),
-        Err(GetFault::NoSuch) => Ok(Vec::new(alloc)),
-        Err(GetFault::Bad) => Ok(Vec::new(alloc)),
-        Err(GetFault::DiskFault) => Err(Stop::ReadFault),
-        Err(GetFault::NoMemory) => Err(Stop::NoMemory),
-    }
-}
-
-/// The package that was read last: its number, and the bytes that it is read from.
-#[derive(Drop)]
-pub struct Held {
-    pub number: u32,
-    pub blob: Vec<u8>,
-}
-
-/// Holds the package of this number. It is read, if it isn't the one that is held already.
-pub fn hold<D: Disk>(
-    alloc: Global,
-    db: &Db,
-    disk: &mut D,
-    number: u32,
-    held: &mut Held,
+    room: &mut Vec<u8>,
 ) -> Result<(), Stop>
     requires asked { IsAskable D.Disk disk.old db.now }
-    requires holding { IsTrue D.tells → IsHeld (packages_in D.Disk disk.old db.now) held.old }
-    ensures held { IsTrue D.tells → IsHeld (packages_in D.Disk disk.new db.now) held.new }
-    ensures number { IfOk result (λ _done. held.new.number ≡ number) }
-    ensures unread { held.old.number ≡ number → disk.new ≡ disk.old }
+    ensures told { IfOk result (λ _done. IsTrue D.tells
+        → IsRead (packages_in D.Disk disk.old db.now) number room.new.items) }
     ensures unbroken { (unit : ℕ) → result ≢ Err (Stop.BadIndex unit) }
     ensures reads { ReadsBy D.Disk result disk.old disk.new }
 {
-    if held.number == number {
-        return Ok(());
-    }
-    match read_blob(alloc, db, disk, number) {
+    match db.read_in(disk, number, replace(room, Vec::new(alloc))) {
         Ok(blob) => {
-            held.number = number;
-            held.blob = blob;
+            *room = blob;
             Ok(())
         }
-        Err(stop) => Err(stop),
+        Err(GetFault::NoSuch) => Ok(()),
+        Err(GetFault::Bad) => Ok(()),
+        Err(GetFault::DiskFault) => Err(Stop::ReadFault),
+        Err(GetFault::NoMemory) => Err(Stop::NoMemory),
     }
 }
 
@@ -92,18 +61,18 @@ fn put_failing<E: Sink + Drop>(
     ensures unbroken { (unit : ℕ) → result ≢ Err (Stop.BadIndex unit) }
     ensures err { Hand E.Sink (result ≡ Err Stop.ErrFault) err.old err.new }
 {
-    match put_bad(alloc, err, number) {
-        Ok(_) => Ok(true),
-        Err(stop) => Err(stop),
-    }
+    put_bad(alloc, err, number)?;
+    Ok(true)
 }
 
-/// Tells a package that can't be read. Says whether the argument fails for it.
+/// Tells a package that can't be read. Says whether the argument fails for it. A package that can be read is read into
+/// this room.
 fn tell_bad<D: Disk, E: Sink + Drop>(
     alloc: Global,
     db: &Db,
     disk: &mut D,
     number: u32,
+    room: &mut Vec<u8>,
     err: &mut Buffered<E>,
 ) -> Result<bool, Stop>
     requires asked { IsAskable D.Disk disk.old db.now }
@@ -113,8 +82,11 @@ fn tell_bad<D: Disk, E: Sink + Drop>(
     ensures unbroken { (unit : ℕ) → result ≢ Err (Stop.BadIndex unit) }
     ensures tells { TellsErr D.Disk E.Sink result disk.old disk.new err.old err.new }
 {
-    match db.get(alloc, disk, number) {
-        Ok(_blob) => Ok(false),
+    match db.get_in(disk, number, replace(room, Vec::new(alloc))) {
+        Ok(blob) => {
+            *room = blob;
+            Ok(false)
+        }
         Err(GetFault::NoSuch) => Ok(false),
         Err(GetFault::Bad) => put_failing(alloc, err, number),
         Err(GetFault::DiskFault) => Err(Stop::ReadFault),
@@ -123,7 +95,7 @@ fn tell_bad<D: Disk, E: Sink + Drop>(
 }
 
 /// Tells each package that can't be read, by rising number. Says whether there is one. Reads the blocks of each
-/// package once.
+/// package once, all of them into one room.
 pub fn tell_each_bad<D: Disk, E: Sink + Drop>(
     alloc: Global,
     db: &Db,
@@ -136,16 +108,13 @@ pub fn tell_each_bad<D: Disk, E: Sink + Drop>(
     ensures unbroken { (unit : ℕ) → result ≢ Err (Stop.BadIndex unit) }
     ensures tells { TellsErr D.Disk E.Sink result disk.old disk.new err.old err.new }
 {
+    let mut room = Vec::new(alloc);
     let mut number = 0;
     let mut fails = false;
     while let Some(next) = db.next_above(number) {
-        match tell_bad(alloc, db, disk, next, err) {
-            Ok(bad) => {
-                number = next;
-                fails |= bad;
-            }
-            Err(stop) => return Err(stop),
-        }
+        let bad = tell_bad(alloc, db, disk, next, &mut room, err)?;
+        number = next;
+        fails |= bad;
     }
     Ok(fails)
 }

@@ -1,12 +1,12 @@
 //! The requirements that no package meets, each with its line.
 
-ghost use Rattle.std.specs.Prelude.{◌≡◌, ◌≢◌, ℕ, [], map, if◌then◌else◌, true, false, IsTrue, Err, IfOk, IfErr, slice_get};
-ghost use Rattle.rpm_tool.specs.Prelude.{Anywhere, depflags, DiskFault, has, HasRows, header, is_of_sink, is_open, IsAskable, IsHeld, letters, needed_in, option_map, OutTakes, packages_in, PartIs, Peeks, range_text, Reached, read_text, ReadsBy, required, shown, StepIs, StopHands, StopsOfSome, TellsOut, unmet_line, unmet_part, unmet_step, unmet_text, unsatisfied_part};
-ghost use Rattle.rpm_check.specs.Unmet as lacking;
+ghost use Rattle.std.specs.Prelude.{◌≡◌, ◌≢◌, ◌==◌, ◌<◌, ◌≤◌, ℕ, [], length, map, if◌then◌else◌, true, IsTrue, Err, IfOk, IfErr, slice_get};
+ghost use Rattle.std.specs.List.{All, prefix_len};
+ghost use Rattle.rpm_tool.specs.Prelude.{Anywhere, depflags, DiskFault, has, HasRows, header, is_open, IsAskable, line_of, letters, needed_in, option_map, OutTakes, packages_in, PartIs, Peeks, range_text, Reached, read_text, required, shown, StepIs, StopHands, StopsOfSome, TellsOut, unmet_line, unmet_lines, unmet_part, unmet_step, unsatisfied_part};
 
 use crate::step::{Stop, put_text};
-use crate::unreadable::{Held, hold, stop_of_check, tell_each_bad};
-use rpm_check::{Unmet, UnmetList, unmet};
+use crate::unreadable::{read_into, stop_of_check, tell_each_bad};
+use rpm_check::{Unmet, unmet};
 use rpm_db::Db;
 use rpm_filecheck::label_of;
 use rpm_header::View;
@@ -93,70 +93,91 @@ fn requirement<'a>(view: &View<'a>, place: u32) -> Option<Dependency<'a>>
     left.nth(place as usize)
 }
 
-/// The line of the requirement at a place of a header; empty where there is none.
+/// The line of the requirement at a place of the header with this label; empty where there is none.
 fn unmet_text(
     alloc: Global,
     view: &View<'_>,
-    number: u32,
+    label: &[u8],
     place: u32,
 ) -> Result<Vec<u8>, AllocError>
-    ensures { IfOk result (λ line. line.items ≡ unmet_text place number view.now) }
+    ensures { IfOk result (λ line. line.items ≡ line_of label.now (slice_get (required view.now) place)) }
 {
     match requirement(view, place) {
-        Some(needed) => {
-            let label = label_of(alloc, view, number)?;
-            unmet_line(alloc, &label, &needed)
-        }
+        Some(needed) => unmet_line(alloc, label, &needed),
         None => Ok(Vec::new(alloc)),
     }
 }
 
-/// The same of the header with which these bytes begin.
-fn read_unmet_text(
+/// The lines of these requirements of a header, one after the other.
+fn unmet_lines(
+    alloc: Global,
+    view: &View<'_>,
+    number: u32,
+    row: &[Unmet],
+) -> Result<Vec<u8>, AllocError>
+    ensures { IfOk result (λ lines. lines.items ≡ unmet_lines row.now number view.now) }
+{
+    let label = label_of(alloc, view, number)?;
+    let mut lines = Vec::new(alloc);
+    for unmet in row {
+        let line = unmet_text(alloc, view, &label, unmet.place)?;
+        lines.extend_from_slice(&line)?;
+    }
+    Ok(lines)
+}
+
+/// The same of the header with which these bytes begin, which is parsed once.
+fn read_unmet_lines(
     alloc: Global,
     blob: &[u8],
     number: u32,
-    place: u32,
+    row: &[Unmet],
 ) -> Result<Vec<u8>, AllocError>
-    ensures { IfOk result (λ line. line.items ≡ read_text (unmet_text place number) (header blob.now)) }
+    ensures { IfOk result (λ lines. lines.items ≡ read_text (unmet_lines row.now number) (header blob.now)) }
 {
     match View::parse(blob) {
-        Ok(view) => unmet_text(alloc, &view, number, place),
+        Ok(view) => unmet_lines(alloc, &view, number, row),
         Err(_) => Ok(Vec::new(alloc)),
     }
 }
 
-/// Writes the line of a requirement of a package, which is read for it, if it isn't held, and is held then.
-fn put_unmet<D: Disk, O: Sink + Drop>(
+/// Writes the lines of some requirements of a package, which is read for them into this room.
+fn put_row<D: Disk, O: Sink + Drop>(
     alloc: Global,
     db: &Db,
     disk: &mut D,
-    unmet: Unmet,
-    held: &mut Held,
+    number: u32,
+    row: &[Unmet],
+    room: &mut Vec<u8>,
     out: &mut Buffered<O>,
 ) -> Result<bool, Stop>
     requires asked { IsAskable D.Disk disk.old db.now }
-    requires holding { IsTrue D.tells → IsHeld (packages_in D.Disk disk.old db.now) held.old }
-    ensures held { IsTrue D.tells → IsHeld (packages_in D.Disk disk.new db.now) held.new }
-    ensures number { IfOk result (λ _to_out. held.new.number ≡ unmet.number) }
-    ensures unread { held.old.number ≡ unmet.number → disk.new ≡ disk.old }
-    ensures step { IsTrue D.tells → OutTakes O.Sink (StepIs (unmet_step (packages_in D.Disk disk.old db.now) unmet)
-        result) out.old out.new }
+    requires own { All (λ unmet. unmet.number ≡ number) row.now }
+    requires some { 0 < length row.now }
+    ensures went { IsTrue D.tells → OutTakes O.Sink (λ old new. Reached
+        (map (unmet_step (packages_in D.Disk disk.old db.now)) row.now) result old new Anywhere) out.old out.new }
     ensures unbroken { (unit : ℕ) → result ≢ Err (Stop.BadIndex unit) }
     ensures tells { TellsOut D.Disk O.Sink result disk.old disk.new out.old out.new }
 {
-    match hold(alloc, db, disk, unmet.number, held) {
-        Ok(()) => {}
-        Err(stop) => return Err(stop),
-    }
-    match read_unmet_text(alloc, &held.blob, unmet.number, unmet.place) {
-        Ok(line) => put_text(out, &line),
+    read_into(alloc, db, disk, number, room)?;
+    match read_unmet_lines(alloc, room, number, row) {
+        Ok(lines) => put_text(out, &lines),
         Err(_) => Err(Stop::NoMemory),
     }
 }
 
-/// Writes the lines of these requirements. Of those of a package that stand in a row, the package is read for the
-/// first alone.
+/// How many requirements at the front of a list are of one package.
+fn row_len(list: &[Unmet], number: u32) -> usize
+    ensures length { result ≡ prefix_len (λ unmet. unmet.number == number) list.now }
+    ensures within { result ≤ length list.now }
+{
+    list.iter()
+        .take_while(|unmet| unmet.number == number)
+        .count()
+}
+
+/// Writes the lines of these requirements. Of those of a package that stand in a row, the package is read, parsed and
+/// labelled once. All packages are read into one room.
 fn put_each_unmet<D: Disk, O: Sink + Drop>(
     alloc: Global,
     db: &Db,
@@ -170,33 +191,15 @@ fn put_each_unmet<D: Disk, O: Sink + Drop>(
     ensures unbroken { (unit : ℕ) → result ≢ Err (Stop.BadIndex unit) }
     ensures tells { TellsOut D.Disk O.Sink result disk.old disk.new out.old out.new }
 {
-    // No package has the number 0.
-    let mut held = Held {
-        number: 0,
-        blob: Vec::new(alloc),
-    };
-    for unmet in list {
-        match put_unmet(alloc, db, disk, *unmet, &mut held, out) {
-            Ok(_) => {}
-            Err(stop) => return Err(stop),
-        }
+    let mut room = Vec::new(alloc);
+    let mut left = list;
+    while let Some(first) = left.first() {
+        let number = first.number;
+        let (row, rest) = left.split_at(row_len(left, number));
+        put_row(alloc, db, disk, number, row, &mut room, out)?;
+        left = rest;
     }
     Ok(())
-}
-
-/// The requirements that no package meets.
-fn list_unmet<D: Disk>(alloc: Global, db: &Db, disk: &mut D) -> Result<UnmetList, Stop>
-    requires asked { IsAskable D.Disk disk.old db.now }
-    ensures told { IfOk result (λ list. IsTrue D.tells → HasRows D.Disk disk.old db.now
-        → list ≡ lacking.unmet (packages_in D.Disk disk.old db.now)) }
-    ensures broken { IsTrue D.tells → IfErr result (StopsOfSome (D.files disk.old).idx) }
-    ensures lawful { IsTrue D.tells → HasRows D.Disk disk.old db.now → IfErr result (λ stop. is_of_sink stop ≡ false) }
-    ensures reads { ReadsBy D.Disk result disk.old disk.new }
-{
-    match unmet(alloc, db, disk) {
-        Ok(list) => Ok(list),
-        Err(fault) => Err(stop_of_check(fault)),
-    }
 }
 
 /// Tells the requirements that no package meets, each with its line on out. Says whether there is one.
@@ -213,14 +216,12 @@ fn tell_unmet<D: Disk, O: Sink + Drop>(
     ensures broken { IsTrue D.tells → IfErr result (StopsOfSome (D.files disk.old).idx) }
     ensures tells { TellsOut D.Disk O.Sink result disk.old disk.new out.old out.new }
 {
-    let list = match list_unmet(alloc, db, disk) {
+    let list = match unmet(alloc, db, disk) {
         Ok(list) => list,
-        Err(stop) => return Err(stop),
+        Err(fault) => return Err(stop_of_check(fault)),
     };
-    match put_each_unmet(alloc, db, disk, list.as_slice(), out) {
-        Ok(()) => Ok(!list.as_slice().is_empty()),
-        Err(stop) => Err(stop),
-    }
+    put_each_unmet(alloc, db, disk, list.as_slice(), out)?;
+    Ok(!list.as_slice().is_empty())
 }
 
 /// Tells first the packages that can't be read, with their lines on err, and then the requirements that no package
@@ -244,12 +245,7 @@ pub fn report_unmet<D: Disk, O: Sink + Drop, E: Sink + Drop>(
     ensures disk { DiskFault D.Disk (result ≡ Err Stop.ReadFault) disk.old disk.new }
     ensures hands { StopHands O.Sink E.Sink result out.old err.old out.new err.new }
 {
-    let bad = match tell_each_bad(alloc, db, disk, err) {
-        Ok(bad) => bad,
-        Err(stop) => return Err(stop),
-    };
-    match tell_unmet(alloc, db, disk, out) {
-        Ok(some) => Ok(bad | some),
-        Err(stop) => Err(stop),
-    }
+    let bad = tell_each_bad(alloc, db, disk, err)?;
+    let some = tell_unmet(alloc, db, disk, out)?;
+    Ok(bad | some)
 }

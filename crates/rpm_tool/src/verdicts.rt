@@ -116,13 +116,9 @@ fn verify_all<D: Disk, O: Sink + Drop>(
     let mut number = 0;
     let mut fails = false;
     while let Some(next) = db.next_above(number) {
-        match verify_one(alloc, db, disk, next, out) {
-            Ok(unsound) => {
-                number = next;
-                fails |= unsound;
-            }
-            Err(stop) => return Err(stop),
-        }
+        let unsound = verify_one(alloc, db, disk, next, out)?;
+        number = next;
+        fails |= unsound;
     }
     Ok(fails)
 }

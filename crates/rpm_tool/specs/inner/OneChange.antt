@@ -11,7 +11,7 @@ use Rattle.rpm_hindex.specs.Sizes.{units_for}
 use Rattle.rpm_pkgdb.specs.Reaches.{ReachesTo}
 use Rattle.rpm_pkgdb.specs.Store.{store}
 use Rattle.rpm_db.specs.Changed.{IsReady}
-use Rattle.rpm_db.specs.Database.{Database, holds, is_blank}
+use Rattle.rpm_db.specs.Database.{Database, is_blank}
 use Rattle.rpm_db.specs.Lawful.{IsLawful, IsWholeIndex}
 use Rattle.rpm_db.specs.Reaches.{ReachesMade}
 use Rattle.rpm_db.specs.State.{State}
@@ -27,7 +27,7 @@ use Rattle.rpm_tool.specs.Changing.{DidOn, ChangesWith, EmptyBy, IsBroken}
 use Rattle.rpm_tool.specs.Frame.{DiskFault, ShelfFault, Hands, IsIndexed, Runs, state_in}
 use Rattle.rpm_tool.specs.Keyed.{IsLawfulGroup, is_done}
 use Rattle.rpm_tool.specs.Limits.{LimitsBy, LogBy, FaultIs, begun}
-use Rattle.rpm_tool.specs.Tasks.{TaskParts, task_course, is_anew, changes_index, needs_none}
+use Rattle.rpm_tool.specs.Tasks.{TaskParts, task_course, is_anew, changes_index}
 use Rattle.rpm_tool.specs.Working.{OpensWithin, WorkedWith, is_halt, why_of}
 
 -- what it answers, what it leaves, which limit it is answered, and how long its log is where that is refused
@@ -55,7 +55,6 @@ module _ {D : Type 0} (d : disk.Ghosts D) where
   pub record OpensOn (old new : D) (db : Database) : Type 0 where
     pub ready : IsReady d new db
     pub not_blank : is_blank db ≡ false
-    pub from_one : IsTrue d.tells → holds 0 db ≡ false
     pub rows : IsTrue d.tells → IsLawful (d.files old).pkg (d.files old).idx → IsIndexed d new db
     pub broken : IsTrue d.tells → ¬ IsWholeIndex (d.files new).idx → IsBroken (d.files old).pkg (d.files old).idx
     pub store_is : IsTrue d.tells → IfOk (store (d.files old).pkg) (λ value. db.store ≡ begun value)

@@ -24,7 +24,7 @@ use Rattle.rpm_tool.proofs.Askable.{asked_still}
 use Rattle.rpm_tool.proofs.argument.answer.Goals as goal
 
 pub answer_question-requires : goal.answer_question-requires
-answer_question-requires g c = record { asked = asked_still g.D.Disk c.args.disk.now c.new.new.disk c.args.db.now c.in-Ok.ensures.looks.untouched c.requires.asked }
+answer_question-requires g c = record { asked = asked_still g.D.Disk c.args.disk.now c.new.new.disk c.args.db.now c.in-Ok.ensures.asks.looks.untouched c.requires.asked }
 
 pub returns-in-Ok-clause-went : goal.returns-in-Ok-clause-went
 returns-in-Ok-clause-went g c = λ told rows j.
@@ -42,7 +42,7 @@ returns-in-Ok-clause-went g c = λ told rows j.
     let asked = sym c.question_of.ensures ∙ c.in-Some.is in
     let goes = argument_reach (is_indexed db) map c.args.chosen c.args.text.now in
     let p = c.in-Ok.picker in
-    let same = (c.in-Ok.ensures.looks.untouched told).same in
+    let same = (c.in-Ok.ensures.asks.looks.untouched told).same in
     let is : p ≡ goes = c.in-Ok.ensures.reach told rows ∙ sym (reach_same (is_indexed db) map c.args.chosen c.args.text
     ∙ ap (reach_of (is_indexed db) map) asked) in
     let serves = served sel s p p (g.D.Disk.files c.new.new.disk) files refl same (c.in-Ok.ensures.serves told rows) in
@@ -51,7 +51,7 @@ returns-in-Ok-clause-went g c = λ told rows j.
     (part_reads (part (picks map sel)) c.answer_question.result old new (ReadsOf j p db between now) (ReadsOf j goes db before now)
     (λ b read. (
       read.0,
-      subst (λ (q : Reach). now ≤ before + reached q db b.number) is (omega (arith, read.1, c.in-Ok.ensures.looks.reads.pkg)),
+      subst (λ (q : Reach). now ≤ before + reached q db b.number) is (omega (arith, read.1, c.in-Ok.ensures.asks.looks.reads.pkg)),
     )) (subst (λ (f : Files). PartIs (part (picks (packages f.pkg s) sel)) c.answer_question.result old new (ReadsOf j p db between now)) same
     (c.answer_question.ensures.went told serves j)))
 
@@ -78,7 +78,7 @@ returns-in-Ok-clause-reads g c = λ told rows.
     let is = c.in-Ok.ensures.reach told rows ∙ sym (reach_same (is_indexed db) map c.args.chosen c.args.text
     ∙ ap (reach_of (is_indexed db) map) (sym c.question_of.ensures ∙ c.in-Some.is)) in
     subst (λ (r : Reach). g.D.Disk.bytes_read c.answer_question.new.disk Pkg ≤ g.D.Disk.bytes_read c.args.disk.now Pkg + reach_all r db) is
-    (omega (arith, c.in-Ok.ensures.looks.reads.pkg, c.answer_question.ensures.reads))
+    (omega (arith, c.in-Ok.ensures.asks.looks.reads.pkg, c.answer_question.ensures.reads))
 
 pub returns-in-Ok-clause-bad_index : goal.returns-in-Ok-clause-bad_index
 returns-in-Ok-clause-bad_index g c = λ told.
@@ -89,7 +89,7 @@ pub returns-in-Err-clause-bad_index : goal.returns-in-Err-clause-bad_index
 returns-in-Err-clause-bad_index g c = λ told.
     let idx = (g.D.Disk.files c.args.disk.now).idx in
     let here = subst (λ (w : Stop). IsOfChain (Some c.in-Some.selection) idx w) (sym c.stop_of.ensures)
-    (chain_of c.in-Some.selection idx c.in-Err.fault (c.in-Err.ensures.broken told)) in
+    (chain_of c.in-Some.selection idx c.in-Err.fault (c.in-Err.ensures.asks.broken told)) in
     chain_same c.args.chosen c.args.text idx (Err c.stop_of.result)
     (subst (λ (asked : Option Selection). IsOfChain asked idx c.stop_of.result) (sym c.in-Some.is ∙ c.question_of.ensures) here)
 
@@ -99,7 +99,7 @@ returns-in-Ok-clause-looks g c =
     peeks_then g.D.Disk.tells g.D.Disk.files g.D.Disk.left_since g.D.Disk.moment g.D.Disk.bytes_read g.D.Disk.follows (is_indexed db)
     g.met.D.Disk.follows_trans c.args.disk.now c.new.new.disk c.answer_question.new.disk
     (peeks_index g.D.Disk.tells g.D.Disk.files g.D.Disk.left_since g.D.Disk.moment g.D.Disk.bytes_read g.D.Disk.follows (is_indexed db)
-    c.args.disk.now c.new.new.disk c.in-Ok.ensures.looks (λ none. c.in-Ok.ensures.unread (not_asked db c.in-Some.selection none)))
+    c.args.disk.now c.new.new.disk c.in-Ok.ensures.asks.looks (λ none. c.in-Ok.ensures.unread (not_asked db c.in-Some.selection none)))
     (peeks_packages g.D.Disk.tells g.D.Disk.files g.D.Disk.left_since g.D.Disk.moment g.D.Disk.bytes_read g.D.Disk.follows (is_indexed db)
     (cost_all db) c.new.new.disk c.answer_question.new.disk c.answer_question.ensures.looks)
 

@@ -1,6 +1,7 @@
 mod Passing
 use Rattle.std.proofs.Common.{◌≡◌, ℕ, false, List, [], map, sym, ap, ◌∙◌, arith}
 use Rattle.std.specs.List.{list_any}
+use Rattle.std.proofs.lemmas.Result.{err_from_is_err_and}
 use Rattle.rpm_outside.specs.Buffered.{inner}
 use Rattle.rpm_outside.specs.declared.disk.File.TheVariants.{Pkg}
 use Rattle.rpm_db.specs.State.{Package, packages, above}
@@ -18,36 +19,37 @@ use Rattle.rpm_tool.proofs.Askable.{asked_still}
 use Rattle.rpm_tool.proofs.argument.answer_question.Goals as goal
 
 pub is_any_passed-requires : goal.is_any_passed-requires
-is_any_passed-requires g c = record { asked = asked_still g.D.Disk c.args.disk.now c.print_above.new.disk c.args.db.now c.in-Ok.ensures.looks.untouched c.requires.asked }
+is_any_passed-requires g c = record { asked = asked_still g.D.Disk c.args.disk.now c.print_above.new.disk c.args.db.now c.in_ok-printed.ensures.looks.untouched c.requires.asked }
 
-pub returns-in-Err-clause-went : goal.returns-in-Err-clause-went
-returns-in-Err-clause-went g c = λ told serves j.
+pub returns-in_err-printed-clause-went : goal.returns-in_err-printed-clause-went
+returns-in_err-printed-clause-went g c = λ told serves j.
     let db = c.args.db.now in
     let r = c.args.picker.now in
     let es = picks (packages (g.D.Disk.files c.args.disk.now).pkg db.store) c.args.selection.now in
     let before = g.D.Disk.bytes_read c.args.disk.now Pkg in
     let now = g.D.Disk.bytes_read c.print_above.new.disk Pkg in
-    answered_stop c.args.format.now c.args.chosen c.args.after j c.args.text.now es c.in-Err.stop
+    let p = err_from_is_err_and c.from_residual.result c.from_residual.ensures.1 in
+    rw (p.1, p.2) (answered_stop c.args.format.now c.args.chosen c.args.after j c.args.text.now es c.in_err-printed.field-0.0
     (outputs g.O.Sink.tells (g.O.Sink.taken (inner c.args.out.now)) g.E.Sink.tells (g.E.Sink.taken (inner c.args.err.now)))
     (outputs g.O.Sink.tells (g.O.Sink.taken (inner c.print_above.new.out)) g.E.Sink.tells (g.E.Sink.taken (inner c.print_above.new.err)))
-    (ReadsIn j c.args.after r db before now) (ReadsOf j r db before now) (λ b read. (read.0, omega (arith, read.1))) (c.in-Err.ensures.went told serves j)
+    (ReadsIn j c.args.after r db before now) (ReadsOf j r db before now) (λ b read. (read.0, omega (arith, read.1))) (c.in_err-printed.ensures.went told serves j))
 
-pub returns-in-Ok-true-clause-looks : goal.returns-in-Ok-true-clause-looks
-returns-in-Ok-true-clause-looks g c =
+pub returns-then-is_passed-clause-looks : goal.returns-then-is_passed-clause-looks
+returns-then-is_passed-clause-looks g c =
     looks_both g.D.Disk.tells g.D.Disk.files g.D.Disk.left_since g.D.Disk.moment g.D.Disk.bytes_read g.D.Disk.follows g.met.D.Disk.follows_trans
-    c.args.db.now c.args.after c.args.disk.now c.print_above.new.disk c.is_any_passed.new.disk c.in-Ok.ensures.looks c.in-Ok-true.ensures.looks
+    c.args.db.now c.args.after c.args.disk.now c.print_above.new.disk c.is_any_passed.new.disk c.in_ok-printed.ensures.looks c.in_ok-is_passed.ensures.looks
 
-pub returns-in-Ok-false-clause-looks : goal.returns-in-Ok-false-clause-looks
-returns-in-Ok-false-clause-looks = passing.returns-in-Ok-false-clause-looks
+pub returns-clause-looks : goal.returns-clause-looks
+returns-clause-looks = passing.returns-clause-looks
 
-pub returns-in-Err-is_any_passed-clause-looks : goal.returns-in-Err-is_any_passed-clause-looks
-returns-in-Err-is_any_passed-clause-looks = passing.returns-in-Err-is_any_passed-clause-looks
+pub returns-in_err-is_passed-clause-looks : goal.returns-in_err-is_passed-clause-looks
+returns-in_err-is_passed-clause-looks = passing.returns-in_err-is_passed-clause-looks
 
-pub returns-in-Ok-false-clause-went : goal.returns-in-Ok-false-clause-went
-returns-in-Ok-false-clause-went = passing.returns-in-Ok-false-clause-went
+pub returns-clause-went : goal.returns-clause-went
+returns-clause-went = passing.returns-clause-went
 
-pub returns-in-Err-is_any_passed-clause-went : goal.returns-in-Err-is_any_passed-clause-went
-returns-in-Err-is_any_passed-clause-went = passing.returns-in-Err-is_any_passed-clause-went
+pub returns-in_err-is_passed-clause-went : goal.returns-in_err-is_passed-clause-went
+returns-in_err-is_passed-clause-went = passing.returns-in_err-is_passed-clause-went
 
 pub returns-then-printed-clause-went : goal.returns-then-printed-clause-went
 returns-then-printed-clause-went g c = λ told serves j.
@@ -56,14 +58,14 @@ returns-then-printed-clause-went g c = λ told serves j.
     let es = picks (packages (g.D.Disk.files c.args.disk.now).pkg db.store) c.args.selection.now in
     let before = g.D.Disk.bytes_read c.args.disk.now Pkg in
     let now = g.D.Disk.bytes_read c.print_above.new.disk Pkg in
-    answered_done c.args.format.now c.args.chosen c.args.after j c.args.text.now es c.in-Ok.printed.fails
+    answered_done c.args.format.now c.args.chosen c.args.after j c.args.text.now es c.in_ok-printed.printed.fails
     (outputs g.O.Sink.tells (g.O.Sink.taken (inner c.args.out.now)) g.E.Sink.tells (g.E.Sink.taken (inner c.args.err.now)))
     (outputs g.O.Sink.tells (g.O.Sink.taken (inner c.print_above.new.out)) g.E.Sink.tells (g.E.Sink.taken (inner c.print_above.new.err)))
     (ReadsIn j c.args.after r db before now) (ReadsOf j r db before now)
-    (some_above c.args.after es (sym (c.in-Ok.ensures.some told serves) ∙ c.if-printed.true)) (c.in-Ok.ensures.went told serves j)
+    (some_above c.args.after es (sym (c.in_ok-printed.ensures.some told serves) ∙ c.if-printed.true)) (c.in_ok-printed.ensures.went told serves j)
 
-pub returns-in-Ok-true-clause-went : goal.returns-in-Ok-true-clause-went
-returns-in-Ok-true-clause-went g c = λ told serves j.
+pub returns-then-is_passed-clause-went : goal.returns-then-is_passed-clause-went
+returns-then-is_passed-clause-went g c = λ told serves j.
     let db = c.args.db.now in
     let s = db.store in
     let r = c.args.picker.now in
@@ -71,28 +73,28 @@ returns-in-Ok-true-clause-went g c = λ told serves j.
     let es = picks (packages (g.D.Disk.files c.args.disk.now).pkg s) c.args.selection.now in
     let before = g.D.Disk.bytes_read c.args.disk.now Pkg in
     let now = g.D.Disk.bytes_read c.is_any_passed.new.disk Pkg in
-    let none : above c.args.after es ≡ [] = none_at_all (above c.args.after es) (sym (c.in-Ok.ensures.some told serves) ∙ c.if-printed.false) in
+    let none : above c.args.after es ≡ [] = none_at_all (above c.args.after es) (sym (c.in_ok-printed.ensures.some told serves) ∙ c.if-printed.false) in
     let any = passed_here c.args.selection.now s c.print_above.new.picker r (g.D.Disk.files c.print_above.new.disk) (g.D.Disk.files c.args.disk.now)
-    c.in-Ok.ensures.same (c.in-Ok.ensures.looks.untouched told).same c.args.after _ (c.in-Ok-true.ensures.told told) serves none in
+    c.in_ok-printed.ensures.same (c.in_ok-printed.ensures.looks.untouched told).same c.args.after _ (c.in_ok-is_passed.ensures.told told) serves none in
     answered_done tree c.args.chosen c.args.after j c.args.text.now es false
     (outputs g.O.Sink.tells (g.O.Sink.taken (inner c.args.out.now)) g.E.Sink.tells (g.E.Sink.taken (inner c.args.err.now)))
     (outputs g.O.Sink.tells (g.O.Sink.taken (inner c.print_above.new.out)) g.E.Sink.tells (g.E.Sink.taken (inner c.print_above.new.err)))
-    (ReadsIn j c.args.after r db before now) (ReadsOf j r db before now) (sym any ∙ c.in-Ok-true.field-0-test)
+    (ReadsIn j c.args.after r db before now) (ReadsOf j r db before now) (sym any ∙ c.if-is_passed.true)
     (record {
-      steps = (c.in-Ok.ensures.went told serves j).steps;
+      steps = (c.in_ok-printed.ensures.went told serves j).steps;
       fails = ap (λ (xs : List (ℕ × Package)). list_any is_bad (map (step_of tree j) xs)) none;
     })
 
-pub returns-in-Ok-true-clause-reads : goal.returns-in-Ok-true-clause-reads
-returns-in-Ok-true-clause-reads g c =
-    both_read c.print_above.new.picker c.args.picker.now c.in-Ok.ensures.same c.args.db.now c.args.after (g.D.Disk.bytes_read c.args.disk.now Pkg)
-    (g.D.Disk.bytes_read c.print_above.new.disk Pkg) (g.D.Disk.bytes_read c.is_any_passed.new.disk Pkg) c.in-Ok.ensures.reads c.in-Ok-true.ensures.reads
+pub returns-then-is_passed-clause-reads : goal.returns-then-is_passed-clause-reads
+returns-then-is_passed-clause-reads g c =
+    both_read c.print_above.new.picker c.args.picker.now c.in_ok-printed.ensures.same c.args.db.now c.args.after (g.D.Disk.bytes_read c.args.disk.now Pkg)
+    (g.D.Disk.bytes_read c.print_above.new.disk Pkg) (g.D.Disk.bytes_read c.is_any_passed.new.disk Pkg) c.in_ok-printed.ensures.reads c.in_ok-is_passed.ensures.reads
 
-pub returns-in-Ok-false-clause-reads : goal.returns-in-Ok-false-clause-reads
-returns-in-Ok-false-clause-reads = passing.returns-in-Ok-false-clause-reads
+pub returns-clause-reads : goal.returns-clause-reads
+returns-clause-reads = passing.returns-clause-reads
 
-pub returns-in-Err-is_any_passed-clause-reads : goal.returns-in-Err-is_any_passed-clause-reads
-returns-in-Err-is_any_passed-clause-reads = passing.returns-in-Err-is_any_passed-clause-reads
+pub returns-in_err-is_passed-clause-reads : goal.returns-in_err-is_passed-clause-reads
+returns-in_err-is_passed-clause-reads = passing.returns-in_err-is_passed-clause-reads
 
-pub returns-in-Ok-false-clause-unbroken : goal.returns-in-Ok-false-clause-unbroken
-returns-in-Ok-false-clause-unbroken = passing.returns-in-Ok-false-clause-unbroken
+pub returns-clause-unbroken : goal.returns-clause-unbroken
+returns-clause-unbroken = passing.returns-clause-unbroken

@@ -65,7 +65,7 @@ returns-clause-went g c = λ tells.
     let what = c.in-Err.stop in
     subst (λ (w : Why). Went (check_files ps) w old new reads) (sym c.why_of.ensures.value)
     (went_stop Bool (check_files ps) what old new reads (stopped ps what old new reads
-    (told ps c.in-Ok.report (c.in-Ok.ensures.told tells) (Err what) old new reads (omega (arith, c.in-Ok.ensures.looks.reads.pkg))
+    (told ps c.in-Ok.report (c.in-Ok.ensures.told tells) (Err what) old new reads (omega (arith, c.in-Ok.ensures.asks.looks.reads.pkg))
     c.in-Err.ensures.part)))
 
 pub returns-in-Ok-true-clause-went : goal.returns-in-Ok-true-clause-went
@@ -76,7 +76,7 @@ returns-in-Ok-true-clause-went g c = λ tells.
     let reads : Bearer → Type 0 = λ for. g.D.Disk.bytes_read c.conflicts.new.disk Pkg ≤ g.D.Disk.bytes_read c.args.disk.now Pkg
     + reached_by (Everything ∷ []) c.args.db.now for in
     went_failing (all_lines ps) old new reads (told ps c.in-Ok.report (c.in-Ok.ensures.told tells) (Ok true) old new reads
-    (omega (arith, c.in-Ok.ensures.looks.reads.pkg)) (rw c.in-Ok-true.field-0-test at c.in-Ok-true.ensures.part))
+    (omega (arith, c.in-Ok.ensures.asks.looks.reads.pkg)) (rw c.in-Ok-true.field-0-test at c.in-Ok-true.ensures.part))
 
 pub returns-in-Ok-false-clause-went : goal.returns-in-Ok-false-clause-went
 returns-in-Ok-false-clause-went g c = λ tells.
@@ -86,4 +86,4 @@ returns-in-Ok-false-clause-went g c = λ tells.
     let reads : Bearer → Type 0 = λ for. g.D.Disk.bytes_read c.conflicts.new.disk Pkg ≤ g.D.Disk.bytes_read c.args.disk.now Pkg
     + reached_by (Everything ∷ []) c.args.db.now for in
     went_sound (all_lines ps) old new reads (told ps c.in-Ok.report (c.in-Ok.ensures.told tells) (Ok false) old new reads
-    (omega (arith, c.in-Ok.ensures.looks.reads.pkg)) (rw c.in-Ok-false.field-0-test at c.in-Ok-false.ensures.part))
+    (omega (arith, c.in-Ok.ensures.asks.looks.reads.pkg)) (rw c.in-Ok-false.field-0-test at c.in-Ok-false.ensures.part))

@@ -1,4 +1,5 @@
 use Rattle.std.proofs.Common.{◌≡◌, ◌+◌, ◌∷◌, map, drop, refl, arith}
+use Rattle.std.proofs.lemmas.Result.{err_from_is_err_and}
 use Rattle.rpm_outside.specs.Buffered.{inner}
 use Rattle.rpm_change.specs.Steps.{whole}
 use Rattle.rpm_tool.specs.FileReport.{conflict_step, label_told}
@@ -21,7 +22,7 @@ loop-i-preserved g c =
     let i = c.loop-i.i in
     let r = c.args.report.now in
     let inv = c.loop-i.invariant in
-    let done = c.in-Ok.ensures in
+    let done = c.in_ok-put_conflict.ensures in
     let here : drop i r.conflicts ≡ c.at.result.now ∷ drop (i + 1) r.conflicts = drop_get r.conflicts i c.at.result.now c.at.ensures in
     record {
       out = omega (arith, inv.out, done.out.cause.later);
@@ -30,14 +31,15 @@ loop-i-preserved g c =
           (g.O.Sink.taken (inner c.loop-i.out)) (g.O.Sink.taken (inner c.put_conflict.new.out)) e e e (inv.goes et e) _ (done.step et e);
     }
 
-pub returns-in-Err-clause-went : goal.returns-in-Err-clause-went
-returns-in-Err-clause-went g c = λ et e.
+pub returns-in_err-put_conflict-clause-went : goal.returns-in_err-put_conflict-clause-went
+returns-in_err-put_conflict-clause-went g c = λ et e.
     let i = c.loop-i.i in
     let r = c.args.report.now in
     let here : drop i r.conflicts ≡ c.at.result.now ∷ drop (i + 1) r.conflicts = drop_get r.conflicts i c.at.result.now c.at.ensures in
-    line_stop (conflict_step (label_told r)) r.conflicts i c.at.result.now here g.O.Sink.tells et (g.O.Sink.taken (inner c.args.out.now))
-    (g.O.Sink.taken (inner c.loop-i.out)) (g.O.Sink.taken (inner c.put_conflict.new.out)) e e e (c.loop-i.invariant.goes et e) Unit c.in-Err.stop
-    (λ for. for ≡ whole 0) refl (c.in-Err.ensures.step et e)
+    let p = err_from_is_err_and c.from_residual.result c.from_residual.ensures.1 in
+    rw (p.1, p.2) (line_stop (conflict_step (label_told r)) r.conflicts i c.at.result.now here g.O.Sink.tells et (g.O.Sink.taken (inner c.args.out.now))
+    (g.O.Sink.taken (inner c.loop-i.out)) (g.O.Sink.taken (inner c.put_conflict.new.out)) e e e (c.loop-i.invariant.goes et e) Unit c.in_err-put_conflict.field-0.0
+    (λ for. for ≡ whole 0) refl (c.in_err-put_conflict.ensures.step et e))
 
 pub returns-clause-went : goal.returns-clause-went
 returns-clause-went g c = λ et e.

@@ -1,4 +1,5 @@
 use Rattle.std.proofs.Common.{◌≡◌, ℕ, ◌+◌, ◌∷◌, get_or, map, drop, drop-cons, add-one, refl, sym, ap, ◌∙◌, arith}
+use Rattle.std.proofs.lemmas.Result.{err_from_is_err_and}
 use Rattle.rpm_outside.specs.Buffered.{inner}
 use Rattle.rpm_change.specs.Steps.{whole}
 use Rattle.rpm_tool.specs.FileReport.{unread_step}
@@ -19,7 +20,7 @@ loop-number-preserved g c =
     let k = c.loop-number.number-index in
     let xs = c.args.numbers.now in
     let inv = c.loop-number.invariant in
-    let done = c.in-Ok.ensures in
+    let done = c.in_ok-put_bad.ensures in
     let here : drop k xs ≡ get_or xs k 0 ∷ drop (k + 1) xs =
     drop-cons xs k 0 (omega arith) ∙ ap (λ (j : ℕ). get_or xs k 0 ∷ drop j xs) (sym (add-one k)) in
     record {
@@ -29,15 +30,16 @@ loop-number-preserved g c =
           (g.E.Sink.taken (inner c.loop-number.err)) (g.E.Sink.taken (inner c.put_bad.new.err)) (inv.goes ot o) _ (done.step (whole 0) ot o);
     }
 
-pub returns-in-Err-clause-went : goal.returns-in-Err-clause-went
-returns-in-Err-clause-went g c = λ ot o.
+pub returns-in_err-put_bad-clause-went : goal.returns-in_err-put_bad-clause-went
+returns-in_err-put_bad-clause-went g c = λ ot o.
     let k = c.loop-number.number-index in
     let xs = c.args.numbers.now in
     let here : drop k xs ≡ get_or xs k 0 ∷ drop (k + 1) xs =
     drop-cons xs k 0 (omega arith) ∙ ap (λ (j : ℕ). get_or xs k 0 ∷ drop j xs) (sym (add-one k)) in
-    line_stop unread_step xs k (get_or xs k 0) here ot g.E.Sink.tells o o o (g.E.Sink.taken (inner c.args.err.now))
-    (g.E.Sink.taken (inner c.loop-number.err)) (g.E.Sink.taken (inner c.put_bad.new.err)) (c.loop-number.invariant.goes ot o) Unit c.in-Err.stop
-    (λ for. for ≡ whole 0) refl (c.in-Err.ensures.step (whole 0) ot o)
+    let p = err_from_is_err_and c.from_residual.result c.from_residual.ensures.1 in
+    rw (p.1, p.2) (line_stop unread_step xs k (get_or xs k 0) here ot g.E.Sink.tells o o o (g.E.Sink.taken (inner c.args.err.now))
+    (g.E.Sink.taken (inner c.loop-number.err)) (g.E.Sink.taken (inner c.put_bad.new.err)) (c.loop-number.invariant.goes ot o) Unit c.in_err-put_bad.field-0.0
+    (λ for. for ≡ whole 0) refl (c.in_err-put_bad.ensures.step (whole 0) ot o))
 
 pub returns-clause-went : goal.returns-clause-went
 returns-clause-went g c = λ ot o.

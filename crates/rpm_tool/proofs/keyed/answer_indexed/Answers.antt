@@ -27,8 +27,7 @@ answer_inquiry-requires g c =
       asked = record {
         keeps = λ told. (opened.opened told).keeps.0;
         keeps_index = λ told. (opened.opened told).keeps.1;
-        runs = opened.fresh.going;
-        from_one = opened.fresh.from_one;
+        going = opened.served.fresh.going;
       };
     }
 
@@ -57,11 +56,11 @@ returns-in-Ok-clause-went g c = λ told.
           (does_reads tree words a (packages files.pkg s) asked
           (λ for. now ≤ between + reached_by (reaches_by (argument_reach (is_indexed db) (packages files.pkg s) a.chosen) (map (text_at words)
           a.arguments)) db for) (λ for. now ≤ start + keyed_to files words a s for)
-          (λ for le. omega (arith, le, c.in-Ok.ensures.reads told, keyed_by files.pkg db c.in-Ok.ensures.fresh.indexed words a for)) given old new
+          (λ for le. omega (arith, le, c.in-Ok.ensures.reads told, keyed_by files.pkg db c.in-Ok.ensures.served.fresh.indexed words a for)) given old new
           (subst (λ (u : Units). DoesBy asked tree words a (packages u s)
           (λ for. now ≤ between + reached_by (reaches_by (argument_reach (is_indexed db) (packages u s) a.chosen) (map (text_at words)
           a.arguments)) db for) given old new) pkg
-          (c.answer_inquiry.ensures.went told (opened_rows files mid db opened pkg c.in-Ok.ensures.fresh.indexed lawful)))),
+          (c.answer_inquiry.ensures.went told (opened_rows files mid db opened pkg c.in-Ok.ensures.served.fresh.indexed lawful)))),
     )
 
 pub returns-in-Ok-clause-reads : goal.returns-in-Ok-clause-reads
@@ -78,9 +77,9 @@ returns-in-Ok-clause-reads g c = λ query told lawful.
     let read : now ≤ between + reach_sum (reaches_by (argument_reach (is_indexed db) (packages files.pkg db.store) a.chosen) (map (text_at words)
     a.arguments)) db =
     subst (λ (u : Units). now ≤ between + reach_sum (reaches_by (argument_reach (is_indexed db) (packages u db.store) a.chosen) (map (text_at words)
-    a.arguments)) db) pkg (c.answer_inquiry.ensures.reads query told (opened_rows files mid db opened pkg c.in-Ok.ensures.fresh.indexed lawful)) in
+    a.arguments)) db) pkg (c.answer_inquiry.ensures.reads query told (opened_rows files mid db opened pkg c.in-Ok.ensures.served.fresh.indexed lawful)) in
     let most = ap (λ (r : Result Store Damage). asked_cost files.pkg r words a) opened.store_is in
-    omega (arith, read, most, c.in-Ok.ensures.reads told, keyed_sum files.pkg db c.in-Ok.ensures.fresh.indexed words a)
+    omega (arith, read, most, c.in-Ok.ensures.reads told, keyed_sum files.pkg db c.in-Ok.ensures.served.fresh.indexed words a)
 
 pub returns-in-Ok-clause-index_full : goal.returns-in-Ok-clause-index_full
 returns-in-Ok-clause-index_full g c = λ told.
@@ -100,7 +99,7 @@ returns-in-Ok-clause-bad_index g c = λ told.
     let reads_to : Bearer → Type 0 =
     λ for. now ≤ between + reached_by (reaches_by (argument_reach (is_indexed db) (packages mid.pkg db.store) a.chosen) (map (text_at words)
     a.arguments)) db for in
-    bad_opened files mid db (c.in-Ok.ensures.opened told) (c.in-Ok.ensures.runs.reads_as told).pkg c.in-Ok.ensures.fresh.indexed words a
+    bad_opened files mid db (c.in-Ok.ensures.opened told) (c.in-Ok.ensures.runs.reads_as told).pkg c.in-Ok.ensures.served.fresh.indexed words a
     c.answer_inquiry.result
     (λ unit is rows. does_unbroken c.args.format.now words a (packages mid.pkg db.store) reads_to old new (inquiry_of a.mode) unit
     (subst (λ (w : Why). DoesBy (inquiry_of a.mode) c.args.format.now words a (packages mid.pkg db.store) reads_to w old new) is
@@ -112,7 +111,7 @@ returns-in-Ok-clause-index g c = λ told lawful done.
     let mid = g.D.Disk.files c.open_settled.new.disk in
     subst (λ (f : Files). HasIndex f.pkg f.idx) (sym (c.answer_inquiry.ensures.looks.untouched told).same)
     (opened_index (g.D.Disk.files c.args.disk.now) mid c.in-Ok.db (c.in-Ok.ensures.opened told) (c.in-Ok.ensures.runs.reads_as told).pkg
-    c.in-Ok.ensures.fresh.indexed lawful)
+    c.in-Ok.ensures.served.fresh.indexed lawful)
 
 pub returns-in-Ok-clause-runs : goal.returns-in-Ok-clause-runs
 returns-in-Ok-clause-runs g c =

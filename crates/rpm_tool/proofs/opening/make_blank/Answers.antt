@@ -14,9 +14,9 @@ returns-in-Ok-true-clause-begins g c =
         going = made.going;
         serving = λ told. record { keeps = made.keeps told; index = made.keeps_index told; quiet = made.quiet told; settled = made.settled told };
       };
-      not_blank = said.not_blank;
-      state_is = said.state;
-      store_is = made.store_is ∙ begun_blank c.args.db.now.store (sym said.made ∙ yes);
+      not_blank = said.made.not_blank;
+      state_is = said.made.state_is;
+      store_is = made.store_is ∙ begun_blank c.args.db.now.store (sym said.made.made_is ∙ yes);
       rows = λ told was. made.index told;
       whole = λ told was. (made.index told).rows_are.whole;
       reach = made.reach;
@@ -28,7 +28,7 @@ returns-in-Ok-false-clause-begins g c =
     let said = c.in-Ok-false.ensures in
     let no = c.in-Ok-false.field-0-test in
     let same = said.same (ap Ok no) in
-    let some : is_blank c.args.db.now ≡ false = sym said.made ∙ no in
+    let some : is_blank c.args.db.now ≡ false = sym said.made.made_is ∙ no in
     rw (same.0, same.1) (record {
       ready = record { indexed = c.requires.indexed ∙ ap not some; going = c.requires.going; serving = c.requires.serving };
       not_blank = some;

@@ -1,4 +1,5 @@
 use Rattle.std.proofs.Common.{◌≡◌, Bool, [], Ok, Err, sym, subst}
+use Rattle.std.proofs.lemmas.Result.{err_from_is_err_and}
 use Rattle.rpm_header.specs.Header.{Header}
 use Rattle.rpm_outside.specs.Buffered.{inner}
 use Rattle.rpm_qfeval.specs.Meaning.{meaning}
@@ -13,22 +14,23 @@ use Rattle.rpm_tool.proofs.package_files.print_package.Goals as goal
 pub of_checked-view-requires : goal.of_checked-view-requires
 of_checked-view-requires g c = (c.args.found.now, c.header.ensures.again, sym c.header.ensures.value)
 
-pub returns-in-Ok-clause-part : goal.returns-in-Ok-clause-part
-returns-in-Ok-clause-part g c = λ j.
+pub returns-clause-part : goal.returns-clause-part
+returns-clause-part g c = λ j.
     let same : c.of_checked-view.result ≡ c.args.found.now = cc in
     let old = outputs g.O.Sink.tells (g.O.Sink.taken (inner c.args.out.now)) g.E.Sink.tells (g.E.Sink.taken (inner c.args.err.now)) in
     let new = outputs g.O.Sink.tells (g.O.Sink.taken (inner c.print_header.new.out)) g.E.Sink.tells (g.E.Sink.taken (inner c.print_header.new.err)) in
     let s = printed (bearer j 0) (meaning c.args.found.now 0 c.args.format.now) in
-    let step : StepIs s (Ok c.in-Ok.to_out) old new =
-    subst (λ (h : Header). StepIs (printed (bearer j 0) (meaning h 0 c.args.format.now)) (Ok c.in-Ok.to_out) old new) same (c.in-Ok.ensures.step j) in
-    record { steps = step.1; fails = fails_one s c.in-Ok.to_out step.0 }
+    let step : StepIs s (Ok c.in_ok-to_out.to_out) old new =
+    subst (λ (h : Header). StepIs (printed (bearer j 0) (meaning h 0 c.args.format.now)) (Ok c.in_ok-to_out.to_out) old new) same (c.in_ok-to_out.ensures.step j) in
+    record { steps = step.1; fails = fails_one s c.in_ok-to_out.to_out step.0 }
 
-pub returns-in-Err-clause-part : goal.returns-in-Err-clause-part
-returns-in-Err-clause-part g c = λ j.
+pub returns-in_err-to_out-clause-part : goal.returns-in_err-to_out-clause-part
+returns-in_err-to_out-clause-part g c = λ j.
     let same : c.of_checked-view.result ≡ c.args.found.now = cc in
     let old = outputs g.O.Sink.tells (g.O.Sink.taken (inner c.args.out.now)) g.E.Sink.tells (g.E.Sink.taken (inner c.args.err.now)) in
     let new = outputs g.O.Sink.tells (g.O.Sink.taken (inner c.print_header.new.out)) g.E.Sink.tells (g.E.Sink.taken (inner c.print_header.new.err)) in
     let s = printed (bearer j 0) (meaning c.args.found.now 0 c.args.format.now) in
-    let step : StepIs s (Err c.in-Err.stop) old new =
-    subst (λ (h : Header). StepIs (printed (bearer j 0) (meaning h 0 c.args.format.now)) (Err c.in-Err.stop) old new) same (c.in-Err.ensures.step j) in
-    record { steps = reached_first Bool s [] c.in-Err.stop old new Anywhere tt step; fails = tt }
+    let step : StepIs s (Err c.in_err-to_out.field-0.0) old new =
+    subst (λ (h : Header). StepIs (printed (bearer j 0) (meaning h 0 c.args.format.now)) (Err c.in_err-to_out.field-0.0) old new) same (c.in_err-to_out.ensures.step j) in
+    let p = err_from_is_err_and c.from_residual.result c.from_residual.ensures.1 in
+    rw (p.1, p.2) (record { steps = reached_first Bool s [] c.in_err-to_out.field-0.0 old new Anywhere tt step; fails = tt })

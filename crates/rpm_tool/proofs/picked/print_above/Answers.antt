@@ -29,11 +29,11 @@ pub loop-next-preserved : goal.loop-next-preserved
 loop-next-preserved g c =
     let db = c.args.db.now in
     let n = c.loop-next.number in
-    let m = c.in-Ok-Some.next in
-    let to_out = c.in-Ok-Some.to_out in
+    let m = c.in-Some.next in
+    let to_out = c.in-Some.to_out in
     let inv = c.loop-next.invariant in
-    let done = c.in-Ok-Some.ensures in
-    let lt : n < m = rw c.in-Ok-Some.field-0-is at done.rises in
+    let done = c.in_ok-next.ensures in
+    let lt : n < m = rw c.in-Some.is at done.rises in
     let up = cost_up db n m (omega (arith, lt)) in
     let ot = g.O.Sink.tells in
     let et = g.E.Sink.tells in
@@ -53,17 +53,17 @@ loop-next-preserved g c =
     (Ok (Some (m, to_out))) (outputs ot o' et e') (outputs ot o'' et e'') (ReadsIn j n c.loop-next.picker db between now) = λ told serves j.
     next_here sel db.store c.loop-next.picker c.args.picker.now (g.D.Disk.files c.loop-next.disk) start inv.same (inv.looks.untouched told).same
     (step_by c.args.way.now j) n (Ok (Some (m, to_out))) (outputs ot o' et e') (outputs ot o'' et e'') (ReadsIn j n c.loop-next.picker db between now)
-    (λ here. rw c.in-Ok-Some.field-0-is at (done.went told here j)) serves in
+    (λ here. rw c.in-Some.is at (done.went told here j)) serves in
     record {
       same = done.same ∙ inv.same;
       reads = reach_then c.args.picker.now db c.args.after n m (g.D.Disk.bytes_read c.args.disk.now Pkg) between now (omega (arith, lt)) inv.reads
-          (subst (λ (r : Reach). now ≤ between + (reach_to m r db - reach_to n r db)) inv.same (rw c.in-Ok-Some.field-0-is at done.reads));
+          (subst (λ (r : Reach). now ≤ between + (reach_to m r db - reach_to n r db)) inv.same (rw c.in-Some.is at done.reads));
       later = omega (arith, inv.later, lt);
       more = omega (arith, inv.more, up);
       looks = looks_then g.D.Disk.tells g.D.Disk.files g.D.Disk.left_since g.D.Disk.moment g.D.Disk.bytes_read g.D.Disk.follows Pkg
           g.met.D.Disk.follows_trans (cost_to n db - cost_to c.args.after db) (cost_to m db - cost_to n db) (cost_to m db - cost_to c.args.after db)
           c.args.disk.now c.loop-next.disk c.print_next.new.disk (omega (arith, inv.more, up)) inv.looks
-          (rw c.in-Ok-Some.field-0-is at done.looks);
+          (rw c.in-Some.is at done.looks);
       disk = omega (arith, inv.disk, done.disk.later);
       out = omega (arith, inv.out, done.hands.out.cause.later);
       err = omega (arith, inv.err, done.hands.err.cause.later);
@@ -81,35 +81,35 @@ loop-next-preserved g c =
           c.loop-next.some to_out (is_some_of all) (inv.there told serves) (next told serves 0);
     }
 
-pub returns-in-Ok-None-clause-went : goal.returns-in-Ok-None-clause-went
-returns-in-Ok-None-clause-went = ended.returns-in-Ok-None-clause-went
+pub returns-in-None-clause-went : goal.returns-in-None-clause-went
+returns-in-None-clause-went = ended.returns-in-None-clause-went
 
-pub returns-in-Ok-None-clause-some : goal.returns-in-Ok-None-clause-some
-returns-in-Ok-None-clause-some = ended.returns-in-Ok-None-clause-some
+pub returns-in-None-clause-some : goal.returns-in-None-clause-some
+returns-in-None-clause-some = ended.returns-in-None-clause-some
 
-pub returns-in-Ok-None-clause-looks : goal.returns-in-Ok-None-clause-looks
-returns-in-Ok-None-clause-looks g c =
+pub returns-in-None-clause-looks : goal.returns-in-None-clause-looks
+returns-in-None-clause-looks g c =
     looks_rest g.D.Disk.tells g.D.Disk.files g.D.Disk.left_since g.D.Disk.moment g.D.Disk.bytes_read g.D.Disk.follows g.met.D.Disk.follows_trans
     c.args.db.now c.loop-next.number c.args.disk.now c.loop-next.disk c.print_next.new.disk c.args.after c.loop-next.invariant.more
-    c.loop-next.invariant.looks (rw c.in-Ok-None.field-0-is at c.in-Ok-None.ensures.looks)
+    c.loop-next.invariant.looks (rw c.in-None.is at c.in_ok-next.ensures.looks)
 
-pub returns-in-Err-clause-went : goal.returns-in-Err-clause-went
-returns-in-Err-clause-went = ended.returns-in-Err-clause-went
+pub returns-in_err-next-clause-went : goal.returns-in_err-next-clause-went
+returns-in_err-next-clause-went = ended.returns-in_err-next-clause-went
 
-pub returns-in-Err-clause-looks : goal.returns-in-Err-clause-looks
-returns-in-Err-clause-looks g c =
+pub returns-in_err-next-clause-looks : goal.returns-in_err-next-clause-looks
+returns-in_err-next-clause-looks g c =
     looks_rest g.D.Disk.tells g.D.Disk.files g.D.Disk.left_since g.D.Disk.moment g.D.Disk.bytes_read g.D.Disk.follows g.met.D.Disk.follows_trans
     c.args.db.now c.loop-next.number c.args.disk.now c.loop-next.disk c.print_next.new.disk c.args.after c.loop-next.invariant.more
-    c.loop-next.invariant.looks c.in-Err.ensures.looks
+    c.loop-next.invariant.looks c.in_err-next.ensures.looks
 
-pub returns-in-Ok-None-clause-reads : goal.returns-in-Ok-None-clause-reads
-returns-in-Ok-None-clause-reads g c =
+pub returns-in-None-clause-reads : goal.returns-in-None-clause-reads
+returns-in-None-clause-reads g c =
     rest_read c.loop-next.picker c.args.picker.now c.loop-next.invariant.same c.args.db.now c.loop-next.number (g.D.Disk.bytes_read c.args.disk.now Pkg)
     (g.D.Disk.bytes_read c.loop-next.disk Pkg) (g.D.Disk.bytes_read c.print_next.new.disk Pkg) c.args.after c.loop-next.invariant.reads
-    (rw c.in-Ok-None.field-0-is at c.in-Ok-None.ensures.reads)
+    (rw c.in-None.is at c.in_ok-next.ensures.reads)
 
-pub returns-in-Err-clause-reads : goal.returns-in-Err-clause-reads
-returns-in-Err-clause-reads g c =
+pub returns-in_err-next-clause-reads : goal.returns-in_err-next-clause-reads
+returns-in_err-next-clause-reads g c =
     rest_read c.loop-next.picker c.args.picker.now c.loop-next.invariant.same c.args.db.now c.loop-next.number (g.D.Disk.bytes_read c.args.disk.now Pkg)
     (g.D.Disk.bytes_read c.loop-next.disk Pkg) (g.D.Disk.bytes_read c.print_next.new.disk Pkg) c.args.after c.loop-next.invariant.reads
-    c.in-Err.ensures.reads
+    c.in_err-next.ensures.reads

@@ -44,7 +44,7 @@ returns-in-Ok-Some-clause-looks g c =
     looks_more g.D.Disk.tells g.D.Disk.files g.D.Disk.left_since g.D.Disk.moment g.D.Disk.bytes_read g.D.Disk.follows Pkg (cost_to m s - cost_to n s)
     (cost_until n s c.print_one-printed.result) c.args.disk.now c.next_after.new.disk (cost_one s n m c.print_one-printed.result
     c.print_one-printed.ensures.numbered)
-    (rw c.in-Ok-Some.field-0-is at c.in-Ok-Some.ensures.looks)
+    (rw c.in-Ok-Some.field-0-is at c.in-Ok-Some.ensures.asks.looks)
 
 pub returns-in-Ok-Some-clause-reads : goal.returns-in-Ok-Some-clause-reads
 returns-in-Ok-Some-clause-reads g c =

@@ -10,8 +10,7 @@ answer_opened-requires-clause-asked g c =
     record {
       keeps = opened.kept;
       keeps_index = λ told. keeps_none (g.D.Disk.files c.open_unindexed.new.disk).idx c.in-Ok.db.index opened.unindexed;
-      runs = opened.runs;
-      from_one = opened.from_one;
+      going = opened.runs;
     }
 
 pub returns-in-Ok-clause-looks : goal.returns-in-Ok-clause-looks

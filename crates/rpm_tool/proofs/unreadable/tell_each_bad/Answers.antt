@@ -1,4 +1,5 @@
-use Rattle.std.proofs.Common.{ℕ, ◌||◌, true, Bool, List, map, Ok, Err, refl, sym, ap, ◌∙◌, subst, arith}
+use Rattle.std.proofs.Common.{ℕ, ◌||◌, Bool, List, map, Ok, Err, refl, sym, ap, ◌∙◌, subst}
+use Rattle.std.proofs.lemmas.Result.{err_from_is_err_and}
 use Rattle.std.specs.FinMap.{entries}
 use Rattle.rpm_outside.specs.Buffered.{inner}
 use Rattle.rpm_db.specs.State.{Package, packages, above}
@@ -34,7 +35,7 @@ loop-next-preserved g c =
     let k = c.loop-next.number in
     let m = c.in-Some.next in
     let inv = c.loop-next.invariant in
-    let done = c.in-Ok.ensures in
+    let done = c.in_ok-bad.ensures in
     let start = g.D.Disk.files c.args.disk.now in
     let here = g.D.Disk.files c.loop-next.disk in
     let all = packages start.pkg db.store in
@@ -48,21 +49,21 @@ loop-next-preserved g c =
       far = more_err g.D.Disk g.E.Sink g.met.D.Disk.follows_trans g.met.E.Sink.follows_trans c.args.disk.now c.loop-next.disk c.tell_bad.new.disk c.args.err.now c.loop-next.err c.tell_bad.new.err
           inv.far _ _ done.tells;
       goes = λ told ot o.
-          let part = bad_here here start db.store m next.0 (Ok c.in-Ok.bad) (outputs ot o et e') (outputs ot o et e'') (inv.far.looks.untouched told).same next.1
+          let part = bad_here here start db.store m next.0 (Ok c.in_ok-bad.bad) (outputs ot o et e') (outputs ot o et e'') (inv.far.looks.untouched told).same next.1
           (done.went told ot o) in
           goes_more ot et (together (map bad_part (above 0 es))).steps (together (map bad_part (above k es))).steps (bad_part (m, next.0)).steps
           (together (map bad_part (above m es))).steps o o o e e' e''
           (ap (λ (xs : List (ℕ × Package)). (together (map bad_part xs)).steps) next.2) (inv.goes told ot o) part.steps;
       bad = λ told.
-          let part = bad_here here start db.store m next.0 (Ok c.in-Ok.bad) (outputs et e' et e') (outputs et e' et e'') (inv.far.looks.untouched told).same next.1
+          let part = bad_here here start db.store m next.0 (Ok c.in_ok-bad.bad) (outputs et e' et e') (outputs et e' et e'') (inv.far.looks.untouched told).same next.1
           (done.went told et e') in
-          fails_later c.loop-next.fails (bad_part (m, next.0)).fails c.in-Ok.bad (together (map bad_part (above m es))).fails
+          fails_later c.loop-next.fails (bad_part (m, next.0)).fails c.in_ok-bad.bad (together (map bad_part (above m es))).fails
           (together (map bad_part (above 0 es))).fails part.fails
           (inv.bad told ∙ ap (λ (xs : List (ℕ × Package)). c.loop-next.fails || (together (map bad_part xs)).fails) next.2);
     }
 
-pub returns-in-Err-clause-went : goal.returns-in-Err-clause-went
-returns-in-Err-clause-went g c = λ told ot o.
+pub returns-in_err-bad-clause-went : goal.returns-in_err-bad-clause-went
+returns-in_err-bad-clause-went g c = λ told ot o.
     let db = c.args.db.now in
     let k = c.loop-next.number in
     let m = c.in-Some.next in
@@ -76,23 +77,25 @@ returns-in-Err-clause-went g c = λ told ot o.
     let e = g.E.Sink.taken (inner c.args.err.now) in
     let e' = g.E.Sink.taken (inner c.loop-next.err) in
     let e'' = g.E.Sink.taken (inner c.tell_bad.new.err) in
-    let what = c.in-Err.stop in
+    let what = c.in_err-bad.field-0.0 in
     let part = bad_here here start db.store m next.0 (Err what) (outputs ot o et e') (outputs ot o et e'') (inv.far.looks.untouched told).same next.1
-    (c.in-Err.ensures.went told ot o) in
+    (c.in_err-bad.ensures.went told ot o) in
     let reached : Reached {T = Bool} (together (map bad_part (above 0 es))).steps (Err what) (outputs ot o et e) (outputs ot o et e'') Anywhere =
     goes_stop ot et (together (map bad_part (above 0 es))).steps (together (map bad_part (above k es))).steps (bad_part (m, next.0)).steps
     (together (map bad_part (above m es))).steps o o o e e' e'' (ap (λ (xs : List (ℕ × Package)). (together (map bad_part xs)).steps) next.2)
     (inv.goes told ot o) Bool Bool what Anywhere part.steps in
-    record {
+    let p = err_from_is_err_and c.from_residual.result c.from_residual.ensures.1 in
+    rw (p.1, p.2) (record {
       steps = subst (λ (xs : List (ℕ × Package)). Reached {T = Bool} (together (map bad_part xs)).steps (Err what) (outputs ot o et e) (outputs ot o et e'')
-          Anywhere) (from_one start.pkg db c.requires.asked.from_one) reached;
+          Anywhere) (from_one start.pkg db (c.requires.asked.keeps told)) reached;
       fails = tt;
-    }
+    })
 
-pub returns-in-Err-clause-tells : goal.returns-in-Err-clause-tells
-returns-in-Err-clause-tells g c =
-    stops_err g.D.Disk g.E.Sink g.met.D.Disk.follows_trans g.met.E.Sink.follows_trans c.args.disk.now c.loop-next.disk c.tell_bad.new.disk c.args.err.now c.loop-next.err c.tell_bad.new.err
-    c.loop-next.invariant.far _ _ c.in-Err.stop c.in-Err.ensures.tells
+pub returns-in_err-bad-clause-tells : goal.returns-in_err-bad-clause-tells
+returns-in_err-bad-clause-tells g c =
+    let p = err_from_is_err_and c.from_residual.result c.from_residual.ensures.1 in
+    rw (p.1, p.2) (stops_err g.D.Disk g.E.Sink g.met.D.Disk.follows_trans g.met.E.Sink.follows_trans c.args.disk.now c.loop-next.disk c.tell_bad.new.disk c.args.err.now c.loop-next.err c.tell_bad.new.err
+    c.loop-next.invariant.far _ _ c.in_err-bad.field-0.0 c.in_err-bad.ensures.tells)
 
 pub returns-clause-tells : goal.returns-clause-tells
 returns-clause-tells g c =
@@ -106,7 +109,7 @@ returns-clause-went g c = λ told ot o.
     let file = (g.D.Disk.files c.args.disk.now).pkg in
     let es = entries (packages file db.store) in
     let none = no_entry (packages file db.store) k (c.in_default.ensures.told file) in
-    let first = from_one file db c.requires.asked.from_one in
+    let first = from_one file db (c.requires.asked.keeps told) in
     let et = g.E.Sink.tells in
     let e = g.E.Sink.taken (inner c.args.err.now) in
     let e' = g.E.Sink.taken (inner c.loop-next.err) in

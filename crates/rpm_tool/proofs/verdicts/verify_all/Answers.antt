@@ -45,7 +45,7 @@ loop-next-preserved g c =
     let k = c.loop-next.number in
     let m = c.in-Some.next in
     let inv = c.loop-next.invariant in
-    let done = c.in-Ok.ensures in
+    let done = c.in_ok-unsound.ensures in
     let start = g.D.Disk.files c.args.disk.now in
     let file = start.pkg in
     let es = entries (packages file db.store) in
@@ -61,27 +61,27 @@ loop-next-preserved g c =
       out = omega (arith, inv.out, done.out.cause.later);
       out_rest = g.met.O.Sink.follows_trans (inner c.args.out.now) (inner c.loop-next.out) (inner c.verify_one.new.out) inv.out_rest done.out.goes_on;
       goes = λ told et e.
-          let part : PartIs (each (m, next.0)) (Ok c.in-Ok.unsound) (outputs g.O.Sink.tells o' et e) (outputs g.O.Sink.tells o'' et e)
+          let part : PartIs (each (m, next.0)) (Ok c.in_ok-unsound.unsound) (outputs g.O.Sink.tells o' et e) (outputs g.O.Sink.tells o'' et e)
           (λ for. for ≡ bearer 0 m) =
-          verdict_here (g.D.Disk.files c.loop-next.disk) start db m (Ok c.in-Ok.unsound) _ _ _ (inv.looks.untouched told).same (done.went told et e) in
+          verdict_here (g.D.Disk.files c.loop-next.disk) start db m (Ok c.in_ok-unsound.unsound) _ _ _ (inv.looks.untouched told).same (done.went told et e) in
           goes_more g.O.Sink.tells et (together (map each (above 0 es))).steps (together (map each (above k es))).steps (each (m, next.0)).steps
           (together (map each (above m es))).steps (g.O.Sink.taken (inner c.args.out.now)) o' o'' e e e
           (ap (λ (xs : List (ℕ × Package)). (together (map each xs)).steps) next.1) (inv.goes told et e) part.steps;
       bad = λ told.
           let et = g.O.Sink.tells in
-          let part : PartIs (each (m, next.0)) (Ok c.in-Ok.unsound) (outputs g.O.Sink.tells o' et o') (outputs g.O.Sink.tells o'' et o')
+          let part : PartIs (each (m, next.0)) (Ok c.in_ok-unsound.unsound) (outputs g.O.Sink.tells o' et o') (outputs g.O.Sink.tells o'' et o')
           (λ for. for ≡ bearer 0 m) =
-          verdict_here (g.D.Disk.files c.loop-next.disk) start db m (Ok c.in-Ok.unsound) _ _ _ (inv.looks.untouched told).same (done.went told et o') in
-          fails_later c.loop-next.fails (each (m, next.0)).fails c.in-Ok.unsound (together (map each (above m es))).fails
+          verdict_here (g.D.Disk.files c.loop-next.disk) start db m (Ok c.in_ok-unsound.unsound) _ _ _ (inv.looks.untouched told).same (done.went told et o') in
+          fails_later c.loop-next.fails (each (m, next.0)).fails c.in_ok-unsound.unsound (together (map each (above m es))).fails
           (together (map each (above 0 es))).fails part.fails
           (inv.bad told ∙ ap (λ (xs : List (ℕ × Package)). c.loop-next.fails || (together (map each xs)).fails) next.1);
     }
 
-pub returns-in-Err-clause-went : goal.returns-in-Err-clause-went
-returns-in-Err-clause-went = stopped.returns-in-Err-clause-went
+pub returns-in_err-unsound-clause-went : goal.returns-in_err-unsound-clause-went
+returns-in_err-unsound-clause-went = stopped.returns-in_err-unsound-clause-went
 
-pub returns-in-Err-clause-looks : goal.returns-in-Err-clause-looks
-returns-in-Err-clause-looks = stopped.returns-in-Err-clause-looks
+pub returns-in_err-unsound-clause-looks : goal.returns-in_err-unsound-clause-looks
+returns-in_err-unsound-clause-looks = stopped.returns-in_err-unsound-clause-looks
 
 pub returns-clause-went : goal.returns-clause-went
 returns-clause-went g c = λ told et e.
@@ -92,7 +92,7 @@ returns-clause-went g c = λ told et e.
     let es = entries (packages file db.store) in
     let each : ℕ × Package → Portion = entry_verdict file db.store in
     let none = no_entry (packages file db.store) k (c.in_default.ensures.told file) in
-    let first = from_one file db c.requires.asked.from_one in
+    let first = from_one file db (c.requires.asked.keeps told) in
     let ot = g.O.Sink.tells in
     let o = g.O.Sink.taken (inner c.args.out.now) in
     let o' = g.O.Sink.taken (inner c.loop-next.out) in

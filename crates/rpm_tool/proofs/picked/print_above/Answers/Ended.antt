@@ -1,6 +1,7 @@
 -- What was printed, where there is no other or it was stopped.
 use Rattle.std.proofs.Common.{map, sym, None, Ok, Err}
 use Rattle.std.specs.List.{list_any}
+use Rattle.std.proofs.lemmas.Result.{err_from_is_err_and}
 use Rattle.rpm_outside.specs.Buffered.{inner}
 use Rattle.rpm_outside.specs.declared.disk.File.TheVariants.{Pkg}
 use Rattle.rpm_db.specs.State.{packages, above}
@@ -14,8 +15,8 @@ use Rattle.rpm_tool.proofs.Looked.{more_read}
 use Rattle.rpm_tool.proofs.Nexts.{next_here, fails_last, some_last, goes_last, goes_cut}
 use Rattle.rpm_tool.proofs.picked.print_above.Goals as goal
 
-pub returns-in-Ok-None-clause-went : goal.returns-in-Ok-None-clause-went
-returns-in-Ok-None-clause-went g c = λ told serves j.
+pub returns-in-None-clause-went : goal.returns-in-None-clause-went
+returns-in-None-clause-went g c = λ told serves j.
     let db = c.args.db.now in
     let n = c.loop-next.number in
     let inv = c.loop-next.invariant in
@@ -32,15 +33,15 @@ returns-in-Ok-None-clause-went g c = λ told serves j.
     let x : NextIs step n es (Ok None) (outputs ot o' et e') (outputs ot o'' et e'') reads =
     next_here c.args.selection.now db.store c.loop-next.picker c.args.picker.now (g.D.Disk.files c.loop-next.disk) (g.D.Disk.files c.args.disk.now)
     inv.same (inv.looks.untouched told).same step n (Ok None) (outputs ot o' et e') (outputs ot o'' et e'') reads
-    (λ here. rw c.in-Ok-None.field-0-is at (c.in-Ok-None.ensures.went told here j)) serves in
+    (λ here. rw c.in-None.is at (c.in_ok-next.ensures.went told here j)) serves in
     record {
       steps = goes_last step n es all ot et (g.O.Sink.taken (inner c.args.out.now)) o' o'' (g.E.Sink.taken (inner c.args.err.now)) e' e'' reads
           (inv.goes told serves j) x;
       fails = sym (fails_last step n es (outputs ot o' et e') (outputs ot o'' et e'') reads c.loop-next.fails (list_any is_bad all) (inv.bad told serves j) x);
     }
 
-pub returns-in-Ok-None-clause-some : goal.returns-in-Ok-None-clause-some
-returns-in-Ok-None-clause-some g c = λ told serves.
+pub returns-in-None-clause-some : goal.returns-in-None-clause-some
+returns-in-None-clause-some g c = λ told serves.
     let db = c.args.db.now in
     let n = c.loop-next.number in
     let inv = c.loop-next.invariant in
@@ -52,10 +53,10 @@ returns-in-Ok-None-clause-some g c = λ told serves.
     some_last step n es mid new reads c.loop-next.some (is_some_of (above c.args.after es)) (inv.there told serves)
     (next_here c.args.selection.now db.store c.loop-next.picker c.args.picker.now (g.D.Disk.files c.loop-next.disk) (g.D.Disk.files c.args.disk.now)
     inv.same (inv.looks.untouched told).same step n (Ok None) mid new reads
-    (λ here. rw c.in-Ok-None.field-0-is at (c.in-Ok-None.ensures.went told here 0)) serves)
+    (λ here. rw c.in-None.is at (c.in_ok-next.ensures.went told here 0)) serves)
 
-pub returns-in-Err-clause-went : goal.returns-in-Err-clause-went
-returns-in-Err-clause-went g c = λ told serves j.
+pub returns-in_err-next-clause-went : goal.returns-in_err-next-clause-went
+returns-in_err-next-clause-went g c = λ told serves j.
     let db = c.args.db.now in
     let n = c.loop-next.number in
     let r = c.args.picker.now in
@@ -72,12 +73,13 @@ returns-in-Err-clause-went g c = λ told serves j.
     let between = g.D.Disk.bytes_read c.loop-next.disk Pkg in
     let now = g.D.Disk.bytes_read c.print_next.new.disk Pkg in
     let reads = ReadsIn j n c.loop-next.picker db between now in
-    record {
+    let p = err_from_is_err_and c.from_residual.result c.from_residual.ensures.1 in
+    rw (p.1, p.2) (record {
       steps = goes_cut step n es (map step (above c.args.after es)) ot et (g.O.Sink.taken (inner c.args.out.now)) o' o''
-          (g.E.Sink.taken (inner c.args.err.now)) e' e'' reads (inv.goes told serves j) c.in-Err.stop (ReadsIn j c.args.after r db before now)
+          (g.E.Sink.taken (inner c.args.err.now)) e' e'' reads (inv.goes told serves j) c.in_err-next.field-0.0 (ReadsIn j c.args.after r db before now)
           (more_read c.loop-next.picker r inv.same db n before between now c.args.after j inv.later inv.reads)
           (next_here c.args.selection.now db.store c.loop-next.picker r (g.D.Disk.files c.loop-next.disk) (g.D.Disk.files c.args.disk.now) inv.same
-          (inv.looks.untouched told).same step n (Err c.in-Err.stop) (outputs ot o' et e') (outputs ot o'' et e'') reads
-          (λ here. c.in-Err.ensures.went told here j) serves);
+          (inv.looks.untouched told).same step n (Err c.in_err-next.field-0.0) (outputs ot o' et e') (outputs ot o'' et e'') reads
+          (λ here. c.in_err-next.ensures.went told here j) serves);
       fails = tt;
-    }
+    })
