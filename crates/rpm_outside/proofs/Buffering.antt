@@ -2,8 +2,7 @@
 use Rattle.std.proofs.Common.{◌≡◌, ℕ, ◌+◌, ◌-◌, ◌≤◌, Bool, List, [], ◌++◌, take, drop, length, Result, Ok, Err, refl, sym, ap, ◌∙◌, append_assoc, arith}
 use Rattle.std.specs.Prelude.{IsTrue, IfOk, OnErr}
 use Rattle.std.proofs.lemmas.List.{append-nil, take-append-drop, take-take, drop-drop}
-use Rattle.rpm_outside.specs.Sinks.{Gained, Begins}
-use Rattle.rpm_outside.specs.inner.Taken.{gained_none, gained_more}
+use Rattle.rpm_outside.proofs.Vocabulary.{Begins, Gained, gained_more, gained_none}
 
 -- of what was held the sink took the first, and the others are held
 pub record Handed {S : Type 0} (tells : Bool) (taken : S → List ℕ) (faults : S → ℕ) (follows : S → S → Type 0) (old : S) (held : List ℕ) (now : S)

@@ -2,19 +2,9 @@
 use Rattle.std.proofs.Common.{◌≡◌, inl, inr, ⊎_elim, ℕ, true, false, List, [], ◌∷◌, ◌++◌, take, length, sym, ◌∙◌, ap, subst, arith}
 use Rattle.std.specs.Prelude.{Some, slice_get}
 use Rattle.std.proofs.lemmas.List.{take_all}
-use Rattle.rpm_outside.specs.declared.disk.File.{File}
-use Rattle.rpm_outside.specs.declared.disk.File.TheVariants.{Pkg, Idx, Log}
-use Rattle.rpm_outside.specs.declared.copies.Copy.{Copy}
-use Rattle.rpm_outside.specs.declared.copies.Copies.{Copies}
-use Rattle.rpm_outside.specs.declared.steps.Pick.{Pick}
-use Rattle.rpm_outside.specs.declared.steps.Step.{Step}
-use Rattle.rpm_outside.specs.declared.steps.Step.TheVariants.{Wrote, Synced}
-use Rattle.rpm_outside.specs.Files.{Units, Files, file_of, with_file, put, cases_file}
-use Rattle.rpm_outside.specs.Past.{after_steps, WroteOnce, WroteAny}
-use Rattle.rpm_outside.specs.Picks.{picked, picked_image}
-use Rattle.rpm_outside.specs.inner.FileLaws.{file_of-with, other_file, same_files}
-use Rattle.rpm_outside.specs.inner.History.{after_steps-push}
-use Rattle.rpm_outside.specs.inner.Copies.{is_loose, loosened, AddsCopy, NoneLoose, SettlesFile, IsCopy, HoldCopies}
+use Rattle.rpm_outside.proofs.Vocabulary.{AddsCopy, after_steps, after_steps-push, cases_file, Copies, Copy, File, file_of, file_of-with, Files, HoldCopies}
+use Rattle.rpm_outside.proofs.Vocabulary.{Idx, is_loose, IsCopy, Log, loosened, NoneLoose, other_file, Pick, picked, picked_image, Pkg, put, same_files}
+use Rattle.rpm_outside.proofs.Vocabulary.{SettlesFile, Step, Synced, Units, with_file, Wrote, WroteAny, WroteOnce}
 use Rattle.rpm_outside.proofs.Picking.{picked_image-push}
 use Rattle.rpm_outside.proofs.Loosening.{Loosens, copy_longer, loosened_other, loosened_same, loosens_each, pushed_get, settles_each, tightened_other}
 

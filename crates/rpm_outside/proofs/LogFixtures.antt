@@ -1,9 +1,7 @@
 -- The definitions at a small log.
 use Rattle.std.specs.Prelude.{◌≡◌, ℕ, List, [], ◌∷◌, refl, replicate}
-use Rattle.rpm_outside.specs.declared.disk.File.TheVariants.{Pkg, Idx}
-use Rattle.rpm_outside.specs.Files.{Units, Files, blank, put}
-use Rattle.rpm_outside.specs.Logs.{Closed, Malformed, Open, log_state, reopened, is_gate, is_head, entry_at, heads}
-use Rattle.rpm_outside.specs.Words.{word}
+use Rattle.rpm_outside.proofs.Vocabulary.{blank, Closed, entry_at, Files, heads, Idx, is_gate, is_head, log_state, Malformed, Open, Pkg, put, reopened, Units}
+use Rattle.rpm_outside.proofs.Vocabulary.{word}
 
 abbrev gate : List ℕ
 gate = 0x52 ∷ 0x70 ∷ 0x6d ∷ 0x4c ∷ 1 ∷ 0 ∷ 0 ∷ 0 ∷ 2 ∷ 0 ∷ 0 ∷ 0 ∷ 5 ∷ 0 ∷ 0 ∷ 0 ∷ []

@@ -2,15 +2,8 @@
 use Rattle.std.proofs.Common.{◌≡◌, inl, inr, ℕ, zero, suc, Bool, true, List, [], ◌∷◌, ◌++◌, take, refl, sym, ◌∙◌, ap, arith}
 use Rattle.std.specs.Prelude.{Some, slice_get, ◌⊎◌}
 use Rattle.std.proofs.lemmas.List.{take-append-le, length_push}
-use Rattle.rpm_outside.specs.declared.disk.File.{File}
-use Rattle.rpm_outside.specs.declared.disk.File.TheVariants.{Pkg, Idx, Log}
-use Rattle.rpm_outside.specs.declared.copies.Copy.{Copy}
-use Rattle.rpm_outside.specs.declared.copies.Copies.{Copies}
-use Rattle.rpm_outside.specs.declared.steps.Step.{Step}
-use Rattle.rpm_outside.specs.Files.{Files}
-use Rattle.rpm_outside.specs.Past.{after_steps}
-use Rattle.rpm_outside.specs.Picks.{picked_image}
-use Rattle.rpm_outside.specs.inner.Copies.{is_loose, loosened, tightened, SettlesFile, IsCopy}
+use Rattle.rpm_outside.proofs.Vocabulary.{after_steps, Copies, Copy, File, Files, Idx, is_loose, IsCopy, Log, loosened, picked_image, Pkg, SettlesFile, Step}
+use Rattle.rpm_outside.proofs.Vocabulary.{tightened}
 
 pub loosened_same : (file : File) (loose : Bool) → loosened file file loose ≡ true
 loosened_same Pkg loose = refl

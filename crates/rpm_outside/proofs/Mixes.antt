@@ -1,14 +1,8 @@
 -- An image stays one if one of its files is replaced by what is read.
 use Rattle.std.proofs.Common.{◌≡◌, ⊎_elim, List, [], ◌∷◌, ◌++◌, refl, sym, ◌∙◌, ap, subst}
-use Rattle.rpm_outside.specs.declared.disk.File.{File}
-use Rattle.rpm_outside.specs.declared.disk.File.TheVariants.{Pkg, Idx, Log}
-use Rattle.rpm_outside.specs.declared.steps.Step.{Step}
-use Rattle.rpm_outside.specs.declared.steps.Step.TheVariants.{Wrote, Synced}
-use Rattle.rpm_outside.specs.Files.{Units, Files, file_of, with_file, put, cases_file}
-use Rattle.rpm_outside.specs.Crash.{Torn, TornFile}
-use Rattle.rpm_outside.specs.Past.{after_step, after_steps, LeftByStep, LeftBySteps, Images, StepsTo}
-use Rattle.rpm_outside.specs.inner.FileLaws.{file_of-with, with_itself, other_file}
-use Rattle.rpm_outside.specs.inner.History.{torn_whole, push_left}
+use Rattle.rpm_outside.proofs.Vocabulary.{after_step, after_steps, cases_file, File, file_of, file_of-with, Files, Idx, Images, LeftByStep, LeftBySteps, Log}
+use Rattle.rpm_outside.proofs.Vocabulary.{other_file, Pkg, push_left, put, Step, StepsTo, Synced, Torn, torn_whole, TornFile, Units, with_file, with_itself}
+use Rattle.rpm_outside.proofs.Vocabulary.{Wrote}
 
 with_file-with : (file : File) (a b : Units) (files : Files) → with_file file a (with_file file b files) ≡ with_file file a files
 with_file-with Pkg a b files = refl

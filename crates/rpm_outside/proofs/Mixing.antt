@@ -3,11 +3,8 @@ use Rattle.std.proofs.Common.{◌≡◌, inl, inr, ℕ, ◌+◌, ◌-◌, Bool, 
 use Rattle.std.proofs.lemmas.List.{get_or_past}
 use Rattle.std.proofs.lemmas.List.FromFn.{length-map-range_with_len, get_or-map-range_with_len}
 use Rattle.std.proofs.lemmas.Bool.{cases_lt}
-use Rattle.std.specs.List.{range_with_len}
-use Rattle.rpm_outside.specs.Files.{Units, unit_at, blank, put}
-use Rattle.rpm_outside.specs.inner.Puts.{length-put, put_before, put_inside, put_after}
-use Rattle.rpm_outside.specs.inner.PutLaws.{same_units}
-use Rattle.rpm_outside.specs.Picks.{takes_new, mixed_unit}
+use Rattle.rpm_outside.proofs.Vocabulary.{blank, length-put, mixed_unit, put, put_after, put_before, put_inside, range_with_len, same_units, takes_new}
+use Rattle.rpm_outside.proofs.Vocabulary.{unit_at, Units}
 
 module _ (seed at : ℕ) (units file : Units) where
   abbrev new : Units

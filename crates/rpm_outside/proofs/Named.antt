@@ -1,8 +1,6 @@
 -- A call that was named fails, and one that wasn't passes.
 use Rattle.std.proofs.Common.{◌≡◌, ◌+◌, ◌-◌, ◌^◌, min, true, false, refl, inl, arith}
-use Rattle.rpm_outside.specs.declared.mem_disk.MemDisk.{MemDisk}
-use Rattle.rpm_outside.specs.Calls.{Call}
-use Rattle.rpm_outside.specs.MemDisk.{mem_first, mem_calls, mem_failing, mem_faults, mem_starved, DiskDid, is_named, FailsWhereNamed}
+use Rattle.rpm_outside.proofs.Vocabulary.{Call, DiskDid, FailsWhereNamed, is_named, mem_calls, mem_failing, mem_faults, mem_first, mem_starved, MemDisk}
 
 module _ (old new : MemDisk) (call : Call) (counted : mem_calls new ≡ min (mem_calls old + 1) (2 ^ 64 - 1)) (failing : mem_failing new ≡ mem_failing
     old) (first : mem_first new ≡ mem_first old) (starved : mem_starved new ≡ mem_starved old) where

@@ -3,18 +3,9 @@ use Rattle.std.proofs.Common.{◌≡◌, ◌⊎◌, inl, inr, ℕ, Bool, true, f
 use Rattle.std.proofs.lemmas.List.{get_or_past}
 use Rattle.std.proofs.lemmas.List.FromFn.{length-map-range_with_len, get_or-map-range_with_len}
 use Rattle.std.proofs.lemmas.Bool.{cases_lt}
-use Rattle.std.specs.List.{range_with_len}
-use Rattle.rpm_outside.specs.declared.steps.Pick.{Pick}
-use Rattle.rpm_outside.specs.declared.steps.Pick.TheVariants.{Old, New, Mixed}
-use Rattle.rpm_outside.specs.declared.steps.Step.{Step}
-use Rattle.rpm_outside.specs.declared.steps.Step.TheVariants.{Wrote, Synced}
-use Rattle.rpm_outside.specs.Files.{Units, Files, file_of, with_file, unit_at, blank, put}
-use Rattle.rpm_outside.specs.Crash.{Torn}
-use Rattle.rpm_outside.specs.inner.Puts.{length-put}
-use Rattle.rpm_outside.specs.Past.{after_step, after_steps, StepsTo}
-use Rattle.rpm_outside.specs.inner.FileLaws.{file_of-with}
-use Rattle.rpm_outside.specs.inner.History.{torn_whole, torn_none}
-use Rattle.rpm_outside.specs.Picks.{takes_new, mixed_unit, picked, picked_step, picked_image}
+use Rattle.rpm_outside.proofs.Vocabulary.{after_step, after_steps, blank, file_of, file_of-with, Files, length-put, Mixed, mixed_unit, New, Old, Pick, picked}
+use Rattle.rpm_outside.proofs.Vocabulary.{picked_image, picked_step, put, range_with_len, Step, StepsTo, Synced, takes_new, Torn, torn_none, torn_whole}
+use Rattle.rpm_outside.proofs.Vocabulary.{unit_at, Units, with_file, Wrote}
 
 module _ (seed at : ℕ) (units file : Units) where
   abbrev new : Units

@@ -1,13 +1,6 @@
 -- What a replay from a copy begins with.
 use Rattle.std.proofs.Common.{◌≡◌, inl, inr, ℕ, ◌≤◌, List, take, sym, ◌∙◌, ap, arith}
-use Rattle.rpm_outside.specs.declared.copies.Copies.{Copies}
-use Rattle.rpm_outside.specs.declared.steps.Pick.{Pick}
-use Rattle.rpm_outside.specs.declared.steps.Step.{Step}
-use Rattle.rpm_outside.specs.Files.{Files}
-use Rattle.rpm_outside.specs.Past.{after_steps, Images}
-use Rattle.rpm_outside.specs.Picks.{picked_image}
-use Rattle.rpm_outside.specs.inner.History.{as_read_now, now_images}
-use Rattle.rpm_outside.specs.inner.Copies.{StartsFrom, HoldCopies}
+use Rattle.rpm_outside.proofs.Vocabulary.{after_steps, as_read_now, Copies, Files, HoldCopies, Images, now_images, Pick, picked_image, StartsFrom, Step}
 
 -- what a replay from a copy begins with
 pub record Begun (steps : List Step) (first : Files) (pick : Pick) (at : ℕ) (files : Files) : Type 0 where

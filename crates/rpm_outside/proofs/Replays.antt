@@ -1,15 +1,9 @@
 -- What the calls of the disk in memory leave.
 use Rattle.std.proofs.Common.{◌≡◌, ◌⊎◌, inl, inr, ⊎_elim, ℕ, ◌+◌, ◌<◌, ◌/◌, Bool, true, false, List, [], ◌∷◌, ◌++◌, take, length, sym, ◌∙◌, ap, subst, arith}
 use Rattle.std.proofs.lemmas.List.{length-take, get_or-take, length_push}
-use Rattle.rpm_outside.specs.declared.disk.File.{File}
-use Rattle.rpm_outside.specs.declared.steps.Step.{Step}
-use Rattle.rpm_outside.specs.declared.steps.Step.TheVariants.{Wrote}
-use Rattle.rpm_outside.specs.Files.{Units, Files, file_of, with_file, put, unit_at, blank}
-use Rattle.rpm_outside.specs.Causes.{Rose}
-use Rattle.rpm_outside.specs.Crash.{Torn, TornFile, OnlyAfter, Elapses, RisesOrStays}
-use Rattle.rpm_outside.specs.inner.Puts.{length-put, put_cases, put_inside}
-use Rattle.rpm_outside.specs.Past.{after_step, after_steps, ImagesSince, WroteOnce, WroteAny, part_of}
-use Rattle.rpm_outside.specs.inner.History.{after_steps-push, torn_file_whole, torn_file_none, follows_write, follows_none, elapses_push, elapses_same}
+use Rattle.rpm_outside.proofs.Vocabulary.{after_step, after_steps, after_steps-push, blank, Elapses, elapses_push, elapses_same, File, file_of, Files}
+use Rattle.rpm_outside.proofs.Vocabulary.{follows_none, follows_write, ImagesSince, length-put, OnlyAfter, part_of, put, put_cases, put_inside, RisesOrStays}
+use Rattle.rpm_outside.proofs.Vocabulary.{Rose, Step, Torn, torn_file_none, torn_file_whole, TornFile, unit_at, Units, with_file, Wrote, WroteAny, WroteOnce}
 
 -- a write of some of the first units is one of all that was cut short
 torn_take : (at n : ℕ) (units old new : Units) → Torn at (take n units) old new → Torn at units old new

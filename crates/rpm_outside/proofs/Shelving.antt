@@ -4,15 +4,9 @@ use Rattle.std.proofs.lemmas.List.{drop-drop, take-append-le, take_all, length-t
 use Rattle.std.proofs.lemmas.Option.{slice_get-get_or}
 use Rattle.std.proofs.lemmas.Map.Text.{is_eq-slice_cmp}
 use Rattle.std.specs.Prelude.{string_bytes}
-use Rattle.std.specs.Option.{option_map}
-use Rattle.std.specs.Ordering.{nat_cmp}
-use Rattle.std.specs.Cmp.Lexicographic.{slice_cmp}
+use Rattle.rpm_outside.proofs.Vocabulary.{bytes_at, bytes_eq, bytes_in, entry_of, find, get-from_entries, Item, nat_cmp, option_map, paths_of, slice_cmp}
+use Rattle.rpm_outside.proofs.Vocabulary.{TakesFront}
 use Rattle.std.proofs.lemmas.Cmp.{nat_list_cmp_total}
-use Rattle.std.specs.FinMap.{find, get-from_entries}
-use Rattle.std.specs.Str.{bytes_eq}
-use Rattle.rpm_outside.specs.declared.mem_shelf.Item.{Item}
-use Rattle.rpm_outside.specs.Shelves.{bytes_at, TakesFront}
-use Rattle.rpm_outside.specs.MemShelf.{entry_of, paths_of, bytes_in}
 
 abbrev pub find_in : List ℕ → List Item → Option (List ℕ)
 find_in path items = find (slice_cmp nat_cmp) path (map entry_of items)

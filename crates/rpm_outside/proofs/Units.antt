@@ -3,7 +3,7 @@ use Rattle.std.proofs.Common.{◌≡◌, ◌⊎◌, inl, inr, ℕ, zero, suc, �
 use Rattle.std.proofs.lemmas.List.{drop-drop, drop_all, take_all, take-append-le, take-replicate, length-replicate, append-nil}
 use Rattle.std.proofs.lemmas.Bool.{cases_lt}
 use Rattle.std.proofs.Math.Seq.{take-append-add}
-use Rattle.rpm_outside.specs.Files.{Units, cut_up, blank, put}
+use Rattle.rpm_outside.proofs.Vocabulary.{blank, cut_up, put, Units}
 
 cut_up_suc : (n : ℕ) (bytes : List ℕ) → cut_up (suc n) bytes ≡ cut_up n bytes ++ take 16 (drop (16 * n) bytes) ∷ []
 cut_up_suc zero bytes = refl

@@ -1,5 +1,5 @@
 -- Files of units, and what a write does to one.
-use Rattle.std.specs.Prelude.{◌≡◌, ◌⊎◌, ℕ, ◌+◌, ◌-◌, ◌/◌, List, [], ◌∷◌, ◌++◌, length, take, drop, replicate, slice_index_or}
+use Rattle.std.specs.Prelude.{◌≡◌, ◌<◌, ◌≤◌, ◌⊎◌, ℕ, ◌+◌, ◌-◌, ◌/◌, ◌%◌, ◌^◌, List, [], ◌∷◌, ◌++◌, length, take, drop, replicate, slice_index_or}
 use Rattle.std.proofs.Common.{zero, suc, inl, inr, refl}
 use Rattle.rpm_outside.specs.declared.disk.File.{File}
 use Rattle.rpm_outside.specs.declared.disk.File.TheVariants.{Pkg, Idx, Log}
@@ -67,3 +67,9 @@ AreWhole units = (k : ℕ) → length (unit_at units k) ≡ 16
 -- the file with these units from this one on; units between its end and them are zeros
 unfoldable pub put : ℕ → Units → Units → Units
 put at units file = take at file ++ replicate (at - length file) blank ++ units ++ drop (at + length units) file
+
+-- bytes that one write takes from this unit on: whole units, one at least, none past the greatest size of a file
+pub record FitsAt (unit : ℕ) (bytes : List ℕ) : Type 0 where
+  pub some : 0 < length bytes
+  pub whole : length bytes % 16 ≡ 0
+  pub room : unit + length bytes / 16 ≤ 2 ^ 28

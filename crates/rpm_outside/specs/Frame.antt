@@ -1,5 +1,5 @@
 -- What stands around a call that takes a disk: the disk by the ghost members of its kind, which a clause names `D.Disk`. Short words for all clauses.
-use Rattle.std.specs.Prelude.{ℕ, IsTrue, Result}
+use Rattle.std.specs.Prelude.{ℕ, ◌-◌, IsTrue, Result}
 use Rattle.rpm_outside.specs.declared.disk.Disk as disk
 use Rattle.rpm_outside.specs.declared.disk.File.{File}
 use Rattle.rpm_outside.specs.Causes.{HasCause, HasCauseAt}
@@ -55,6 +55,14 @@ module _ {D : Type 0} (d : disk.Ghosts D) where
   pub record ReadsOr (file : File) (most : ℕ) (what : Type 0) (old new : D) : Type 0 where
     pub looks : Looks file most old new
     pub cause : DiskFault what old new
+
+  -- one file was read, no matter how much, nothing else happened, and an error comes only where the disk counted a fault
+  abbrev pub ReadsAt : {T E : Type 0} → File → Result T E → D → D → Type 0
+  ReadsAt file result old new = Reads file (d.bytes_read new file - d.bytes_read old file) result old new
+
+  -- the same for an answer of several errors
+  abbrev pub ReadsAtOr : File → Type 0 → D → D → Type 0
+  ReadsAtOr file what old new = ReadsOr file (d.bytes_read new file - d.bytes_read old file) what old new
 
   -- one file alone changed, as a relation says, so many bytes of it were read at most, and an error comes only where the disk counted a fault
   pub record Writes {T E : Type 0} (file : File) (by : Units → Units → Type 0) (most : ℕ) (result : Result T E) (old new : D) : Type 0 where

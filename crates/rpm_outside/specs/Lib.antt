@@ -18,6 +18,7 @@ pub mod MemShelf
 pub mod MemDisk
 pub mod Past
 pub mod Picks
+pub mod Prelude
 pub mod Shelves
 pub mod Sinks
 pub mod Words

@@ -1,7 +1,8 @@
 //! A sink with a buffer in front of it.
 
 ghost use Rattle.std.specs.Prelude.{◌≡◌, ◌++◌, [], drop, IsTrue, IsFalse};
-ghost use Rattle.rpm_outside.specs.Sinks.{Writes};
+ghost use Rattle.rpm_outside.specs.Prelude.{begins_refl, begins_trans, Writes};
+ghost use Rattle.rpm_outside.specs.Buffered.{all_taken, Flushes, GoesOn, holds, inner};
 
 use crate::{Failed, Sink, put_all};
 use arrayvec::ArrayVec;
@@ -19,8 +20,6 @@ pub struct Buffered<O: Sink + Drop> {
 }
 
 impl<O: Sink + Drop> Buffered<O> {
-    ghost use Rattle.rpm_outside.specs.Buffered.{inner, holds, Flushes};
-
     /// A buffer that holds nothing, in front of a sink.
     pub fn new(sink: O) -> Buffered<O>
         ensures inner { inner result ≡ sink }
@@ -109,9 +108,6 @@ pub fn put_and_flush<O: Sink + Drop>(sink: &mut Buffered<O>, bytes: &[u8]) -> Re
 }
 
 impl<O: Sink + Drop> Sink for Buffered<O> {
-    ghost use Rattle.rpm_outside.specs.Buffered.{all_taken, inner, GoesOn};
-    ghost use Rattle.rpm_outside.specs.inner.Taken.{begins_refl, begins_trans};
-
     ghost tells = { O.tells };
 
     ghost taken = { λ b. all_taken O.taken b };

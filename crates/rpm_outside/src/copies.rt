@@ -1,8 +1,7 @@
 //! Copies of the files of a disk in memory, from which an image is made without a replay from the start.
 
 ghost use Rattle.std.specs.Prelude.{◌≡◌, ◌≤◌, ◌++◌, ◌∷◌, [], false, IfOk, IfSome, slice_get};
-ghost use Rattle.rpm_outside.specs.Past.{held_files};
-ghost use Rattle.rpm_outside.specs.inner.Copies.{is_loose, loosened, tightened, KeepsCopy, SettlesFile, StartsFrom, HasCopy};
+ghost use Rattle.rpm_outside.specs.Prelude.{HasCopy, held_files, is_loose, KeepsCopy, loosened, SettlesFile, StartsFrom, tightened};
 
 use crate::File;
 use crate::steps::{Held, copy_of};

@@ -1,6 +1,7 @@
 //! A disk of three files, and what a crash at any moment may leave of them.
 
 ghost use Rattle.std.specs.Prelude.{◌≡◌, ◌<◌, ◌≤◌, ◌+◌, ◌/◌, ◌%◌, ◌^◌, Bool, IsTrue, ℕ, length, take, drop, is_err, IfOk, OnOk, OnErr};
+ghost use Rattle.rpm_outside.specs.Prelude.{bytes_for, Call, Elapses, File, file_of, Files, FitsAt, HasCause, Len, OnlyAfter, put, Read, RisesOrStays, Rose, RoseBy, Sync, TornFile, units_of, Untouched, with_file, Write};
 
 use crate::Failed;
 
@@ -17,12 +18,6 @@ pub enum File {
 /// A unit is the most that a crash leaves whole: after a write that was cut short each of its units is the old one or
 /// the new one. Bytes after the last whole unit of a file aren't seen, and a file that isn't there has no units.
 pub trait Disk {
-    ghost use Rattle.rpm_outside.specs.declared.disk.File.{File};
-    ghost use Rattle.rpm_outside.specs.Files.{Files, file_of, with_file, units_of, put};
-    ghost use Rattle.rpm_outside.specs.Calls.{Call, Len, Read, Write, Sync};
-    ghost use Rattle.rpm_outside.specs.Causes.{Rose, RoseBy, HasCause};
-    ghost use Rattle.rpm_outside.specs.Crash.{TornFile, OnlyAfter, Elapses, Untouched, RisesOrStays, bytes_for};
-
     /// Whether disks of this kind tell what they hold.
     ghost tells: { Bool };
 
@@ -90,9 +85,7 @@ pub trait Disk {
     /// `Failed` only where the count of faults rose. Each unit of the range is then the old one or the new one, and
     /// the file's length any one between; where the moment didn't rise, nothing was written.
     fn write_at(&mut self, file: File, unit: u64, bytes: &[u8]) -> Result<(), Failed>
-        requires some { 0 < length bytes.now }
-        requires whole { length bytes.now % 16 ≡ 0 }
-        requires room { unit + length bytes.now / 16 ≤ 2 ^ 28 }
+        requires fits { FitsAt unit bytes.now }
         ensures written { OnOk result (IsTrue tells
             → files self.new ≡ with_file file (put unit (units_of bytes.now) (file_of file (files self.old)))
             (files self.old)) }

@@ -1,10 +1,7 @@
 //! A disk in memory, which keeps each write and sync, and nothing else.
 
 ghost use Rattle.std.specs.Prelude.{◌≡◌, ◌≤◌, ◌+◌, ◌-◌, ◌^◌, ◌==◌, ◌∷◌, ◌++◌, [], true, min, ℕ, length, take, IfOk, OnOk, OnErr};
-ghost use Rattle.std.specs.List.{list_any};
-ghost use Rattle.rpm_outside.specs.Files.{Files, file_of, units_of, bytes_of};
-ghost use Rattle.rpm_outside.specs.Past.{held_files, after_steps};
-ghost use Rattle.rpm_outside.specs.inner.Copies.{HoldCopies};
+ghost use Rattle.rpm_outside.specs.Prelude.{after_steps, as_read_now, bytes_of, file_of, Files, held_files, HoldCopies, Images, ImagesSince, IsImage, list_any, picked_image, since_earlier, units_of};
 
 use crate::copies::Copies;
 use crate::steps::{
@@ -35,9 +32,6 @@ pub struct MemDisk {
 
 impl MemDisk {
     ghost use Rattle.rpm_outside.specs.MemDisk.{mem_faults, mem_starved, mem_files, mem_read, mem_steps, mem_first, mem_failing, IsNew, SameButFailing};
-    ghost use Rattle.rpm_outside.specs.Past.{Images};
-    ghost use Rattle.rpm_outside.specs.Picks.{picked_image};
-    ghost use Rattle.rpm_outside.specs.Literal.{IsImage};
 
     /// A disk on which nothing was done yet.
     fn settled(alloc: Global, first: Held, held: Held) -> MemDisk
@@ -173,8 +167,6 @@ fn call_fails(calls: &mut u64, failing: &[u64]) -> bool
 
 impl Disk for MemDisk {
     ghost use Rattle.rpm_outside.specs.MemDisk.{mem_files, mem_read, FailsWhereNamed};
-    ghost use Rattle.rpm_outside.specs.Past.{ImagesSince};
-    ghost use Rattle.rpm_outside.specs.inner.History.{as_read_now, since_earlier};
 
     ghost tells = { true };
 

@@ -1,9 +1,7 @@
 //! A shelf in memory.
 
 ghost use Rattle.std.specs.Prelude.{◌≡◌, ℕ, ◌^◌, ◌<◌, ◌≤◌, [], true, Some, None, drop, length, IsSome, MatchOption, OnOk, OnErr};
-ghost use Rattle.std.specs.FinMap.{empty, insert};
-ghost use Rattle.rpm_outside.specs.Shelves.{bytes_at};
-ghost use Rattle.rpm_outside.specs.MemShelf.{paths_of, bytes_in, left_in};
+ghost use Rattle.rpm_outside.specs.Prelude.{bytes_at, bytes_in, empty, insert, left_in, paths_of, SameReads, shelf_absences, shelf_failing, shelf_faults, shelf_most, shelf_paths, shelf_reads, shelf_rest, ShelfDoes};
 
 use crate::{Absent, Failed, Shelf};
 use std::alloc::{AllocError, Global};
@@ -73,8 +71,6 @@ fn left_in(items: &[Item], opened: Opened) -> Option<&[u8]>
 }
 
 impl MemShelf {
-    ghost use Rattle.rpm_outside.specs.MemShelf.{shelf_paths, shelf_rest, shelf_most, shelf_failing, shelf_reads, shelf_absences, shelf_faults, SameReads};
-
     /// An empty shelf, on which nothing is open.
     pub fn new(alloc: Global) -> MemShelf
         ensures paths { shelf_paths result ≡ empty }
@@ -163,8 +159,6 @@ impl MemShelf {
 }
 
 impl Shelf for MemShelf {
-    ghost use Rattle.rpm_outside.specs.MemShelf.{shelf_paths, shelf_rest, ShelfDoes};
-
     ghost tells = { true };
 
     ghost paths = { shelf_paths };

@@ -1,7 +1,7 @@
 //! A sink in memory.
 
 ghost use Rattle.std.specs.Prelude.{◌≡◌, ℕ, ◌<◌, ◌≤◌, ◌-◌, ◌^◌, min, true, Some, None, length, [], IfSome};
-ghost use Rattle.rpm_outside.specs.Causes.{Rose};
+ghost use Rattle.rpm_outside.specs.Prelude.{Begins, begins_refl, begins_trans, FailsWhereFull, Rose, sink_bytes, sink_faults, sink_limit, sink_most, sink_starved};
 
 use crate::{Failed, Sink};
 use std::alloc::Global;
@@ -18,8 +18,6 @@ pub struct MemSink {
 }
 
 impl MemSink {
-    ghost use Rattle.rpm_outside.specs.MemSink.{sink_bytes, sink_limit, sink_most, sink_faults, sink_starved};
-
     /// An empty sink, which takes all that is written.
     pub fn new(alloc: Global) -> MemSink
         ensures bytes { sink_bytes result ≡ [] }
@@ -95,10 +93,6 @@ fn room_for(limit: Option<u64>, held: usize, bytes: usize) -> usize
 }
 
 impl Sink for MemSink {
-    ghost use Rattle.rpm_outside.specs.MemSink.{sink_bytes, FailsWhereFull};
-    ghost use Rattle.rpm_outside.specs.Sinks.{Begins};
-    ghost use Rattle.rpm_outside.specs.inner.Taken.{begins_refl, begins_trans};
-
     ghost tells = { true };
 
     ghost taken = { sink_bytes };

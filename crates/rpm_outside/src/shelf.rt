@@ -1,8 +1,7 @@
 //! Files to be read from front to back.
 
 ghost use Rattle.std.specs.Prelude.{◌≡◌, ℕ, ◌<◌, ◌≤◌, Bool, IsTrue, List, Option, length, take, is_err, IfOk, OnErr};
-ghost use Rattle.rpm_outside.specs.Causes.{HasCause};
-ghost use Rattle.rpm_outside.specs.Shelves.{Paths, bytes_at, Opens, TakesFront, ShelfCall, Open, Take};
+ghost use Rattle.rpm_outside.specs.Prelude.{bytes_at, HasCause, Open, Opens, Paths, ShelfCall, Take, TakesFront};
 
 use crate::Failed;
 

@@ -1,8 +1,7 @@
 //! Where bytes go.
 
 ghost use Rattle.std.specs.Prelude.{◌≡◌, ℕ, ◌<◌, ◌≤◌, Bool, IsTrue, List, length, take, is_err, IfOk, OnErr};
-ghost use Rattle.rpm_outside.specs.Causes.{HasCause};
-ghost use Rattle.rpm_outside.specs.Sinks.{Gained, Begins, Writes};
+ghost use Rattle.rpm_outside.specs.Prelude.{Begins, Gained, HasCause, refl, Writes, ◌∙◌};
 
 use crate::Failed;
 
@@ -48,8 +47,6 @@ pub trait Sink {
 
 /// A sink that is lent is a sink. Each call leaves it where it is.
 impl<O: Sink> Sink for &mut O {
-    ghost use Rattle.std.proofs.Common.{refl, ◌∙◌};
-
     ghost tells = { O.tells };
 
     ghost taken = { λ lent. O.taken lent.now };

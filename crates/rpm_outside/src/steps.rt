@@ -1,9 +1,7 @@
 //! The writes and syncs of a disk in memory, and the files that they leave.
 
 ghost use Rattle.std.specs.Prelude.{◌≡◌, ◌^◌, ◌+◌, ◌-◌, ◌*◌, ◌/◌, ◌<◌, ◌≤◌, ◌∷◌, ◌++◌, [], ℕ, length, take, drop, replicate, IfOk, OnOk, OnErr};
-ghost use Rattle.rpm_outside.specs.Files.{file_of, with_file, units_of, bytes_of, put, unit_at, blank};
-ghost use Rattle.rpm_outside.specs.Past.{held_files, WroteAny, part_of, after_step};
-ghost use Rattle.rpm_outside.specs.Picks.{mixed_unit, picked, picked_step};
+ghost use Rattle.rpm_outside.specs.Prelude.{after_step, blank, bytes_of, file_of, held_files, mixed_unit, part_of, picked, picked_step, put, unit_at, units_of, with_file, WroteAny};
 
 use crate::File;
 use std::alloc::{AllocError, Global};

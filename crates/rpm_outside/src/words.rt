@@ -1,7 +1,7 @@
 //! Numbers as they stand in a unit.
 
 ghost use Rattle.std.specs.Prelude.{◌≡◌, ℕ, ◌+◌, ◌*◌, ◌≤◌, length};
-ghost use Rattle.rpm_outside.specs.Words.{word, bytes_of_word, unit_of_words};
+ghost use Rattle.rpm_outside.specs.Prelude.{bytes_of_word, unit_of_words, word};
 
 /// The number in bytes 4k to 4k + 3 of a unit, the lowest first.
 #[tactic(auto, unfolding(crate::specs::Words::word))]

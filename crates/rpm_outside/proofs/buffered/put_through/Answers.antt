@@ -1,4 +1,4 @@
-use Rattle.rpm_outside.specs.inner.Flushed.{stopped, flushed}
+use Rattle.rpm_outside.proofs.Vocabulary.{flushed, stopped}
 use Rattle.rpm_outside.proofs.buffered.put_through.Goals as goal
 
 pub returns-in_err-put_all : goal.returns-in_err-put_all

@@ -1,7 +1,7 @@
 use Rattle.std.proofs.Common.{◌≡◌, true, false, refl, sym, ap, ◌∙◌, subst}
 use Rattle.std.proofs.lemmas.List.{drop_all}
 use Rattle.std.specs.Prelude.{string_bytes, IsSome}
-use Rattle.std.specs.Str.{bytes_eq}
+use Rattle.rpm_outside.proofs.Vocabulary.{bytes_eq}
 use Rattle.rpm_outside.proofs.Shelving.{find_in, paths_find, bytes_here, found, passed}
 use Rattle.rpm_outside.proofs.mem_shelf.place_of.Goals as goal
 

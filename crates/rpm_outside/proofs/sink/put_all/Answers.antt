@@ -1,6 +1,6 @@
 use Rattle.std.proofs.Common.{◌-◌, ◌≤◌, length, arith}
 use Rattle.std.proofs.lemmas.List.{length-take, length-drop}
-use Rattle.rpm_outside.specs.inner.Taken.{taken_more}
+use Rattle.rpm_outside.proofs.Vocabulary.{taken_more}
 use Rattle.rpm_outside.proofs.sink.put_all.Goals as goal
 
 pub loop-done-preserved : goal.loop-done-preserved

@@ -1,5 +1,5 @@
 use Rattle.std.proofs.Common.{length, ◌-◌, ◌≤◌, take}
-use Rattle.rpm_outside.specs.Sinks.{Gained}
+use Rattle.rpm_outside.proofs.Vocabulary.{Gained}
 use Rattle.rpm_outside.proofs.sink.put_all.Given as goal
 
 abbrev pub invariant-loop-done : goal.invariant-loop-done

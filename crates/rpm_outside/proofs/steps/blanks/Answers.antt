@@ -1,6 +1,6 @@
 use Rattle.std.proofs.Common.{◌++◌, [], ◌∷◌, ◌∙◌, ap}
 use Rattle.std.proofs.lemmas.List.{replicate_more}
-use Rattle.rpm_outside.specs.Files.{Units, blank}
+use Rattle.rpm_outside.proofs.Vocabulary.{blank, Units}
 use Rattle.rpm_outside.proofs.steps.blanks.Goals as goal
 
 pub loop-preserved : goal.loop-preserved

@@ -1,5 +1,5 @@
 use Rattle.std.proofs.Common.{◌≡◌, replicate}
-use Rattle.rpm_outside.specs.Files.{blank}
+use Rattle.rpm_outside.proofs.Vocabulary.{blank}
 use Rattle.rpm_outside.proofs.steps.blanks.Given as goal
 
 abbrev pub invariant-loop : goal.invariant-loop

@@ -4,8 +4,7 @@ use Rattle.std.proofs.lemmas.Slice.{take-put_mid, put_mid-paste}
 use borrow.Rule.Slice.PartMut.{put_mid}
 use Rattle.std.proofs.lemmas.List.{get_or_default, get_or_past}
 use Rattle.std.proofs.lemmas.Bool.{cases_lt}
-use Rattle.rpm_outside.specs.Files.{bytes_of, units_of, blank}
-use Rattle.rpm_outside.specs.inner.Cuts.{bytes_of_more, units_of-bytes_of}
+use Rattle.rpm_outside.proofs.Vocabulary.{blank, bytes_of, bytes_of_more, units_of, units_of-bytes_of}
 use Rattle.rpm_outside.proofs.steps.copy_units.Goals as goal
 
 length-put_mid : (a k : ℕ) (xs ys : List ℕ) → a + k ≤ length xs → length ys ≡ k → length (put_mid a k xs ys) ≡ length xs

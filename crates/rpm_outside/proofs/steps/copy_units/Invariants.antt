@@ -1,5 +1,5 @@
 use Rattle.std.proofs.Common.{◌≡◌, ◌*◌, take, length}
-use Rattle.rpm_outside.specs.Files.{bytes_of}
+use Rattle.rpm_outside.proofs.Vocabulary.{bytes_of}
 use Rattle.rpm_outside.proofs.steps.copy_units.Given as goal
 
 abbrev pub invariant-loop-k : goal.invariant-loop-k

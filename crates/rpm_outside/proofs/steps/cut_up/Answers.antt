@@ -1,7 +1,6 @@
 use Rattle.std.proofs.Common.{◌≡◌, ℕ, ◌+◌, ◌-◌, ◌*◌, ◌/◌, length, ◌++◌, [], ◌∷◌, List, take, drop, sym, ◌∙◌, ap, arith}
-use Rattle.rpm_outside.specs.Files.{cut_up}
+use Rattle.rpm_outside.proofs.Vocabulary.{cut_up, length-cut_up}
 use Rattle.rpm_outside.proofs.Units.{cut_up_more}
-use Rattle.rpm_outside.specs.inner.Cuts.{length-cut_up}
 use Rattle.rpm_outside.proofs.steps.cut_up.Goals as goal
 
 pub loop-k-preserved : goal.loop-k-preserved

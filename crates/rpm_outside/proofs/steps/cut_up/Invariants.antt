@@ -1,5 +1,5 @@
 use Rattle.std.proofs.Common.{◌≡◌}
-use Rattle.rpm_outside.specs.Files.{cut_up}
+use Rattle.rpm_outside.proofs.Vocabulary.{cut_up}
 use Rattle.rpm_outside.proofs.steps.cut_up.Given as goal
 
 abbrev pub invariant-loop-k : goal.invariant-loop-k

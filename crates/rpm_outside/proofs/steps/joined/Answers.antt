@@ -1,5 +1,5 @@
 use Rattle.std.proofs.Common.{[], List, ℕ, ◌++◌, get_or, ◌∙◌, sym, ap}
-use Rattle.rpm_outside.specs.inner.Cuts.{bytes_of_more}
+use Rattle.rpm_outside.proofs.Vocabulary.{bytes_of_more}
 use Rattle.rpm_outside.proofs.steps.joined.Goals as goal
 
 pub loop-unit-preserved : goal.loop-unit-preserved

@@ -1,5 +1,5 @@
 use Rattle.std.proofs.Common.{◌≡◌, take}
-use Rattle.rpm_outside.specs.Files.{bytes_of}
+use Rattle.rpm_outside.proofs.Vocabulary.{bytes_of}
 use Rattle.rpm_outside.proofs.steps.joined.Given as goal
 
 abbrev pub invariant-loop-unit : goal.invariant-loop-unit

@@ -1,7 +1,6 @@
 use Rattle.std.proofs.Common.{◌≡◌, ◌+◌, ◌++◌, [], ◌∷◌, ℕ, List, length, ◌∙◌, sym, ap, refl, arith}
 use Rattle.std.proofs.lemmas.List.FromFn.{map-range_with_len_more}
-use Rattle.rpm_outside.specs.Files.{Units, put}
-use Rattle.rpm_outside.specs.Picks.{mixed_unit, picked}
+use Rattle.rpm_outside.proofs.Vocabulary.{mixed_unit, picked, put, Units}
 use Rattle.rpm_outside.proofs.Mixing.{mixed_units, mixed_whole}
 use Rattle.rpm_outside.proofs.steps.mixed.Goals as goal
 

@@ -1,7 +1,6 @@
 use Rattle.std.proofs.Common.{◌+◌, ◌/◌, ◌%◌, ◌^◌, Bool, if◌then◌else◌, [], sym, ◌∙◌, ap, eq-eqb}
 use Rattle.std.proofs.lemmas.List.{get_or_default}
-use Rattle.rpm_outside.specs.Files.{unit_at, blank, put}
-use Rattle.rpm_outside.specs.inner.Puts.{put_inside}
+use Rattle.rpm_outside.proofs.Vocabulary.{blank, put, put_inside, unit_at}
 use Rattle.rpm_outside.proofs.steps.mixed_unit.Goals as goal
 
 pub returns-then-seed-at-eq1 : goal.returns-then-seed-at-eq1

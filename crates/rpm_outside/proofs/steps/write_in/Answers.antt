@@ -1,5 +1,5 @@
 use Rattle.std.proofs.Common.{◌+◌, ◌++◌, take, drop, length, ◌∙◌, ap}
-use Rattle.rpm_outside.specs.Files.{Units}
+use Rattle.rpm_outside.proofs.Vocabulary.{Units}
 use Rattle.rpm_outside.proofs.Units.{put_in_place, write_back}
 use Rattle.rpm_outside.proofs.steps.write_in.Goals as goal
 

@@ -1,10 +1,7 @@
 use Rattle.std.proofs.Common.{◌≡◌, ◌<◌, ◌==◌, ℕ, true, false, List, [], ◌∷◌, ◌++◌, length, refl, sym, ◌∙◌, ap, subst, arith}
 use Rattle.std.proofs.lemmas.List.{nil_from_length}
 use Rattle.std.proofs.lemmas.Bool.Decides.{nat_tests}
-use Rattle.rpm_outside.specs.declared.steps.Step.{Step}
-use Rattle.rpm_outside.specs.declared.steps.Step.TheVariants.{Wrote}
-use Rattle.rpm_outside.specs.Files.{Units, file_of, with_file, put, units_of}
-use Rattle.rpm_outside.specs.Past.{held_files, part_of, WroteAny}
+use Rattle.rpm_outside.proofs.Vocabulary.{file_of, held_files, part_of, put, Step, Units, units_of, with_file, Wrote, WroteAny}
 use Rattle.rpm_outside.proofs.Replays.{once_any}
 use Rattle.rpm_outside.proofs.steps.write_units.Goals as goal
 

@@ -1,6 +1,6 @@
 use Rattle.std.proofs.Common.{◌-◌, ◌≤◌, length, arith}
 use Rattle.std.proofs.lemmas.List.{length-take, length-drop}
-use Rattle.rpm_outside.specs.Buffered.{inner, holds}
+use Rattle.rpm_outside.proofs.Vocabulary.{holds, inner}
 use Rattle.rpm_outside.proofs.Buffering.{handed_more}
 use Rattle.rpm_outside.proofs.buffered.Buffered.flush.Goals as goal
 

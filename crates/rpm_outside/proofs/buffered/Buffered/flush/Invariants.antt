@@ -1,5 +1,5 @@
 use Rattle.std.proofs.Common.{length, ◌-◌}
-use Rattle.rpm_outside.specs.Buffered.{inner, holds}
+use Rattle.rpm_outside.proofs.Vocabulary.{holds, inner}
 use Rattle.rpm_outside.proofs.Buffering.{Handed}
 use Rattle.rpm_outside.proofs.buffered.Buffered.flush.Given as goal
 

@@ -1,7 +1,5 @@
 use Rattle.std.proofs.Common.{◌++◌, sym, subst, ap, ◌∙◌}
-use Rattle.rpm_outside.specs.Buffered.{inner, holds}
-use Rattle.rpm_outside.specs.Sinks.{Begins}
-use Rattle.rpm_outside.specs.inner.Flushed.{handed}
+use Rattle.rpm_outside.proofs.Vocabulary.{Begins, handed, holds, inner}
 use Rattle.rpm_outside.proofs.Buffering.{write_grows, more_held, all_held, wrote_past}
 use Rattle.rpm_outside.proofs.buffered.BufferedSink.write.Goals as goal
 

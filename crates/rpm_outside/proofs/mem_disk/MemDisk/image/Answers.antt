@@ -1,12 +1,7 @@
 use Rattle.std.proofs.Common.{◌≡◌, ℕ, ◌+◌, ◌++◌, [], ◌∷◌, List, take, sym, ◌∙◌, ap, subst, arith}
 use Rattle.std.proofs.lemmas.List.{take_more}
-use Rattle.rpm_outside.specs.declared.steps.Step.{Step}
-use Rattle.rpm_outside.specs.Files.{Files}
-use Rattle.rpm_outside.specs.MemDisk.{mem_files}
-use Rattle.rpm_outside.specs.Past.{held_files, after_step, after_steps, Images, StepsTo}
-use Rattle.rpm_outside.specs.inner.History.{after_steps-push}
-use Rattle.rpm_outside.specs.inner.ImageLaws.{images_are}
-use Rattle.rpm_outside.specs.Picks.{picked_step, picked_image}
+use Rattle.rpm_outside.proofs.Vocabulary.{after_step, after_steps, after_steps-push, Files, held_files, Images, images_are, mem_files, picked_image}
+use Rattle.rpm_outside.proofs.Vocabulary.{picked_step, Step, StepsTo}
 use Rattle.rpm_outside.proofs.Replaying.{begun, begun_before}
 use Rattle.rpm_outside.proofs.Mixes.{image_step}
 use Rattle.rpm_outside.proofs.Picking.{picked_step_to, picked_image-push}

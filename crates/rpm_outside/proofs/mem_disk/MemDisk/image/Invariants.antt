@@ -1,6 +1,5 @@
 use Rattle.std.proofs.Common.{◌≡◌, take}
-use Rattle.rpm_outside.specs.Past.{held_files, after_steps, Images}
-use Rattle.rpm_outside.specs.Picks.{picked_image}
+use Rattle.rpm_outside.proofs.Vocabulary.{after_steps, held_files, Images, picked_image}
 use Rattle.rpm_outside.proofs.mem_disk.MemDisk.image.Given as goal
 
 abbrev pub invariant-loop-k : goal.invariant-loop-k

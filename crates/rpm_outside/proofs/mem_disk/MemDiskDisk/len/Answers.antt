@@ -1,7 +1,6 @@
 use Rattle.std.proofs.Common.{ℕ, List, ◌∙◌, refl, sym, ap}
 use Rattle.std.specs.Prelude.{◌==◌}
-use Rattle.std.specs.List.{list_any}
-use Rattle.rpm_outside.specs.Calls.{Len}
+use Rattle.rpm_outside.proofs.Vocabulary.{Len, list_any}
 use Rattle.rpm_outside.proofs.Named.{named_fails}
 use Rattle.rpm_outside.proofs.mem_disk.MemDiskDisk.len.Goals as goal
 

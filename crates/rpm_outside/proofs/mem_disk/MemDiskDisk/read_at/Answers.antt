@@ -1,7 +1,6 @@
 use Rattle.std.proofs.Common.{ℕ, List, length, ◌∙◌, refl, sym, ap}
 use Rattle.std.specs.Prelude.{◌==◌}
-use Rattle.std.specs.List.{list_any}
-use Rattle.rpm_outside.specs.Calls.{Read}
+use Rattle.rpm_outside.proofs.Vocabulary.{list_any, Read}
 use Rattle.rpm_outside.proofs.Named.{named_fails}
 use Rattle.rpm_outside.proofs.mem_disk.MemDiskDisk.read_at.Goals as goal
 

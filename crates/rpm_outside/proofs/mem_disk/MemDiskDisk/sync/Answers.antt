@@ -1,13 +1,8 @@
 use Rattle.std.proofs.Common.{ℕ, List, arith, refl, sym, ◌∙◌, ap}
 use Rattle.std.specs.Prelude.{◌==◌}
-use Rattle.std.specs.List.{list_any}
-use Rattle.rpm_outside.specs.Calls.{Sync}
+use Rattle.rpm_outside.proofs.Vocabulary.{after_steps, after_steps-push, file_of, Files, held_files, list_any, Sync, sync_step, Synced}
 use Rattle.rpm_outside.proofs.Copying.{sync_held}
 use Rattle.rpm_outside.proofs.Named.{named_fails, other_passes}
-use Rattle.rpm_outside.specs.declared.steps.Step.TheVariants.{Synced}
-use Rattle.rpm_outside.specs.Files.{Files, file_of}
-use Rattle.rpm_outside.specs.Past.{held_files, after_steps}
-use Rattle.rpm_outside.specs.inner.History.{after_steps-push, sync_step}
 use Rattle.rpm_outside.proofs.mem_disk.MemDiskDisk.sync.Goals as goal
 
 pub invariant_of-self-2 : goal.invariant_of-self-2

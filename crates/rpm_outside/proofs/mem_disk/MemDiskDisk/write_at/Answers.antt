@@ -1,15 +1,7 @@
 use Rattle.std.proofs.Common.{◌/◌, ℕ, Bool, List, length, refl, sym, ◌∙◌, ap, subst, arith}
 use Rattle.std.specs.Prelude.{◌==◌}
-use Rattle.std.specs.List.{list_any}
-use Rattle.rpm_outside.specs.Calls.{Write}
-use Rattle.rpm_outside.specs.inner.Cuts.{length-cut_up}
-use Rattle.rpm_outside.specs.Files.{Files, units_of}
-use Rattle.rpm_outside.specs.Past.{held_files, WroteAny, part_of}
-use Rattle.rpm_outside.specs.declared.copies.Copies.{Copies}
-use Rattle.rpm_outside.specs.declared.disk.File.{File}
-use Rattle.rpm_outside.specs.declared.mem_disk.MemDisk.{MemDisk}
-use Rattle.rpm_outside.specs.declared.steps.Step.{Step}
-use Rattle.rpm_outside.specs.inner.Copies.{HoldCopies}
+use Rattle.rpm_outside.proofs.Vocabulary.{Copies, File, Files, held_files, HoldCopies, length-cut_up, list_any, MemDisk, part_of, Step, units_of, Write}
+use Rattle.rpm_outside.proofs.Vocabulary.{WroteAny}
 use Rattle.rpm_outside.proofs.Copying.{any_held}
 use Rattle.rpm_outside.proofs.Loosening.{Loosens}
 use Rattle.rpm_outside.proofs.Named.{named_fails, other_passes}
@@ -113,7 +105,7 @@ returns-clause-rises c =
     let bytes = c.args.bytes.now in
     whole_rose (held_files c.args.self.now.first) (held_files c.args.self.now.held) (held_files c.write_units.new.now) c.args.self.now.steps.items
     c.write_units.new.steps.items c.args.file c.args.unit (units_of bytes)
-    (omega (arith, length-cut_up (length bytes / 16) bytes, c.requires.some, c.requires.whole))
+    (omega (arith, length-cut_up (length bytes / 16) bytes, c.requires.fits.some, c.requires.fits.whole))
     (subst (λ (half : Bool). WroteAny (held_files c.args.self.now.held) (held_files c.write_units.new.now) c.args.self.now.steps.items
     c.write_units.new.steps.items c.args.file c.args.unit (part_of half (units_of c.args.bytes.now))) c.if-fails.false c.in-Ok.ensures.ok)
 

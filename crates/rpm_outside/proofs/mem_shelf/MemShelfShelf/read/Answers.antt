@@ -1,6 +1,5 @@
 use Rattle.std.proofs.Common.{◌≡◌, Some, List, ℕ, ◌+◌, ◌++◌, take, drop, sym, ap, subst, Option, arith}
-use Rattle.rpm_outside.specs.Shelves.{TakesFront}
-use Rattle.rpm_outside.specs.MemShelf.{bytes_in, left_in, rest_of}
+use Rattle.rpm_outside.proofs.Vocabulary.{bytes_in, left_in, rest_of, TakesFront}
 use Rattle.rpm_outside.proofs.Shelving.{TakesFirst, reads_first}
 use Rattle.rpm_outside.proofs.mem_shelf.MemShelfShelf.read.Goals as goal
 
