@@ -1,9 +1,7 @@
 -- What taking the blocks of a range out of the runs leaves.
 use Rattle.std.proofs.Common.{◌≡◌, ℕ, ◌+◌, ◌-◌, ◌<◌, ◌≤◌, List, ◌∷◌, length, inl, inr, refl, arith}
 use Rattle.std.proofs.lemmas.Bool.{cases_lt}
-use Rattle.rpm_blocks.specs.declared.Range.{Range}
-use Rattle.rpm_blocks.specs.Blocks.{Has, IsUnused, IsFree, IsRange, AreApart, range, range_at, end_of}
-use Rattle.rpm_blocks.specs.inner.Places.{IsPlace, IsGap, HaveSameBlocks}
+use Rattle.rpm_blocks.proofs.Vocabulary.{AreApart, end_of, Has, HaveSameBlocks, IsFree, IsGap, IsPlace, IsRange, IsUnused, Range, range, range_at}
 use Rattle.rpm_blocks.proofs.Same.{same_sym, same_trans, same_cons, same_swap, same_joined, unused_cons}
 
 -- a range that has a place of its own meets no other

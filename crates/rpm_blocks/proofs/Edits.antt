@@ -1,11 +1,8 @@
 -- What putting a range in and taking one out leave of a rising list.
 use Rattle.std.proofs.Common.{◌≡◌, ℕ, ◌+◌, ◌-◌, ◌<◌, ◌≤◌, List, length, inl, inr, sym, subst, arith}
-use Rattle.std.specs.List.{insert, remove}
+use Rattle.rpm_blocks.proofs.Vocabulary.{AreApart, end_of, insert, IsFree, IsGap, IsPlace, IsRange, Range, range, range_at, remove}
 use Rattle.std.proofs.lemmas.Bool.{cases_lt}
 use Rattle.std.proofs.lemmas.List.Edits.{length-insert, get_or-insert_below, get_or-insert_at, get_or-insert_above, length-remove, get_or-remove_below, get_or-remove_above}
-use Rattle.rpm_blocks.specs.declared.Range.{Range}
-use Rattle.rpm_blocks.specs.Blocks.{IsFree, IsRange, AreApart, range, range_at, end_of}
-use Rattle.rpm_blocks.specs.inner.Places.{IsPlace, IsGap}
 
 module _ (gap : ℕ) (l : List Range) (apart : AreApart gap l) where
   module _ (i : ℕ) (lt : i < length l) where

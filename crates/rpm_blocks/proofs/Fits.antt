@@ -2,9 +2,7 @@
 use Rattle.std.proofs.Common.{◌≡◌, ℕ, ◌+◌, ◌-◌, ◌<◌, ◌≤◌, max, List, length, length-drop, drop, Option, Some, None, inl, inr, sym, subst, refl, arith}
 use Rattle.std.proofs.lemmas.List.{get_or-drop}
 use Rattle.std.proofs.lemmas.Bool.{cases_lt}
-use Rattle.rpm_blocks.specs.declared.Range.{Range}
-use Rattle.rpm_blocks.specs.Blocks.{Has, IsUnused, AreApart, Fits, IsLeastFit, block_limit, range, range_at, end_of}
-use Rattle.rpm_blocks.specs.inner.Places.{IsPlace, HaveSameBlocks}
+use Rattle.rpm_blocks.proofs.Vocabulary.{AreApart, block_limit, end_of, Fits, Has, HaveSameBlocks, IsLeastFit, IsPlace, IsUnused, Range, range, range_at}
 
 -- the walk has passed the first k runs: none of them reaches past the block, and nothing fits below it
 pub record HasPassed (l : List Range) (count from k block : ℕ) : Type 0 where

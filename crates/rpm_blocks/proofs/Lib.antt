@@ -4,3 +4,4 @@ pub mod Fits
 pub mod Listed
 pub mod Parts
 pub mod Same
+pub mod Vocabulary

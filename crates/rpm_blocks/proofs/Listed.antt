@@ -1,12 +1,9 @@
 -- The list with one more range, and with one less, as an edit at its place gives it.
 use Rattle.std.proofs.Common.{◌≡◌, ◌≢◌, ℕ, zero, suc, ◌<◌, ◌≤◌, List, [], ◌∷◌, length, inl, inr, ap, refl, ◌∙◌, arith}
 use Rattle.std.specs.Prelude.{SomeIndex}
-use Rattle.std.specs.List.{insert, remove}
+use Rattle.rpm_blocks.proofs.Vocabulary.{AreApart, insert, IsFree, IsGap, IsPlace, IsRange, Range, range_at, remove, with_range, without}
 use Rattle.std.proofs.lemmas.Bool.{cases_lt}
 use Rattle.std.proofs.lemmas.Bool.Decides.{nat_tests}
-use Rattle.rpm_blocks.specs.declared.Range.{Range}
-use Rattle.rpm_blocks.specs.Blocks.{IsFree, IsRange, AreApart, range_at, with_range, without}
-use Rattle.rpm_blocks.specs.inner.Places.{IsPlace, IsGap}
 use Rattle.rpm_blocks.proofs.Cuts.{free_of_gap}
 use Rattle.rpm_blocks.proofs.Edits.{gap_of_place, gap_removed, apart_insert}
 

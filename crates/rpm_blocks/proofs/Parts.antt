@@ -1,15 +1,12 @@
 -- What a search finds among rising ranges, and what joining and cutting leave of runs.
 use Rattle.std.proofs.Common.{◌≡◌, ℕ, zero, suc, ◌+◌, ◌<◌, ◌≤◌, List, [], ◌∷◌, length, ap, refl, sym, ◌∙◌, inl, inr, true, false, ltb, slice_index_or, set, arith}
-use Rattle.std.specs.List.{insert, remove}
+use Rattle.rpm_blocks.proofs.Vocabulary.{AreApart, block_limit, end_of, HaveSameBlocks, insert, IsGap, IsNonDecreasingBy, IsPartitionPoint, IsPlace, IsRange}
+use Rattle.rpm_blocks.proofs.Vocabulary.{Range, range, range_at, remove}
 use Rattle.std.proofs.lemmas.Bool.{cases_lt}
-use Rattle.std.specs.List.Sorted.{IsPartitionPoint, IsNonDecreasingBy}
 use Rattle.std.proofs.lemmas.Bool.Decides.{nat_tests}
 use Rattle.std.proofs.lemmas.List.Sorted.{IsNonDecreasingBy-from_default}
 use Rattle.std.proofs.lemmas.List.{get_or_default}
 use Rattle.std.proofs.lemmas.List.Edits.{length-remove, get_or-remove_below, get_or-remove_above}
-use Rattle.rpm_blocks.specs.declared.Range.{Range}
-use Rattle.rpm_blocks.specs.Blocks.{AreApart, IsRange, range, range_at, end_of, block_limit}
-use Rattle.rpm_blocks.specs.inner.Places.{IsPlace, IsGap, HaveSameBlocks}
 use Rattle.rpm_blocks.proofs.Same.{same_trans, same_cons, same_swap, same_joined, same_remove, same_insert}
 use Rattle.rpm_blocks.proofs.Edits.{apart_remove, apart_insert}
 

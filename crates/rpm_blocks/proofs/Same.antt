@@ -1,10 +1,7 @@
 -- Lists of ranges that have the same blocks.
 use Rattle.std.proofs.Common.{◌≡◌, ℕ, zero, suc, ◌<◌, ◌⊎◌, List, [], ◌∷◌, length, inl, inr, sym, subst, arith}
-use Rattle.std.specs.List.{insert, remove}
+use Rattle.rpm_blocks.proofs.Vocabulary.{end_of, Has, HaveSameBlocks, insert, IsFree, IsUnused, Range, range_at, remove}
 use Rattle.std.proofs.lemmas.Bool.{cases_lt}
-use Rattle.rpm_blocks.specs.declared.Range.{Range}
-use Rattle.rpm_blocks.specs.Blocks.{Has, IsUnused, IsFree, range_at, end_of}
-use Rattle.rpm_blocks.specs.inner.Places.{HaveSameBlocks}
 
 -- a block lies in a range, or it does not
 pub has_or_not : (r : Range) (b : ℕ) → Has r b ⊎ (¬ Has r b)

@@ -1,7 +1,6 @@
 use Rattle.std.proofs.Common.{◌≡◌, ◌-◌, length, length-drop, take, drop, subst, arith}
 use Rattle.std.proofs.lemmas.List.{take_all}
-use Rattle.rpm_blocks.specs.Blocks.{Blocks, IsLeastFit}
-use Rattle.rpm_blocks.specs.inner.Places.{IsPlace}
+use Rattle.rpm_blocks.proofs.Vocabulary.{Blocks, IsLeastFit, IsPlace}
 use Rattle.rpm_blocks.proofs.Fits.{least_from}
 use Rattle.rpm_blocks.proofs.Used.first_fit.Goals as goal
 

@@ -1,8 +1,5 @@
 use Rattle.std.proofs.Common.{◌≤◌, ◌∷◌, List, subst, ap, sym, arith, ◌∙◌}
-use Rattle.std.specs.List.{insert}
-use Rattle.rpm_blocks.specs.declared.Range.{Range}
-use Rattle.rpm_blocks.specs.Blocks.{Blocks, range, IsFree, IsRange, with_range}
-use Rattle.rpm_blocks.specs.inner.Places.{IsPlace}
+use Rattle.rpm_blocks.proofs.Vocabulary.{Blocks, insert, IsFree, IsPlace, IsRange, Range, range, with_range}
 use Rattle.rpm_blocks.proofs.Same.{same_insert, same_cons, same_sym, same_trans}
 use Rattle.rpm_blocks.proofs.Listed.{inserted_apart, inserted_is_with_range}
 use Rattle.rpm_blocks.proofs.Used.insert.Goals as goal

@@ -1,9 +1,6 @@
 use Rattle.std.proofs.Common.{◌≡◌, ◌∷◌, List, subst, ap, sym, arith, ◌∙◌}
 use Rattle.std.specs.Prelude.{SomeIndex}
-use Rattle.std.specs.List.{remove}
-use Rattle.rpm_blocks.specs.declared.Range.{Range}
-use Rattle.rpm_blocks.specs.Blocks.{Blocks, range_at, IsFree, without}
-use Rattle.rpm_blocks.specs.inner.Places.{IsPlace}
+use Rattle.rpm_blocks.proofs.Vocabulary.{Blocks, IsFree, IsPlace, Range, range_at, remove, without}
 use Rattle.rpm_blocks.proofs.Same.{same_remove, same_sym, same_trans, same_without}
 use Rattle.rpm_blocks.proofs.Edits.{apart_remove}
 use Rattle.rpm_blocks.proofs.Parts.{read_at}

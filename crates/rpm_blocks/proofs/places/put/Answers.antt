@@ -1,7 +1,6 @@
 use Rattle.std.proofs.Common.{◌≡◌, ◌≤◌, ℕ, List, [], ◌∷◌, ◌++◌, length, take, sym, ap, ◌∙◌, arith}
-use Rattle.std.specs.List.{insert}
+use Rattle.rpm_blocks.proofs.Vocabulary.{insert, Range}
 use Rattle.std.proofs.lemmas.List.{take_all, drop_all}
-use Rattle.rpm_blocks.specs.declared.Range.{Range}
 use Rattle.rpm_blocks.proofs.places.put.Goals as goal
 
 at_end : (ranges : List Range) (at : ℕ) (range : Range) → length ranges ≤ at → ranges ++ range ∷ [] ≡ insert ranges at range

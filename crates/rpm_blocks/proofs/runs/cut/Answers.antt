@@ -1,6 +1,5 @@
 use Rattle.std.proofs.Common.{◌≡◌, ◌-◌, refl, arith}
-use Rattle.rpm_blocks.specs.declared.Range.{Range}
-use Rattle.rpm_blocks.specs.Blocks.{end_of}
+use Rattle.rpm_blocks.proofs.Vocabulary.{end_of, Range}
 use Rattle.rpm_blocks.proofs.Cuts.{same_cut, free_cut, free_of_gap, gap_within}
 use Rattle.rpm_blocks.proofs.runs.cut.Goals as goal
 

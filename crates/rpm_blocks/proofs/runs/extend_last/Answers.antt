@@ -1,7 +1,6 @@
 use Rattle.std.proofs.Common.{◌≡◌, ◌+◌, ◌-◌, ◌≤◌, length, refl, sym, ap, ◌∙◌, arith}
 use Rattle.std.proofs.lemmas.Bool.Decides.{nat_tests}
-use Rattle.rpm_blocks.specs.declared.Range.{Range}
-use Rattle.rpm_blocks.specs.Blocks.{range_at, end_of}
+use Rattle.rpm_blocks.proofs.Vocabulary.{end_of, Range, range_at}
 use Rattle.rpm_blocks.proofs.Parts.{read_at, extended_apart, extended_same}
 use Rattle.rpm_blocks.proofs.runs.extend_last.Goals as goal
 

@@ -1,6 +1,5 @@
 use Rattle.std.proofs.Common.{List, sym, subst}
-use Rattle.rpm_blocks.specs.declared.Range.{Range}
-use Rattle.rpm_blocks.specs.Blocks.{IsFree}
+use Rattle.rpm_blocks.proofs.Vocabulary.{IsFree, Range}
 use Rattle.rpm_blocks.proofs.runs.join.Goals as goal
 
 pub join_between-requires-clause-free : goal.join_between-requires-clause-free

@@ -1,6 +1,5 @@
 use Rattle.std.proofs.Common.{◌≡◌, ◌+◌, ◌<◌, length, sym, refl, ◌∙◌, arith}
-use Rattle.rpm_blocks.specs.declared.Range.{Range}
-use Rattle.rpm_blocks.specs.Blocks.{IsRange, range_at, end_of}
+use Rattle.rpm_blocks.proofs.Vocabulary.{end_of, IsRange, Range, range_at}
 use Rattle.rpm_blocks.proofs.Parts.{read_at, joined_above}
 use Rattle.rpm_blocks.proofs.runs.join_above.Goals as goal
 

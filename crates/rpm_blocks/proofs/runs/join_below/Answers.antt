@@ -1,7 +1,5 @@
 use Rattle.std.proofs.Common.{◌≡◌, ◌+◌, ◌-◌, ◌<◌, length, subst, sym, refl, ◌∙◌, arith}
-use Rattle.rpm_blocks.specs.declared.Range.{Range}
-use Rattle.rpm_blocks.specs.Blocks.{range_at, end_of}
-use Rattle.rpm_blocks.specs.inner.Places.{IsGap}
+use Rattle.rpm_blocks.proofs.Vocabulary.{end_of, IsGap, Range, range_at}
 use Rattle.rpm_blocks.proofs.Parts.{read_at, joined_below, gap_joined_below}
 use Rattle.rpm_blocks.proofs.runs.join_below.Goals as goal
 

@@ -1,9 +1,7 @@
 use Rattle.std.proofs.Common.{◌∷◌, List}
-use Rattle.std.specs.List.{insert}
-use Rattle.rpm_blocks.specs.declared.Range.{Range}
+use Rattle.rpm_blocks.proofs.Vocabulary.{insert, IsPlace, Range}
 use Rattle.rpm_blocks.proofs.Same.{same_trans, same_insert}
 use Rattle.rpm_blocks.proofs.Edits.{gap_of_place, apart_insert}
-use Rattle.rpm_blocks.specs.inner.Places.{IsPlace}
 use Rattle.rpm_blocks.proofs.runs.join_between.Goals as goal
 
 -- no run that begins below the range reaches into it, and none begins in it

@@ -1,5 +1,5 @@
 use Rattle.std.proofs.Common.{◌+◌, ◌≤◌, arith}
-use Rattle.rpm_blocks.specs.Blocks.{range_at, block_limit}
+use Rattle.rpm_blocks.proofs.Vocabulary.{block_limit, range_at}
 use Rattle.rpm_blocks.proofs.Fits.{passed_more, none_fits}
 use Rattle.rpm_blocks.proofs.runs.least_fit.Goals as goal
 

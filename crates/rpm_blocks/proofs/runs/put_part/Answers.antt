@@ -1,6 +1,6 @@
 use Rattle.std.proofs.Common.{arith}
 use Rattle.rpm_blocks.proofs.Same.{same_insert, unused_tail, unused_cons}
-use Rattle.rpm_blocks.specs.Blocks.{IsRange}
+use Rattle.rpm_blocks.proofs.Vocabulary.{IsRange}
 use Rattle.rpm_blocks.proofs.Edits.{apart_insert, gap_inserted}
 use Rattle.rpm_blocks.proofs.runs.put_part.Goals as goal
 

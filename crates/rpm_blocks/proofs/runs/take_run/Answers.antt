@@ -1,6 +1,5 @@
 use Rattle.std.proofs.Common.{◌+◌, ◌-◌, arith}
-use Rattle.rpm_blocks.specs.Blocks.{range_at}
-use Rattle.rpm_blocks.specs.inner.Places.{IsPlace}
+use Rattle.rpm_blocks.proofs.Vocabulary.{IsPlace, range_at}
 use Rattle.rpm_blocks.proofs.Cuts.{run_in_range, run_ends}
 use Rattle.rpm_blocks.proofs.Edits.{gap_removed}
 use Rattle.rpm_blocks.proofs.Parts.{read_at}
