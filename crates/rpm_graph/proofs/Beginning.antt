@@ -1,9 +1,7 @@
 -- A listing that has listed nothing.
 use Rattle.std.proofs.Common.{◌≡◌, ℕ, false, List, [], zero, suc, length, get_or, replicate, refl, sym, ap, subst, ◌∙◌, arith}
 use Rattle.std.proofs.lemmas.List.{length-replicate, length-map}
-use Rattle.rpm_graph.specs.declared.listing.Listing.{Listing}
-use Rattle.rpm_graph.specs.inner.Listings.{IsBegun, IsUnderway, listed_at}
-use Rattle.rpm_graph.specs.inner.Searches.{Goes}
+use Rattle.rpm_graph.proofs.Vocabulary.{Goes, IsBegun, IsUnderway, listed_at, Listing}
 use Rattle.rpm_graph.proofs.Rowing.{no_goes}
 
 at_replicate : {A : Type 0} (n v : ℕ) (x : A) → get_or (replicate n x) v x ≡ x

@@ -1,13 +1,9 @@
 -- From places and their classes to the classes of a graph's numbers.
 use Rattle.std.proofs.Common.{◌≡◌, ℕ, ◌≤◌, ◌<◌, List, [], ◌∷◌, length, get_or, map, inl, inr, sym, ap, subst, ◌∙◌, arith}
-use Rattle.std.specs.List.{Contains}
+use Rattle.rpm_graph.proofs.Vocabulary.{AreTogether, Contains, Edge, edge, edge_at, Goes, HasEdge, HaveEdges, HaveMembers, IsClass, IsNetwork, IsSplit}
+use Rattle.rpm_graph.proofs.Vocabulary.{IsWalk, Network}
 use Rattle.std.proofs.lemmas.Bool.{cases_lt}
 use Rattle.std.proofs.lemmas.List.{get_or_default}
-use Rattle.rpm_graph.specs.declared.graph.Edge.{Edge}
-use Rattle.rpm_graph.specs.Networks.{Network, IsNetwork, HasEdge, IsWalk, AreTogether, edge, edge_at}
-use Rattle.rpm_graph.specs.Orders.{IsClass}
-use Rattle.rpm_graph.specs.inner.Rows.{HaveEdges, HaveMembers}
-use Rattle.rpm_graph.specs.inner.Searches.{Goes, IsSplit}
 
 module _ (g : Network) (net : IsNetwork g) (rows : List (List ℕ)) (have : HaveEdges g (length g.edges) rows) (classes : List ℕ) (count : ℕ)
     (split : IsSplit rows classes count) where

@@ -2,9 +2,7 @@
 use Rattle.std.proofs.Common.{◌≡◌, ℕ, ◌+◌, ◌<◌, ◌⊎◌, List, [], length, get_or, inl, inr, sym, subst, ◌∙◌, arith}
 use Rattle.std.proofs.lemmas.Bool.{cases_lt}
 use Rattle.std.proofs.lemmas.List.{get_or_default}
-use Rattle.rpm_graph.specs.inner.Listings.{AreFalling}
-use Rattle.rpm_graph.specs.inner.Rows.{GainEnds, HaveEnds}
-use Rattle.rpm_graph.specs.inner.Searches.{Goes, IsSplit}
+use Rattle.rpm_graph.proofs.Vocabulary.{AreFalling, GainEnds, Goes, HaveEnds, IsSplit}
 
 module _ (rows : List (List ℕ)) (classes : List ℕ) (k : ℕ) (before after : List (List ℕ)) (have : HaveEnds rows classes k before)
     (gain : GainEnds classes (get_or classes k 0) (get_or rows k []) (length (get_or rows k [])) before after) where

@@ -1,10 +1,8 @@
 -- The search without its last level, all of whose edges were looked at: it is a class.
 use Rattle.std.proofs.Common.{◌≡◌, ℕ, ◌+◌, ◌-◌, ◌≤◌, ◌<◌, ◌⊎◌, List, length, get_or, take, drop, inl, inr, sym, ◌∙◌, arith}
-use Rattle.std.specs.List.{Contains}
+use Rattle.rpm_graph.proofs.Vocabulary.{AreWithin, Contains, Goes, IsLast, IsMarked, IsNoHigher, IsOpen, IsSearch, KeepsSeen, Leads, Link, link_at, unseen}
+use Rattle.rpm_graph.proofs.Vocabulary.{unseen_count}
 use Rattle.std.proofs.lemmas.List.{get_or-take}
-use Rattle.rpm_graph.specs.declared.search.Link.{Link}
-use Rattle.rpm_graph.specs.Networks.{Leads}
-use Rattle.rpm_graph.specs.inner.Searches.{IsSearch, IsOpen, IsNoHigher, IsMarked, IsLast, AreWithin, Goes, KeepsSeen, link_at, unseen, unseen_count}
 use Rattle.rpm_graph.proofs.Unseen.{unseen-same}
 use Rattle.rpm_graph.proofs.Level as last_level
 use Rattle.rpm_graph.proofs.Following as following

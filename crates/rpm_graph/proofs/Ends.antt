@@ -1,10 +1,8 @@
 -- The search that has entered nothing, and the one that has entered all.
 use Rattle.std.proofs.Common.{◌≡◌, ℕ, ◌+◌, ◌≤◌, ◌<◌, List, [], zero, suc, length, get_or, replicate, refl, ◌∙◌, inl, inr, arith}
-use Rattle.std.specs.List.{Contains}
+use Rattle.rpm_graph.proofs.Vocabulary.{AreWithin, Contains, Goes, IsOpen, IsSearch, IsSplit, Link, unseen_count}
 use Rattle.std.proofs.lemmas.Bool.{cases_lt}
 use Rattle.std.proofs.lemmas.List.{length-replicate}
-use Rattle.rpm_graph.specs.declared.search.Link.{Link}
-use Rattle.rpm_graph.specs.inner.Searches.{IsSearch, IsOpen, IsSplit, AreWithin, Goes, unseen_count}
 use Rattle.rpm_graph.proofs.Fronts.{waits_open}
 
 all_unseen : (n : ℕ) → unseen_count (replicate n 0) ≡ n

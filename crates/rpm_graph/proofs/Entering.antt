@@ -1,12 +1,9 @@
 -- The search with one more place on its path, to which all of the path leads.
 use Rattle.std.proofs.Common.{◌≡◌, ℕ, ◌+◌, ◌≤◌, ◌<◌, ◌++◌, ◌⊎◌, List, [], ◌∷◌, length, get_or, set, map, inl, inr, sym, ap, subst, ◌∙◌, arith}
-use Rattle.std.specs.List.{Contains}
+use Rattle.rpm_graph.proofs.Vocabulary.{Contains, Follows, Goes, IsNoHigher, IsOpen, IsSearch, Leads, Link, link, unseen, unseen_count}
 use Rattle.std.proofs.lemmas.Bool.{cases_eq}
 use Rattle.std.proofs.lemmas.List.{length_push, length-append, length-map, length-set}
 use Rattle.std.proofs.lemmas.List.Elements.{Contains-append_left, Contains-append_right, Contains-push, Contains-push_cases}
-use Rattle.rpm_graph.specs.declared.search.Link.{Link}
-use Rattle.rpm_graph.specs.Networks.{Leads}
-use Rattle.rpm_graph.specs.inner.Searches.{IsSearch, IsOpen, IsNoHigher, Follows, Goes, link, unseen, unseen_count}
 use Rattle.rpm_graph.proofs.Fronts.{IsFront, kept_or_lost, open_rank, waits_open}
 use Rattle.rpm_graph.proofs.Unseen.{unseen-set}
 use Rattle.rpm_graph.proofs.Standing as standing

@@ -1,9 +1,7 @@
 -- The search without its last level: where the edges that were looked at go.
 use Rattle.std.proofs.Common.{◌≡◌, ℕ, ◌+◌, ◌-◌, ◌≤◌, ◌<◌, ◌⊎◌, List, length, get_or, take, drop, inl, inr, ap, ◌∙◌, arith}
-use Rattle.std.specs.List.{Contains}
+use Rattle.rpm_graph.proofs.Vocabulary.{AreWithin, Contains, Follows, Goes, IsLast, IsMarked, IsOpen, IsSearch, Link, link, link_at}
 use Rattle.std.proofs.lemmas.List.{get_or_default}
-use Rattle.rpm_graph.specs.declared.search.Link.{Link}
-use Rattle.rpm_graph.specs.inner.Searches.{IsSearch, IsOpen, IsMarked, IsLast, AreWithin, Follows, Goes, link, link_at}
 use Rattle.rpm_graph.proofs.Level as last_level
 
 module _ (rows : List (List ℕ)) (ranks path roots : List ℕ) (pending : List Link) (closed : ℕ) (s : IsSearch rows ranks path roots pending closed)

@@ -1,10 +1,8 @@
 -- A front of the waiting edges, and places of the path.
 use Rattle.std.proofs.Common.{◌≡◌, ℕ, ◌≤◌, ◌<◌, ◌++◌, ◌⊎◌, List, [], ◌∷◌, length, get_or, inl, inr, refl, sym, ap, ◌∙◌, arith}
-use Rattle.std.specs.List.{Contains}
+use Rattle.rpm_graph.proofs.Vocabulary.{Contains, IsOpen, IsSearch, Link, link, link_at}
 use Rattle.std.proofs.lemmas.Bool.{cases_lt}
 use Rattle.std.proofs.lemmas.List.{get_or_append_left, get_or_push, get_or_default, length_push}
-use Rattle.rpm_graph.specs.declared.search.Link.{Link}
-use Rattle.rpm_graph.specs.inner.Searches.{IsSearch, IsOpen, link, link_at}
 
 -- kept is a front of the links, and those after it end at the place
 pub record IsFront (links kept : List Link) (place : ℕ) : Type 0 where

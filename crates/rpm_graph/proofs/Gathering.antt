@@ -1,12 +1,9 @@
 -- One more number in the list of its class, and one more end in the row of a class.
 use Rattle.std.proofs.Common.{◌≡◌, ℕ, ◌+◌, ◌<◌, ◌++◌, ◌⊎◌, List, [], ◌∷◌, length, get_or, inl, inr, refl, sym, ap, subst, ◌∙◌, arith}
-use Rattle.std.specs.List.{Contains}
+use Rattle.rpm_graph.proofs.Vocabulary.{Contains, GainEnds, Goes, HaveMembers, IsRising, with_link}
 use Rattle.std.proofs.lemmas.Bool.{cases_lt, cases_eq}
 use Rattle.std.proofs.lemmas.List.{length-set}
 use Rattle.std.proofs.lemmas.List.Elements.{Contains-get_or}
-use Rattle.rpm_graph.specs.Networks.{IsRising}
-use Rattle.rpm_graph.specs.inner.Rows.{HaveMembers, GainEnds, with_link}
-use Rattle.rpm_graph.specs.inner.Searches.{Goes}
 use Rattle.rpm_graph.proofs.Pushes.{IsRising-push}
 use Rattle.rpm_graph.proofs.Rowing.{goes_new, goes_kept, goes_only, row_here, row_other}
 

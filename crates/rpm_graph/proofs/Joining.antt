@@ -1,11 +1,8 @@
 -- The search with fewer levels, where an edge of the last one goes back to the path or to a closed class.
 use Rattle.std.proofs.Common.{◌≡◌, ℕ, ◌+◌, ◌-◌, ◌≤◌, ◌<◌, ◌⊎◌, List, length, get_or, inl, inr, sym, ap, subst, ◌∙◌, arith}
-use Rattle.std.specs.List.{Contains}
+use Rattle.rpm_graph.proofs.Vocabulary.{Contains, Follows, Goes, IsCut, IsNoHigher, IsOpen, IsSearch, Leads, Link, link}
 use Rattle.std.proofs.lemmas.Bool.{cases_lt}
 use Rattle.std.proofs.lemmas.List.{get_or-take, get_or_default}
-use Rattle.rpm_graph.specs.declared.search.Link.{Link}
-use Rattle.rpm_graph.specs.Networks.{Leads}
-use Rattle.rpm_graph.specs.inner.Searches.{IsSearch, IsOpen, IsNoHigher, IsCut, Follows, Goes, link}
 use Rattle.rpm_graph.proofs.Fronts.{IsFront, kept_or_lost, waits_open}
 use Rattle.rpm_graph.proofs.Walks.{leads_on, leads_edge}
 

@@ -1,10 +1,8 @@
 -- What follows of a list from its being the order.
 use Rattle.std.proofs.Common.{◌≡◌, ℕ, ◌<◌, List, [], get_or, take, inl, inr, sym, subst, arith}
-use Rattle.std.specs.List.{Contains}
+use Rattle.rpm_graph.proofs.Vocabulary.{Contains, EdgesGoBack, IsOrder, Lists, Network, StandOnce, StandsAt}
 use Rattle.std.proofs.lemmas.Bool.{cases_lt}
 use Rattle.std.proofs.lemmas.List.{get_or-take, length-take-le}
-use Rattle.rpm_graph.specs.Networks.{Network}
-use Rattle.rpm_graph.specs.Orders.{IsOrder, Lists, StandsAt, StandOnce, EdgesGoBack}
 
 module _ (g : Network) (classes : List (List ℕ)) (order : IsOrder g classes) where
   -- a class holds no number of an earlier one

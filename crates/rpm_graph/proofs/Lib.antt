@@ -25,3 +25,4 @@ pub mod Taken
 pub mod Unseen
 pub mod Waiting
 pub mod Walks
+pub mod Vocabulary

@@ -1,12 +1,9 @@
 -- A class is listed, and those that waited for it are taken out.
 use Rattle.std.proofs.Common.{◌≡◌, ℕ, ◌<◌, ◌⊎◌, Bool, true, false, cond, List, [], length, get_or, set, inl, inr, sym, ap, subst, ◌∙◌, arith}
-use Rattle.std.specs.List.{Contains}
+use Rattle.rpm_graph.proofs.Vocabulary.{Contains, Goes, IsListedNow, IsPlaced, IsUnderway, listed_at, Listing, rows_of, unlisted_count}
 use Rattle.std.proofs.lemmas.Bool.{cases_lt, cases_eq}
 use Rattle.std.proofs.lemmas.List.{length-set, length-map, get_or-set_same, get_or-set_other, get_or_past}
 use Rattle.std.proofs.lemmas.List.Sums.{sum_by-set}
-use Rattle.rpm_graph.specs.declared.listing.Listing.{Listing}
-use Rattle.rpm_graph.specs.inner.Listings.{IsUnderway, IsPlaced, IsListedNow, listed_at, unlisted_count}
-use Rattle.rpm_graph.specs.inner.Searches.{Goes, rows_of}
 
 none : (x : ℕ) → Contains [] x → ⊥
 none x has = omega (arith, has.1)

@@ -1,11 +1,9 @@
 -- A graph has only one order.
 use Rattle.std.proofs.Common.{◌≡◌, ℕ, zero, suc, ◌<◌, ◌≤◌, ◌++◌, List, [], ◌∷◌, length, get_or, take, inl, inr, refl, sym, ap, ◌∙◌, subst, arith}
-use Rattle.std.specs.List.{Contains}
+use Rattle.rpm_graph.proofs.Vocabulary.{Contains, IsClass, IsNext, IsOrder, IsRising, least, Lists, Network}
 use Rattle.std.proofs.Math.Seq.{take-suc}
 use Rattle.std.proofs.lemmas.Bool.{cases_lt}
 use Rattle.std.proofs.lemmas.List.{ext_get_or, get_or_default, take_all}
-use Rattle.rpm_graph.specs.Networks.{Network, IsRising}
-use Rattle.rpm_graph.specs.Orders.{IsClass, IsNext, IsOrder, Lists, least}
 use Rattle.rpm_graph.proofs.Orderly.{le_of_rising}
 
 -- ---- rising numbers are told by which numbers they are

@@ -1,12 +1,8 @@
 -- The listing of the classes by their numbers is the order of the graph.
 use Rattle.std.proofs.Common.{◌≡◌, ℕ, ◌≤◌, ◌<◌, ◌⊎◌, List, [], length, get_or, map, take, inl, inr, sym, ap, subst, ◌∙◌, arith}
-use Rattle.std.specs.List.{Contains}
+use Rattle.rpm_graph.proofs.Vocabulary.{Contains, Goes, HasEdge, HaveEdges, HaveEnds, HaveMembers, IsAvailable, IsLeastReady, IsListing, IsNetwork, IsNext}
+use Rattle.rpm_graph.proofs.Vocabulary.{IsOrder, IsReady, IsSplit, least, Lists, Network}
 use Rattle.std.proofs.lemmas.List.{get_or_default, get_or-map, length-map, take-map}
-use Rattle.rpm_graph.specs.inner.Listings.{IsReady, IsLeastReady, IsListing}
-use Rattle.rpm_graph.specs.Networks.{Network, IsNetwork, HasEdge}
-use Rattle.rpm_graph.specs.Orders.{IsAvailable, IsNext, IsOrder, Lists, least}
-use Rattle.rpm_graph.specs.inner.Rows.{HaveEdges, HaveEnds, HaveMembers}
-use Rattle.rpm_graph.specs.inner.Searches.{Goes, IsSplit}
 use Rattle.rpm_graph.proofs.Bridge.{same_place, edge_row, together_of, class_of, members_are_class}
 use Rattle.rpm_graph.proofs.Orderly.{le_of_rising}
 

@@ -1,13 +1,9 @@
 -- The least of the classes that are ready is taken out, and listed next.
 use Rattle.std.proofs.Common.{◌≡◌, ℕ, ◌≤◌, ◌<◌, ◌++◌, ◌⊎◌, true, false, List, [], ◌∷◌, zero, suc, length, get_or, inl, inr, refl, sym, ap, subst, ◌∙◌, arith}
-use Rattle.std.specs.BTreeMap.Range.{IsLtBy}
-use Rattle.std.specs.List.{Contains, All}
+use Rattle.rpm_graph.proofs.Vocabulary.{All, AreFalling, AreLeast, Contains, Goes, IsLeastReady, IsLtBy, IsPlaced, IsUnderway, listed_at, Listing}
 use Rattle.std.proofs.lemmas.Bool.{cases_lt, cases_Bool}
 use Rattle.std.proofs.lemmas.List.{get_or_append_left, get_or_push, length_push, take-append-le, take_all}
 use Rattle.std.proofs.lemmas.List.Elements.{All-contains}
-use Rattle.rpm_graph.specs.declared.listing.Listing.{Listing}
-use Rattle.rpm_graph.specs.inner.Listings.{AreFalling, AreLeast, IsLeastReady, IsUnderway, IsPlaced, listed_at}
-use Rattle.rpm_graph.specs.inner.Searches.{Goes}
 use Rattle.rpm_graph.proofs.Sets.{first_or_rest, rest_of, pair_cmp, le_of_less, not_below_itself}
 
 module _ (ends : List (List ℕ)) (leasts : List ℕ) (s t : Listing) (u : IsUnderway ends leasts s) (n class : ℕ) (checked : t.checked.items ≡ s.checked.items)

@@ -1,11 +1,9 @@
 -- A graph stays one when a number or an edge is added after the others.
 use Rattle.std.proofs.Common.{◌≡◌, ℕ, ◌<◌, ◌++◌, List, [], ◌∷◌, length, inl, inr, arith}
-use Rattle.std.specs.List.{All}
+use Rattle.rpm_graph.proofs.Vocabulary.{All, AreRising, Edge, edge, edge_at, IsBefore, IsNetwork, IsRising, Joins}
 use Rattle.std.proofs.lemmas.Bool.{cases_lt}
 use Rattle.std.proofs.lemmas.List.{get_or_append_left, get_or_push, length_push}
 use Rattle.std.proofs.lemmas.List.Elements.{Contains-append_left}
-use Rattle.rpm_graph.specs.declared.graph.Edge.{Edge}
-use Rattle.rpm_graph.specs.Networks.{IsRising, AreRising, IsBefore, Joins, IsNetwork, edge, edge_at}
 
 pub IsRising-push : (xs : List ℕ) (x : ℕ) → IsRising xs → All (λ n. n < x) xs → IsRising (xs ++ x ∷ [])
 IsRising-push xs x rises below i j less lt =

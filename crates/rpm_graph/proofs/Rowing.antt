@@ -1,12 +1,9 @@
 -- Rows with one more place, and rows that have one more edge of a graph.
 use Rattle.std.proofs.Common.{◌≡◌, ℕ, ◌+◌, ◌<◌, ◌++◌, ◌⊎◌, List, [], ◌∷◌, zero, suc, length, get_or, replicate, inl, inr, refl, sym, ap, subst, ◌∙◌, arith}
-use Rattle.std.specs.List.{Contains}
+use Rattle.rpm_graph.proofs.Vocabulary.{Contains, edge, edge_at, Goes, HasEdge, HaveEdges, Network, with_link}
 use Rattle.std.proofs.lemmas.Bool.{cases_lt, cases_eq}
 use Rattle.std.proofs.lemmas.List.{length-set, length-replicate, get_or-set_same, get_or-set_other, get_or_default}
 use Rattle.std.proofs.lemmas.List.Elements.{Contains-append_left, Contains-push, Contains-push_cases}
-use Rattle.rpm_graph.specs.Networks.{Network, HasEdge, edge, edge_at}
-use Rattle.rpm_graph.specs.inner.Rows.{HaveEdges, with_link}
-use Rattle.rpm_graph.specs.inner.Searches.{Goes}
 
 module _ (rows : List (List ℕ)) (v w : ℕ) (lt : v < length rows) where
   pub row_here : get_or (with_link rows v w) v [] ≡ get_or rows v [] ++ w ∷ []

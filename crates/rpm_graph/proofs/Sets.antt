@@ -1,12 +1,7 @@
 -- Keys of a set that are put in and taken out, by `Contains`.
 use Rattle.std.proofs.Common.{◌≡◌, ℕ, ◌≤◌, ◌<◌, ◌⊎◌, Bool, true, false, cond, List, ◌∷◌, zero, suc, inl, inr, refl, sym, ap, ◌∙◌, arith}
-use Rattle.std.specs.BTreeSet.{BTreeSet, contains, Updates}
-use Rattle.std.specs.BTreeMap.{is_at}
-use Rattle.std.specs.Cmp.{IsTotalOrder, then_total, on_total, nat_cmp_total}
-use Rattle.std.specs.List.{Contains}
-use Rattle.std.specs.Ordering.{nat_cmp, ordering_then}
-use Rattle.std.specs.declared.cmp.Ordering.{Ordering}
-use Rattle.std.specs.declared.cmp.Ordering.TheVariants.{Less, Equal, Greater}
+use Rattle.rpm_graph.proofs.Vocabulary.{BTreeSet, Contains, contains, Equal, Greater, is_at, IsTotalOrder, Less, nat_cmp, nat_cmp_total, on_total, Ordering}
+use Rattle.rpm_graph.proofs.Vocabulary.{ordering_then, then_total, Updates}
 use Rattle.std.proofs.lemmas.Bool.{cases_Bool}
 use Rattle.std.proofs.lemmas.Cmp.{ranked, tied_itself}
 use Rattle.std.proofs.lemmas.Map.Lookups.{CmpEqualImpliesEq, exact_pairs, exact_unsigned}

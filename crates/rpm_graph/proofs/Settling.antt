@@ -1,12 +1,8 @@
 -- A class that was looked at again is among those that are ready, or waits for an end of its own.
 use Rattle.std.proofs.Common.{◌≡◌, ℕ, ◌≤◌, ◌<◌, ◌⊎◌, Bool, true, false, List, [], ◌∷◌, ◌++◌, length, get_or, set, inl, inr, refl, sym, ap, subst, ◌∙◌, arith}
-use Rattle.std.specs.List.{Contains}
+use Rattle.rpm_graph.proofs.Vocabulary.{AreFalling, Contains, Goes, IsFirstUnlisted, IsPlaced, IsUnderway, listed_at, Listing, rows_of, with_link}
 use Rattle.std.proofs.lemmas.Bool.{cases_lt, cases_eq}
 use Rattle.std.proofs.lemmas.List.{length-set, length-map, get_or-set_same, get_or-set_other, get_or_default}
-use Rattle.rpm_graph.specs.declared.listing.Listing.{Listing}
-use Rattle.rpm_graph.specs.inner.Listings.{AreFalling, IsUnderway, IsPlaced, IsFirstUnlisted, listed_at}
-use Rattle.rpm_graph.specs.inner.Rows.{with_link}
-use Rattle.rpm_graph.specs.inner.Searches.{Goes, rows_of}
 use Rattle.rpm_graph.proofs.Rowing.{goes_new, goes_kept, goes_only}
 
 module _ (ends : List (List ℕ)) (leasts : List ℕ) (falls : AreFalling ends) (s : Listing) (u : IsUnderway ends leasts s) (class : ℕ)

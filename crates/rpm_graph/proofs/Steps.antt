@@ -1,11 +1,8 @@
 -- What the last root and the last waiting edge say.
 use Rattle.std.proofs.Common.{◌≡◌, ℕ, ◌-◌, ◌≤◌, ◌<◌, ◌++◌, ◌⊎◌, List, Vec, [], ◌∷◌, length, get_or, set, refl, sym, ap, ◌∙◌, inl, inr, arith}
-use Rattle.std.specs.List.{Contains}
+use Rattle.rpm_graph.proofs.Vocabulary.{Contains, Goes, IsLast, IsOpen, IsSearch, KeepsSeen, Leads, Link, link, link_at, rows_of}
 use Rattle.std.proofs.lemmas.Bool.{cases_lt, cases_eq}
 use Rattle.std.proofs.lemmas.List.{get_or_default, get_or_push, length_push, get_or-map, get_or-set_same, get_or-set_other, get_or_past}
-use Rattle.rpm_graph.specs.declared.search.Link.{Link}
-use Rattle.rpm_graph.specs.Networks.{Leads}
-use Rattle.rpm_graph.specs.inner.Searches.{IsSearch, IsOpen, IsLast, Goes, KeepsSeen, rows_of, link, link_at}
 use Rattle.rpm_graph.proofs.Walks.{leads_edge, leads_on}
 
 module _ (rows : List (List ℕ)) (ranks path roots : List ℕ) (pending : List Link) (closed : ℕ) (s : IsSearch rows ranks path roots pending closed)

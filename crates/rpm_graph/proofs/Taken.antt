@@ -1,9 +1,7 @@
 -- What is known of the edge that was taken, by the ranks as the call was lent them.
 use Rattle.std.proofs.Common.{◌≡◌, ℕ, ◌+◌, ◌-◌, ◌++◌, ◌∷◌, [], ◌<◌, ◌≤◌, List, length, get_or, set, map, ap, subst, arith}
 use Rattle.std.proofs.lemmas.List.{length_push}
-use Rattle.rpm_graph.specs.declared.search.Link.{Link}
-use Rattle.rpm_graph.specs.declared.search.Search.{Search}
-use Rattle.rpm_graph.specs.inner.Searches.{IsSearch, IsLast, IsCut, Searches, Goes, link, work, work_left}
+use Rattle.rpm_graph.proofs.Vocabulary.{Goes, IsCut, IsLast, IsSearch, Link, link, Search, Searches, work, work_left}
 use Rattle.rpm_graph.proofs.Entering.{entered, entered_work}
 use Rattle.rpm_graph.proofs.Joining.{joined}
 use Rattle.rpm_graph.proofs.Steps.{from_open, goes, path_leads, roots_below}

@@ -1,6 +1,6 @@
 -- What a place that is entered takes from the sum over those that were not.
 use Rattle.std.proofs.Common.{◌≡◌, ℕ, ◌+◌, ◌<◌, List, [], ◌∷◌, zero, suc, length, get_or, set, refl, ap, arith}
-use Rattle.rpm_graph.specs.inner.Searches.{unseen}
+use Rattle.rpm_graph.proofs.Vocabulary.{unseen}
 
 pub unseen-set : (f : ℕ → ℕ) (ranks : List ℕ) (v x : ℕ) → v < length ranks → get_or ranks v 0 ≡ 0 → 0 < x → unseen f (set ranks v x) + f v ≡ unseen f ranks
 unseen-set f [] v x lt is some = absurd (omega arith)

@@ -1,10 +1,8 @@
 -- A place that the search puts on its path: the edges that wait then.
 use Rattle.std.proofs.Common.{◌≡◌, ℕ, ◌+◌, ◌-◌, ◌≤◌, ◌<◌, ◌++◌, List, [], length, get_or, set, map, inl, inr, refl, ap, ◌∙◌, arith}
-use Rattle.std.specs.List.{Contains}
+use Rattle.rpm_graph.proofs.Vocabulary.{Contains, Goes, IsOpen, IsSearch, Link, link, link_at}
 use Rattle.std.proofs.lemmas.Bool.{cases_lt}
 use Rattle.std.proofs.lemmas.List.{get_or_append_left, get_or-append_right, get_or_default, length-append, length-map, get_or-map}
-use Rattle.rpm_graph.specs.declared.search.Link.{Link}
-use Rattle.rpm_graph.specs.inner.Searches.{IsSearch, IsOpen, Goes, link, link_at}
 use Rattle.rpm_graph.proofs.Fronts.{IsFront, open_rank}
 use Rattle.rpm_graph.proofs.Standing as standing
 

@@ -1,6 +1,6 @@
 -- Walks one after the other.
 use Rattle.std.proofs.Common.{ℕ, ◌++◌, List, [], ◌∷◌, sym, subst}
-use Rattle.rpm_graph.specs.Networks.{IsWalk, Leads}
+use Rattle.rpm_graph.proofs.Vocabulary.{IsWalk, Leads}
 
 module _ (E : ℕ → ℕ → Type 0) where
   walk-append : (a b c : ℕ) (xs ys : List ℕ) → IsWalk E a xs b → IsWalk E b ys c → IsWalk E a (xs ++ ys) c

@@ -1,3 +1,4 @@
 pub mod Networks
 pub mod Orders
+pub mod Prelude
 pub mod inner

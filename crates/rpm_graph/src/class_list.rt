@@ -1,8 +1,8 @@
 //! The order of the classes: each after those that its edges end in, and of those that may come next the one with the
 //! least number.
 
-ghost use Rattle.std.specs.Prelude.{◌≡◌, ℕ, ◌<◌, ◌≤◌, IfOk, length, slice_index_or, []};
-ghost use Rattle.rpm_graph.specs.Orders.{IsOrder, IsOnlyOrder, StandOnce, EdgesGoBack};
+ghost use Rattle.std.specs.Prelude.{◌≡◌, ℕ, ◌<◌, ◌≤◌, IfOk, length, slice_index_or, [], List, All, map};
+ghost use Rattle.rpm_graph.specs.Prelude.{EdgesGoBack, IsOnlyOrder, IsOrder, rows_of, StandOnce};
 
 use crate::graph::Graph;
 use crate::grouping::{class_rows, least_numbers, members};
@@ -20,9 +20,6 @@ pub struct ClassList {
 }
 
 impl Model for ClassList {
-    ghost use Rattle.std.specs.Prelude.{ℕ, ◌<◌, List, [], All, map, length, slice_index_or};
-    ghost use Rattle.rpm_graph.specs.inner.Searches.{rows_of};
-
     ghost Value = { List (List ℕ) };
 
     ghost view = { λ l. map (λ c. slice_index_or (rows_of l.members.items) c []) l.order.items };

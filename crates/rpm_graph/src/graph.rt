@@ -1,7 +1,7 @@
 //! A graph: numbers that rise, and edges between them that rise.
 
-ghost use Rattle.std.specs.Prelude.{◌≡◌, ℕ, ◌++◌, ◌∷◌, [], All, ◌<◌, OnOk, OnErr, Contains};
-ghost use Rattle.rpm_graph.specs.Networks.{Network, IsNetwork, edge, IsBefore, Joins};
+ghost use Rattle.std.specs.Prelude.{◌≡◌, ℕ, ◌++◌, ◌∷◌, [], All, ◌<◌, OnOk, OnErr};
+ghost use Rattle.rpm_graph.specs.Prelude.{edge, IsBefore, IsNetwork, Joins, Network};
 
 use std::alloc::{AllocError, Global};
 use std::marker::Model;
@@ -23,8 +23,6 @@ pub struct Graph {
 }
 
 impl Model for Graph {
-    ghost use Rattle.rpm_graph.specs.Networks.{Network, IsNetwork};
-
     ghost Value = { Network };
 
     ghost view = { λ g. record { numbers = g.numbers.items; edges = g.edges.items } };

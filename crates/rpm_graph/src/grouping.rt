@@ -1,9 +1,7 @@
 //! What stands together in a class: its numbers, and the classes that its edges end in.
 
 ghost use Rattle.std.specs.Prelude.{◌≡◌, ℕ, ◌<◌, ◌≤◌, IfOk, OnOk, length, replicate, slice_index, slice_index_or, []};
-ghost use Rattle.rpm_graph.specs.Networks.{IsRising};
-ghost use Rattle.rpm_graph.specs.inner.Rows.{HaveMembers, HaveEnds, AreLeastNumbers, GainEnds, with_link};
-ghost use Rattle.rpm_graph.specs.inner.Searches.{AreWithin, IsSplit, rows_of};
+ghost use Rattle.rpm_graph.specs.Prelude.{AreLeastNumbers, AreWithin, GainEnds, HaveEnds, HaveMembers, IsRising, IsSplit, rows_of, with_link};
 
 use crate::rows::{empty_rows, push_link};
 use crate::search::Split;

@@ -1,8 +1,7 @@
 //! The order of the classes, each known by its number.
 
 ghost use Rattle.std.specs.Prelude.{◌≡◌, ℕ, ◌<◌, ◌≤◌, IfOk, OnOk, Contains, true, false, [], length, replicate, slice_index, slice_index_or, slice_set};
-ghost use Rattle.rpm_graph.specs.inner.Searches.{Goes, rows_of};
-ghost use Rattle.rpm_graph.specs.inner.Listings.{AreFalling, IsListing, IsUnderway, IsPlaced, ArePlaced, AreOthersPlaced, IsBegun, IsListedNow, IsFirstUnlisted, listed_at};
+ghost use Rattle.rpm_graph.specs.Prelude.{AreFalling, AreOthersPlaced, ArePlaced, Goes, IsBegun, IsFirstUnlisted, IsListedNow, IsListing, IsPlaced, IsUnderway, listed_at, rows_of};
 
 use crate::rows::{empty_rows, push_link};
 use std::alloc::{AllocError, Global};

@@ -1,9 +1,7 @@
 //! A graph's edges as rows of places.
 
 ghost use Rattle.std.specs.Prelude.{◌≡◌, ℕ, ◌<◌, ◌≤◌, ◌+◌, IfOk, OnOk, Contains, length, slice_index, [], replicate};
-ghost use Rattle.rpm_graph.specs.Networks.{IsRising};
-ghost use Rattle.rpm_graph.specs.inner.Rows.{HaveEdges, with_link};
-ghost use Rattle.rpm_graph.specs.inner.Searches.{rows_of};
+ghost use Rattle.rpm_graph.specs.Prelude.{HaveEdges, IsRising, rows_of, with_link};
 
 use crate::graph::Graph;
 use std::alloc::{AllocError, Global};

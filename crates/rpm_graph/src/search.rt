@@ -1,7 +1,7 @@
 //! The search for the classes, one level of the path at a time.
 
-ghost use Rattle.std.specs.Prelude.{◌≡◌, ℕ, ◌+◌, ◌-◌, ◌*◌, ◌++◌, ◌∷◌, [], ◌<◌, ◌≤◌, ◌⊎◌, take, drop, map, length, slice_index, slice_set, OnOk, IfOk, IfSome, IfNone, ◌^◌, Contains, vec_len};
-ghost use Rattle.rpm_graph.specs.inner.Searches.{link, link_at, NoneWaits, IsCut, IsMarked, IsSearch, rows_of, AreWithin, IsFresh, IsEntered, IsClosed, Searches, IsLast, work, KeepsSeen, IsLowered, IsSplit};
+ghost use Rattle.std.specs.Prelude.{◌≡◌, ℕ, ◌+◌, ◌-◌, ◌*◌, ◌++◌, ◌∷◌, [], ◌<◌, ◌≤◌, ◌⊎◌, map, length, slice_index, OnOk, IfOk, IfSome, IfNone, ◌^◌};
+ghost use Rattle.rpm_graph.specs.Prelude.{AreWithin, IsClosed, IsCut, IsEntered, IsFresh, IsLast, IsLowered, IsMarked, IsSplit, KeepsSeen, link, link_at, NoneWaits, rows_of, Searches, work};
 
 use std::alloc::{AllocError, Global};
 

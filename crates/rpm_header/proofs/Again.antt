@@ -1,11 +1,9 @@
 -- Entries that are laid out are read again.
 use Rattle.std.proofs.Common.{◌≡◌, ℕ, ◌+◌, ◌-◌, ◌*◌, ◌^◌, ◌<◌, ◌≤◌, List, ◌∷◌, ◌++◌, length, drop, sym, ap, ◌∙◌, append_assoc, length-append, arith}
 use Rattle.std.specs.Prelude.{replicate}
-use Rattle.std.specs.List.{AllByRecursion}
+use Rattle.rpm_header.proofs.Vocabulary.{AllByRecursion, bytes_in, data_from, end_of, index_bytes, index_entry, index_from, indexed, Item, offset_of}
+use Rattle.rpm_header.proofs.Vocabulary.{ReadsBack, section_of}
 use Rattle.std.proofs.lemmas.List.{drop_at, length-replicate}
-use Rattle.rpm_header.specs.Header.{Item, index_entry, section_of}
-use Rattle.rpm_header.specs.Laid.{bytes_in, offset_of, end_of, data_from, index_from, index_bytes, indexed}
-use Rattle.rpm_header.specs.inner.Packed.{ReadsBack}
 use Rattle.rpm_header.proofs.LaidOut.{offset_behind, data_length}
 use Rattle.rpm_header.proofs.IndexAgain.{Fits, index_front, kind_small}
 

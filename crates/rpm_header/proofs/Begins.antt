@@ -1,8 +1,7 @@
 -- What stands after texts ends the bytes, and begins at a place.
 use Rattle.std.proofs.Common.{◌≡◌, ℕ, ◌-◌, ◌≤◌, List, [], ◌∷◌, ◌++◌, length, drop, true, refl, sym, ap, ◌∙◌, append_assoc, length-append, arith}
 use Rattle.std.proofs.lemmas.List.{drop_at}
-use Rattle.rpm_header.specs.Bytes.{are_ended}
-use Rattle.rpm_header.specs.inner.Splits.{Splits}
+use Rattle.rpm_header.proofs.Vocabulary.{are_ended, Splits}
 use Rattle.rpm_header.proofs.Counted.{ended_enough, zeros_enough}
 use Rattle.rpm_header.proofs.Stored.{splits_stored}
 

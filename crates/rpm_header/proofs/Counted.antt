@@ -1,13 +1,11 @@
 -- Texts have their ends where there are as many zero bytes.
 use Rattle.std.proofs.Common.{◌≡◌, ℕ, zero, suc, ◌+◌, ◌-◌, ◌*◌, ◌<◌, ◌≤◌, List, [], ◌∷◌, ◌++◌, length, take, drop, true, refl, sym, ap, ◌∙◌, arith, inl, inr, leb, le-leb, get_or, eq-eqb}
 use Rattle.std.specs.Prelude.{cond}
-use Rattle.std.specs.List.{position_or_len, after_first}
+use Rattle.rpm_header.proofs.Vocabulary.{after_first, are_ended, is_zero, position_or_len, zeros}
 use Rattle.std.proofs.lemmas.Bool.{cases_Bool, lt-leb, leb-true}
 use Rattle.std.proofs.lemmas.Bool.Decides.{leb_tells}
 use Rattle.std.proofs.lemmas.List.{take-append-drop, drop_all, length-take}
 use Rattle.std.proofs.lemmas.List.Sums.{sum_by-cons, sum_by-append, count_by-le-length}
-use Rattle.rpm_header.specs.Bytes.{is_zero, are_ended}
-use Rattle.rpm_header.specs.inner.Zeros.{zeros}
 
 -- ---- sums
 

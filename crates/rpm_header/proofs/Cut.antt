@@ -1,11 +1,8 @@
 -- A header's own bytes, cut out of what they stand in front of.
 use Rattle.std.proofs.Common.{◌≡◌, ℕ, suc, ◌+◌, ◌-◌, ◌*◌, ◌≤◌, List, [], ◌∷◌, length, take, drop, false, Ok, refl, sym, ◌∙◌, arith, le-ltb}
 use Rattle.std.specs.Prelude.{nat_lt}
-use Rattle.std.specs.Int.{w32, from_be_bytes}
+use Rattle.rpm_header.proofs.Vocabulary.{entries, fault_at, from_be_bytes, header, header_of, IsCut, IsSound, number_at, w32}
 use Rattle.std.proofs.lemmas.List.{drop-take, length-take-le, take_all}
-use Rattle.rpm_header.specs.Bytes.{number_at}
-use Rattle.rpm_header.specs.Header.{header, header_of, entries, fault_at}
-use Rattle.rpm_header.specs.inner.Checked.{IsCut, IsSound}
 use Rattle.rpm_header.proofs.Each.{first_none}
 
 -- a number is told by its four bytes

@@ -1,16 +1,10 @@
 -- The header of a header with further entries after its own.
 use Rattle.std.proofs.Common.{◌≡◌, ℕ, ◌+◌, ◌*◌, ◌<◌, ◌≤◌, List, [], ◌++◌, length, take, drop, map, None, Ok, refl, sym, ap, ◌∙◌, append_assoc, length-append, length-drop, arith, inl, inr}
-use Rattle.std.specs.List.{range_with_len, AllByRecursion}
-use Rattle.std.specs.Int.{w32, to_be_bytes}
+use Rattle.rpm_header.proofs.Vocabulary.{AllByRecursion, blob_of, data_from, dribbled, dribbled_data, dribbled_index, entries, entry_of, fault_at, Header}
+use Rattle.rpm_header.proofs.Vocabulary.{header, index_entry, index_from, IndexEntry, Item, Lengths, own_data, own_index, range_with_len, ReadsBack}
+use Rattle.rpm_header.proofs.Vocabulary.{section_of, to_be_bytes, w32}
 use Rattle.std.proofs.lemmas.Bool.Decides.{leb_tells}
 use Rattle.std.proofs.lemmas.List.{take_at, drop_at, drop-drop, append-nil, length-take-le}
-use Rattle.rpm_header.specs.declared.index.IndexEntry.{IndexEntry}
-use Rattle.rpm_header.specs.declared.laying.Lengths.{Lengths}
-use Rattle.rpm_header.specs.Header.{Item, Header, header, entries, entry_of, index_entry, section_of, fault_at}
-use Rattle.rpm_header.specs.Laid.{data_from, index_from, blob_of}
-use Rattle.rpm_header.specs.Dribbles.{dribbled_index, dribbled_data, dribbled}
-use Rattle.rpm_header.specs.Parts.{own_index, own_data}
-use Rattle.rpm_header.specs.inner.Packed.{ReadsBack}
 use Rattle.rpm_header.proofs.Opened.{IsOpened}
 use Rattle.rpm_header.proofs.Longer.{same_below}
 use Rattle.rpm_header.proofs.EntryLonger.{entry_longer}

@@ -2,13 +2,10 @@
 use Rattle.std.proofs.Common.{◌≡◌, ℕ, zero, suc, ◌+◌, ◌*◌, ◌≤◌, ◌<◌, List, length, map, Option, Some, None, refl, sym, ap, ◌∙◌, arith, inl, inr}
 use Rattle.std.proofs.lemmas.Bool.{cases_eq}
 use Rattle.std.specs.Prelude.{slice_get}
-use Rattle.std.specs.List.{range_with_len}
-use Rattle.std.specs.Int.{Width, w32, byte_len}
-use Rattle.std.specs.Option.{option_map}
+use Rattle.rpm_header.proofs.Vocabulary.{byte_len, each_below, entries, entry_of, first, index_entry, number_at, numbers, option_map, range_with_len}
+use Rattle.rpm_header.proofs.Vocabulary.{section_of, w32, Width}
 use Rattle.std.proofs.lemmas.Option.{slice_get-get_or, slice_get-map}
 use Rattle.std.proofs.lemmas.List.FromFn.{length-map-range_with_len, get_or-map-range_with_len}
-use Rattle.rpm_header.specs.Bytes.{each_below, number_at, numbers}
-use Rattle.rpm_header.specs.Header.{first, entries, entry_of, index_entry, section_of}
 
 pub length-each_below : {X : Type 0} (n : ℕ) (f : ℕ → X) → length (each_below n f) ≡ n
 length-each_below n f = length-map-range_with_len f 0 n

@@ -1,16 +1,10 @@
 -- The entries of a header that is laid out are read again, and have no fault.
 use Rattle.std.proofs.Common.{◌≡◌, ℕ, ◌+◌, ◌%◌, ◌<◌, ◌≤◌, List, [], ◌∷◌, ◌++◌, length, drop, map, true, false, cond, eqb, Bool, le-ltb, Option, Some, None, refl, ap, ◌∙◌, arith, inl, inr}
 use Rattle.std.specs.Prelude.{nat_lt, not, ◌||◌, ◌&&◌}
-use Rattle.std.specs.List.{range_with_len}
-use Rattle.std.specs.Option.{option_or}
+use Rattle.rpm_header.proofs.Vocabulary.{alignment, BadOffset, bytes_in, element_fault, end_of, entry_fault, entry_of, fault_at, Form, form_fault, form_of}
+use Rattle.rpm_header.proofs.Vocabulary.{index_entry, indexed, IndexEntry, is_region_tag, Item, offset_of, option_or, range_with_len, ReadsBack, section_of}
 use Rattle.std.proofs.lemmas.Bool.{cases_eq}
-use Rattle.rpm_header.specs.declared.form.Form.{Form}
 use Rattle.rpm_header.specs.declared.form.Form.TheVariants as form
-use Rattle.rpm_header.specs.declared.form.HeaderFault.TheVariants.{BadOffset}
-use Rattle.rpm_header.specs.declared.index.IndexEntry.{IndexEntry}
-use Rattle.rpm_header.specs.Header.{Item, form_of, form_fault, element_fault, alignment, entry_of, index_entry, section_of, is_region_tag, entry_fault, fault_at}
-use Rattle.rpm_header.specs.Laid.{bytes_in, offset_of, end_of, indexed}
-use Rattle.rpm_header.specs.inner.Packed.{ReadsBack}
 use Rattle.rpm_header.proofs.IndexAgain.{form_again}
 use Rattle.rpm_header.proofs.Again.{Stands, StandsFirst, stands_first, stands_rest}
 

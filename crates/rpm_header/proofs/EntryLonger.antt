@@ -3,12 +3,9 @@ use Rattle.std.proofs.Common.{◌≡◌, ℕ, ◌%◌, ◌≤◌, List, ◌++◌
 use Rattle.std.specs.Prelude.{nat_lt, not, ◌||◌, ◌⊎◌, if◌then◌else◌}
 use Rattle.std.proofs.lemmas.Bool.{ltb-false, eqb-true}
 use Rattle.std.proofs.lemmas.List.{drop-append-le}
-use Rattle.rpm_header.specs.declared.form.Form.{Form}
+use Rattle.rpm_header.proofs.Vocabulary.{alignment, BadOffset, element_fault, entry_of, Form, form_fault, form_of, form_or_null, HeaderFault, IndexEntry}
+use Rattle.rpm_header.proofs.Vocabulary.{values}
 use Rattle.rpm_header.specs.declared.form.Form.TheVariants as form
-use Rattle.rpm_header.specs.declared.form.HeaderFault.{HeaderFault}
-use Rattle.rpm_header.specs.declared.form.HeaderFault.TheVariants.{BadOffset}
-use Rattle.rpm_header.specs.declared.index.IndexEntry.{IndexEntry}
-use Rattle.rpm_header.specs.Header.{values, alignment, element_fault, form_of, form_or_null, form_fault, entry_of}
 use Rattle.rpm_header.proofs.EntriesAgain.{form_sound}
 use Rattle.rpm_header.proofs.Longer.{elements_longer, faultless, values_longer}
 

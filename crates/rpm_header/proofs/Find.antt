@@ -1,7 +1,7 @@
 -- The last entry of a tag, as a search from the back finds it.
 use Rattle.std.proofs.Common.{◌≡◌, ℕ, zero, suc, ◌+◌, List, [], ◌∷◌, drop, map, true, false, Some, None, refl, arith, eq-eqb, ne_eqb, eqb}
 use Rattle.std.specs.Prelude.{slice_get}
-use Rattle.rpm_header.specs.Header.{Item, last_of}
+use Rattle.rpm_header.proofs.Vocabulary.{Item, last_of}
 
 -- the loop names the place after the entry that it looks at
 pub found_at : (tag : ℕ) (es : List Item) (i j : ℕ) (e : Item) → j ≡ i + 1 → slice_get es i ≡ Some e → slice_get (map (λ e. e.tag) es) i ≡ Some tag

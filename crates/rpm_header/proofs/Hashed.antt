@@ -1,15 +1,12 @@
 -- The region of a header lies in it, and what is hashed of it.
 use Rattle.std.proofs.Common.{◌≡◌, ℕ, ◌+◌, ◌-◌, ◌*◌, ◌/◌, ◌%◌, ◌^◌, ◌<◌, ◌≤◌, List, [], ◌∷◌, ◌++◌, length, take, drop, map, true, eqb, leb, Some, None, refl, sym, ap, subst, ◌∙◌, length-drop, arith, inl, inr}
 use Rattle.std.specs.Prelude.{slice_get}
-use Rattle.std.specs.Int.{w32, to_be_bytes}
+use Rattle.rpm_header.proofs.Vocabulary.{begins_with, counts_back, form_fault, form_of, Header, in_file, index_entry, index_entry_at, IndexEntry}
+use Rattle.rpm_header.proofs.Vocabulary.{is_region_tag, Item, magic, number_at, own_data, own_index, region_entries, region_entry, region_fault}
+use Rattle.rpm_header.proofs.Vocabulary.{region_in_file, to_be_bytes, w32}
 use Rattle.std.proofs.lemmas.Bool.{eqb-true, leb-true}
 use Rattle.std.proofs.lemmas.Bool.Decides.{leb_tells, eqb_tells}
 use Rattle.std.proofs.lemmas.List.{length-take-le}
-use Rattle.rpm_header.specs.declared.index.IndexEntry.{IndexEntry}
-use Rattle.rpm_header.specs.Bytes.{number_at}
-use Rattle.rpm_header.specs.Header.{Item, Header, index_entry, index_entry_at, form_of, form_fault, is_region_tag, region_fault, counts_back}
-use Rattle.rpm_header.specs.Parts.{own_index, own_data}
-use Rattle.rpm_header.specs.Digest.{magic, in_file, region_in_file, region_entry, region_entries, begins_with}
 use Rattle.rpm_header.proofs.Cut.{number_in_front}
 use Rattle.rpm_header.proofs.Each.{tag-entries}
 use Rattle.rpm_header.proofs.Region.{counted, not_counted}

@@ -1,14 +1,9 @@
 -- An entry of the index is read again.
 use Rattle.std.proofs.Common.{◌≡◌, ℕ, ◌+◌, ◌^◌, ◌<◌, List, ◌++◌, drop, Some, refl, sym, ap, ◌∙◌, arith}
-use Rattle.std.specs.Int.{w32, to_be_bytes, from_be_bytes}
+use Rattle.rpm_header.proofs.Vocabulary.{Form, form_of, from_be_bytes, index_bytes, index_entry_at, IndexEntry, kind_of, number_at, to_be_bytes, w32}
 use Rattle.std.proofs.lemmas.Nat.{from_be_bytes-to_be_bytes_4}
 use Rattle.std.proofs.lemmas.List.{drop-drop}
-use Rattle.rpm_header.specs.declared.form.Form.{Form}
 use Rattle.rpm_header.specs.declared.form.Form.TheVariants as form
-use Rattle.rpm_header.specs.declared.index.IndexEntry.{IndexEntry}
-use Rattle.rpm_header.specs.Bytes.{number_at}
-use Rattle.rpm_header.specs.Header.{form_of, index_entry_at}
-use Rattle.rpm_header.specs.Laid.{kind_of, index_bytes}
 
 pub read_front : (n : ℕ) (bytes rest : List ℕ) (at : ℕ) → n < 2 ^ 32 → drop at bytes ≡ to_be_bytes w32 n ++ rest → number_at w32 bytes at ≡ n
 unfolding number_at

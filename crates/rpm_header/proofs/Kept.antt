@@ -1,20 +1,11 @@
 -- The region of a header stays as it is where further entries stand after its own.
 use Rattle.std.proofs.Common.{◌≡◌, ℕ, ◌+◌, ◌-◌, ◌*◌, ◌/◌, ◌^◌, ◌≤◌, List, [], ◌∷◌, ◌++◌, length, take, true, eqb, Ok, Result, refl, sym, ap, ◌∙◌, arith, inl, inr}
-use Rattle.std.specs.List.{AllByRecursion}
-use Rattle.std.specs.Int.{w32}
+use Rattle.rpm_header.proofs.Vocabulary.{AllByRecursion, begins_with, data_from, dribbled, dribbled_data, dribbled_index, Header, header, HeaderFault}
+use Rattle.rpm_header.proofs.Vocabulary.{immutable_digest, in_file, index_from, Item, Lengths, number_at, number_longer, own_data, own_index, ReadsBack}
+use Rattle.rpm_header.proofs.Vocabulary.{region_in_file, w32}
 use Rattle.std.proofs.lemmas.Bool.{cases_Bool}
 use Rattle.std.proofs.lemmas.List.{take-append-le}
-use Rattle.rpm_header.specs.declared.form.HeaderFault.{HeaderFault}
-use Rattle.rpm_header.specs.declared.laying.Lengths.{Lengths}
-use Rattle.rpm_header.specs.Bytes.{number_at}
-use Rattle.rpm_header.specs.Header.{Item, Header, header}
-use Rattle.rpm_header.specs.Parts.{own_index, own_data}
-use Rattle.rpm_header.specs.Digest.{in_file, region_in_file, begins_with, immutable_digest}
-use Rattle.rpm_header.specs.Laid.{index_from, data_from}
-use Rattle.rpm_header.specs.Dribbles.{dribbled, dribbled_index, dribbled_data}
-use Rattle.rpm_header.specs.inner.Packed.{ReadsBack}
 use Rattle.rpm_header.proofs.Bools.{or_false}
-use Rattle.rpm_header.specs.inner.Longer.{number_longer}
 use Rattle.rpm_header.proofs.Opened.{IsOpened}
 use Rattle.rpm_header.proofs.Hashed.{region_fits}
 use Rattle.rpm_header.proofs.Dribbled.{own_sixteen, new_index, new_data, dribbled_written}

@@ -1,11 +1,9 @@
 -- The layout of entries, one entry on.
 use Rattle.std.proofs.Common.{◌≡◌, ℕ, ◌+◌, ◌-◌, ◌≤◌, ◌<◌, List, ◌∷◌, ◌++◌, length, drop, get_or, refl, sym, ◌∙◌, append_assoc, length-append, arith}
 use Rattle.std.specs.Prelude.{replicate}
-use Rattle.std.specs.Int.{next_multiple_of}
+use Rattle.rpm_header.proofs.Vocabulary.{alignment, bytes_in, data_from, end_of, Form, index_bytes, index_from, indexed, Item, kind_of, next_multiple_of}
+use Rattle.rpm_header.proofs.Vocabulary.{offset_of}
 use Rattle.std.proofs.lemmas.List.{append-nil, at_drop_more, at_drop_all, length-replicate}
-use Rattle.rpm_header.specs.declared.form.Form.{Form}
-use Rattle.rpm_header.specs.Header.{Item, alignment}
-use Rattle.rpm_header.specs.Laid.{kind_of, bytes_in, offset_of, end_of, data_from, index_from, index_bytes, indexed}
 
 pub offset_is : (at offset : ℕ) (f : Form) (e : Item) → offset ≡ next_multiple_of at (alignment f) → f ≡ e.form → offset ≡ offset_of at e
 unfolding offset_of

@@ -1,14 +1,10 @@
 -- The limits of what is laid out, and its parts in the order in which they are written.
 use Rattle.std.proofs.Common.{◌≡◌, ℕ, ◌+◌, ◌-◌, ◌≤◌, List, [], ◌++◌, length, true, false, Bool, Ok, refl, ap, ◌∙◌, append_assoc, length-append, arith, inl, inr}
 use Rattle.std.specs.Prelude.{if◌then◌else◌}
-use Rattle.std.specs.List.{AllByRecursion}
-use Rattle.std.specs.Int.{w32, to_be_bytes}
+use Rattle.rpm_header.proofs.Vocabulary.{AllByRecursion, data_from, data_of, header, index_bytes, index_from, index_of, indexed, Item, laid, Lengths}
+use Rattle.rpm_header.proofs.Vocabulary.{lengths_of, ReadsBack, region_item, to_be_bytes, trailer, trailer_entry, w32, with_region}
 use Rattle.std.proofs.lemmas.Bool.Decides.{leb_tells}
 use Rattle.std.proofs.lemmas.List.{append-nil}
-use Rattle.rpm_header.specs.declared.laying.Lengths.{Lengths}
-use Rattle.rpm_header.specs.Header.{Item, header}
-use Rattle.rpm_header.specs.Laid.{data_from, index_from, index_bytes, indexed, trailer_entry, trailer, region_item, with_region, index_of, data_of, laid, lengths_of}
-use Rattle.rpm_header.specs.inner.Packed.{ReadsBack}
 use Rattle.rpm_header.proofs.LaidSections.{length-index_bytes}
 use Rattle.rpm_header.proofs.Laws.{laid_again}
 

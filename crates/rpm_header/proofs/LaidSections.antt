@@ -1,11 +1,8 @@
 -- Two lengths, an index and data.
 use Rattle.std.proofs.Common.{◌≡◌, ℕ, ◌+◌, ◌*◌, ◌<◌, ◌≤◌, List, [], ◌∷◌, ◌++◌, length, take, le-ltb, None, Ok, refl, sym, ◌∙◌, length-append, arith}
-use Rattle.std.specs.Int.{w32, to_be_bytes}
+use Rattle.rpm_header.proofs.Vocabulary.{blob_of, end_of, entries, fault_at, header, header_of, index_bytes, index_from, indexed, IndexEntry, Item, number_at}
+use Rattle.rpm_header.proofs.Vocabulary.{offset_of, section_of, to_be_bytes, w32}
 use Rattle.std.proofs.lemmas.List.{drop_at, drop-drop, take_all}
-use Rattle.rpm_header.specs.declared.index.IndexEntry.{IndexEntry}
-use Rattle.rpm_header.specs.Bytes.{number_at}
-use Rattle.rpm_header.specs.Header.{Item, section_of, fault_at, header, header_of, entries}
-use Rattle.rpm_header.specs.Laid.{offset_of, end_of, index_from, index_bytes, indexed, blob_of}
 use Rattle.rpm_header.proofs.Each.{first_none}
 use Rattle.rpm_header.proofs.IndexAgain.{read_front}
 

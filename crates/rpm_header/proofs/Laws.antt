@@ -1,18 +1,13 @@
 -- The header of what is laid out.
 use Rattle.std.proofs.Common.{◌≡◌, ℕ, suc, ◌+◌, ◌-◌, ◌*◌, ◌^◌, ◌<◌, ◌≤◌, List, [], ◌∷◌, ◌++◌, length, take, drop, true, false, Bool, le-ltb, Option, Some, None, Ok, refl, sym, ap, ◌∙◌, append_assoc, length-append, arith, inl, inr}
 use Rattle.std.specs.Prelude.{if◌then◌else◌}
-use Rattle.std.specs.List.{AllByRecursion}
-use Rattle.std.specs.Int.{w32}
-use Rattle.std.specs.Option.{option_or}
+use Rattle.rpm_header.proofs.Vocabulary.{AllByRecursion, blob_of, counts_back, data_from, data_of, element_fault, entries, entry_fault, entry_of, fault_at}
+use Rattle.rpm_header.proofs.Vocabulary.{form_fault, form_of, header, HeaderFault, index_bytes, index_entry, index_from, index_of, indexed, IndexEntry}
+use Rattle.rpm_header.proofs.Vocabulary.{is_region_tag, Item, laid, number_at, option_or, ReadsBack, region_fault, region_item, section_of, trailer}
+use Rattle.rpm_header.proofs.Vocabulary.{trailer_entry, w32, with_region}
 use Rattle.std.proofs.lemmas.Bool.{cases_eq}
 use Rattle.std.proofs.lemmas.List.{drop_at, take_all, append-nil}
 use Rattle.rpm_header.specs.declared.form.Form.TheVariants as form
-use Rattle.rpm_header.specs.declared.form.HeaderFault.{HeaderFault}
-use Rattle.rpm_header.specs.declared.index.IndexEntry.{IndexEntry}
-use Rattle.rpm_header.specs.Bytes.{number_at}
-use Rattle.rpm_header.specs.Header.{Item, entry_of, index_entry, section_of, form_of, is_region_tag, element_fault, fault_at, entry_fault, form_fault, region_fault, counts_back, header, entries}
-use Rattle.rpm_header.specs.Laid.{data_from, index_from, index_bytes, indexed, trailer_entry, trailer, region_item, with_region, index_of, data_of, blob_of, laid}
-use Rattle.rpm_header.specs.inner.Packed.{ReadsBack}
 use Rattle.rpm_header.proofs.Region.{counts}
 use Rattle.rpm_header.proofs.Again.{Stands}
 use Rattle.rpm_header.proofs.EntriesAgain.{entries_again, sound_again, form_sound, neither}

@@ -33,3 +33,4 @@ pub mod Skipped
 pub mod TextsAgain
 pub mod Values
 pub mod Whole
+pub mod Vocabulary

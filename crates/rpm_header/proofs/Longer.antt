@@ -1,17 +1,12 @@
 -- An entry without a fault says the same where more data stand after.
 use Rattle.std.proofs.Common.{◌≡◌, ℕ, zero, suc, ◌+◌, ◌*◌, ◌<◌, ◌≤◌, List, [], ◌∷◌, ◌++◌, length, take, drop, map, cond, Bool, true, false, eqb, Some, None, refl, ap, length-append, le-ltb, lt-ltb, arith}
 use Rattle.std.specs.Prelude.{nat_lt, not, ◌&&◌, ◌||◌, is_some, if◌then◌else◌}
-use Rattle.std.specs.List.{range_with_len, position, position_or_len, after_first}
-use Rattle.std.specs.Int.{Width, w8, w16, w32, w64, byte_len}
+use Rattle.rpm_header.proofs.Vocabulary.{after_first, alignment, are_ended, BadCount, byte_len, Bytes, element_fault, Form, has_texts, HeaderFault}
+use Rattle.rpm_header.proofs.Vocabulary.{is_bad_count, is_zero, NoEnd, number_at, number_longer, Numbers, numbers, position, position_or_len, range_with_len}
+use Rattle.rpm_header.proofs.Vocabulary.{Texts, texts, values, w16, w32, w64, w8, Width}
 use Rattle.std.proofs.lemmas.Bool.{ltb-true, ltb-false}
 use Rattle.std.proofs.lemmas.List.{take-append-le, drop-append-le}
-use Rattle.rpm_header.specs.declared.form.Form.{Form}
 use Rattle.rpm_header.specs.declared.form.Form.TheVariants as form
-use Rattle.rpm_header.specs.declared.form.HeaderFault.{HeaderFault}
-use Rattle.rpm_header.specs.declared.form.HeaderFault.TheVariants.{BadCount, NoEnd}
-use Rattle.rpm_header.specs.inner.Longer.{number_longer}
-use Rattle.rpm_header.specs.Bytes.{number_at, numbers, texts, are_ended, is_zero}
-use Rattle.rpm_header.specs.Header.{Numbers, Texts, Bytes, values, alignment, has_texts, is_bad_count, element_fault}
 use Rattle.rpm_header.proofs.Bools.{and_true, or_false}
 
 -- ---- numbers

@@ -1,13 +1,11 @@
 -- The first zero byte among the first 16.
 use Rattle.std.proofs.Common.{◌≡◌, ℕ, ◌<◌, ◌≤◌, List, length, take, get_or, map, min, Some, true, sym, ap, subst, ◌∙◌, arith, lt-ltb, inl, inr}
-use Rattle.std.specs.List.{position, position_or_len}
-use Rattle.std.specs.Int.Count.{count_trailing_zeros, trailing_of_zero}
+use Rattle.rpm_header.proofs.Vocabulary.{count_trailing_zeros, is_zero, position, position_or_len, trailing_of_zero}
 use Rattle.std.proofs.lemmas.Bool.{cases_eq, cond-true}
 use Rattle.std.proofs.lemmas.List.{length-take, get_or-take}
 use Rattle.std.proofs.lemmas.List.Sums.{position_or_len_is, fails_before_first, passes_at_first}
 use Rattle.std.proofs.lemmas.Simd.{trailing_mask_l}
 use lib.Lanes.{mask_l}
-use Rattle.rpm_header.specs.Bytes.{is_zero}
 
 -- the first zero byte of the first 16 is the first of all
 first_of_all : (bytes : List ℕ) (end : ℕ) → 16 ≤ length bytes → position_or_len is_zero (take 16 bytes) ≡ end → end < 16

@@ -1,16 +1,12 @@
 -- Numbers that stand one after the other are read again.
 use Rattle.std.proofs.Common.{◌≡◌, ℕ, ◌+◌, ◌*◌, ◌^◌, ◌<◌, ◌≤◌, List, [], ◌∷◌, ◌++◌, length, drop, map, get_or, true, refl, sym, ap, ◌∙◌, append_assoc, length-append, arith}
 use Rattle.std.specs.Prelude.{nat_lt, IsTrue}
-use Rattle.std.specs.List.{range_with_len, flat_map, list_all}
-use Rattle.std.specs.Int.{Width, w8, w16, w32, w64, byte_len, to_be_bytes, from_be_bytes}
+use Rattle.rpm_header.proofs.Vocabulary.{alignment, AllFit, byte_len, flat_map, Form, from_be_bytes, has_numbers, list_all, number_at, Numbers, numbers}
+use Rattle.rpm_header.proofs.Vocabulary.{range_with_len, to_be_bytes, values, w16, w32, w64, w8, Width, width}
 use Rattle.std.proofs.lemmas.Bool.{ltb-true}
 use Rattle.std.proofs.lemmas.List.{drop_at, drop-drop, append-nil, at_drop_more, at_drop_all}
 use Rattle.std.proofs.lemmas.Nat.{from_be_bytes-to_be_bytes_2, from_be_bytes-to_be_bytes_4, from_be_bytes-to_be_bytes_8}
-use Rattle.rpm_header.specs.declared.form.Form.{Form}
 use Rattle.rpm_header.specs.declared.form.Form.TheVariants as form
-use Rattle.rpm_header.specs.Bytes.{number_at, numbers}
-use Rattle.rpm_header.specs.Header.{Numbers, values, width, alignment, has_numbers}
-use Rattle.rpm_header.specs.Build.{AllFit}
 use Rattle.rpm_header.proofs.Bools.{and_true}
 
 -- a width at which a number that has room in it is read again

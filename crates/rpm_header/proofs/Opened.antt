@@ -1,14 +1,9 @@
 -- What is known of a header that was read from its own bytes.
 use Rattle.std.proofs.Common.{◌≡◌, ℕ, zero, suc, ◌+◌, ◌*◌, ◌<◌, ◌≤◌, List, ◌∷◌, length, take, map, Bool, true, false, Option, Some, None, Result, Ok, Err, refl, sym, ap, subst, ◌∙◌, arith, inl, inr}
 use Rattle.std.specs.Prelude.{nat_lt, if◌then◌else◌}
-use Rattle.std.specs.List.{range_with_len}
-use Rattle.std.specs.Int.{w32}
+use Rattle.rpm_header.proofs.Vocabulary.{each_below, entries, fault_at, first, Header, header, header_of, HeaderFault, IsCut, IsOwn, IsSound, Item, number_at}
+use Rattle.rpm_header.proofs.Vocabulary.{range_with_len, Short, TooManyEntries, TooMuchData, unless, w32}
 use Rattle.std.proofs.lemmas.Bool.{cases_eq, ltb-false}
-use Rattle.rpm_header.specs.declared.form.HeaderFault.{HeaderFault}
-use Rattle.rpm_header.specs.declared.form.HeaderFault.TheVariants.{Short, TooManyEntries, TooMuchData}
-use Rattle.rpm_header.specs.Bytes.{number_at, each_below}
-use Rattle.rpm_header.specs.Header.{Item, Header, header, header_of, entries, fault_at, first, unless, IsOwn}
-use Rattle.rpm_header.specs.inner.Checked.{IsCut, IsSound}
 use Rattle.rpm_header.proofs.Cut.{is_cut}
 use Rattle.rpm_header.proofs.Each.{length-entries}
 

@@ -2,8 +2,7 @@
 use Rattle.std.proofs.Common.{◌≡◌, ℕ, ◌≤◌, List, Option, Some, None, Result, Ok, Err, length, take, sym, ap, ◌∙◌}
 use Rattle.std.specs.Prelude.{IfOk}
 use Rattle.std.proofs.lemmas.List.{length-take-le}
-use Rattle.rpm_header.specs.declared.form.HeaderFault.{HeaderFault}
-use Rattle.rpm_header.specs.Header.{Header, header_of, unless}
+use Rattle.rpm_header.proofs.Vocabulary.{Header, header_of, HeaderFault, unless}
 
 passed : (o : Option HeaderFault) (x h : Header) → unless o x ≡ Ok h → x ≡ h
 passed None x h is = cc

@@ -1,15 +1,10 @@
 -- Texts that a builder keeps are read again from their bytes.
 use Rattle.std.proofs.Common.{◌≡◌, ℕ, ◌^◌, ◌<◌, List, [], ◌∷◌, ◌++◌, length, true, false, None, refl, sym, subst, ap, ◌∙◌, arith}
 use Rattle.std.specs.Prelude.{IsTrue}
-use Rattle.std.specs.List.{AllByRecursion}
+use Rattle.rpm_header.proofs.Vocabulary.{AllByRecursion, bytes_in, element_fault, Form, has_texts, is_region_tag, is_text_list, IsPacked, IsText, joined}
+use Rattle.rpm_header.proofs.Vocabulary.{ReadsBack, text_item, Texts, texts, texts_item, values}
 use Rattle.std.proofs.lemmas.List.{append-nil}
-use Rattle.rpm_header.specs.declared.form.Form.{Form}
 use Rattle.rpm_header.specs.declared.form.Form.TheVariants as form
-use Rattle.rpm_header.specs.Bytes.{texts}
-use Rattle.rpm_header.specs.Header.{Texts, values, has_texts, is_region_tag, element_fault}
-use Rattle.rpm_header.specs.Build.{IsText, is_text_list, text_item, texts_item}
-use Rattle.rpm_header.specs.Laid.{bytes_in, joined}
-use Rattle.rpm_header.specs.inner.Packed.{IsPacked, ReadsBack}
 use Rattle.rpm_header.proofs.TextsAgain.{texts_again, few_texts}
 use Rattle.rpm_header.proofs.Packing.{not_zero}
 

@@ -1,15 +1,10 @@
 -- The entries that a builder keeps are read again from their bytes.
 use Rattle.std.proofs.Common.{◌≡◌, ℕ, ◌*◌, ◌^◌, ◌<◌, ◌≤◌, List, [], ◌++◌, length, take, true, false, None, refl, sym, subst, ap, ◌∙◌, length-append, arith, eqb, ne_eqb, le-ltb}
 use Rattle.std.specs.Prelude.{IsTrue}
-use Rattle.std.specs.List.{flat_map}
-use Rattle.std.specs.Int.{to_be_bytes}
+use Rattle.rpm_header.proofs.Vocabulary.{alignment, AllFit, bin_item, Bytes, bytes_in, element_fault, flat_map, Form, has_numbers, is_region_tag, IsPacked}
+use Rattle.rpm_header.proofs.Vocabulary.{Item, Numbers, numbers_item, ReadsBack, to_be_bytes, Values, values, width}
 use Rattle.std.proofs.lemmas.List.{append-nil, take_at, take_all}
-use Rattle.rpm_header.specs.declared.form.Form.{Form}
 use Rattle.rpm_header.specs.declared.form.Form.TheVariants as form
-use Rattle.rpm_header.specs.Header.{Item, Values, Numbers, Bytes, values, width, alignment, has_numbers, is_region_tag, element_fault}
-use Rattle.rpm_header.specs.Build.{AllFit, numbers_item, bin_item}
-use Rattle.rpm_header.specs.Laid.{bytes_in}
-use Rattle.rpm_header.specs.inner.Packed.{IsPacked, ReadsBack}
 use Rattle.rpm_header.proofs.NumbersAgain.{numbers_again, few_numbers, length-numbers_bytes}
 
 -- the entry of these parts

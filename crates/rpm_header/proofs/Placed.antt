@@ -1,11 +1,8 @@
 -- The first of an entry's texts.
 use Rattle.std.proofs.Common.{◌≡◌, ℕ, ◌≤◌, List, take, true, refl, ap, ◌∙◌, sym}
 use Rattle.std.specs.Prelude.{IsTrue}
-use Rattle.rpm_header.specs.declared.form.Form.{Form}
+use Rattle.rpm_header.proofs.Vocabulary.{are_ended, Form, has_texts, HasRoom, texts, texts_of, values}
 use Rattle.rpm_header.specs.declared.form.Form.TheVariants as form
-use Rattle.rpm_header.specs.Bytes.{texts, are_ended}
-use Rattle.rpm_header.specs.Header.{values, texts_of, has_texts}
-use Rattle.rpm_header.specs.inner.Checked.{HasRoom}
 use Rattle.rpm_header.proofs.Begins.{ended_fewer}
 use Rattle.rpm_header.proofs.Texts.{take_texts}
 

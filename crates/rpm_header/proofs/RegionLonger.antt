@@ -1,19 +1,13 @@
 -- The index, a region and the fault of an entry, where further entries stand after.
 use Rattle.std.proofs.Common.{zero-add, add-zero, ◌≡◌, ℕ, zero, suc, ◌+◌, ◌*◌, ◌^◌, ◌≤◌, List, ◌++◌, length, take, drop, map, Bool, true, false, eqb, Option, Some, None, refl, sym, ap, subst, ◌∙◌, length-drop, arith}
 use Rattle.std.specs.Prelude.{◌&&◌, ◌||◌, if◌then◌else◌}
-use Rattle.std.specs.List.{range_with_len, list_any}
-use Rattle.std.specs.Int.{w32, from_be_bytes}
-use Rattle.std.specs.Option.{option_or}
+use Rattle.rpm_header.proofs.Vocabulary.{BadRegion, counts_back, entry_fault, fault_at, form_fault, form_of, from_be_bytes, HeaderFault, index_entry}
+use Rattle.rpm_header.proofs.Vocabulary.{IndexEntry, is_region_tag, list_any, number_at, number_longer, option_or, range_with_len, region_fault, section_of}
+use Rattle.rpm_header.proofs.Vocabulary.{w32}
 use Rattle.std.proofs.lemmas.Bool.{eqb-true}
 use Rattle.std.proofs.lemmas.List.{drop-drop, map-append}
 use Rattle.std.proofs.lemmas.List.Folds.{list_any-append}
 use Rattle.rpm_header.specs.declared.form.Form.TheVariants as form
-use Rattle.rpm_header.specs.declared.form.HeaderFault.{HeaderFault}
-use Rattle.rpm_header.specs.declared.form.HeaderFault.TheVariants.{BadRegion}
-use Rattle.rpm_header.specs.declared.index.IndexEntry.{IndexEntry}
-use Rattle.rpm_header.specs.Bytes.{number_at}
-use Rattle.rpm_header.specs.Header.{index_entry, section_of, form_of, form_fault, is_region_tag, region_fault, counts_back, fault_at, entry_fault}
-use Rattle.rpm_header.specs.inner.Longer.{number_longer}
 use Rattle.rpm_header.proofs.Bools.{and_true}
 use Rattle.rpm_header.proofs.Cut.{number_in_front}
 use Rattle.rpm_header.proofs.Longer.{room_of, faultless}

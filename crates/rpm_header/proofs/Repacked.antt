@@ -1,12 +1,9 @@
 -- An entry of a header that was read is packed again under another tag.
 use Rattle.std.proofs.Common.{◌≡◌, ℕ, ◌^◌, ◌<◌, List, [], ◌∷◌, length, false, refl, sym, arith}
 use Rattle.std.specs.Prelude.{IsTrue}
-use Rattle.rpm_header.specs.declared.form.Form.{Form}
+use Rattle.rpm_header.proofs.Vocabulary.{Bytes, bytes_in, Form, has_numbers, is_region_tag, is_text_list, IsPacked, IsStored, IsWhole, Item, Nothing, Numbers}
+use Rattle.rpm_header.proofs.Vocabulary.{ReadsBack, retagged, Texts, Values, values}
 use Rattle.rpm_header.specs.declared.form.Form.TheVariants as form
-use Rattle.rpm_header.specs.Header.{Item, Values, Nothing, Numbers, Texts, Bytes, values, has_numbers, is_region_tag, IsWhole}
-use Rattle.rpm_header.specs.Build.{is_text_list, retagged}
-use Rattle.rpm_header.specs.Laid.{bytes_in}
-use Rattle.rpm_header.specs.inner.Packed.{IsPacked, ReadsBack, IsStored}
 use Rattle.rpm_header.proofs.Packing.{item_of, numbers_packed, numbers_read_back, bin_packed, bin_read_back}
 use Rattle.rpm_header.proofs.PackedTexts.{texts_packed, texts_read_back, text_read_back, list_has_texts}
 

@@ -1,11 +1,8 @@
 -- Texts that are passed over.
 use Rattle.std.proofs.Common.{◌≡◌, ℕ, zero, suc, ◌+◌, ◌-◌, ◌<◌, List, [], ◌∷◌, take, drop, true, false, Some, refl, sym, ap, ◌∙◌, arith, inl, inr}
 use Rattle.std.specs.Prelude.{slice_get, is_some}
-use Rattle.std.specs.List.{before_first, after_first, position, position_or_len}
+use Rattle.rpm_header.proofs.Vocabulary.{after_first, are_ended, before_first, is_zero, position, position_or_len, skipped, Splits, texts, zeros}
 use Rattle.std.proofs.lemmas.Bool.{cases_Bool}
-use Rattle.rpm_header.specs.Bytes.{is_zero, texts, are_ended}
-use Rattle.rpm_header.specs.inner.Splits.{Splits}
-use Rattle.rpm_header.specs.inner.Zeros.{zeros, skipped}
 use Rattle.rpm_header.proofs.Bools.{and_true}
 use Rattle.rpm_header.proofs.Counted.{zeros-cons, zeros-nil}
 

@@ -1,20 +1,12 @@
 -- The elements of an entry as a header stores them.
 use Rattle.std.proofs.Common.{◌≡◌, ℕ, zero, suc, ◌+◌, ◌-◌, ◌*◌, ◌≤◌, ◌<◌, List, [], ◌∷◌, ◌++◌, length, take, get_or, Bool, true, false, Some, None, refl, sym, ap, ◌∙◌, append_assoc, length-append, arith}
 use Rattle.std.specs.Prelude.{nat_lt, is_some, if◌then◌else◌}
-use Rattle.std.specs.List.{position_or_len, before_first, after_first, list_any, AllByRecursion}
-use Rattle.std.specs.Int.{w8, w16, w32, w64}
+use Rattle.rpm_header.proofs.Vocabulary.{after_first, alignment, AllByRecursion, before_first, bytes_in, Form, has_texts, is_zero, IsInside, IsStored, IsText}
+use Rattle.rpm_header.proofs.Vocabulary.{item_at, joined, list_any, position_or_len, Splits, texts, w16, w32, w64, w8}
 use Rattle.std.proofs.lemmas.Bool.{ltb-true, eqb-true}
 use Rattle.std.proofs.lemmas.List.{take_at, append-nil}
 use Rattle.std.proofs.lemmas.List.Sums.{split_at_first, passes_at_first}
-use Rattle.rpm_header.specs.declared.form.Form.{Form}
 use Rattle.rpm_header.specs.declared.form.Form.TheVariants as form
-use Rattle.rpm_header.specs.inner.Checked.{IsInside}
-use Rattle.rpm_header.specs.Header.{alignment, has_texts}
-use Rattle.rpm_header.specs.inner.Packed.{item_at, IsStored}
-use Rattle.rpm_header.specs.Bytes.{is_zero, texts}
-use Rattle.rpm_header.specs.inner.Splits.{Splits}
-use Rattle.rpm_header.specs.Build.{IsText}
-use Rattle.rpm_header.specs.Laid.{joined, bytes_in}
 use Rattle.rpm_header.proofs.Texts.{texts_next, texts_none}
 use Rattle.rpm_header.proofs.StoredNumbers.{AreBytes, fit_numbers, stored_numbers, writes_16, writes_32, writes_64, writes_8}
 

@@ -1,17 +1,13 @@
 -- The numbers of an entry as a header stores them.
 use Rattle.std.proofs.Common.{◌≡◌, ℕ, zero, suc, ◌+◌, ◌*◌, ◌^◌, ◌≤◌, ◌<◌, List, [], ◌∷◌, ◌++◌, length, take, drop, map, get_or, true, inl, inr, refl, sym, ap, ◌∙◌, zero-add, arith}
 use Rattle.std.specs.Prelude.{nat_lt}
-use Rattle.std.specs.List.{list_all, range_with_len, flat_map}
-use Rattle.std.specs.Int.{Width, w8, w16, w32, w64, byte_len, to_be_bytes, from_be_bytes}
+use Rattle.rpm_header.proofs.Vocabulary.{byte_len, flat_map, Form, from_be_bytes, list_all, number_at, number_longer, numbers, range_with_len, to_be_bytes}
+use Rattle.rpm_header.proofs.Vocabulary.{w16, w32, w64, w8, Width, width}
 use Rattle.std.proofs.lemmas.Bool.{lt-ltb, cases_lt}
 use Rattle.std.proofs.lemmas.List.{drop-drop, length-take, length-take-le, length-drop, get_or-drop, get_or-take, get_or_past, take-append-drop}
 use Rattle.std.proofs.Math.Seq.{take-add}
 use Rattle.std.proofs.lemmas.Nat.{be_bytes_2, be_bytes_4, be_bytes_8}
-use Rattle.rpm_header.specs.declared.form.Form.{Form}
 use Rattle.rpm_header.specs.declared.form.Form.TheVariants as form
-use Rattle.rpm_header.specs.Header.{width}
-use Rattle.rpm_header.specs.inner.Longer.{number_longer}
-use Rattle.rpm_header.specs.Bytes.{number_at, numbers}
 
 -- bytes, and not other numbers
 abbrev pub AreBytes : List ℕ → Type 0

@@ -1,13 +1,10 @@
 -- Texts that stand one after the other are read again.
 use Rattle.std.proofs.Common.{◌≡◌, ℕ, suc, ◌+◌, ◌≤◌, List, [], ◌∷◌, ◌++◌, length, drop, true, refl, sym, ap, ◌∙◌, append_assoc, length-append, arith, lt-ltb}
 use Rattle.std.specs.Prelude.{is_some, nat_lt}
-use Rattle.std.specs.List.{position, position_or_len, before_first, after_first, list_any, AllByRecursion}
+use Rattle.rpm_header.proofs.Vocabulary.{after_first, AllByRecursion, are_ended, before_first, is_zero, IsJoined, IsText, joined, list_any, position}
+use Rattle.rpm_header.proofs.Vocabulary.{position_or_len, texts}
 use Rattle.std.proofs.lemmas.List.{take_at, drop_at, append-nil}
 use Rattle.std.proofs.lemmas.Grind.{flat_map-append}
-use Rattle.rpm_header.specs.Bytes.{is_zero, texts, are_ended}
-use Rattle.rpm_header.specs.Build.{IsText}
-use Rattle.rpm_header.specs.Laid.{joined}
-use Rattle.rpm_header.specs.inner.Packed.{IsJoined}
 use Rattle.rpm_header.proofs.Bools.{or_false}
 use Rattle.rpm_header.proofs.Whole.{length-texts}
 

@@ -2,13 +2,9 @@
 use Rattle.std.proofs.Common.{◌≡◌, ℕ, ◌*◌, ◌<◌, List, drop, get_or, Option, Some, None, refl, sym, subst, ap, arith}
 use Rattle.std.proofs.lemmas.List.{get_or-drop}
 use Rattle.std.specs.Prelude.{slice_get, IsTrue}
-use Rattle.std.specs.Option.{option_or}
-use Rattle.std.specs.Int.{w8, byte_len}
-use Rattle.rpm_header.specs.declared.form.Form.{Form}
+use Rattle.rpm_header.proofs.Vocabulary.{byte_len, entry_fault, entry_of, fault_at, Form, form_fault, form_of, has_numbers, index_entry, IndexEntry, Item}
+use Rattle.rpm_header.proofs.Vocabulary.{number_at, numbers_of, option_or, section_of, values, w8}
 use Rattle.rpm_header.specs.declared.form.Form.TheVariants as form
-use Rattle.rpm_header.specs.declared.index.IndexEntry.{IndexEntry}
-use Rattle.rpm_header.specs.Bytes.{number_at}
-use Rattle.rpm_header.specs.Header.{values, numbers_of, has_numbers, fault_at, entry_fault, form_fault, form_of, index_entry, section_of, entry_of, Item}
 use Rattle.rpm_header.proofs.Each.{slice_get-numbers}
 
 -- a number of one byte is that byte

@@ -5,4 +5,5 @@ pub mod Dribbles
 pub mod Header
 pub mod Laid
 pub mod Parts
+pub mod Prelude
 pub mod inner

@@ -1,11 +1,7 @@
 //! A header that is being made.
 
-ghost use Rattle.std.specs.Prelude.{◌≡◌, ◌≢◌, ℕ, ◌++◌, ◌∷◌, [], ◌<◌, ◌≤◌, ◌↔◌, length, false, OnOk, OnErr, IfOk, IsTrue, Ok};
-ghost use Rattle.std.specs.List.{AllByRecursion};
-ghost use Rattle.rpm_header.specs.Header.{max_data, max_entries, header, has_numbers, is_region_tag};
-ghost use Rattle.rpm_header.specs.Build.{AllFit, IsText, is_text_list, numbers_item, text_item, texts_item, bin_item, retagged};
-ghost use Rattle.rpm_header.specs.Laid.{laid, with_region, data_of, lengths_of};
-ghost use Rattle.rpm_header.specs.inner.Packed.{ReadsBack};
+ghost use Rattle.std.specs.Prelude.{◌≡◌, ◌≢◌, ◌++◌, ◌∷◌, [], ◌<◌, ◌≤◌, ◌↔◌, length, false, OnOk, OnErr, IfOk, IsTrue, Ok, List};
+ghost use Rattle.rpm_header.specs.Prelude.{AllByRecursion, AllFit, bin_item, data_of, has_numbers, header, is_region_tag, is_text_list, IsText, Item, laid, lengths_of, max_data, max_entries, numbers_item, ReadsBack, retagged, text_item, texts_item, with_region};
 
 use crate::entry::Entry;
 use crate::form::Form;
@@ -27,11 +23,6 @@ pub struct Builder {
 }
 
 impl Model for Builder {
-    ghost use Rattle.std.specs.Prelude.{List};
-    ghost use Rattle.std.specs.List.{AllByRecursion};
-    ghost use Rattle.rpm_header.specs.Header.{Item};
-    ghost use Rattle.rpm_header.specs.inner.Packed.{ReadsBack};
-
     ghost Value = { List Item };
 
     ghost view = { λ s. s.entries.items };

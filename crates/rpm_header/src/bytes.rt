@@ -1,12 +1,7 @@
 //! Numbers and texts as they stand in bytes.
 
-ghost use Rattle.std.specs.Prelude.{◌≡◌, ℕ, ◌+◌, ◌≤◌, ◌<◌, length, false, true, is_some, IfSome, MatchOption, slice_get, Some, take};
-ghost use Rattle.std.specs.List.{position};
-ghost use Rattle.std.specs.Int.{w16, w32, w64};
-ghost use Rattle.rpm_header.specs.Bytes.{number_at, is_zero, are_ended, texts};
-ghost use Rattle.rpm_header.specs.inner.Splits.{Splits};
-ghost use Rattle.rpm_header.specs.Laid.{joined};
-ghost use Rattle.rpm_header.specs.inner.Zeros.{skipped};
+ghost use Rattle.std.specs.Prelude.{◌≡◌, ◌+◌, ◌≤◌, ◌<◌, length, false, true, is_some, IfSome, MatchOption, slice_get, Some, take};
+ghost use Rattle.rpm_header.specs.Prelude.{are_ended, is_zero, joined, number_at, position, skipped, Splits, texts, w16, w32, w64};
 
 use std::simd::prelude::*;
 

@@ -1,9 +1,7 @@
 //! The digest of the region with which a header begins.
 
-ghost use Rattle.std.specs.Prelude.{◌≡◌, ℕ, true};
-ghost use Rattle.sha2.specs.Sha256.{sha256};
-ghost use Rattle.rpm_header.specs.Digest.{in_file, region_in_file, begins_with, immutable_digest};
-ghost use Rattle.rpm_header.specs.Header.{main_region};
+ghost use Rattle.std.specs.Prelude.{◌≡◌, true};
+ghost use Rattle.rpm_header.specs.Prelude.{begins_with, immutable_digest, in_file, main_region, region_in_file, sha256};
 
 use crate::MAGIC;
 use crate::index::{MAIN_REGION, index_entry_at};

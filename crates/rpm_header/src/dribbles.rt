@@ -1,10 +1,7 @@
 //! Entries after those of a header that stands.
 
-ghost use Rattle.std.specs.Prelude.{◌≡◌, ℕ, ◌+◌, ◌++◌, ◌≤◌, ◌<◌, ◌↔◌, length, IfOk, Ok, Err};
-ghost use Rattle.rpm_header.specs.Header.{max_data, max_entries, header, Header};
-ghost use Rattle.rpm_header.specs.Digest.{immutable_digest};
-ghost use Rattle.rpm_header.specs.Laid.{lengths_of};
-ghost use Rattle.rpm_header.specs.Dribbles.{dribbled, dribbled_data};
+ghost use Rattle.std.specs.Prelude.{◌≡◌, ◌+◌, ◌++◌, ◌≤◌, ◌<◌, ◌↔◌, length, IfOk, Ok, Err};
+ghost use Rattle.rpm_header.specs.Prelude.{dribbled, dribbled_data, Header, header, immutable_digest, lengths_of, max_data, max_entries};
 
 use crate::builder::Builder;
 use crate::laying::{BuildFault, Lengths, append_data, append_index, begin, lengths_of};

@@ -1,9 +1,7 @@
 //! Whether the texts of a header have their ends, at a cost that is linear in its size.
 
-ghost use Rattle.std.specs.Prelude.{◌≡◌, ℕ, ◌*◌, ◌≤◌, ◌<◌, length, drop, slice_index};
-ghost use Rattle.rpm_header.specs.Bytes.{are_ended};
-ghost use Rattle.rpm_header.specs.Header.{max_data};
-ghost use Rattle.rpm_header.specs.inner.Zeros.{HasZeroFrom};
+ghost use Rattle.std.specs.Prelude.{◌≡◌, ℕ, ◌*◌, ◌≤◌, ◌<◌, length, drop, slice_index, List, IfSome};
+ghost use Rattle.rpm_header.specs.Prelude.{are_ended, HasZeroFrom, IsSummed, max_data, zeros};
 
 use crate::zeros::{between, look_for_ends, zeros_in};
 use std::marker::Model;
@@ -23,9 +21,6 @@ pub struct ZeroSums<'s> {
 }
 
 impl<'s> Model for ZeroSums<'s> {
-    ghost use Rattle.std.specs.Prelude.{List, ℕ};
-    ghost use Rattle.rpm_header.specs.inner.Zeros.{IsSummed};
-
     ghost Value = { List ℕ };
 
     ghost view = { λ s. s.section.now };
@@ -110,9 +105,6 @@ pub struct TextEnds<'s> {
 }
 
 impl<'s> Model for TextEnds<'s> {
-    ghost use Rattle.std.specs.Prelude.{◌≡◌, ◌≤◌, List, ℕ, IfSome, drop};
-    ghost use Rattle.rpm_header.specs.inner.Zeros.{HasZeroFrom, zeros};
-
     ghost Value = { List ℕ };
 
     ghost view = { λ s. s.section.now };

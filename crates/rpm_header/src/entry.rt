@@ -1,11 +1,7 @@
 //! One entry of a header, and its elements.
 
-ghost use Rattle.std.specs.Prelude.{◌≡◌, ◌≢◌, ℕ, ◌+◌, ◌*◌, ◌≤◌, ◌<◌, length, IsTrue, Some, slice_get, take, drop, None};
-ghost use Rattle.std.specs.Iterator.{YieldsFirstRef, item_count};
-ghost use Rattle.rpm_header.specs.Header.{has_numbers, has_texts, numbers_of, texts_of, bytes_of, IsWhole, form_fault, values, entry_of, index_entry, section_of};
-ghost use Rattle.rpm_header.specs.inner.Checked.{HasRoom, IsInside, IsSound};
-ghost use Rattle.rpm_header.specs.Laid.{bytes_in};
-ghost use Rattle.rpm_header.specs.inner.Packed.{item_at, IsStored};
+ghost use Rattle.std.specs.Prelude.{◌≡◌, ◌≢◌, ℕ, ◌+◌, ◌*◌, ◌≤◌, ◌<◌, length, IsTrue, Some, slice_get, take, drop, None, List, true};
+ghost use Rattle.rpm_header.specs.Prelude.{are_ended, bytes_in, bytes_of, entry_of, form_fault, has_numbers, has_texts, HasRoom, index_entry, IsInside, IsSound, IsStored, IsWhole, Item, item_at, item_count, numbers_of, section_of, texts, texts_of, values, YieldsFirstRef};
 
 use crate::bytes::{next_text, text_of, texts_end, u16_at, u32_at, u64_at};
 use crate::form::Form;
@@ -27,9 +23,6 @@ pub struct Entry<'a> {
 }
 
 impl<'a> Model for Entry<'a> {
-    ghost use Rattle.rpm_header.specs.Header.{Item, values};
-    ghost use Rattle.rpm_header.specs.inner.Checked.{IsInside};
-
     ghost Value = { Item };
 
     ghost view = { λ s. record {
@@ -153,9 +146,6 @@ pub struct EntryTexts<'a> {
 }
 
 impl<'a> Model for EntryTexts<'a> {
-    ghost use Rattle.std.specs.Prelude.{◌≡◌, List, ℕ, true};
-    ghost use Rattle.rpm_header.specs.Bytes.{texts, are_ended};
-
     ghost Value = { List (List ℕ) };
 
     ghost view = { λ s. texts s.left s.bytes.now };

@@ -1,7 +1,7 @@
 //! The index of a header, its limits, and the faults of its entries.
 
-ghost use Rattle.std.specs.Prelude.{◌≡◌, true, ℕ, ◌+◌, ◌*◌, ◌≤◌, ◌<◌, length, drop};
-ghost use Rattle.rpm_header.specs.Header.{index_entry_at, form_of, alignment, has_texts, is_region_tag, is_bad_count, element_fault, form_fault, counts_back, region_fault, fault_at, section_of};
+ghost use Rattle.std.specs.Prelude.{◌≡◌, true, ◌+◌, ◌*◌, ◌≤◌, ◌<◌, length, drop};
+ghost use Rattle.rpm_header.specs.Prelude.{alignment, counts_back, element_fault, fault_at, form_fault, form_of, has_texts, index_entry_at, is_bad_count, is_region_tag, region_fault, section_of};
 
 use crate::bytes::u32_at;
 use crate::ends::TextEnds;

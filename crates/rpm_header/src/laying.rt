@@ -1,9 +1,7 @@
 //! The layout of a header that is made.
 
-ghost use Rattle.std.specs.Prelude.{◌≡◌, ℕ, true, ◌+◌, ◌-◌, ◌≤◌, ◌<◌, ◌++◌, ◌*◌, ◌^◌, [], replicate, length, OnOk, IfOk, Some, None, nat_lt, if◌then◌else◌};
-ghost use Rattle.std.specs.Int.{w32, to_be_bytes, next_multiple_of};
-ghost use Rattle.rpm_header.specs.Header.{max_data, max_entries, alignment};
-ghost use Rattle.rpm_header.specs.Laid.{kind_of, bytes_in, data_from, index_from, index_bytes, indexed, lengths_of, region_item, trailer};
+ghost use Rattle.std.specs.Prelude.{◌≡◌, true, ◌+◌, ◌-◌, ◌≤◌, ◌<◌, ◌++◌, ◌*◌, ◌^◌, [], replicate, length, OnOk, IfOk, Some, None, nat_lt, if◌then◌else◌};
+ghost use Rattle.rpm_header.specs.Prelude.{alignment, data_from, index_bytes, index_from, indexed, kind_of, lengths_of, max_data, max_entries, next_multiple_of, region_item, to_be_bytes, trailer, w32};
 
 use crate::form::Form;
 use crate::index::{IndexEntry, MAIN_REGION, MAX_DATA, MAX_ENTRIES, alignment};

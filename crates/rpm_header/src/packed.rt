@@ -1,12 +1,7 @@
 //! An entry that is kept until its header is laid out.
 
-ghost use Rattle.std.specs.Prelude.{◌≡◌, ◌≢◌, ℕ, ◌++◌, ◌∷◌, [], ◌<◌, ◌≤◌, ◌*◌, ◌^◌, length, nat_lt, true, false, OnOk, OnErr, IfOk, IsTrue};
-ghost use Rattle.std.specs.Int.{byte_len, to_be_bytes};
-ghost use Rattle.std.specs.List.{AllByRecursion};
-ghost use Rattle.rpm_header.specs.Header.{width, has_numbers, is_region_tag};
-ghost use Rattle.rpm_header.specs.Build.{AllFit, IsText, is_text_list, numbers_item, text_item, texts_item, bin_item, retagged};
-ghost use Rattle.rpm_header.specs.Laid.{bytes_in};
-ghost use Rattle.rpm_header.specs.inner.Packed.{ReadsBack};
+ghost use Rattle.std.specs.Prelude.{◌≡◌, ◌≢◌, ◌++◌, ◌∷◌, [], ◌<◌, ◌≤◌, ◌*◌, ◌^◌, length, nat_lt, true, false, OnOk, IfOk, IsTrue};
+ghost use Rattle.rpm_header.specs.Prelude.{AllFit, bin_item, byte_len, bytes_in, has_numbers, is_region_tag, is_text_list, IsPacked, IsText, Item, numbers_item, ReadsBack, retagged, text_item, texts_item, to_be_bytes, values, width};
 
 use crate::entry::Entry;
 use crate::form::Form;
@@ -24,9 +19,6 @@ pub struct PackedEntry {
 }
 
 impl Model for PackedEntry {
-    ghost use Rattle.rpm_header.specs.Header.{Item, values};
-    ghost use Rattle.rpm_header.specs.inner.Packed.{IsPacked};
-
     ghost Value = { Item };
 
     ghost view = { λ s. record {

@@ -1,8 +1,7 @@
 //! The two parts of a checked header.
 
-ghost use Rattle.std.specs.Prelude.{◌≡◌, ℕ, ◌+◌, ◌*◌, take, drop, ◌≤◌, length, Ok};
-ghost use Rattle.rpm_header.specs.Header.{max_data, header};
-ghost use Rattle.rpm_header.specs.Parts.{own_index, own_data};
+ghost use Rattle.std.specs.Prelude.{◌≡◌, ◌+◌, ◌*◌, take, drop, ◌≤◌, length, Ok};
+ghost use Rattle.rpm_header.specs.Prelude.{header, max_data, own_data, own_index};
 
 use crate::index::section_of;
 use crate::view::View;

@@ -1,11 +1,7 @@
 //! Texts by place, in any order.
 
-ghost use Rattle.std.specs.Prelude.{◌≡◌, ℕ, ◌-◌, ◌*◌, ◌≤◌, ◌<◌, true, length, Some, is_some, slice_get, slice_index, take, drop};
-ghost use Rattle.std.specs.List.{position, before_first, after_first};
-ghost use Rattle.rpm_header.specs.Bytes.{are_ended, texts, is_zero};
-ghost use Rattle.rpm_header.specs.Header.{max_data};
-ghost use Rattle.rpm_header.specs.inner.Zeros.{zeros, skipped, AreCounted};
-ghost use Rattle.rpm_header.specs.inner.Placed.{IsPlaced};
+ghost use Rattle.std.specs.Prelude.{◌≡◌, ℕ, ◌-◌, ◌*◌, ◌≤◌, ◌<◌, true, length, Some, is_some, slice_get, slice_index, take, drop, List};
+ghost use Rattle.rpm_header.specs.Prelude.{after_first, are_ended, AreCounted, before_first, is_zero, IsPlaced, max_data, position, skipped, texts, zeros};
 
 use crate::bytes::{next_text, skip_texts};
 use crate::zeros::{between, has_end_near, look_for_ends, pass_blocks, pass_parts, zeros_in};
@@ -57,10 +53,6 @@ pub struct TextPlaces<'p, 'a> {
 }
 
 impl<'p, 'a> Model for TextPlaces<'p, 'a> {
-    ghost use Rattle.std.specs.Prelude.{List, ℕ};
-    ghost use Rattle.rpm_header.specs.Bytes.{texts};
-    ghost use Rattle.rpm_header.specs.inner.Placed.{IsPlaced};
-
     ghost Value = { List (List ℕ) };
 
     ghost view = { λ s. texts s.count s.bytes.now };

@@ -1,9 +1,7 @@
 //! A list of texts that is being made.
 
-ghost use Rattle.std.specs.Prelude.{◌≡◌, ℕ, ◌++◌, ◌∷◌, [], ◌≤◌, length, OnOk, OnErr};
-ghost use Rattle.std.specs.List.{AllByRecursion};
-ghost use Rattle.rpm_header.specs.Build.{IsText};
-ghost use Rattle.rpm_header.specs.Laid.{joined};
+ghost use Rattle.std.specs.Prelude.{◌≡◌, ℕ, ◌++◌, ◌∷◌, [], ◌≤◌, length, OnOk, OnErr, List};
+ghost use Rattle.rpm_header.specs.Prelude.{AllByRecursion, IsJoined, IsText, joined, texts};
 
 use std::alloc::{AllocError, Global};
 use std::marker::Model;
@@ -18,10 +16,6 @@ pub struct TextList {
 }
 
 impl Model for TextList {
-    ghost use Rattle.std.specs.Prelude.{List, ℕ};
-    ghost use Rattle.rpm_header.specs.Bytes.{texts};
-    ghost use Rattle.rpm_header.specs.inner.Packed.{IsJoined};
-
     ghost Value = { List (List ℕ) };
 
     ghost view = { λ s. texts s.count s.bytes.items };

@@ -1,8 +1,7 @@
 //! A header that was checked, over its own bytes.
 
 ghost use Rattle.std.specs.Prelude.{◌≡◌, ℕ, ◌+◌, ◌*◌, ◌≤◌, ◌<◌, length, map, Some, None, Ok, IfOk, take, slice_get};
-ghost use Rattle.rpm_header.specs.Header.{max_blob, max_entries, header, header_of, last_of, fault_at, IsOwn};
-ghost use Rattle.rpm_header.specs.inner.Checked.{IsCut};
+ghost use Rattle.rpm_header.specs.Prelude.{entries, fault_at, Header, header, header_of, IsCut, IsOwn, IsSound, last_of, max_blob, max_entries};
 
 use crate::bytes::u32_at;
 use crate::ends::{TextEnds, ZeroSums};
@@ -20,9 +19,6 @@ pub struct View<'a> {
 }
 
 impl<'a> Model for View<'a> {
-    ghost use Rattle.rpm_header.specs.Header.{Header, entries};
-    ghost use Rattle.rpm_header.specs.inner.Checked.{IsSound};
-
     ghost Value = { Header };
 
     ghost view = { λ s. record { blob = s.blob.now; entries = entries s.count s.blob.now } };

@@ -1,9 +1,7 @@
 //! Zero bytes, by which texts end.
 
 ghost use Rattle.std.specs.Prelude.{◌≡◌, ◌+◌, ◌≤◌, ◌<◌, length, take, drop};
-ghost use Rattle.rpm_header.specs.Bytes.{are_ended};
-ghost use Rattle.rpm_header.specs.inner.Zeros.{zeros, skipped};
-ghost use Rattle.rpm_header.specs.Header.{max_data};
+ghost use Rattle.rpm_header.specs.Prelude.{are_ended, max_data, skipped, zeros};
 
 use crate::bytes::are_ended;
 use std::simd::prelude::*;

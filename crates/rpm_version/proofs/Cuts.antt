@@ -1,12 +1,10 @@
 -- The first segment of a text, by its first byte.
 use Rattle.std.proofs.Common.{◌≡◌, ◌≢◌, ℕ, ◌<◌, Bool, true, false, ◌||◌, List, [], ◌∷◌, drop, refl, sym, ap, ◌∙◌, subst, arith}
-use Rattle.std.specs.Char.{is_ascii_digit, is_ascii_alphabetic, digit_value}
-use Rattle.std.specs.List.{prefix_len, take_while, onto_first}
-use Rattle.std.specs.Str.Parse.{digits_value, AllDigits}
+use Rattle.rpm_version.proofs.Vocabulary.{AllDigits, Caret, digit_value, Digits, digits_value, End, is_ascii_alphabetic, is_ascii_digit, Letters, onto_first}
+use Rattle.rpm_version.proofs.Vocabulary.{prefix_len, runs, runs_on, segment_of, segments, take_while, Tilde}
 use Rattle.std.proofs.lemmas.Bool.Decides.{nat_tests}
 use Rattle.std.proofs.lemmas.Bool.{ne_eqb}
 use Rattle.rpm_version.proofs.Fronts.{taken-yes, taken-no, left-yes, left-no}
-use Rattle.rpm_version.specs.Segment.{Tilde, End, Caret, Letters, Digits, runs_on, runs, segment_of, segments}
 
 pub segments-nil : segments [] ≡ End ∷ []
 unfolding segments runs

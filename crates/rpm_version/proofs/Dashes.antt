@@ -1,10 +1,9 @@
 -- What the place of the last dash says of a version and a release.
 use Rattle.std.proofs.Common.{◌≡◌, ◌≢◌, ℕ, ◌+◌, ◌-◌, true, false, not, List, take, drop, length, refl, sym, ap, subst, get_or, All, arith, None}
-use Rattle.std.specs.List.{list_any, suffix_len}
+use Rattle.rpm_version.proofs.Vocabulary.{is_dash, IsLastDash, list_any, release_of, suffix_len, unless_empty, version_of}
 use Rattle.std.proofs.lemmas.Bool.{ne_eqb, eq-eqb}
 use Rattle.std.proofs.lemmas.List.Recursion.{or_at, or_from_places}
 use Rattle.std.proofs.lemmas.List.Sums.{suffix_len_is}
-use Rattle.rpm_version.specs.Evr.{is_dash, IsLastDash, unless_empty, version_of, release_of}
 
 no_dash : (text : List ℕ) → All (λ b. b ≢ 45) text → list_any is_dash text ≡ false
 no_dash text none = or_from_places (list_any is_dash) is_dash refl (λ _ _. refl) text 0 (λ k h. ne_eqb _ 45 (none k 0 h))

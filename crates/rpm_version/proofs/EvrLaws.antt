@@ -1,11 +1,8 @@
 -- The order by epoch, version and release, turned round.
 use Rattle.std.proofs.Common.{◌≡◌, ℕ, List, refl, ◌∙◌, Option, Some, None}
-use Rattle.std.specs.declared.cmp.Ordering.{Ordering}
-use Rattle.std.specs.declared.cmp.Ordering.TheVariants.{Less, Equal, Greater}
-use Rattle.std.specs.Ordering.{nat_cmp, ordering_then, ordering_reverse}
+use Rattle.rpm_version.proofs.Vocabulary.{epoch_number, Equal, evr_order, EvrParts, Greater, Less, nat_cmp, Ordering, ordering_reverse, ordering_then}
+use Rattle.rpm_version.proofs.Vocabulary.{release_order, version_order}
 use Rattle.std.proofs.lemmas.Cmp.{nat_cmp_total}
-use Rattle.rpm_version.specs.Order.{version_order}
-use Rattle.rpm_version.specs.Evr.{EvrParts, epoch_number, release_order, evr_order}
 use Rattle.rpm_version.proofs.Laws.{converse}
 
 reverse-then : (r s : Ordering) → ordering_then (ordering_reverse r) (ordering_reverse s) ≡ ordering_reverse (ordering_then r s)

@@ -1,6 +1,6 @@
 -- What a test takes from the front of a text, and what it leaves.
 use Rattle.std.proofs.Common.{◌≡◌, ℕ, Bool, true, false, List, [], ◌∷◌, drop, arith}
-use Rattle.std.specs.List.{prefix_len, take_while}
+use Rattle.rpm_version.proofs.Vocabulary.{prefix_len, take_while}
 use Rattle.std.proofs.lemmas.Grind.{common_steps}
 use Rattle.std.proofs.lemmas.List.Sums.{take_while-cons}
 

@@ -1,15 +1,11 @@
 -- The order of versions is a total preorder, and its ties have the same segments.
 use Rattle.std.proofs.Common.{◌≡◌, ◌≢◌, ◌⊎◌, ◌↔◌, ℕ, ◌<◌, true, false, List, [], ◌∷◌, refl, sym, ap, ◌∙◌, subst, inl, inr}
-use Rattle.std.specs.declared.cmp.Ordering.{Ordering}
-use Rattle.std.specs.declared.cmp.Ordering.TheVariants.{Less, Equal, Greater}
-use Rattle.std.specs.Cmp.{IsTotalOrder}
-use Rattle.std.specs.Cmp.Lexicographic.{slice_cmp}
-use Rattle.std.specs.Ordering.{nat_cmp, ordering_then, ordering_reverse, is_gt, is_eq, on, then_cmp, MatchOrdering}
+use Rattle.rpm_version.proofs.Vocabulary.{Caret, Digits, End, Equal, Greater, is_eq, is_gt, IsTotalOrder, IsUpTo, Less, Letters, MatchOrdering, nat_cmp, on}
+use Rattle.rpm_version.proofs.Vocabulary.{Ordering, ordering_reverse, ordering_then, rank, Segment, segment_order, segments, slice_cmp, then_cmp, Tilde}
+use Rattle.rpm_version.proofs.Vocabulary.{version_order}
 use Rattle.std.proofs.lemmas.Cmp.{nat_cmp_total, nat_list_cmp_total, lists_total, on_total, then_total, upto, tied_itself, ranked}
 use Rattle.std.proofs.lemmas.Map.Text.{is_eq-slice_cmp}
 use Rattle.std.proofs.lemmas.Slice.Eq.{bytes_eq-Decides}
-use Rattle.rpm_version.specs.Segment.{Segment, Tilde, End, Caret, Letters, Digits, segments}
-use Rattle.rpm_version.specs.Order.{rank, segment_order, version_order, IsUpTo}
 
 abbrev letters_of : Segment → List ℕ
 letters_of (Letters text) = text

@@ -8,3 +8,4 @@ pub mod RangeLaws
 pub mod Senses
 pub mod Steps
 pub mod Words
+pub mod Vocabulary

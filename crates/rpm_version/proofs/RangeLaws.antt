@@ -1,10 +1,7 @@
 -- Two ranges overlap whichever is named first.
 use Rattle.std.proofs.Common.{◌≡◌, ℕ, Bool, true, false, ◌||◌, ◌&&◌, List, refl, ap, ◌∙◌, Option, Some, None}
-use Rattle.std.specs.declared.cmp.Ordering.{Ordering}
-use Rattle.std.specs.declared.cmp.Ordering.TheVariants.{Less, Equal, Greater}
-use Rattle.std.specs.Ordering.{ordering_reverse}
-use Rattle.rpm_version.specs.Evr.{EvrParts, evr, evr_order}
-use Rattle.rpm_version.specs.Range.{has_less, has_greater, has_equal, is_open, share_sense, equal_but_release, meets, overlaps}
+use Rattle.rpm_version.proofs.Vocabulary.{Equal, equal_but_release, evr, evr_order, EvrParts, Greater, has_equal, has_greater, has_less, is_open, Less, meets}
+use Rattle.rpm_version.proofs.Vocabulary.{Ordering, ordering_reverse, overlaps, share_sense}
 use Rattle.rpm_version.proofs.EvrLaws.{evr_converse}
 
 or_turned : (a b : Bool) → (a || b) ≡ (b || a)

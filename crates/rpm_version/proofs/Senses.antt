@@ -1,14 +1,11 @@
 -- Flags of which the bits of a sense alone are kept.
 use Rattle.std.proofs.Common.{◌≡◌, ℕ, ◌*◌, ◌^◌, Bool, true, false, ◌||◌, ◌==◌, List, Option, Some, None, refl, sym, ap, ◌∙◌, inl, inr, arith}
 use Rattle.std.specs.Prelude.{bit_and}
-use Rattle.std.specs.Int.{bit_at}
-use Rattle.std.specs.declared.cmp.Ordering.{Ordering}
-use Rattle.std.specs.declared.cmp.Ordering.TheVariants.{Less, Equal, Greater}
+use Rattle.rpm_version.proofs.Vocabulary.{bit_at, Equal, equal_but_release, evr, evr_order, EvrParts, Greater, is_open, Less, meets, Ordering, overlaps}
+use Rattle.rpm_version.proofs.Vocabulary.{share_sense}
 use Rattle.std.proofs.lemmas.Bool.{cases_Bool}
 use Rattle.std.proofs.lemmas.Bool.Decides.{nat_tests}
 use Rattle.std.proofs.lemmas.Nat.Bits.{and_pow, bit_at_and, bit_at-lt}
-use Rattle.rpm_version.specs.Evr.{EvrParts, evr, evr_order}
-use Rattle.rpm_version.specs.Range.{is_open, share_sense, equal_but_release, meets, overlaps}
 
 kept_at : (flags k : ℕ) → bit_at 14 k ≡ 1 → bit_and (bit_and flags 14) (2 ^ k) ≡ bit_and flags (2 ^ k)
 kept_at flags k one =

@@ -1,14 +1,8 @@
 -- What the first piece of each text says of their order.
 use Rattle.std.proofs.Common.{◌≡◌, ◌≢◌, ℕ, true, false, List, ◌∷◌, refl, sym, ap, ◌∙◌}
-use Rattle.std.specs.declared.cmp.Ordering.{Ordering}
-use Rattle.std.specs.declared.cmp.Ordering.TheVariants.{Less, Equal, Greater}
-use Rattle.std.specs.Cmp.Lexicographic.{slice_cmp}
-use Rattle.std.specs.Ordering.{ordering_then, is_ne}
-use Rattle.rpm_version.specs.declared.segment.Piece.{Piece}
+use Rattle.rpm_version.proofs.Vocabulary.{End, Equal, Greater, is_ne, Less, Ordering, ordering_then, Piece, segment_at, segment_order, segments}
+use Rattle.rpm_version.proofs.Vocabulary.{segments_behind, slice_cmp, version_order}
 use Rattle.rpm_version.specs.declared.segment.Piece.TheVariants as piece
-use Rattle.rpm_version.specs.Segment.{End, segments}
-use Rattle.rpm_version.specs.Order.{segment_order, version_order}
-use Rattle.rpm_version.specs.Piece.{segment_at, segments_behind}
 use Rattle.rpm_version.proofs.Laws.{version_order-step, segment_order-Equal}
 
 then_differs : (r s : Ordering) → is_ne r ≡ true → ordering_then r s ≡ r

@@ -1,10 +1,9 @@
 -- The first word of a text.
 use Rattle.std.proofs.Common.{◌≡◌, ℕ, ◌<◌, Bool, true, false, not, List, [], ◌∷◌, take, drop, length, filter, refl, sym, ap, subst, ◌==◌, ◌∙◌, arith}
-use Rattle.std.specs.List.{prefix_len, position_or_len, take_while, slice_split, onto_first}
+use Rattle.rpm_version.proofs.Vocabulary.{is_blank, is_word, onto_first, position_or_len, prefix_len, slice_split, take_while, words}
 use Rattle.std.proofs.lemmas.Bool.{ne_eqb, eqb-true, eqb-false}
 use Rattle.std.proofs.lemmas.List.{nil_from_length}
 use Rattle.std.proofs.lemmas.List.Splits.{slice_split-cons_yes, slice_split-cons_no}
-use Rattle.rpm_version.specs.Capability.{is_blank, is_word, words}
 use Rattle.rpm_version.proofs.Fronts.{taken-yes, taken-no, left-yes, left-no}
 
 abbrev no_blank : ℕ → Bool

@@ -1,9 +1,7 @@
 //! The capabilities that a command line names.
 
 ghost use Rattle.std.specs.Prelude.{◌≡◌, ◌==◌, ◌≤◌, ◌∷◌, [], ℕ, List, MatchOption, drop, length};
-ghost use Rattle.std.specs.List.{prefix_len, position_or_len};
-ghost use Rattle.rpm_version.specs.Capability.{is_blank, words, sense, capability};
-ghost use Rattle.rpm_version.specs.Range.{is_open, overlaps};
+ghost use Rattle.rpm_version.specs.Prelude.{capability, CapabilityParts, is_blank, is_open, overlaps, position_or_len, prefix_len, sense, words};
 
 use crate::range::{EQUAL, GREATER, LESS, SENSE, is_open};
 use std::marker::Model;
@@ -21,8 +19,6 @@ pub struct Capability<'a> {
 }
 
 impl<'a> Model for Capability<'a> {
-    ghost use Rattle.rpm_version.specs.Capability.{CapabilityParts};
-
     ghost Value = { CapabilityParts };
 
     ghost view = { λ s. record { name = s.name.now; flags = s.flags; evr = s.evr.now } };

@@ -1,10 +1,7 @@
 //! Texts of an epoch, a version and a release.
 
 ghost use Rattle.std.specs.Prelude.{◌≡◌, ◌≢◌, All, MatchOption, option_copied};
-ghost use Rattle.std.specs.Char.{is_ascii_digit};
-ghost use Rattle.std.specs.Ordering.{ordering_reverse};
-ghost use Rattle.std.specs.Str.Parse.{AllDigits};
-ghost use Rattle.rpm_version.specs.Evr.{EvrParts, evr, evr_order, epoch_of, behind_epoch, version_of, release_of, epoch_number, release_order, HasDigits, IsLastDash, unless_empty};
+ghost use Rattle.rpm_version.specs.Prelude.{behind_epoch, epoch_of, evr, evr_order, EvrParts, HasDigits, IsLastDash, ordering_reverse, release_of, release_order, unless_empty, version_of};
 
 use crate::order::{compare, compare_numbers};
 use crate::segment::leading_digits;
@@ -20,9 +17,6 @@ pub struct Evr<'a> {
 }
 
 impl<'a> Model for Evr<'a> {
-    ghost use Rattle.std.specs.Prelude.{option_copied};
-    ghost use Rattle.rpm_version.specs.Evr.{EvrParts, HasDigits};
-
     ghost Value = { EvrParts };
 
     ghost view = { λ s. record { epoch = option_copied s.epoch; version = s.version.now; release = option_copied s.release } };

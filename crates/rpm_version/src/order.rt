@@ -1,11 +1,7 @@
 //! Which of two versions is newer.
 
-ghost use Rattle.std.specs.Prelude.{◌≡◌, ◌≢◌, ◌⊎◌, ◌↔◌, ◌==◌, ◌≤◌, List, ℕ, length, slice_index};
-ghost use Rattle.std.specs.Ordering.{nat_cmp, ordering_reverse};
-ghost use Rattle.std.specs.Str.Parse.{AllDigits, digits_value};
-ghost use Rattle.rpm_version.specs.Order.{segment_order, version_order, IsUpTo};
-ghost use Rattle.rpm_version.specs.Piece.{segment_at, IsRun};
-ghost use Rattle.rpm_version.specs.Segment.{segments};
+ghost use Rattle.std.specs.Prelude.{◌≡◌, ◌≢◌, ◌⊎◌, ◌↔◌, ◌==◌, ◌≤◌, List, ℕ, slice_index};
+ghost use Rattle.rpm_version.specs.Prelude.{AllDigits, digits_value, IsRun, IsUpTo, nat_cmp, ordering_reverse, segment_at, segment_order, segments, version_order};
 
 use crate::segment::{Piece, next_piece};
 use std::cmp::Ordering;

@@ -1,8 +1,7 @@
 //! Ranges of versions: the bits of a sense, and the version that they stand beside.
 
 ghost use Rattle.std.specs.Prelude.{◌≡◌, ◌==◌, ℕ, List, not, bit_and, option_copied};
-ghost use Rattle.rpm_version.specs.Evr.{evr_order};
-ghost use Rattle.rpm_version.specs.Range.{is_open, share_sense, equal_but_release, meets, overlaps};
+ghost use Rattle.rpm_version.specs.Prelude.{equal_but_release, evr_order, is_open, meets, overlaps, share_sense};
 
 use crate::evr::{Evr, compare_evr};
 use std::cmp::Ordering;

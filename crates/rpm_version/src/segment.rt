@@ -1,12 +1,7 @@
 //! The segments of a version, one at a time.
 
 ghost use Rattle.std.specs.Prelude.{◌≡◌, ◌≢◌, ◌+◌, ◌<◌, ◌≤◌, ◌∷◌, ◌↔◌, IsTrue, drop, length};
-ghost use Rattle.std.specs.Char.{is_ascii_digit, is_ascii_alphabetic};
-ghost use Rattle.std.specs.List.{prefix_len, take_while};
-ghost use Rattle.std.specs.Str.Parse.{AllDigits};
-ghost use Rattle.rpm_version.specs.Order.{rank};
-ghost use Rattle.rpm_version.specs.Piece.{segment_at, segments_behind, IsRun};
-ghost use Rattle.rpm_version.specs.Segment.{segments};
+ghost use Rattle.rpm_version.specs.Prelude.{AllDigits, is_ascii_alphabetic, is_ascii_digit, IsRun, prefix_len, rank, segment_at, segments, segments_behind, take_while};
 
 /// A segment as it stands in a borrowed text.
 #[derive(Clone, Copy)]

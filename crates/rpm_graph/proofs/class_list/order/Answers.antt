@@ -1,10 +1,6 @@
 use Rattle.std.proofs.Common.{◌≡◌, ℕ, ◌<◌, [], length, get_or, map, sym, ap, subst, ◌∙◌, arith}
 use Rattle.std.proofs.lemmas.List.{length-map, get_or_default}
-use Rattle.rpm_graph.specs.inner.Listings.{AreFalling, IsListing}
-use Rattle.rpm_graph.specs.Networks.{IsNetwork}
-use Rattle.rpm_graph.specs.Orders.{IsOrder, least}
-use Rattle.rpm_graph.specs.inner.Rows.{AreLeastNumbers, HaveEnds, HaveMembers}
-use Rattle.rpm_graph.specs.inner.Searches.{AreWithin, IsSplit, rows_of}
+use Rattle.rpm_graph.proofs.Vocabulary.{AreFalling, AreLeastNumbers, AreWithin, HaveEnds, HaveMembers, IsListing, IsNetwork, IsOrder, IsSplit, least, rows_of}
 use Rattle.rpm_graph.proofs.Bridge.{members_are_class}
 use Rattle.rpm_graph.proofs.Classing.{ends_fall}
 use Rattle.rpm_graph.proofs.Laws.{stand_once, edges_go_back}
@@ -36,15 +32,10 @@ least_numbers-requires c = λ x lt.
 
 pub list_classes-requires-clause-falls : goal.list_classes-requires-clause-falls
 list_classes-requires-clause-falls c =
-    let g = c.args.graph.now in
-    let net : IsNetwork g = c.numbers.ensures.network in
     let rows = rows_of c.in_ok-rows.rows.items in
-    let have = c.in_ok-rows.ensures in
     let classes = c.in_ok-split.split.classes.items in
     let count = c.in_ok-split.split.count in
     let split = subst (λ l. IsSplit (rows_of l) classes count) c.deref.ensures.value c.in_ok-split.ensures in
-    let members = rows_of c.in_ok-members.members.items in
-    let grouped = subst (λ l. HaveMembers l classes (length l) members) c.numbers.ensures.numbers c.in_ok-members.ensures.members in
     let ends = rows_of c.in_ok-ends.ends.items in
     let ended = subst (λ n. HaveEnds rows classes n ends) (sym (length-map c.in_ok-rows.rows.items (λ r. r.items)))
     (subst (λ l. HaveEnds (rows_of l) classes (length l) ends) c.deref-2.ensures.value c.in_ok-ends.ensures.ends) in

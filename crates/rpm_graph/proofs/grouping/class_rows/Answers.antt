@@ -1,7 +1,6 @@
 use Rattle.std.proofs.Common.{◌≡◌, ◌<◌, [], length, get_or, drop, ap, subst, ◌∙◌, arith}
 use Rattle.std.proofs.lemmas.List.{length-map, get_or_default, take_at}
-use Rattle.rpm_graph.specs.inner.Rows.{GainEnds, HaveEnds}
-use Rattle.rpm_graph.specs.inner.Searches.{Goes, rows_of}
+use Rattle.rpm_graph.proofs.Vocabulary.{GainEnds, Goes, HaveEnds, rows_of}
 use Rattle.rpm_graph.proofs.Classing.{ends_row}
 use Rattle.rpm_graph.proofs.Steps.{row_read}
 use Rattle.rpm_graph.proofs.grouping.class_rows.Goals as goal

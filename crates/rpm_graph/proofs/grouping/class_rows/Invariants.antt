@@ -1,6 +1,5 @@
 use Rattle.std.proofs.Common.{◌≡◌, length}
-use Rattle.rpm_graph.specs.inner.Rows.{HaveEnds}
-use Rattle.rpm_graph.specs.inner.Searches.{rows_of}
+use Rattle.rpm_graph.proofs.Vocabulary.{HaveEnds, rows_of}
 use Rattle.rpm_graph.proofs.grouping.class_rows.Given as goal
 
 abbrev pub invariant-loop-place : goal.invariant-loop-place

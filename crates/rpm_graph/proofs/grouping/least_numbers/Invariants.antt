@@ -1,6 +1,5 @@
 use Rattle.std.proofs.Common.{◌≡◌, length}
-use Rattle.rpm_graph.specs.inner.Rows.{AreLeastNumbers}
-use Rattle.rpm_graph.specs.inner.Searches.{rows_of}
+use Rattle.rpm_graph.proofs.Vocabulary.{AreLeastNumbers, rows_of}
 use Rattle.rpm_graph.proofs.grouping.least_numbers.Given as goal
 
 abbrev pub invariant-loop-class : goal.invariant-loop-class

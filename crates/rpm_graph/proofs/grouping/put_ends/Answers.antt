@@ -1,6 +1,6 @@
 use Rattle.std.proofs.Common.{◌<◌, length, get_or, refl, arith}
 use Rattle.std.proofs.lemmas.List.{length-map}
-use Rattle.rpm_graph.specs.inner.Searches.{rows_of}
+use Rattle.rpm_graph.proofs.Vocabulary.{rows_of}
 use Rattle.rpm_graph.proofs.Gathering.{ends_skip, ends_more}
 use Rattle.rpm_graph.proofs.grouping.put_ends.Goals as goal
 use Rattle.rpm_graph.proofs.grouping.put_ends.Goals.{then-classes-to+in_ok-push_link, else-classes-to}

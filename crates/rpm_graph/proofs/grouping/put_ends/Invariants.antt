@@ -1,5 +1,4 @@
-use Rattle.rpm_graph.specs.inner.Rows.{GainEnds}
-use Rattle.rpm_graph.specs.inner.Searches.{rows_of}
+use Rattle.rpm_graph.proofs.Vocabulary.{GainEnds, rows_of}
 use Rattle.rpm_graph.proofs.grouping.put_ends.Given as goal
 
 abbrev pub invariant-loop-to : goal.invariant-loop-to

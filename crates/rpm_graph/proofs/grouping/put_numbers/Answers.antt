@@ -1,6 +1,6 @@
 use Rattle.std.proofs.Common.{◌<◌, length, get_or, arith}
 use Rattle.std.proofs.lemmas.List.{length-map}
-use Rattle.rpm_graph.specs.inner.Searches.{rows_of}
+use Rattle.rpm_graph.proofs.Vocabulary.{rows_of}
 use Rattle.rpm_graph.proofs.Gathering.{members_more}
 use Rattle.rpm_graph.proofs.grouping.put_numbers.Goals as goal
 

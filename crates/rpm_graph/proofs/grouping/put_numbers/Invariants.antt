@@ -1,5 +1,4 @@
-use Rattle.rpm_graph.specs.inner.Rows.{HaveMembers}
-use Rattle.rpm_graph.specs.inner.Searches.{rows_of}
+use Rattle.rpm_graph.proofs.Vocabulary.{HaveMembers, rows_of}
 use Rattle.rpm_graph.proofs.grouping.put_numbers.Given as goal
 
 abbrev pub invariant-loop-place : goal.invariant-loop-place

@@ -1,8 +1,7 @@
 use Rattle.std.proofs.Common.{◌≡◌, length, ap, subst, ◌∙◌, arith, inl, inr}
 use Rattle.std.proofs.lemmas.Bool.{cases_lt}
 use Rattle.std.proofs.lemmas.List.{length-map}
-use Rattle.rpm_graph.specs.inner.Listings.{IsPlaced, listed_at}
-use Rattle.rpm_graph.specs.inner.Searches.{rows_of}
+use Rattle.rpm_graph.proofs.Vocabulary.{IsPlaced, listed_at, rows_of}
 use Rattle.rpm_graph.proofs.Beginning.{begun, none_listed}
 use Rattle.rpm_graph.proofs.listing.begin.Goals as goal
 

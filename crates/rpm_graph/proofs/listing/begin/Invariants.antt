@@ -1,6 +1,5 @@
 use Rattle.std.proofs.Common.{◌≡◌, ◌<◌, ℕ, false, length, replicate}
-use Rattle.rpm_graph.specs.inner.Listings.{IsUnderway, IsPlaced}
-use Rattle.rpm_graph.specs.inner.Searches.{rows_of}
+use Rattle.rpm_graph.proofs.Vocabulary.{IsPlaced, IsUnderway, rows_of}
 use Rattle.rpm_graph.proofs.listing.begin.Given as goal
 
 abbrev pub invariant-loop-class : goal.invariant-loop-class

@@ -1,5 +1,5 @@
 use Rattle.std.proofs.Common.{◌≡◌, ◌≤◌, ◌<◌, ◌-◌, ℕ, true, length, get_or}
-use Rattle.rpm_graph.specs.inner.Listings.{listed_at}
+use Rattle.rpm_graph.proofs.Vocabulary.{listed_at}
 use Rattle.rpm_graph.proofs.listing.first_unlisted.Given as goal
 
 abbrev pub invariant-loop-at : goal.invariant-loop-at

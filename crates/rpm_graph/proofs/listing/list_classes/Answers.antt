@@ -1,11 +1,8 @@
 use Rattle.std.proofs.Common.{◌≡◌, ℕ, ◌<◌, ◌++◌, ◌∷◌, [], true, false, suc, length, set, inl, inr, refl, sym, ap, subst, ◌∙◌, arith}
-use Rattle.std.specs.List.{Contains}
+use Rattle.rpm_graph.proofs.Vocabulary.{Contains, IsPlaced, listed_at, Listing, rows_of}
 use Rattle.std.proofs.lemmas.Bool.{cases_lt, cases_eq}
 use Rattle.std.proofs.lemmas.List.{length-map}
 use Rattle.std.proofs.lemmas.List.Elements.{Contains-append_left, Contains-push, Contains-push_cases}
-use Rattle.rpm_graph.specs.declared.listing.Listing.{Listing}
-use Rattle.rpm_graph.specs.inner.Listings.{IsPlaced, listed_at}
-use Rattle.rpm_graph.specs.inner.Searches.{rows_of}
 use Rattle.rpm_graph.proofs.Beginning.{none_listed}
 use Rattle.rpm_graph.proofs.Marking.{marked_there, marked_stays, marked_other, marked_fewer}
 use Rattle.rpm_graph.proofs.Popping.{popped_class, popped_underway, popped_taken, popped_placed, is_least, least_more, all_listed}

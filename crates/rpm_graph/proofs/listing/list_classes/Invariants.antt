@@ -1,7 +1,5 @@
 use Rattle.std.proofs.Common.{◌≡◌, ℕ, true, length}
-use Rattle.std.specs.List.{Contains}
-use Rattle.rpm_graph.specs.inner.Listings.{AreLeast, IsUnderway, ArePlaced, listed_at, unlisted_count}
-use Rattle.rpm_graph.specs.inner.Searches.{rows_of}
+use Rattle.rpm_graph.proofs.Vocabulary.{AreLeast, ArePlaced, Contains, IsUnderway, listed_at, rows_of, unlisted_count}
 use Rattle.rpm_graph.proofs.listing.list_classes.Given as goal
 
 abbrev pub invariant-loop-first : goal.invariant-loop-first

@@ -1,5 +1,5 @@
 use Rattle.std.proofs.Common.{◌≡◌, [], replicate}
-use Rattle.rpm_graph.specs.inner.Searches.{rows_of}
+use Rattle.rpm_graph.proofs.Vocabulary.{rows_of}
 use Rattle.rpm_graph.proofs.rows.empty_rows.Given as goal
 
 abbrev pub invariant-loop : goal.invariant-loop

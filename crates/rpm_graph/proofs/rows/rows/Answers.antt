@@ -1,8 +1,6 @@
 use Rattle.std.proofs.Common.{◌≡◌, ◌<◌, length, get_or, drop, sym, ap, ◌∙◌, arith}
 use Rattle.std.proofs.lemmas.List.{take_at}
-use Rattle.rpm_graph.specs.Networks.{edge_at}
-use Rattle.rpm_graph.specs.inner.Rows.{with_link}
-use Rattle.rpm_graph.specs.inner.Searches.{rows_of}
+use Rattle.rpm_graph.proofs.Vocabulary.{edge_at, rows_of, with_link}
 use Rattle.rpm_graph.proofs.Rowing.{have_more}
 use Rattle.rpm_graph.proofs.rows.rows.Goals as goal
 

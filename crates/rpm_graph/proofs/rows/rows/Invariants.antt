@@ -1,5 +1,4 @@
-use Rattle.rpm_graph.specs.inner.Rows.{HaveEdges}
-use Rattle.rpm_graph.specs.inner.Searches.{rows_of}
+use Rattle.rpm_graph.proofs.Vocabulary.{HaveEdges, rows_of}
 use Rattle.rpm_graph.proofs.rows.rows.Given as goal
 
 abbrev pub invariant-loop-edge : goal.invariant-loop-edge

@@ -1,6 +1,6 @@
 use Rattle.std.proofs.Common.{◌≡◌, ℕ, ◌+◌, ◌<◌, [], length, get_or, drop, replicate, ap, subst, ◌∙◌, arith}
 use Rattle.std.proofs.lemmas.List.{length-map, take_at}
-use Rattle.rpm_graph.specs.inner.Searches.{IsSearch, rows_of}
+use Rattle.rpm_graph.proofs.Vocabulary.{IsSearch, rows_of}
 use Rattle.rpm_graph.proofs.Ends.{fresh, split_at_end}
 use Rattle.rpm_graph.proofs.search.find_classes.Goals as goal
 

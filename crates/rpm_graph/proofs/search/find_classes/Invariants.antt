@@ -1,5 +1,5 @@
 use Rattle.std.proofs.Common.{◌≡◌, ℕ, ◌<◌, ◌≤◌, [], get_or}
-use Rattle.rpm_graph.specs.inner.Searches.{rows_of, Searches}
+use Rattle.rpm_graph.proofs.Vocabulary.{rows_of, Searches}
 use Rattle.rpm_graph.proofs.search.find_classes.Given as goal
 
 abbrev pub invariant-loop-place : goal.invariant-loop-place

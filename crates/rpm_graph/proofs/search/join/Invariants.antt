@@ -1,5 +1,5 @@
 use Rattle.std.proofs.Common.{vec_len}
-use Rattle.rpm_graph.specs.inner.Searches.{IsCut}
+use Rattle.rpm_graph.proofs.Vocabulary.{IsCut}
 use Rattle.rpm_graph.proofs.search.join.Given as goal
 
 abbrev pub invariant-loop-root : goal.invariant-loop-root

@@ -1,4 +1,4 @@
-use Rattle.rpm_graph.specs.inner.Searches.{IsLowered}
+use Rattle.rpm_graph.proofs.Vocabulary.{IsLowered}
 use Rattle.rpm_graph.proofs.search.lower.Given as goal
 
 abbrev pub invariant-loop-rank : goal.invariant-loop-rank

@@ -1,5 +1,5 @@
 use Rattle.std.proofs.Common.{take}
-use Rattle.rpm_graph.specs.inner.Searches.{IsMarked}
+use Rattle.rpm_graph.proofs.Vocabulary.{IsMarked}
 use Rattle.rpm_graph.proofs.search.mark.Given as goal
 
 abbrev pub invariant-loop-place : goal.invariant-loop-place

@@ -1,5 +1,5 @@
 use Rattle.std.proofs.Common.{◌≡◌, ◌++◌, take, map}
-use Rattle.rpm_graph.specs.inner.Searches.{link}
+use Rattle.rpm_graph.proofs.Vocabulary.{link}
 use Rattle.rpm_graph.proofs.search.put_row.Given as goal
 
 abbrev pub invariant-loop-to : goal.invariant-loop-to

@@ -1,6 +1,5 @@
 use Rattle.std.proofs.Common.{◌≡◌, ◌-◌, true}
-use Rattle.rpm_header.specs.Bytes.{are_ended}
-use Rattle.rpm_header.specs.inner.Zeros.{skipped}
+use Rattle.rpm_header.proofs.Vocabulary.{are_ended, skipped}
 use Rattle.rpm_header.proofs.bytes.skip_texts.Given as goal
 
 abbrev pub invariant-loop : goal.invariant-loop

@@ -1,5 +1,5 @@
 use Rattle.std.proofs.Common.{◌≡◌, ◌-◌, true}
-use Rattle.rpm_header.specs.Bytes.{are_ended}
+use Rattle.rpm_header.proofs.Vocabulary.{are_ended}
 use Rattle.rpm_header.proofs.Stored.{IsPast}
 use Rattle.rpm_header.proofs.bytes.texts_end.Given as goal
 

@@ -1,5 +1,5 @@
 use Rattle.std.proofs.Common.{◌∙◌, ◌++◌, ap, []}
-use Rattle.sha2.specs.Sha256.{sha256}
+use Rattle.rpm_header.proofs.Vocabulary.{sha256}
 use Rattle.rpm_header.proofs.Hashed.{message}
 use Rattle.rpm_header.proofs.digest.digest_of.Goals as goal
 

@@ -1,6 +1,6 @@
 use Rattle.std.proofs.Common.{◌∙◌, ◌+◌, ◌-◌, ◌*◌, ◌/◌, ◌^◌, ap, sym, arith, length, refl}
 use Rattle.std.proofs.lemmas.List.{length-take-le}
-use Rattle.sha2.specs.Sha256.{sha256}
+use Rattle.rpm_header.proofs.Vocabulary.{sha256}
 use Rattle.rpm_header.proofs.Opened.{opened}
 use Rattle.rpm_header.proofs.Hashed.{region_fits, reads_region}
 use Rattle.rpm_header.proofs.digest.region_digest.Goals as goal

@@ -1,5 +1,5 @@
 use Rattle.std.proofs.Common.{◌+◌, length}
-use Rattle.rpm_header.specs.Dribbles.{dribbled_data}
+use Rattle.rpm_header.proofs.Vocabulary.{dribbled_data}
 use Rattle.rpm_header.proofs.LaidParts.{is_within}
 use Rattle.rpm_header.proofs.Opened.{opened}
 use Rattle.rpm_header.proofs.Dribbled.{dribbled_pieces, dribbled_written}

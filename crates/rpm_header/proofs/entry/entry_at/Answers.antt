@@ -1,6 +1,5 @@
 use Rattle.std.proofs.Common.{◌≡◌, ◌∙◌, ap, None, Some, refl, List, ℕ}
-use Rattle.rpm_header.specs.declared.index.IndexEntry.{IndexEntry}
-use Rattle.rpm_header.specs.Header.{index_entry, entry_of}
+use Rattle.rpm_header.proofs.Vocabulary.{entry_of, index_entry, IndexEntry}
 use Rattle.rpm_header.proofs.Values.{sound_form, no_form, entry_made, made}
 use Rattle.rpm_header.proofs.entry.entry_at.Goals as goal
 

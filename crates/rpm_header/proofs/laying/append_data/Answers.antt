@@ -1,6 +1,6 @@
 use Rattle.std.proofs.Common.{◌≡◌, ◌+◌, ◌-◌, ◌++◌, ◌∙◌, sym, ap, arith, length, ℕ, List}
 use Rattle.std.specs.Prelude.{replicate}
-use Rattle.rpm_header.specs.Laid.{end_of}
+use Rattle.rpm_header.proofs.Vocabulary.{end_of}
 use Rattle.rpm_header.proofs.LaidOut.{offset_is, end_more, data_more, data_all}
 use Rattle.rpm_header.proofs.laying.append_data.Goals as goal
 

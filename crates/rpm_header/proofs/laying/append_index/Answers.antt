@@ -1,6 +1,5 @@
 use Rattle.std.proofs.Common.{◌≡◌, ◌+◌, ◌++◌, ◌∙◌, sym, ap, arith, length, refl}
-use Rattle.rpm_header.specs.Laid.{end_of, index_bytes}
-use Rattle.rpm_header.specs.declared.index.IndexEntry.{IndexEntry}
+use Rattle.rpm_header.proofs.Vocabulary.{end_of, index_bytes, IndexEntry}
 use Rattle.rpm_header.proofs.LaidOut.{offset_is, indexed_is, end_more, index_more, index_all}
 use Rattle.rpm_header.proofs.laying.append_index.Goals as goal
 

@@ -1,5 +1,5 @@
 use Rattle.std.proofs.Common.{◌≡◌, ◌+◌, ◌≤◌, ◌++◌, length, drop}
-use Rattle.rpm_header.specs.Laid.{data_from, index_from}
+use Rattle.rpm_header.proofs.Vocabulary.{data_from, index_from}
 use Rattle.rpm_header.proofs.laying.append_index.Given as goal
 
 abbrev pub invariant-loop-entry : goal.invariant-loop-entry

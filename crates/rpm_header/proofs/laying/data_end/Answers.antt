@@ -1,5 +1,5 @@
 use Rattle.std.proofs.Common.{◌≡◌, ◌+◌, ◌<◌, ◌≤◌, ◌∙◌, sym, ap, arith, length, lt-ltb, le-ltb, refl}
-use Rattle.rpm_header.specs.Laid.{end_of, data_from}
+use Rattle.rpm_header.proofs.Vocabulary.{data_from, end_of}
 use Rattle.rpm_header.proofs.LaidOut.{offset_is, end_more, end_all}
 use Rattle.rpm_header.proofs.laying.data_end.Goals as goal
 

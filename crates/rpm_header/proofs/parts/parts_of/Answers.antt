@@ -1,6 +1,6 @@
 use Rattle.std.proofs.Common.{◌∙◌, ◌≡◌, ◌+◌, ◌*◌, ap, arith, drop, length-drop, length, subst, List, ℕ, Ok}
 use Rattle.std.proofs.lemmas.List.{length-take-le}
-use Rattle.rpm_header.specs.Header.{header}
+use Rattle.rpm_header.proofs.Vocabulary.{header}
 use Rattle.rpm_header.proofs.Opened.{fits}
 use Rattle.rpm_header.proofs.parts.parts_of.Goals as goal
 

@@ -1,6 +1,5 @@
 use Rattle.std.proofs.Common.{arith, subst}
-use Rattle.rpm_header.specs.declared.places.Kept.{Kept}
-use Rattle.rpm_header.specs.inner.Placed.{AreKept}
+use Rattle.rpm_header.proofs.Vocabulary.{AreKept, Kept}
 use Rattle.rpm_header.proofs.Counted.{zeros_enough}
 use Rattle.rpm_header.proofs.places.behind.Goals as goal
 

@@ -1,6 +1,6 @@
 use Rattle.std.proofs.Common.{◌≡◌, ◌-◌, ◌*◌, ℕ, List, length, take, drop, get_or, arith, ap, sym, ◌∙◌, length-drop}
 use Rattle.std.proofs.lemmas.List.{take_all}
-use Rattle.rpm_header.specs.inner.Zeros.{zeros, skipped}
+use Rattle.rpm_header.proofs.Vocabulary.{skipped, zeros}
 use Rattle.rpm_header.proofs.Counted.{zeros-parts, zeros-take-le, ended_enough}
 use Rattle.rpm_header.proofs.Skipped.{skip_drop, skip_none}
 use Rattle.rpm_header.proofs.places.behind_strides.Goals as goal

@@ -1,5 +1,5 @@
 use Rattle.std.proofs.Common.{◌≡◌, ◌+◌, ◌*◌, ◌≢◌, ◌<◌, ℕ, length, take, arith, ap, refl, ◌∙◌, below_more, get_or-set_other, get_or-set_same, length-set}
-use Rattle.rpm_header.specs.inner.Zeros.{zeros}
+use Rattle.rpm_header.proofs.Vocabulary.{zeros}
 use Rattle.rpm_header.proofs.Counted.{zeros-parts, zeros-le, zeros-take-le}
 use Rattle.rpm_header.proofs.places.count_strides.Goals as goal
 

@@ -1,5 +1,5 @@
 use Rattle.std.proofs.Common.{◌≡◌, ℕ, ◌*◌, ◌<◌, length, take, get_or}
-use Rattle.rpm_header.specs.inner.Zeros.{zeros}
+use Rattle.rpm_header.proofs.Vocabulary.{zeros}
 use Rattle.rpm_header.proofs.places.count_strides.Given as goal
 
 abbrev pub invariant-loop-k : goal.invariant-loop-k

@@ -1,7 +1,6 @@
 use Rattle.std.proofs.Common.{◌≢◌, ◌+◌, ◌-◌, ◌<◌, ℕ, List, length, refl, sym, ap, ◌∙◌, arith, below_more, get_or-set_other, get_or-set_same, length-set}
 use Rattle.std.specs.Prelude.{is_some}
-use Rattle.std.specs.List.{after_first, position}
-use Rattle.rpm_header.specs.Bytes.{is_zero}
+use Rattle.rpm_header.proofs.Vocabulary.{after_first, is_zero, position}
 use Rattle.rpm_header.proofs.Begins.{ends_all, ends_more, ends_at}
 use Rattle.rpm_header.proofs.Skipped.{skip_none, skip_one_more, ended_behind}
 use Rattle.rpm_header.proofs.places.list_begins.Goals as goal

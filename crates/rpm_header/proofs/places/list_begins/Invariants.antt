@@ -1,5 +1,5 @@
 use Rattle.std.proofs.Common.{◌≡◌, ℕ, ◌<◌, ◌≤◌, length, drop, get_or}
-use Rattle.rpm_header.specs.inner.Zeros.{skipped}
+use Rattle.rpm_header.proofs.Vocabulary.{skipped}
 use Rattle.rpm_header.proofs.Begins.{EndsIn}
 use Rattle.rpm_header.proofs.places.list_begins.Given as goal
 

@@ -1,6 +1,6 @@
 use Rattle.std.proofs.Common.{◌≡◌, ◌+◌, ◌-◌, ℕ, length, drop, min, ap, ◌∙◌, arith}
 use Rattle.std.proofs.lemmas.List.{drop-drop, drop_min}
-use Rattle.rpm_header.specs.inner.Zeros.{zeros}
+use Rattle.rpm_header.proofs.Vocabulary.{zeros}
 use Rattle.rpm_header.proofs.Counted.{zeros-parts}
 use Rattle.rpm_header.proofs.zeros.between.Goals as goal
 

@@ -1,5 +1,5 @@
 use Rattle.std.proofs.Common.{◌≡◌, ◌≤◌, length}
-use Rattle.rpm_header.specs.Bytes.{are_ended}
+use Rattle.rpm_header.proofs.Vocabulary.{are_ended}
 use Rattle.rpm_header.proofs.zeros.look_for_ends.Given as goal
 
 abbrev pub invariant-loop-rest : goal.invariant-loop-rest

@@ -1,5 +1,5 @@
 use Rattle.std.proofs.Common.{◌≡◌, ◌≤◌, length}
-use Rattle.rpm_header.specs.inner.Zeros.{zeros, skipped}
+use Rattle.rpm_header.proofs.Vocabulary.{skipped, zeros}
 use Rattle.rpm_header.proofs.zeros.pass_blocks.Given as goal
 
 abbrev pub invariant-loop-rest : goal.invariant-loop-rest

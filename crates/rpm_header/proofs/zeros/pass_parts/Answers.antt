@@ -1,5 +1,5 @@
 use Rattle.std.proofs.Common.{arith, ◌∙◌, ap}
-use Rattle.rpm_header.specs.inner.Zeros.{zeros}
+use Rattle.rpm_header.proofs.Vocabulary.{zeros}
 use Rattle.rpm_header.proofs.Counted.{zeros-parts}
 use Rattle.rpm_header.proofs.Skipped.{skip_drop}
 use Rattle.rpm_header.proofs.zeros.pass_parts.Goals as goal

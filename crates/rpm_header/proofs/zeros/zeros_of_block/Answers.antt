@@ -1,8 +1,7 @@
 use Rattle.std.proofs.Common.{ap, ◌∙◌, arith, w8, eqb, take}
 use lib.Count.{ones}
 use Rattle.std.proofs.lemmas.Simd.{bitmask_splat, ones-mask_l, length-chunk}
-use Rattle.rpm_header.specs.Bytes.{is_zero}
-use Rattle.rpm_header.specs.inner.Zeros.{zeros}
+use Rattle.rpm_header.proofs.Vocabulary.{is_zero, zeros}
 use Rattle.rpm_header.proofs.zeros.zeros_of_block.Goals as goal
 
 pub returns-clause-value : goal.returns-clause-value

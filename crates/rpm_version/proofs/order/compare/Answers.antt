@@ -1,5 +1,5 @@
 use Rattle.std.proofs.Common.{◌≡◌, ◌≢◌, true, false, refl, sym, ◌∙◌}
-use Rattle.std.specs.Ordering.{is_ne}
+use Rattle.rpm_version.proofs.Vocabulary.{is_ne}
 use Rattle.std.proofs.lemmas.Bool.{false≢true}
 use Rattle.rpm_version.specs.declared.segment.Piece.TheVariants as piece
 use Rattle.rpm_version.proofs.Laws.{any_two_compare, converse, transitive, ties}

@@ -1,5 +1,5 @@
 use Rattle.std.proofs.Common.{◌≡◌, length}
-use Rattle.rpm_version.specs.Order.{version_order}
+use Rattle.rpm_version.proofs.Vocabulary.{version_order}
 use Rattle.rpm_version.proofs.order.compare.Given as goal
 
 abbrev pub invariant-loop-left : goal.invariant-loop-left

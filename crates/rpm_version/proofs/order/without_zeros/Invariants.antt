@@ -1,5 +1,5 @@
 use Rattle.std.proofs.Common.{◌≡◌, length}
-use Rattle.std.specs.Str.Parse.{AllDigits, digits_value}
+use Rattle.rpm_version.proofs.Vocabulary.{AllDigits, digits_value}
 use Rattle.rpm_version.proofs.order.without_zeros.Given as goal
 
 abbrev pub invariant-loop-rest : goal.invariant-loop-rest

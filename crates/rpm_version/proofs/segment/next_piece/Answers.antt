@@ -1,5 +1,5 @@
 use Rattle.std.proofs.Common.{◌≡◌, ◌≢◌, true, false, sym, ◌∙◌, arith}
-use Rattle.std.specs.Char.{is_ascii_digit, is_ascii_alphabetic}
+use Rattle.rpm_version.proofs.Vocabulary.{is_ascii_alphabetic, is_ascii_digit}
 use Rattle.std.proofs.lemmas.List.{nil_from_length}
 use Rattle.rpm_version.proofs.Cuts.{segments-nil, segments-digits, segments-letters, segments-tilde, segments-caret, segments-separator}
 use Rattle.rpm_version.proofs.segment.next_piece.Goals as goal

@@ -1,5 +1,5 @@
 use Rattle.std.proofs.Common.{◌≡◌, ◌≤◌, length}
-use Rattle.rpm_version.specs.Segment.{segments}
+use Rattle.rpm_version.proofs.Vocabulary.{segments}
 use Rattle.rpm_version.proofs.segment.next_piece.Given as goal
 
 abbrev pub invariant-loop-byte : goal.invariant-loop-byte

@@ -1,5 +1,5 @@
 use Rattle.std.proofs.Common.{subst}
-use Rattle.rpm_graph.specs.Networks.{Network, IsNetwork}
+use Rattle.rpm_graph.proofs.Vocabulary.{IsNetwork, Network}
 use Rattle.rpm_graph.proofs.graph.Graph.numbers.Goals as goal
 
 pub returns-clause-network : goal.returns-clause-network

@@ -1,6 +1,5 @@
 use Rattle.std.proofs.Common.{sym, subst}
-use Rattle.std.specs.List.{All}
-use Rattle.rpm_graph.specs.Networks.{Network, edge, Joins, IsBefore}
+use Rattle.rpm_graph.proofs.Vocabulary.{All, edge, IsBefore, Joins, Network}
 use Rattle.rpm_graph.proofs.Pushes.{network_with_edge}
 use Rattle.rpm_graph.proofs.graph.Graph.push_edge.Goals as goal
 

@@ -1,6 +1,5 @@
 use Rattle.std.proofs.Common.{◌<◌, sym, subst}
-use Rattle.std.specs.List.{All}
-use Rattle.rpm_graph.specs.Networks.{Network}
+use Rattle.rpm_graph.proofs.Vocabulary.{All, Network}
 use Rattle.rpm_graph.proofs.Pushes.{network_with_number}
 use Rattle.rpm_graph.proofs.graph.Graph.push_number.Goals as goal
 

@@ -1,9 +1,7 @@
 use Rattle.std.proofs.Common.{◌≡◌, ℕ, ◌≤◌, ◌<◌, false, [], length, get_or, sym, ap, subst, ◌∙◌, arith, inl, inr}
-use Rattle.std.specs.List.{Contains}
+use Rattle.rpm_graph.proofs.Vocabulary.{Contains, IsPlaced, listed_at, rows_of}
 use Rattle.std.proofs.lemmas.Bool.{cases_lt}
 use Rattle.std.proofs.lemmas.List.{length-map, get_or_default}
-use Rattle.rpm_graph.specs.inner.Listings.{IsPlaced, listed_at}
-use Rattle.rpm_graph.specs.inner.Searches.{rows_of}
 use Rattle.rpm_graph.proofs.Marking.{marked_underway, marked_placed, marked_only, waited}
 use Rattle.rpm_graph.proofs.listing.Listing.list.Goals as goal
 
@@ -51,12 +49,13 @@ loop-other-preserved c =
       ];
     }
 
-pub settle-requires-clause-inside : goal.settle-requires-clause-inside
-settle-requires-clause-inside c =
+pub settle-requires : goal.settle-requires
+settle-requires c =
     let r = c.requires in
     let s = c.args.self.now in
     let t = c.mark-waited.new.self in
     let m = c.mark-waited.ensures.listed in
+    let inv = c.loop-other.invariant in
     let ends = rows_of c.args.ends.now in
     let class = c.args.class in
     let inside : class < length ends = omega (arith, r.inside, length-map c.args.ends.now (λ r. r.items)) in
@@ -67,25 +66,13 @@ settle-requires-clause-inside c =
     let has : Contains (get_or (rows_of s.waiting.items) class []) other = subst (λ l. Contains l other)
     (c.deref-other-items.ensures.value ∙ c.mark-waited.ensures.row) (i, lt, get_or_default xs i other 0 lt) in
     let w = waited ends c.args.leasts.now s t r.underway class inside r.unlisted r.ends_listed r.taken m other has in
-    omega (arith, w.0, length-map c.args.ends.now (λ r. r.items))
-
-pub settle-requires-clause-unlisted : goal.settle-requires-clause-unlisted
-settle-requires-clause-unlisted c =
-    let r = c.requires in
-    let s = c.args.self.now in
-    let t = c.mark-waited.new.self in
-    let m = c.mark-waited.ensures.listed in
-    let ends = rows_of c.args.ends.now in
-    let class = c.args.class in
-    let inside : class < length ends = omega (arith, r.inside, length-map c.args.ends.now (λ r. r.items)) in
-    let xs = c.deref-other-items.result.now in
-    let i = c.loop-other.other-index in
-    let lt : i < length xs = omega arith in
-    let other = get_or xs i 0 in
-    let has : Contains (get_or (rows_of s.waiting.items) class []) other = subst (λ l. Contains l other)
-    (c.deref-other-items.ensures.value ∙ c.mark-waited.ensures.row) (i, lt, get_or_default xs i other 0 lt) in
-    let w = waited ends c.args.leasts.now s t r.underway class inside r.unlisted r.ends_listed r.taken m other has in
-    ap (λ l. listed_at l other) (c.loop-other.invariant.listed ∙ sym m.listed) ∙ w.1
+    record {
+      underway = inv.underway;
+      falls = r.falls;
+      inside = omega (arith, w.0, length-map c.args.ends.now (λ r. r.items));
+      sized = r.sized;
+      unlisted = ap (λ l. listed_at l other) (inv.listed ∙ sym m.listed) ∙ w.1;
+    }
 
 pub returns-clause-placed : goal.returns-clause-placed
 returns-clause-placed c = λ x lt free. elim (c.loop-other.invariant.placed x lt free) [

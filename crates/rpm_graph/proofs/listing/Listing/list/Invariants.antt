@@ -1,6 +1,5 @@
 use Rattle.std.proofs.Common.{◌≡◌, ◌≤◌, ◌<◌, ◌⊎◌, ℕ, true, false, length, get_or, set}
-use Rattle.rpm_graph.specs.inner.Listings.{IsUnderway, IsPlaced, listed_at}
-use Rattle.rpm_graph.specs.inner.Searches.{rows_of}
+use Rattle.rpm_graph.proofs.Vocabulary.{IsPlaced, IsUnderway, listed_at, rows_of}
 use Rattle.rpm_graph.proofs.listing.Listing.list.Given as goal
 
 abbrev pub invariant-loop-other : goal.invariant-loop-other

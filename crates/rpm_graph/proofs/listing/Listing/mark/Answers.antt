@@ -1,6 +1,6 @@
 use Rattle.std.proofs.Common.{List, Vec, ℕ, set, refl, ap, ◌∙◌}
 use Rattle.std.proofs.lemmas.List.{map-set}
-use Rattle.rpm_graph.specs.inner.Searches.{rows_of}
+use Rattle.rpm_graph.proofs.Vocabulary.{rows_of}
 use Rattle.rpm_graph.proofs.listing.Listing.mark.Goals as goal
 
 pub returns-clause-listed : goal.returns-clause-listed

@@ -1,45 +1,31 @@
 use Rattle.std.proofs.Common.{◌≡◌, ℕ, ◌≤◌, ◌<◌, [], length, get_or, drop, refl, ap, ◌∙◌, arith}
-use Rattle.std.specs.Vec.{with_item, with_items}
+use Rattle.rpm_graph.proofs.Vocabulary.{Listing, rows_of, with_item, with_items, with_link}
 use Rattle.std.proofs.lemmas.List.{length-map, take_at, get_or_default}
-use Rattle.rpm_graph.specs.declared.listing.Listing.{Listing}
-use Rattle.rpm_graph.specs.inner.Rows.{with_link}
-use Rattle.rpm_graph.specs.inner.Searches.{rows_of}
 use Rattle.rpm_graph.proofs.Sets.{insert_kept, insert_only, insert_there, pair_total, pair_exact}
 use Rattle.rpm_graph.proofs.Settling.{row_below, first_read, waits_underway, waits_keeps, waits_placed, ready_underway, ready_keeps, ready_placed}
 use Rattle.rpm_graph.proofs.Steps.{row_read}
 use Rattle.rpm_graph.proofs.listing.Listing.settle.Goals as goal
 
-pub first_unlisted-at-requires-clause-within : goal.first_unlisted-at-requires-clause-within
-first_unlisted-at-requires-clause-within c = λ i lt.
-    let ends = rows_of c.args.ends.now in
-    let row : c.deref-row.result.now ≡ get_or ends c.args.class []
-    = c.deref-row.ensures.value ∙ row_read c.args.ends.now c.args.class c.index-ends-class.result c.requires.inside c.index-ends-class.is in
-    let below = row_below ends c.requires.falls c.args.class i (omega (arith, lt, ap length row)) in
-    omega (
-      arith,
-      below,
-      ap (λ l. get_or l i 0) row,
-      ap length c.deref.ensures.value,
-      c.requires.underway.listed_long,
-      c.requires.inside,
-      length-map c.args.ends.now (λ r. r.items),
-    )
-
-pub first_unlisted-at-requires-clause-inside : goal.first_unlisted-at-requires-clause-inside
-first_unlisted-at-requires-clause-inside c =
+pub first_unlisted-at-requires : goal.first_unlisted-at-requires
+first_unlisted-at-requires c =
     let ends = rows_of c.args.ends.now in
     let u = c.requires.underway in
+    let long = length-map c.args.ends.now (λ r. r.items) in
     let row : c.deref-row.result.now ≡ get_or ends c.args.class []
     = c.deref-row.ensures.value ∙ row_read c.args.ends.now c.args.class c.index-ends-class.result c.requires.inside c.index-ends-class.is in
-    let inside : c.args.class < length c.args.self.now.checked.items
-    = omega (arith, c.requires.inside, u.checked_long, length-map c.args.ends.now (λ r. r.items)) in
-    omega (
-      arith,
-      c.index.ensures,
-      get_or_default c.args.self.now.checked.items c.args.class c.index.result.now 0 inside,
-      u.checked_in c.args.class,
-      ap length row,
-    )
+    let inside : c.args.class < length c.args.self.now.checked.items = omega (arith, c.requires.inside, u.checked_long, long) in
+    record {
+      within = λ i lt.
+          let below = row_below ends c.requires.falls c.args.class i (omega (arith, lt, ap length row)) in
+          omega (arith, below, ap (λ l. get_or l i 0) row, ap length c.deref.ensures.value, u.listed_long, c.requires.inside, long);
+      inside = omega (
+        arith,
+        c.index.ensures,
+        get_or_default c.args.self.now.checked.items c.args.class c.index.result.now 0 inside,
+        u.checked_in c.args.class,
+        ap length row,
+      );
+    }
 
 pub push_link-requires : goal.push_link-requires
 push_link-requires c =

@@ -1,6 +1,6 @@
 use Rattle.std.proofs.Common.{◌≡◌, ◌+◌, ◌<◌, [], length, get_or, sym, ap, ◌∙◌, arith}
 use Rattle.std.proofs.lemmas.List.{length-map, get_or_default, get_or-set_same}
-use Rattle.rpm_graph.specs.inner.Searches.{rows_of}
+use Rattle.rpm_graph.proofs.Vocabulary.{rows_of}
 use Rattle.rpm_graph.proofs.Entering.{entered}
 use Rattle.rpm_graph.proofs.Ends.{none_open}
 use Rattle.rpm_graph.proofs.Fronts.{whole_front}

@@ -1,5 +1,5 @@
 use Rattle.std.proofs.Common.{◌≤◌, get_or}
-use Rattle.rpm_graph.specs.inner.Searches.{rows_of, Searches, KeepsSeen, work}
+use Rattle.rpm_graph.proofs.Vocabulary.{KeepsSeen, rows_of, Searches, work}
 use Rattle.rpm_graph.proofs.search.Search.explore.Given as goal
 
 abbrev pub invariant-loop-last : goal.invariant-loop-last

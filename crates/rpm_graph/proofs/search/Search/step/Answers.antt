@@ -1,6 +1,6 @@
 use Rattle.std.proofs.Common.{◌≡◌, ◌+◌, [], ◌<◌, ◌≤◌, length, get_or, sym, subst, ◌∙◌, arith}
 use Rattle.std.proofs.lemmas.List.{length-map, get_or_default}
-use Rattle.rpm_graph.specs.inner.Searches.{NoneWaits, rows_of}
+use Rattle.rpm_graph.proofs.Vocabulary.{NoneWaits, rows_of}
 use Rattle.rpm_graph.proofs.Closing.{closed_then, closed_work, closed_keeps}
 use Rattle.rpm_graph.proofs.Steps.{row_read, set_keeps, none_waits, last_root}
 use Rattle.rpm_graph.proofs.Taken.{there, search_entered, work_entered, search_joined}

@@ -1,6 +1,5 @@
 use Rattle.std.proofs.Common.{◌∙◌, ◌++◌, ap, List, length}
-use Rattle.rpm_header.specs.Header.{Item}
-use Rattle.rpm_header.specs.Laid.{data_from, index_from, data_of, with_region}
+use Rattle.rpm_header.proofs.Vocabulary.{data_from, data_of, index_from, Item, with_region}
 use Rattle.rpm_header.proofs.LaidParts.{is_within, room_for_trailer, laid_parts, written}
 use Rattle.rpm_header.proofs.builder.Builder.lay_out.Goals as goal
 

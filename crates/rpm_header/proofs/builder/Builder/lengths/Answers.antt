@@ -1,6 +1,5 @@
 use Rattle.std.proofs.Common.{◌∙◌, ap, List, length, ◌+◌}
-use Rattle.rpm_header.specs.Header.{Item}
-use Rattle.rpm_header.specs.Laid.{data_from, lengths_of}
+use Rattle.rpm_header.proofs.Vocabulary.{data_from, Item, lengths_of}
 use Rattle.rpm_header.proofs.LaidParts.{region_lengths}
 use Rattle.rpm_header.proofs.builder.Builder.lengths.Goals as goal
 

@@ -1,4 +1,4 @@
-use Rattle.rpm_header.specs.inner.Packed.{ReadsBack}
+use Rattle.rpm_header.proofs.Vocabulary.{ReadsBack}
 use Rattle.rpm_header.proofs.TextsAgain.{all_push}
 use Rattle.rpm_header.proofs.builder.Builder.push.Goals as goal
 

@@ -1,5 +1,5 @@
 use Rattle.std.proofs.Common.{List, ℕ, drop, sym, ap, ◌∙◌, arith}
-use Rattle.rpm_header.specs.Bytes.{are_ended}
+use Rattle.rpm_header.proofs.Vocabulary.{are_ended}
 use Rattle.rpm_header.proofs.Counted.{ended_enough, zeros-earlier}
 use Rattle.rpm_header.proofs.ends.TextEnds.are_ended.Goals as goal
 

@@ -1,6 +1,5 @@
 use Rattle.std.proofs.Common.{◌≡◌, ◌+◌, ◌/◌, ◌-◌, ◌*◌, ◌<◌, ℕ, List, length, drop, ap, ◌∙◌, arith}
-use Rattle.rpm_header.specs.Bytes.{are_ended}
-use Rattle.rpm_header.specs.inner.Zeros.{zeros}
+use Rattle.rpm_header.proofs.Vocabulary.{are_ended, zeros}
 use Rattle.rpm_header.proofs.Counted.{ended_part, in_strides}
 use Rattle.rpm_header.proofs.ends.ZeroSums.are_ended.Goals as goal
 

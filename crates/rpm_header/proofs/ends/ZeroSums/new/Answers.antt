@@ -1,6 +1,6 @@
 use Rattle.std.proofs.Common.{◌≡◌, ◌+◌, ◌/◌, ◌*◌, ◌≤◌, ℕ, length, drop, ◌-◌, ◌∙◌, sym, ap, arith, length-drop}
 use Rattle.std.proofs.Math.Nat.{mul-le-mul_left}
-use Rattle.rpm_header.specs.inner.Zeros.{zeros}
+use Rattle.rpm_header.proofs.Vocabulary.{zeros}
 use Rattle.rpm_header.proofs.Counted.{zeros-past, zeros-le, one_more}
 use Rattle.rpm_header.proofs.ends.ZeroSums.new.Goals as goal
 

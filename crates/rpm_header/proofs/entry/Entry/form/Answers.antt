@@ -1,5 +1,5 @@
 use Rattle.std.proofs.Common.{subst}
-use Rattle.rpm_header.specs.Header.{IsWhole}
+use Rattle.rpm_header.proofs.Vocabulary.{IsWhole}
 use Rattle.rpm_header.proofs.Whole.{is_whole}
 use Rattle.rpm_header.proofs.entry.Entry.form.Goals as goal
 

@@ -1,6 +1,6 @@
 use Rattle.std.proofs.Common.{◌≤◌, arith, ap, ◌∙◌, take}
 use Rattle.std.specs.Prelude.{IsTrue}
-use Rattle.rpm_header.specs.Header.{Item, has_texts, texts_of}
+use Rattle.rpm_header.proofs.Vocabulary.{has_texts, Item, texts_of}
 use Rattle.rpm_header.proofs.Placed.{first_ended, first_texts}
 use Rattle.rpm_header.proofs.entry.Entry.places.Goals as goal
 

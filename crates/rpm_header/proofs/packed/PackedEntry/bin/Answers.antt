@@ -1,7 +1,6 @@
 use Rattle.std.proofs.Common.{sym, subst, ap, refl, length}
 use Rattle.rpm_header.specs.declared.form.Form.TheVariants as form
-use Rattle.rpm_header.specs.Header.{Values}
-use Rattle.rpm_header.specs.inner.Packed.{ReadsBack}
+use Rattle.rpm_header.proofs.Vocabulary.{ReadsBack, Values}
 use Rattle.rpm_header.proofs.Packing.{bin_packed, bin_read_back, item_of}
 use Rattle.rpm_header.proofs.packed.PackedEntry.bin.Goals as goal
 

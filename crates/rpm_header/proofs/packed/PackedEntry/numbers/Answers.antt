@@ -1,6 +1,5 @@
 use Rattle.std.proofs.Common.{subst, ap, refl, sym, ◌∙◌, length}
-use Rattle.rpm_header.specs.Header.{Values}
-use Rattle.rpm_header.specs.inner.Packed.{ReadsBack}
+use Rattle.rpm_header.proofs.Vocabulary.{ReadsBack, Values}
 use Rattle.rpm_header.proofs.NumbersAgain.{fits_first, fits_more, written_more, written_all}
 use Rattle.rpm_header.proofs.Packing.{numbers_packed, numbers_read_back, item_of}
 use Rattle.rpm_header.proofs.packed.PackedEntry.numbers.Goals as goal

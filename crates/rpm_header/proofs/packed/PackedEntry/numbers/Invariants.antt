@@ -1,8 +1,5 @@
 use Rattle.std.proofs.Common.{◌≡◌, ◌++◌, drop}
-use Rattle.std.specs.List.{flat_map}
-use Rattle.std.specs.Int.{to_be_bytes}
-use Rattle.rpm_header.specs.Header.{width}
-use Rattle.rpm_header.specs.Build.{AllFit}
+use Rattle.rpm_header.proofs.Vocabulary.{AllFit, flat_map, to_be_bytes, width}
 use Rattle.rpm_header.proofs.packed.PackedEntry.numbers.Given as goal
 
 abbrev pub invariant-loop-value : goal.invariant-loop-value

@@ -1,5 +1,5 @@
 use Rattle.std.proofs.Common.{◌∙◌, sym, subst}
-use Rattle.rpm_header.specs.inner.Packed.{ReadsBack}
+use Rattle.rpm_header.proofs.Vocabulary.{ReadsBack}
 use Rattle.rpm_header.proofs.Repacked.{repacked, repacked_item, repacked_parts}
 use Rattle.rpm_header.proofs.packed.PackedEntry.stored.Goals as goal
 

@@ -1,8 +1,7 @@
 use Rattle.std.proofs.Common.{subst, ◌≡◌, ap, refl, sym, ◌∙◌, [], ◌∷◌, ◌++◌, List, ℕ}
 use Rattle.std.proofs.lemmas.List.{append-nil}
 use Rattle.rpm_header.specs.declared.form.Form.TheVariants as form
-use Rattle.rpm_header.specs.Header.{Values}
-use Rattle.rpm_header.specs.inner.Packed.{ReadsBack}
+use Rattle.rpm_header.proofs.Vocabulary.{ReadsBack, Values}
 use Rattle.rpm_header.proofs.Packing.{item_of}
 use Rattle.rpm_header.proofs.PackedTexts.{texts_packed, text_read_back}
 use Rattle.rpm_header.proofs.packed.PackedEntry.text.Goals as goal

@@ -1,6 +1,5 @@
 use Rattle.std.proofs.Common.{ap, sym, subst, ◌∙◌, ℕ}
-use Rattle.rpm_header.specs.Header.{Values, Texts}
-use Rattle.rpm_header.specs.inner.Packed.{ReadsBack}
+use Rattle.rpm_header.proofs.Vocabulary.{ReadsBack, Texts, Values}
 use Rattle.rpm_header.proofs.Packing.{item_of}
 use Rattle.rpm_header.proofs.PackedTexts.{texts_packed, texts_read_back, list_has_texts}
 use Rattle.rpm_header.proofs.packed.PackedEntry.texts.Goals as goal

@@ -1,7 +1,6 @@
 use Rattle.std.proofs.Common.{◌≡◌, ◌+◌, ◌<◌, ℕ, List, length, Some, arith, ap, sym, ◌∙◌, refl}
 use Rattle.std.specs.Prelude.{slice_get, is_some}
-use Rattle.std.specs.List.{before_first, after_first, position}
-use Rattle.rpm_header.specs.Bytes.{is_zero, texts}
+use Rattle.rpm_header.proofs.Vocabulary.{after_first, before_first, is_zero, position, texts}
 use Rattle.rpm_header.proofs.Skipped.{text_behind, skip_one_more, ended_behind}
 use Rattle.rpm_header.proofs.Whole.{length-texts}
 use Rattle.rpm_header.proofs.places.TextPlaces.text.Goals as goal

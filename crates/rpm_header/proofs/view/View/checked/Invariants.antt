@@ -1,5 +1,5 @@
 use Rattle.std.proofs.Common.{◌≡◌, ℕ, ◌<◌, None}
-use Rattle.rpm_header.specs.Header.{fault_at, section_of}
+use Rattle.rpm_header.proofs.Vocabulary.{fault_at, section_of}
 use Rattle.rpm_header.proofs.view.View.checked.Given as goal
 
 abbrev pub invariant-loop-i : goal.invariant-loop-i

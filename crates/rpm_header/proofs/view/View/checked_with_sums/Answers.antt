@@ -1,5 +1,5 @@
 use Rattle.std.proofs.Common.{◌≡◌, ℕ, ◌<◌, None, sym, arith, refl}
-use Rattle.rpm_header.specs.Header.{header_of, fault_at}
+use Rattle.rpm_header.proofs.Vocabulary.{fault_at, header_of}
 use Rattle.rpm_header.proofs.Each.{first_some, first_none}
 use Rattle.rpm_header.proofs.view.View.checked_with_sums.Goals as goal
 

@@ -1,6 +1,5 @@
 use Rattle.std.proofs.Common.{ℕ, ap, ◌∙◌, sym, subst, arith, Ok}
-use Rattle.rpm_header.specs.Header.{entries}
-use Rattle.rpm_header.specs.inner.Checked.{IsSound}
+use Rattle.rpm_header.proofs.Vocabulary.{entries, IsSound}
 use Rattle.rpm_header.proofs.Opened.{own_sound}
 use Rattle.rpm_header.proofs.view.View.of_checked.Goals as goal
 

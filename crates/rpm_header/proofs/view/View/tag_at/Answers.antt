@@ -1,5 +1,5 @@
 use Rattle.std.proofs.Common.{◌<◌, length, ap, arith}
-use Rattle.rpm_header.specs.Header.{Header}
+use Rattle.rpm_header.proofs.Vocabulary.{Header}
 use Rattle.rpm_header.proofs.Each.{length-entries, tag-entries}
 use Rattle.rpm_header.proofs.view.View.tag_at.Goals as goal
 

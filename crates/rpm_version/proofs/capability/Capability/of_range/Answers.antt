@@ -1,5 +1,5 @@
 use Rattle.std.proofs.Common.{ℕ, ◌==◌, ap, ◌∙◌}
-use Rattle.rpm_version.specs.Range.{overlaps}
+use Rattle.rpm_version.proofs.Vocabulary.{overlaps}
 use Rattle.rpm_version.proofs.Senses.{open_kept, overlaps_kept, overlaps_open, some_kept}
 use Rattle.rpm_version.proofs.capability.Capability.of_range.Goals as goal
 use Rattle.rpm_version.proofs.capability.Capability.of_range.Goals.{then-is_open, else-is_open}
