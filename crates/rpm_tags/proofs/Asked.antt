@@ -1,11 +1,9 @@
 -- The directories that files ask for.
 use Rattle.std.proofs.Common.{◌≡◌, ℕ, zero, suc, ◌+◌, ◌<◌, ◌≤◌, max, List, [], ◌∷◌, length, take, Bool, true, false, ◌&&◌, Some, inl, inr, refl, sym, ap, ◌∙◌, arith, nat_lt}
 use Rattle.std.specs.Prelude.{slice_get}
-use Rattle.std.specs.List.{list_all}
+use Rattle.rpm_tags.proofs.Vocabulary.{AreAsked, file_names, list_all, text_at}
 use Rattle.std.proofs.lemmas.Bool.{lt-ltb, le-ltb, ltb-true, cases_lt, eq-eqb}
 use Rattle.std.proofs.lemmas.List.{length-take-le, take_all}
-use Rattle.rpm_tags.specs.Value.{text_at, file_names}
-use Rattle.rpm_tags.specs.inner.Rows.{AreAsked}
 use Rattle.rpm_tags.proofs.Paths.{and_first, and_second}
 
 -- ---- the highest of some numbers

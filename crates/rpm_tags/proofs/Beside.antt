@@ -1,13 +1,10 @@
 -- Files that count for a path, and names with what is beside them.
 use Rattle.std.proofs.Common.{◌≡◌, ℕ, zero, suc, ◌+◌, ◌<◌, List, [], ◌∷◌, ◌++◌, length, drop, Bool, true, false, ◌&&◌, ◌||◌, Some, refl, sym, ap, ◌∙◌, inl, inr, arith}
 use Rattle.std.specs.Prelude.{slice_get}
-use Rattle.std.specs.List.{list_any, zip}
-use Rattle.std.specs.Str.{bytes_eq}
+use Rattle.rpm_tags.proofs.Vocabulary.{base_name, beside, bytes_eq, counts_for, file_name, file_names, first_or, list_any, zip}
 use Rattle.std.proofs.lemmas.Bool.{cases_Bool}
 use Rattle.std.proofs.lemmas.Slice.Eq.{bytes_eq-Decides}
 use Rattle.std.proofs.lemmas.List.{append_cancel_right}
-use Rattle.rpm_tags.specs.Value.{file_name, file_names}
-use Rattle.rpm_tags.specs.Wanted.{base_name, counts_for, first_or, beside}
 use Rattle.rpm_tags.proofs.Paths.{next_path}
 
 -- ---- a path

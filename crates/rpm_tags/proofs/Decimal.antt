@@ -1,6 +1,6 @@
 -- The digits of a number.
 use Rattle.std.proofs.Common.{◌≡◌, ℕ, ◌+◌, ◌/◌, ◌^◌, ◌≤◌, ◌<◌, length, ap, ◌∙◌, length-append}
-use Rattle.std.specs.Fmt.{decimal}
+use Rattle.rpm_tags.proofs.Vocabulary.{decimal}
 use Rattle.std.proofs.lemmas.Fmt.{decimal_step}
 
 pub length_step : (n : ℕ) → 10 ≤ n → n < 2 ^ 64 → length (decimal n) ≡ length (decimal (n / 10)) + 1

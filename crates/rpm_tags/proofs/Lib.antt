@@ -6,3 +6,4 @@ pub mod NamedAgain
 pub mod Parts
 pub mod Paths
 pub mod Rows
+pub mod Vocabulary

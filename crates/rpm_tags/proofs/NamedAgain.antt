@@ -1,12 +1,9 @@
 -- The name of a tag gives the tag again.
 use Rattle.std.proofs.Common.{◌≡◌, ℕ, List, [], ◌∷◌, Bool, Option, Some, None, true, false, refl, sym, ap, ◌∙◌, inl, inr, Bor}
 use Rattle.std.specs.Prelude.{IfSome, ◌&&◌}
-use Rattle.std.specs.List.{list_all}
-use Rattle.std.specs.Option.{option_copied}
+use Rattle.rpm_tags.proofs.Vocabulary.{Dbinstance, Epochnum, Evr, Filenames, is_tag, list_all, name_in, name_of, Nevra, Nvr, Nvra, option_copied, plain}
+use Rattle.rpm_tags.proofs.Vocabulary.{Stored, table, Tag, tag_in, tag_of}
 use Rattle.std.proofs.lemmas.Bool.{cases_Bool, eqb-true}
-use Rattle.rpm_tags.specs.declared.tag.Tag.{Tag}
-use Rattle.rpm_tags.specs.declared.tag.Tag.TheVariants.{Stored, Nvra, Nevra, Evr, Nvr, Epochnum, Filenames, Dbinstance}
-use Rattle.rpm_tags.specs.Table.{table, tag_in, tag_of, is_tag, name_in, name_of, plain}
 
 same_tag : (a b : Tag) → is_tag a b ≡ true → a ≡ b
 same_tag (Stored m) (Stored n) same = ap Stored (eqb-true m n same)

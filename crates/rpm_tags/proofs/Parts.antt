@@ -1,13 +1,11 @@
 -- A text in parts, one more of them.
 use Rattle.std.proofs.Common.{◌≡◌, ℕ, ◌+◌, ◌≤◌, ◌<◌, List, [], ◌∷◌, ◌++◌, length, get_or, map, Some, sym, ap, ◌∙◌, arith, length-append, length-set, append-nil, set}
 use Rattle.std.specs.Prelude.{slice_get}
-use Rattle.std.specs.List.{concat}
+use Rattle.rpm_tags.proofs.Vocabulary.{bytes_of, concat, IsInParts, IsPart, parts_of, TextPart}
 use Rattle.std.proofs.lemmas.List.{map-set, take_more_set, length-map, length-take-le, get_or-take, get_or-map}
 use Rattle.std.proofs.lemmas.List.Elements.{All-set}
 use Rattle.std.proofs.lemmas.List.Folds.{concat-append}
 use Rattle.std.proofs.lemmas.Option.{slice_get-get_or}
-use Rattle.rpm_tags.specs.declared.joined.TextPart.{TextPart}
-use Rattle.rpm_tags.specs.inner.Parts.{bytes_of, parts_of, IsInParts, IsPart}
 
 pub length_parts : (count : ℕ) (parts : List TextPart) → length parts ≡ 9 → count ≤ 9 → length (parts_of count parts) ≡ count
 length_parts count parts nine room = length-take-le count (map bytes_of parts) (omega (arith, length-map parts bytes_of))

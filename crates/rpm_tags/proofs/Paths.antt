@@ -1,14 +1,11 @@
 -- The paths of files.
 use Rattle.std.proofs.Common.{◌≡◌, ℕ, zero, suc, ◌+◌, ◌<◌, ◌≤◌, List, [], ◌∷◌, ◌++◌, length, drop, Bool, true, false, ◌&&◌, Some, refl, ap, subst, ◌∙◌, arith, nat_lt}
 use Rattle.std.specs.Prelude.{slice_get, ◌==◌, All}
-use Rattle.std.specs.List.{list_all, zip}
-use Rattle.std.specs.Option.{option_map}
+use Rattle.rpm_tags.proofs.Vocabulary.{are_matched, AreLeft, file_name, file_names, list_all, option_map, zip}
 use Rattle.std.proofs.lemmas.Option.{slice_get-map}
 use Rattle.std.proofs.lemmas.Bool.{ltb-true, eqb-true, eq-eqb}
 use Rattle.std.proofs.lemmas.List.Elements.{All-head, All-rest}
 use Rattle.std.proofs.lemmas.List.{length-map, at_drop_all}
-use Rattle.rpm_tags.specs.inner.Rows.{AreLeft}
-use Rattle.rpm_tags.specs.Value.{file_name, file_names, are_matched}
 
 -- ---- the indexes, one by one
 

@@ -1,11 +1,7 @@
 -- A search through the rows of a table.
 use Rattle.std.proofs.Common.{◌≡◌, ℕ, ◌+◌, ◌≤◌, ◌<◌, List, length, get_or, drop, true, false, cond, Option, Some, None, refl, sym, ◌∙◌}
-use Rattle.std.specs.Str.{str_eq_ignore_ascii_case}
+use Rattle.rpm_tags.proofs.Vocabulary.{as_table, is_tag, name_in, Row, str_eq_ignore_ascii_case, Tag, tag_in}
 use Rattle.std.proofs.lemmas.List.{at_drop_more, at_drop_all}
-use Rattle.rpm_tags.specs.declared.tag.Row.{Row}
-use Rattle.rpm_tags.specs.declared.tag.Tag.{Tag}
-use Rattle.rpm_tags.specs.Table.{tag_in, name_in, is_tag}
-use Rattle.rpm_tags.specs.inner.TagRows.{as_table}
 
 -- ---- by name
 

@@ -1,7 +1,7 @@
 //! The directories of files, which many files share.
 
 ghost use Rattle.std.specs.Prelude.{◌≡◌, ℕ, ◌+◌, ◌≤◌, ◌<◌, IsTrue, length, drop, Some, slice_get};
-ghost use Rattle.rpm_header.specs.Header.{max_data};
+ghost use Rattle.rpm_tags.specs.Prelude.{max_data};
 
 use crate::stored::{Numbers, TextIter, Texts};
 use rpm_header::{PlacesRoom, TextPlaces};

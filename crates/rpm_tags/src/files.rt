@@ -1,12 +1,7 @@
 //! The paths of a package's files.
 
 ghost use Rattle.std.specs.Prelude.{◌≡◌, ℕ, ◌<◌, ◌≤◌, ◌++◌, IsTrue, length, Some, slice_get, nat_lt, false, IfSome, MatchOption};
-ghost use Rattle.std.specs.Iterator.{YieldsFirstBy, item_count};
-ghost use Rattle.std.specs.List.{concat, list_all};
-ghost use Rattle.rpm_tags.specs.Value.{filenames, are_matched, file_name, texts_in, numbers_in};
-ghost use Rattle.rpm_header.specs.Header.{max_data};
-ghost use Rattle.rpm_tags.specs.inner.Rows.{AreAsked};
-ghost use Rattle.rpm_tags.specs.Numbers.{DIRINDEXES, BASENAMES, DIRNAMES};
+ghost use Rattle.rpm_tags.specs.Prelude.{are_matched, AreAsked, BASENAMES, concat, DIRINDEXES, DIRNAMES, file_name, filenames, item_count, list_all, max_data, numbers_in, texts_in, YieldsFirstBy};
 
 use crate::dirs::{Directories, go_back};
 use crate::joined::Joined;
@@ -133,10 +128,8 @@ impl<'v, 'a> Iterator for FileIter<'v, 'a> {
     ghost remaining = { item_count (λ s. s) };
 
     fn next(&mut self) -> Option<Joined<'a>> {
-        match self.next_path() {
-            None => None,
-            Some((dir, base)) => Some(Joined::two(dir, base)),
-        }
+        let (dir, base) = self.next_path()?;
+        Some(Joined::two(dir, base))
     }
 }
 
@@ -167,19 +160,6 @@ pub fn asked_for<'a>(dirs: Texts<'a>, indexes: &Numbers<'_>, bases: &Texts<'_>) 
     }
 }
 
-fn files_of<'a>(dirs: Texts<'a>, indexes: Numbers<'a>, bases: Texts<'a>) -> Option<Files<'a>>
-    ensures { result ≡ filenames (Some dirs.entry) (Some indexes.entry) (Some bases.entry) }
-{
-    match asked_for(dirs, &indexes, &bases) {
-        None => None,
-        Some(dirs) => Some(Files {
-            dirs,
-            indexes,
-            bases,
-        }),
-    }
-}
-
 /// The paths of a package's files; None where one of the three tags is missing or of another class,
 /// a file has no index, or an index no directory. Reads each index once.
 pub fn files_in<'a>(view: &View<'a>) -> Option<Files<'a>>
@@ -189,5 +169,10 @@ pub fn files_in<'a>(view: &View<'a>) -> Option<Files<'a>>
     let dirs = texts_in(view, DIRNAMES)?;
     let indexes = numbers_in(view, DIRINDEXES)?;
     let bases = texts_in(view, BASENAMES)?;
-    files_of(dirs, indexes, bases)
+    let dirs = asked_for(dirs, &indexes, &bases)?;
+    Some(Files {
+        dirs,
+        indexes,
+        bases,
+    })
 }

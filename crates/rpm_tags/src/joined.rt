@@ -1,9 +1,7 @@
 //! A text that is joined from parts.
 
 ghost use Rattle.std.specs.Prelude.{◌≡◌, ℕ, ◌+◌, ◌≤◌, ◌<◌, ◌∷◌, ◌++◌, [], length, decimal, slice_get};
-ghost use Rattle.std.specs.List.{concat};
-ghost use Rattle.std.specs.Option.{option_copied};
-ghost use Rattle.rpm_header.specs.Header.{max_data};
+ghost use Rattle.rpm_tags.specs.Prelude.{concat, max_data, option_copied};
 
 use crate::digits::{Digits, digits_in};
 use std::marker::Model;

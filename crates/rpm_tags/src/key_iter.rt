@@ -1,10 +1,7 @@
 //! The keys by which a package is found.
 
-ghost use Rattle.std.specs.Prelude.{◌≡◌, ℕ, ◌+◌, ◌^◌, ◌<◌, ◌∷◌, [], map, MatchOption};
-ghost use Rattle.std.specs.Iterator.{YieldsFirstBy, item_count};
-ghost use Rattle.rpm_tags.specs.Wanted.{listed};
-ghost use Rattle.rpm_tags.specs.Keys.{keys, key_list, number_key, tag_of_kind};
-ghost use Rattle.rpm_tags.specs.inner.KeysLeft.{keys_left, KeysHavePlaces};
+ghost use Rattle.std.specs.Prelude.{◌≡◌, ℕ, ◌+◌, ◌^◌, ◌<◌, ◌∷◌, [], map, MatchOption, List};
+ghost use Rattle.rpm_tags.specs.Prelude.{item_count, key_bytes, key_list, keys, keys_left, KeysHavePlaces, listed, number_key, placed, tag_of_kind, YieldsFirstBy};
 
 use crate::kind::Kind;
 use crate::numbers;
@@ -25,9 +22,6 @@ pub struct Key<'a> {
 }
 
 impl<'a> Model for Key<'a> {
-    ghost use Rattle.std.specs.Prelude.{List, ℕ};
-    ghost use Rattle.rpm_tags.specs.inner.KeysLeft.{key_bytes};
-
     ghost Value = { List ℕ };
 
     ghost view = { λ s. key_bytes s.bytes };
@@ -114,14 +108,8 @@ impl<'a> KeySource<'a> {
     {
         match self {
             KeySource::Nothing => None,
-            KeySource::Texts(texts) => match texts.next() {
-                None => None,
-                Some(text) => Some(Key::text(text)),
-            },
-            KeySource::Numbers(numbers) => match numbers.next() {
-                None => None,
-                Some(number) => Some(Key::number(number)),
-            },
+            KeySource::Texts(texts) => Some(Key::text(texts.next()?)),
+            KeySource::Numbers(numbers) => Some(Key::number(numbers.next()?)),
         }
     }
 }
@@ -135,10 +123,6 @@ pub struct KeyIter<'a> {
 }
 
 impl<'a> Model for KeyIter<'a> {
-    ghost use Rattle.std.specs.Prelude.{List, ℕ};
-    ghost use Rattle.rpm_tags.specs.Keys.{placed};
-    ghost use Rattle.rpm_tags.specs.inner.KeysLeft.{keys_left, KeysHavePlaces};
-
     ghost Value = { List (List ℕ × ℕ) };
 
     ghost view = { λ s. placed (keys_left s.source) s.place };
@@ -154,14 +138,10 @@ impl<'a> Iterator for KeyIter<'a> {
     ghost remaining = { item_count (λ s. s) };
 
     fn next(&mut self) -> Option<(Key<'a>, u32)> {
-        match self.source.take_next() {
-            None => None,
-            Some(key) => {
-                let place = self.place;
-                self.place += 1;
-                Some((key, place))
-            }
-        }
+        let key = self.source.take_next()?;
+        let place = self.place;
+        self.place += 1;
+        Some((key, place))
     }
 }
 

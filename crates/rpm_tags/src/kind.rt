@@ -1,7 +1,7 @@
 //! The kinds of keys by which packages are found.
 
 ghost use Rattle.std.specs.Prelude.{◌≡◌};
-ghost use Rattle.rpm_tags.specs.Kinds.{code_of};
+ghost use Rattle.rpm_tags.specs.Prelude.{code_of};
 
 /// What a key is: an element of the tag of this name.
 #[derive(Clone, Copy, Debug, PartialEq, Eq)]

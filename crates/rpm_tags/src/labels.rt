@@ -1,13 +1,10 @@
 //! The texts that are made of a package's name, epoch, version, release and architecture.
 
-ghost use Rattle.std.specs.Prelude.{◌≡◌, ℕ, ◌+◌, ◌≤◌, ◌<◌, ◌++◌, length, None, IfSome};
-ghost use Rattle.std.specs.Option.{option_copied};
-ghost use Rattle.rpm_tags.specs.Value.{first_text, first_number, evr, label, epoch_parts, arch_parts, release_parts, name_parts};
-ghost use Rattle.rpm_header.specs.Header.{max_data};
-ghost use Rattle.rpm_tags.specs.Numbers.{NAME, VERSION, RELEASE, EPOCH, ARCH};
+ghost use Rattle.std.specs.Prelude.{◌≡◌, ℕ, ◌+◌, ◌≤◌, ◌<◌, ◌++◌, length, IfSome};
+ghost use Rattle.rpm_tags.specs.Prelude.{arch_parts, EPOCH, epoch_parts, evr, first_number, first_text, label, max_data, NAME, name_parts, option_copied, RELEASE, release_parts, VERSION};
 
 use crate::joined::Joined;
-use crate::numbers::{ARCH, EPOCH, NAME, RELEASE, VERSION};
+use crate::numbers::{EPOCH, NAME, RELEASE, VERSION};
 use crate::stored::{first_number, first_text};
 use rpm_header::View;
 
@@ -54,9 +51,9 @@ fn push_arch<'a>(joined: &mut Joined<'a>, arch: Option<&'a [u8]>)
     }
 }
 
-/// The name, the version and the release with what is between them and after them; None where one
-/// of the three is not of class Text.
-fn label<'a>(view: &View<'a>, epoch: Option<u64>, arch: Option<&'a [u8]>) -> Option<Joined<'a>>
+/// `N-V-R`, with `E:` before the version and `.A` at the end where they are given; None where name, version or release
+/// is not of class Text.
+pub fn label<'a>(view: &View<'a>, epoch: Option<u64>, arch: Option<&'a [u8]>) -> Option<Joined<'a>>
     requires { IfSome arch (λ text. length text.now ≤ max_data) }
     ensures { result ≡ label (first_text view.now NAME) epoch (first_text view.now VERSION)
         (first_text view.now RELEASE) (option_copied arch.entry) }
@@ -70,30 +67,6 @@ fn label<'a>(view: &View<'a>, epoch: Option<u64>, arch: Option<&'a [u8]>) -> Opt
     push_release(&mut joined, version, release);
     push_arch(&mut joined, arch);
     Some(joined)
-}
-
-/// `N-V-R`.
-pub fn nvr<'a>(view: &View<'a>) -> Option<Joined<'a>>
-    ensures { result ≡ label (first_text view.now NAME) None (first_text view.now VERSION)
-        (first_text view.now RELEASE) None }
-{
-    label(view, None, None)
-}
-
-/// `N-V-R.A`.
-pub fn nvra<'a>(view: &View<'a>) -> Option<Joined<'a>>
-    ensures { result ≡ label (first_text view.now NAME) None (first_text view.now VERSION)
-        (first_text view.now RELEASE) (first_text view.now ARCH) }
-{
-    label(view, None, first_text(view, ARCH))
-}
-
-/// `N-E:V-R.A`.
-pub fn nevra<'a>(view: &View<'a>) -> Option<Joined<'a>>
-    ensures { result ≡ label (first_text view.now NAME) (first_number view.now EPOCH)
-        (first_text view.now VERSION) (first_text view.now RELEASE) (first_text view.now ARCH) }
-{
-    label(view, first_number(view, EPOCH), first_text(view, ARCH))
 }
 
 /// `E:V-R`.

@@ -1,9 +1,7 @@
 //! What a package needs or gives: names, each with flags and a version beside it.
 
-ghost use Rattle.std.specs.Prelude.{◌≡◌, [], drop, slice_get};
-ghost use Rattle.std.specs.Iterator.{YieldsFirstBy, item_count};
-ghost use Rattle.std.specs.Option.{option_copied};
-ghost use Rattle.rpm_tags.specs.Wanted.{Needed, listed, first_or, dependencies};
+ghost use Rattle.std.specs.Prelude.{◌≡◌, [], drop, slice_get, List};
+ghost use Rattle.rpm_tags.specs.Prelude.{beside, dependencies, first_or, item_count, listed, NamesHavePlaces, Needed, option_copied, YieldsFirstBy};
 
 use crate::stored::{Numbers, TextIter, numbers_in, texts_in};
 use rpm_header::View;
@@ -35,10 +33,6 @@ pub struct DependencyIter<'a> {
 }
 
 impl<'a> Model for DependencyIter<'a> {
-    ghost use Rattle.std.specs.Prelude.{List, drop};
-    ghost use Rattle.rpm_tags.specs.Wanted.{Needed, listed, beside};
-    ghost use Rattle.rpm_tags.specs.inner.NamesLeft.{NamesHavePlaces};
-
     ghost Value = { List Needed };
 
     ghost view = { λ s. beside (listed s.names) (drop s.place (listed s.flags)) (listed s.versions) };

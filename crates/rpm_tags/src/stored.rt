@@ -1,12 +1,7 @@
 //! The elements of one entry, by their class.
 
-ghost use Rattle.std.specs.Prelude.{◌≡◌, ℕ, ◌<◌, ◌≤◌, length, Some, slice_get, nat_lt, All, IfSome, take};
-ghost use Rattle.std.specs.Iterator.{YieldsFirst, YieldsFirstRef, item_count};
-ghost use Rattle.std.specs.List.{list_all};
-ghost use Rattle.std.specs.Option.{option_map, option_copied};
-ghost use Rattle.rpm_tags.specs.Value.{elements, stored, texts_in, numbers_in, first_text, first_number};
-ghost use Rattle.rpm_tags.specs.inner.Source.{stored_elements};
-ghost use Rattle.rpm_header.specs.Header.{max_data};
+ghost use Rattle.std.specs.Prelude.{◌≡◌, ℕ, ◌<◌, ◌≤◌, length, Some, slice_get, All, IfSome, take};
+ghost use Rattle.rpm_tags.specs.Prelude.{elements, first_number, first_text, item_count, max_data, numbers_in, option_copied, option_map, stored, stored_elements, texts_in, YieldsFirst, YieldsFirstRef};
 
 use rpm_header::{Entry, EntryTexts, Form, PlacesRoom, TextPlaces, View};
 use std::marker::Model;
@@ -215,10 +210,7 @@ fn elements(entry: Entry<'_>) -> Option<Stored<'_>>
 pub fn find_stored<'a>(view: &View<'a>, tag: u32) -> Option<Stored<'a>>
     ensures { option_map stored_elements result ≡ stored view.now tag }
 {
-    match view.find(tag) {
-        None => None,
-        Some(entry) => elements(entry),
-    }
+    elements(view.find(tag)?)
 }
 
 /// The texts of a tag, where it is of class Text.

@@ -1,10 +1,7 @@
 //! Tags and their names.
 
 ghost use Rattle.std.specs.Prelude.{◌≡◌, Some, IfSome};
-ghost use Rattle.std.specs.Option.{option_copied};
-ghost use Rattle.std.specs.Str.{str_eq_ignore_ascii_case};
-ghost use Rattle.rpm_tags.specs.Table.{tag_of, tag_in, name_of, name_in, is_tag, plain};
-ghost use Rattle.rpm_tags.specs.inner.TagRows.{as_table};
+ghost use Rattle.rpm_tags.specs.Prelude.{as_table, is_tag, name_in, name_of, option_copied, plain, str_eq_ignore_ascii_case, tag_in, tag_of};
 
 /// What a value of a header is asked for by: a number that entries of the header bear, or one of
 /// rpm's computed tags, whose values are put together from several entries.

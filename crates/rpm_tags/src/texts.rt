@@ -1,9 +1,7 @@
 //! The texts of a value, one after the other.
 
-ghost use Rattle.std.specs.Prelude.{◌≡◌, ℕ, ◌≤◌, [], ◌∷◌, length, All};
-ghost use Rattle.std.specs.Iterator.{YieldsFirstBy, item_count};
-ghost use Rattle.std.specs.List.{concat};
-ghost use Rattle.rpm_header.specs.Header.{max_data};
+ghost use Rattle.std.specs.Prelude.{◌≡◌, ℕ, ◌≤◌, [], ◌∷◌, length, All, List};
+ghost use Rattle.rpm_tags.specs.Prelude.{concat, IsLeft, item_count, max_data, texts_left, YieldsFirstBy};
 
 use crate::files::FileIter;
 use crate::joined::Joined;
@@ -24,9 +22,6 @@ pub struct ValueTexts<'v, 'a> {
 }
 
 impl<'v, 'a> Model for ValueTexts<'v, 'a> {
-    ghost use Rattle.std.specs.Prelude.{List, ℕ};
-    ghost use Rattle.rpm_tags.specs.inner.Left.{texts_left, IsLeft};
-
     ghost Value = { List (List ℕ) };
 
     ghost view = { λ s. texts_left s.left };

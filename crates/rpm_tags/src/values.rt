@@ -1,14 +1,13 @@
 //! The value of a tag in a header.
 
-ghost use Rattle.std.specs.Prelude.{◌≡◌, ℕ, ◌<◌, ◌∷◌, [], IsTrue, Some, slice_get};
-ghost use Rattle.std.specs.List.{concat};
-ghost use Rattle.rpm_tags.specs.Value.{value, class_of, count_of, number_list, text_list, blob_of, as_text, stored, if_some_texts, NumberList};
+ghost use Rattle.std.specs.Prelude.{◌≡◌, ℕ, ◌<◌, IsTrue, Some, slice_get};
+ghost use Rattle.rpm_tags.specs.Prelude.{blob_of, class_of, concat, count_of, Elements, number_list, source_elements, text_list, value};
 
 use crate::files::{Files, files_in};
 use crate::joined::Joined;
-use crate::labels::{evr, nevra, nvr, nvra};
-use crate::numbers::EPOCH;
-use crate::stored::{Stored, find_stored, first_number};
+use crate::labels::{evr, label};
+use crate::numbers::{ARCH, EPOCH};
+use crate::stored::{Stored, find_stored, first_number, first_text};
 use crate::tag::Tag;
 use crate::texts::ValueTexts;
 use rpm_header::{PlacesRoom, View};
@@ -41,9 +40,6 @@ pub struct TagValue<'a> {
 }
 
 impl<'a> Model for TagValue<'a> {
-    ghost use Rattle.rpm_tags.specs.Value.{Elements};
-    ghost use Rattle.rpm_tags.specs.inner.SourceElements.{source_elements};
-
     ghost Value = { Elements };
 
     ghost view = { λ s. source_elements s.source };
@@ -156,47 +152,6 @@ impl<'a> TagValue<'a> {
     }
 }
 
-fn joined_value(joined: Option<Joined<'_>>) -> Option<TagValue<'_>>
-    ensures { result ≡ as_text joined.entry }
-{
-    match joined {
-        None => None,
-        Some(joined) => Some(TagValue {
-            source: Source::Joined(joined),
-        }),
-    }
-}
-
-fn stored_value<'a>(view: &View<'a>, tag: u32) -> Option<TagValue<'a>>
-    ensures { result ≡ stored view.now tag }
-{
-    match find_stored(view, tag) {
-        None => None,
-        Some(elements) => Some(TagValue {
-            source: Source::Stored(elements),
-        }),
-    }
-}
-
-fn files_value(files: Option<Files<'_>>) -> Option<TagValue<'_>>
-    ensures { result ≡ if_some_texts files.entry }
-{
-    match files {
-        None => None,
-        Some(files) => Some(TagValue {
-            source: Source::Files(files),
-        }),
-    }
-}
-
-fn number_value<'a>(number: u64) -> Option<TagValue<'a>>
-    ensures { result ≡ Some (NumberList (number ∷ [])) }
-{
-    Some(TagValue {
-        source: Source::Number(number),
-    })
-}
-
 /// The value of a tag in a header; None where it is missing. Of several entries of a stored tag the
 /// last counts, and an entry of the form `Null` is none; of an `I18n` the first text alone counts;
 /// a `Bin` is one blob. `number` is what `Dbinstance` gives: the number of the package.
@@ -211,14 +166,19 @@ fn number_value<'a>(number: u64) -> Option<TagValue<'a>>
 pub fn value<'a>(view: &View<'a>, number: u32, tag: Tag) -> Option<TagValue<'a>>
     ensures { result ≡ value view.now number tag }
 {
-    match tag {
-        Tag::Stored(tag) => stored_value(view, tag),
-        Tag::Nvr => joined_value(nvr(view)),
-        Tag::Nvra => joined_value(nvra(view)),
-        Tag::Evr => joined_value(evr(view)),
-        Tag::Nevra => joined_value(nevra(view)),
-        Tag::Epochnum => number_value(first_number(view, EPOCH).unwrap_or(0)),
-        Tag::Filenames => files_value(files_in(view)),
-        Tag::Dbinstance => number_value(number as u64),
-    }
+    let source = match tag {
+        Tag::Stored(tag) => Source::Stored(find_stored(view, tag)?),
+        Tag::Nvr => Source::Joined(label(view, None, None)?),
+        Tag::Nvra => Source::Joined(label(view, None, first_text(view, ARCH))?),
+        Tag::Evr => Source::Joined(evr(view)?),
+        Tag::Nevra => Source::Joined(label(
+            view,
+            first_number(view, EPOCH),
+            first_text(view, ARCH),
+        )?),
+        Tag::Epochnum => Source::Number(first_number(view, EPOCH).unwrap_or(0)),
+        Tag::Filenames => Source::Files(files_in(view)?),
+        Tag::Dbinstance => Source::Number(number as u64),
+    };
+    Some(TagValue { source })
 }

@@ -1,9 +1,7 @@
 //! Whether a package has a file of a path.
 
 ghost use Rattle.std.specs.Prelude.{◌≡◌, ◌<◌, ◌≤◌, ◌++◌, not, true, Some, length};
-ghost use Rattle.std.specs.List.{list_any, zip, suffix_len};
-ghost use Rattle.rpm_tags.specs.Value.{file_name, file_names, filenames, are_matched, texts_in, numbers_in};
-ghost use Rattle.rpm_tags.specs.Wanted.{base_name, counts_for, any_counts_for, has_file, is_slash};
+ghost use Rattle.rpm_tags.specs.Prelude.{any_counts_for, are_matched, base_name, counts_for, file_name, file_names, filenames, has_file, is_slash, list_any, numbers_in, suffix_len, texts_in, zip};
 
 use crate::dirs::{Directories, go_back};
 use crate::files::asked_for;

@@ -1,7 +1,7 @@
 use Rattle.std.proofs.Common.{◌≡◌, ◌+◌, ◌-◌, length, drop, refl, ap, arith, append-nil, append_assoc, length-append}
 use Rattle.std.proofs.lemmas.List.{length-drop}
 use Rattle.std.proofs.lemmas.Fmt.{length-decimal-le, decimal_nonempty, decimal_step, decimal_digit}
-use Rattle.std.specs.Fmt.{decimal}
+use Rattle.rpm_tags.proofs.Vocabulary.{decimal}
 use Rattle.rpm_tags.proofs.Decimal.{length_step}
 use Rattle.rpm_tags.proofs.digits.digits_in.Goals as goal
 

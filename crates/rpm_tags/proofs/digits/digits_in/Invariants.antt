@@ -1,5 +1,5 @@
 use Rattle.std.proofs.Common.{◌≡◌, ◌≤◌, ◌++◌, length, drop}
-use Rattle.std.specs.Fmt.{decimal}
+use Rattle.rpm_tags.proofs.Vocabulary.{decimal}
 use Rattle.rpm_tags.proofs.digits.digits_in.Given as goal
 
 abbrev pub invariant-loop-left : goal.invariant-loop-left

@@ -1,5 +1,5 @@
 use Rattle.std.proofs.Common.{◌+◌, arith, refl, sym, subst}
-use Rattle.rpm_tags.specs.inner.Rows.{AreAsked}
+use Rattle.rpm_tags.proofs.Vocabulary.{AreAsked}
 use Rattle.std.specs.Prelude.{List, ℕ}
 use Rattle.rpm_tags.proofs.Asked.{are_asked}
 use Rattle.rpm_tags.proofs.files.asked_for.Goals as goal

@@ -1,6 +1,6 @@
 use Rattle.std.proofs.Common.{◌≡◌, ℕ, take}
 use Rattle.std.specs.Prelude.{nat_lt}
-use Rattle.std.specs.List.{list_all}
+use Rattle.rpm_tags.proofs.Vocabulary.{list_all}
 use Rattle.rpm_tags.proofs.files.highest.Given as goal
 
 abbrev pub invariant-loop-i : goal.invariant-loop-i

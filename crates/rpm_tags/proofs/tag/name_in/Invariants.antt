@@ -1,6 +1,5 @@
 use Rattle.std.proofs.Common.{◌≡◌, drop}
-use Rattle.rpm_tags.specs.Table.{name_in}
-use Rattle.rpm_tags.specs.inner.TagRows.{as_table}
+use Rattle.rpm_tags.proofs.Vocabulary.{as_table, name_in}
 use Rattle.rpm_tags.proofs.tag.name_in.Given as goal
 
 abbrev pub invariant-loop-row : goal.invariant-loop-row

@@ -1,4 +1,4 @@
-use Rattle.rpm_tags.specs.Table.{table}
+use Rattle.rpm_tags.proofs.Vocabulary.{table}
 use Rattle.rpm_tags.proofs.NamedAgain.{again}
 use Rattle.rpm_tags.proofs.tag.name_of.Goals as goal
 

@@ -1,6 +1,5 @@
 use Rattle.std.proofs.Common.{◌≡◌, true, false, sym, ◌∙◌}
-use Rattle.rpm_tags.specs.Value.{file_name}
-use Rattle.rpm_tags.specs.Wanted.{counts_for}
+use Rattle.rpm_tags.proofs.Vocabulary.{counts_for, file_name}
 use Rattle.rpm_tags.proofs.Paths.{next_index, next_left}
 use Rattle.rpm_tags.proofs.Beside.{next_counts, none_counts}
 use Rattle.rpm_tags.proofs.wanted.is_any_at.Goals as goal

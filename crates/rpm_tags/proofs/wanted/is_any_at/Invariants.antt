@@ -1,8 +1,5 @@
 use Rattle.std.proofs.Common.{◌≡◌, length, drop}
-use Rattle.std.specs.List.{list_any, zip}
-use Rattle.rpm_tags.specs.Value.{file_names}
-use Rattle.rpm_tags.specs.inner.Rows.{AreLeft}
-use Rattle.rpm_tags.specs.Wanted.{counts_for}
+use Rattle.rpm_tags.proofs.Vocabulary.{AreLeft, counts_for, file_names, list_any, zip}
 use Rattle.rpm_tags.proofs.wanted.is_any_at.Given as goal
 
 abbrev pub invariant-loop-text : goal.invariant-loop-text

@@ -1,6 +1,6 @@
 use Rattle.std.proofs.Common.{refl, arith}
 use Rattle.std.proofs.lemmas.List.Elements.{All-replicate}
-use Rattle.rpm_tags.specs.inner.Recent.{IsRead}
+use Rattle.rpm_tags.proofs.Vocabulary.{IsRead}
 use Rattle.rpm_tags.proofs.dirs.Directories.new.Goals as goal
 
 pub invariant_of-result : goal.invariant_of-result

@@ -1,5 +1,5 @@
 use Rattle.std.proofs.Common.{◌≡◌, ◌-◌, ◌≤◌, length, arith}
-use Rattle.std.specs.Fmt.{decimal}
+use Rattle.rpm_tags.proofs.Vocabulary.{decimal}
 use Rattle.rpm_tags.proofs.Parts.{has_room, pushed, is_pushed}
 use Rattle.rpm_tags.proofs.joined.Joined.push_number.Goals as goal
 

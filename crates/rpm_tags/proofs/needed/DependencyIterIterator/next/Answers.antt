@@ -1,5 +1,5 @@
 use Rattle.std.proofs.Common.{◌∙◌, sym, rules}
-use Rattle.rpm_tags.specs.Wanted.{listed}
+use Rattle.rpm_tags.proofs.Vocabulary.{listed}
 use Rattle.rpm_tags.proofs.Beside.{next_beside}
 use Rattle.rpm_tags.proofs.needed.DependencyIterIterator.next.Goals as goal
 

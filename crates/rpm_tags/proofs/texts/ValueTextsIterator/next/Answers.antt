@@ -1,7 +1,7 @@
 use Rattle.std.proofs.Common.{ℕ, ◌≤◌, List, length, subst, arith}
 use Rattle.std.proofs.lemmas.List.Elements.{All-rest}
 use Rattle.rpm_tags.proofs.texts.ValueTextsIterator.next.Goals.{in-Stored+in-None, in-Stored+in-Some, in-Joined, in-Files}
-use Rattle.rpm_tags.specs.inner.Left.{IsLeft}
+use Rattle.rpm_tags.proofs.Vocabulary.{IsLeft}
 use Rattle.rpm_tags.proofs.texts.ValueTextsIterator.next.Goals as goal
 
 pub invariant_of-self : goal.invariant_of-self
