@@ -3,7 +3,7 @@ use Rattle.std.proofs.Common.{◌≡◌, ℕ, ◌+◌, ◌≤◌, true, List, �
 use Rattle.std.specs.Prelude.{is_ok, OnOk}
 use Rattle.std.proofs.lemmas.List.{length-take-le, take-append-le, take-take, take_at}
 use Rattle.std.proofs.Math.Seq.{take-append-add}
-use Rattle.rpm_file.specs.inner.Filling.{Fills, Extends}
+use Rattle.rpm_file.proofs.Vocabulary.{Extends, Fills}
 use borrow.Rule.Slice.PartMut.{put_mid, post_of}
 
 -- a part from a on was lent and the first of it were written

@@ -2,16 +2,11 @@
 use Rattle.std.specs.Prelude.{◌≡◌, ℕ, List, [], ◌∷◌, ◌++◌, take, replicate, codes, Some, None, Ok, Err, map, refl}
 use Rattle.rpm_header.specs.declared.form.Form.TheVariants as form
 use Rattle.rpm_header.specs.declared.form.HeaderFault.TheVariants as of_header
-use Rattle.rpm_header.specs.Bytes.{number_at, numbers, texts, are_ended}
-use Rattle.rpm_header.specs.Header.{Item, Texts, Numbers, header, header_of, entries, entry_of, entry_fault, fault_at}
-use Rattle.rpm_header.specs.Laid.{offset_of, data_from, index_from, index_bytes, bytes_in}
-use Rattle.rpm_header.specs.Dribbles.{dribbled}
-use Rattle.rpm_header.specs.Digest.{magic}
+use Rattle.rpm_file.proofs.Vocabulary.{are_ended, behind_lead, behind_padding, behind_signature, bytes_in, data_from, dribble, dribbled, dribbles, entries}
+use Rattle.rpm_file.proofs.Vocabulary.{entry_fault, entry_of, fault_at, front_header, headed, header, header_of, index_bytes, index_from, Item, lead_magic}
+use Rattle.rpm_file.proofs.Vocabulary.{list_head, magic, merged, number_at, Numbers, numbers, offset_of, package_header, size_in, Texts, texts}
 use Rattle.rpm_file.specs.declared.fault.FileFault.TheVariants as of_file
 use Rattle.rpm_file.specs.declared.fault.ListFault.TheVariants as of_list
-use Rattle.rpm_file.specs.List.{size_in, front_header, list_head}
-use Rattle.rpm_file.specs.Merging.{dribble, dribbles, merged}
-use Rattle.rpm_file.specs.Package.{lead_magic, behind_lead, headed, behind_padding, behind_signature, package_header}
 
 -- ---- lists
 

@@ -1,17 +1,10 @@
 -- The parts of a package file together.
 use Rattle.std.proofs.Common.{◌≡◌, ℕ, List, Option, Result, Ok, Err, sym, ap, ◌∙◌}
-use Rattle.rpm_header.specs.declared.form.HeaderFault.{HeaderFault}
-use Rattle.rpm_header.specs.Header.{Header, header}
-use Rattle.rpm_file.specs.declared.fault.FileFault.{FileFault}
+use Rattle.rpm_file.proofs.Vocabulary.{after_signature, AnswersBy, AnswersMade, behind_lead, behind_padding, behind_signature, FileFault, front_header}
+use Rattle.rpm_file.proofs.Vocabulary.{Headed, headed, headed_of, Header, header, HeaderFault, HeaderKind, IsFileFault, joined_by, left, main_at, merged}
+use Rattle.rpm_file.proofs.Vocabulary.{or_fault_in, package_header, signature_at, with_rest}
 use Rattle.rpm_file.specs.declared.fault.FileFault.TheVariants as fault
-use Rattle.rpm_file.specs.declared.fault.HeaderKind.{HeaderKind}
 use Rattle.rpm_file.specs.declared.fault.HeaderKind.TheVariants as part
-use Rattle.rpm_outside.specs.Browses.{left}
-use Rattle.rpm_file.specs.List.{front_header}
-use Rattle.rpm_file.specs.Merging.{merged}
-use Rattle.rpm_file.specs.Package.{behind_lead, Headed, with_rest, or_fault_in, headed, headed_of, behind_padding, joined_by, main_at, behind_signature, after_signature, signature_at, package_header}
-use Rattle.rpm_file.specs.Answers.{IsFileFault, AnswersBy}
-use Rattle.rpm_file.specs.inner.Parts.{AnswersMade}
 
 -- a fault that ends what goes on is the fault of the whole
 pub passed : {X Y : Type 0} (found : Result X FileFault) (whole : Result Y FileFault) (e : FileFault)

@@ -5,3 +5,4 @@ pub mod Listed
 pub mod Merged
 pub mod Packaged
 pub mod Tagged
+pub mod Vocabulary

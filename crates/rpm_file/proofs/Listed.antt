@@ -1,18 +1,10 @@
 -- A header of a list, read in two pieces.
 use Rattle.std.proofs.Common.{◌≡◌, ℕ, ◌+◌, ◌-◌, ◌*◌, ◌≤◌, ◌<◌, List, [], ◌∷◌, ◌++◌, Option, Some, None, Result, Ok, Err, length, take, drop, true, false, Bool, refl, sym, ap, subst, ◌∙◌, arith, length-append, append_assoc, le-ltb, lt-ltb}
 use Rattle.std.specs.Prelude.{nat_lt, not, if◌then◌else◌, nat_eq, is_some}
-use Rattle.std.specs.Cmp.Lexicographic.{pointwise}
-use Rattle.std.specs.Int.{w32}
+use Rattle.rpm_file.proofs.Vocabulary.{AnswersBehind, AnswersNextIn, data_in, entries_in, Fills, front_header, has_magic, IsListFault, IsOutside, left}
+use Rattle.rpm_file.proofs.Vocabulary.{list_head, ListFault, magic, number_longer, pointwise, size_in, sized, some_found, Takes, w32}
 use Rattle.std.proofs.lemmas.List.{take-append-le, take_all, take_at, drop_at, drop-append-le, drop-drop, length-take, length-drop}
-use Rattle.rpm_header.specs.inner.Longer.{number_longer}
-use Rattle.rpm_header.specs.Digest.{magic}
-use Rattle.rpm_file.specs.declared.fault.ListFault.{ListFault}
 use Rattle.rpm_file.specs.declared.fault.ListFault.TheVariants as fault
-use Rattle.rpm_outside.specs.Browses.{left, Takes}
-use Rattle.rpm_file.specs.inner.Filling.{Fills, IsOutside}
-use Rattle.rpm_file.specs.List.{has_magic, entries_in, data_in, size_in, sized, front_header, some_found, list_head}
-use Rattle.rpm_file.specs.Answers.{IsListFault, AnswersNextIn}
-use Rattle.rpm_file.specs.inner.Parts.{AnswersBehind}
 
 -- ---- what the first bytes say, whatever follows them
 

@@ -1,24 +1,15 @@
 -- The entries that join, one after the other.
 use Rattle.std.proofs.Common.{◌≡◌, ℕ, ◌+◌, ◌≤◌, ◌<◌, List, [], ◌∷◌, ◌++◌, Option, Some, None, Result, Ok, Err, length, take, true, false, refl, sym, ap, ◌∙◌, le-ltb, lt-ltb, inl, inr}
 use Rattle.std.specs.Prelude.{slice_get, ◌↔◌}
-use Rattle.std.specs.List.{filter_map}
+use Rattle.rpm_file.proofs.Vocabulary.{BuildFault, dribble, dribble_as, dribbled, dribbled_data, dribbles, entries_or_none, filter_map, Form, has_tag, Header}
+use Rattle.rpm_file.proofs.Vocabulary.{header, HeaderFault, is_null, IsMadeFault, Item, joins_as, made_fault, merged, passes_limits, read_again, retagged}
+use Rattle.rpm_file.proofs.Vocabulary.{with_entries}
 use Rattle.std.proofs.lemmas.List.{append-nil}
 use Rattle.std.proofs.lemmas.List.Elements.{filter_map-append}
 use Rattle.std.proofs.lemmas.Bool.{cases_lt}
-use Rattle.rpm_header.specs.declared.form.Form.{Form}
 use Rattle.rpm_header.specs.declared.form.Form.TheVariants as form
-use Rattle.rpm_header.specs.Header.{Item, Header}
-use Rattle.rpm_header.specs.Build.{retagged}
-use Rattle.rpm_header.specs.Header.{header}
-use Rattle.rpm_header.specs.Dribbles.{dribbled, dribbled_data}
-use Rattle.rpm_header.specs.declared.form.HeaderFault.{HeaderFault}
-use Rattle.rpm_header.specs.declared.laying.BuildFault.{BuildFault}
 use Rattle.rpm_header.specs.declared.laying.BuildFault.TheVariants as build
 use Rattle.rpm_file.specs.declared.fault.FileFault.TheVariants as fault
-use Rattle.rpm_file.specs.inner.Parts.{IsMadeFault}
-use Rattle.rpm_file.specs.Package.{read_again, entries_or_none}
-use Rattle.rpm_file.specs.Merging.{joins_as, is_null, has_tag, dribble_as, dribble, dribbles, passes_limits, with_entries, merged}
-use Rattle.rpm_file.specs.inner.Joining.{made_fault}
 use Rattle.rpm_file.proofs.Tagged.{next_taken}
 
 -- ---- what an entry becomes

@@ -1,21 +1,13 @@
 -- The parts of a package file, one after the other.
 use Rattle.std.proofs.Common.{◌≡◌, ℕ, ◌≤◌, ◌<◌, List, [], ◌∷◌, ◌++◌, Option, None, Result, Ok, Err, length, take, drop, true, false, refl, ap, ◌∙◌, arith, length-append, le-ltb, lt-ltb}
 use Rattle.std.specs.Prelude.{nat_lt, nat_eq}
-use Rattle.std.specs.Cmp.Lexicographic.{pointwise}
-use Rattle.std.specs.Int.{w16}
+use Rattle.rpm_file.proofs.Vocabulary.{AnswersSkip, AnswersTake, behind_lead, behind_padding, early_fault, FileFault, Found, front_header, headed, headed_of}
+use Rattle.rpm_file.proofs.Vocabulary.{HeaderKind, is_lead, IsFileFault, IsListFault, lead_magic, left, list_head, ListFault, number_longer, padding_of}
+use Rattle.rpm_file.proofs.Vocabulary.{pointwise, some_found, w16}
 use Rattle.std.proofs.lemmas.List.{take-append-le, drop_at}
-use Rattle.rpm_file.specs.declared.fault.FileFault.{FileFault}
 use Rattle.rpm_file.specs.declared.fault.FileFault.TheVariants as fault
-use Rattle.rpm_file.specs.declared.fault.ListFault.{ListFault}
 use Rattle.rpm_file.specs.declared.fault.ListFault.TheVariants as of_list
-use Rattle.rpm_file.specs.declared.fault.HeaderKind.{HeaderKind}
 use Rattle.rpm_file.specs.declared.fault.HeaderKind.TheVariants as part
-use Rattle.rpm_outside.specs.Browses.{left}
-use Rattle.rpm_file.specs.List.{Found, front_header, some_found, list_head}
-use Rattle.rpm_file.specs.Package.{lead_magic, is_lead, behind_lead, early_fault, headed, headed_of, padding_of, behind_padding}
-use Rattle.rpm_file.specs.Answers.{IsListFault, IsFileFault}
-use Rattle.rpm_file.specs.inner.Parts.{AnswersTake, AnswersSkip}
-use Rattle.rpm_header.specs.inner.Longer.{number_longer}
 
 -- ---- what is skipped
 

@@ -8,9 +8,7 @@ use Rattle.std.proofs.lemmas.List.Folds.{list_any-append}
 use Rattle.std.proofs.lemmas.Option.{slice_get_within, unwrap_or-slice_get}
 use Rattle.std.proofs.Math.Seq.{take-suc}
 use Rattle.std.proofs.lemmas.Bool.{cases_eq, eq-eqb}
-use Rattle.rpm_header.specs.Header.{Item}
-use Rattle.rpm_file.specs.Merging.{has_tag}
-use Rattle.rpm_file.specs.inner.Joining.{HasTags}
+use Rattle.rpm_file.proofs.Vocabulary.{has_tag, HasTags, Item}
 
 or_true : (b : Bool) → (b || true) ≡ true
 or_true true = refl

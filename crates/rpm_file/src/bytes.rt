@@ -1,8 +1,7 @@
 //! Numbers as they stand in bytes, the highest byte first.
 
 ghost use Rattle.std.specs.Prelude.{◌≡◌, ◌+◌, ◌≤◌, length};
-ghost use Rattle.std.specs.Int.{w16, w32};
-ghost use Rattle.rpm_header.specs.Bytes.{number_at};
+ghost use Rattle.rpm_file.specs.Prelude.{number_at, w16, w32};
 
 /// The number of two bytes from a place on.
 #[tactic(auto, unfolding(rpm_header::specs::Bytes::number_at))]

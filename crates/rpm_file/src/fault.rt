@@ -1,7 +1,7 @@
 //! Why a package file or a header list isn't read.
 
 ghost use Rattle.std.specs.Prelude.{◌≡◌};
-ghost use Rattle.rpm_file.specs.declared.fault.FileFault.TheVariants.{Main};
+ghost use Rattle.rpm_file.specs.Prelude.{Main};
 
 use rpm_header::HeaderFault;
 use thiserror::Error;

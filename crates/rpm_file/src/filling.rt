@@ -1,9 +1,7 @@
 //! Reads that go on until enough bytes have come.
 
 ghost use Rattle.std.specs.Prelude.{◌≡◌, ◌<◌, ◌≤◌, ◌+◌, ◌++◌, [], IsTrue, length, take, drop, vec_len, Err, IfOk, IfErr, OnOk};
-ghost use Rattle.rpm_outside.specs.Causes.{HasCause, HasCauseAt};
-ghost use Rattle.rpm_outside.specs.Browses.{left, Browses};
-ghost use Rattle.rpm_file.specs.inner.Filling.{Fills, Appends, Extends, IsOutside};
+ghost use Rattle.rpm_file.specs.Prelude.{Appends, Browses, Extends, Fills, HasCause, HasCauseAt, IsOutside, left};
 
 use crate::fault::ListFault;
 use rpm_outside::{Failed, Shelf};

@@ -1,12 +1,7 @@
 //! The headers of a list, one at a time.
 
 ghost use Rattle.std.specs.Prelude.{◌≡◌, ℕ, ◌≤◌, IsTrue, length, vec_len, Ok, Err, IfOk, IfSome};
-ghost use Rattle.rpm_outside.specs.Causes.{HasCauseAt};
-ghost use Rattle.rpm_header.specs.Header.{max_blob};
-ghost use Rattle.rpm_file.specs.List.{size_in};
-ghost use Rattle.rpm_outside.specs.Browses.{Browses};
-ghost use Rattle.rpm_file.specs.Answers.{AnswersNext, AnswersNextIn};
-ghost use Rattle.rpm_file.specs.inner.Parts.{AnswersIntro, AnswersBehind};
+ghost use Rattle.rpm_file.specs.Prelude.{AnswersBehind, AnswersIntro, AnswersNext, AnswersNextIn, Browses, HasCauseAt, max_blob, size_in};
 
 use crate::bytes::u32_at;
 use crate::fault::ListFault;

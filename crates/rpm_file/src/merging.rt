@@ -1,10 +1,7 @@
 //! The entries of a signature header that join the main header.
 
 ghost use Rattle.std.specs.Prelude.{◌≡◌, ◌<◌, List, length, false, IfOk, IfSome};
-ghost use Rattle.rpm_header.specs.Header.{Item, is_region_tag};
-ghost use Rattle.rpm_file.specs.Merging.{joins_as, is_null, dribbles, with_entries, merged};
-ghost use Rattle.rpm_file.specs.inner.Joining.{HasTags, JoinsUnder, made_fault};
-ghost use Rattle.rpm_file.specs.inner.Parts.{AnswersBytes};
+ghost use Rattle.rpm_file.specs.Prelude.{AnswersBytes, dribbles, HasTags, is_null, is_region_tag, Item, joins_as, JoinsUnder, made_fault, merged, with_entries};
 
 use crate::fault::FileFault;
 use rpm_header::{BuildFault, Builder, Entry, Form, View, with_dribbles};

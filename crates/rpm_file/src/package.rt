@@ -1,13 +1,7 @@
 //! The main header of a package file.
 
 ghost use Rattle.std.specs.Prelude.{◌≡◌, ◌≤◌, IsTrue, length, Ok, Err};
-ghost use Rattle.rpm_header.specs.Header.{header, max_blob};
-ghost use Rattle.rpm_outside.specs.Causes.{HasCauseAt};
-ghost use Rattle.rpm_outside.specs.Browses.{Browses};
-ghost use Rattle.rpm_file.specs.Package.{is_lead, behind_lead, fault_in, early_fault, behind_padding, behind_signature, package_header};
-ghost use Rattle.rpm_file.specs.Merging.{merged};
-ghost use Rattle.rpm_file.specs.Answers.{AnswersBy};
-ghost use Rattle.rpm_file.specs.inner.Parts.{AnswersTake, AnswersSkip, AnswersPart, AnswersMade};
+ghost use Rattle.rpm_file.specs.Prelude.{AnswersBy, AnswersMade, AnswersPart, AnswersSkip, AnswersTake, behind_lead, behind_padding, behind_signature, Browses, early_fault, fault_in, HasCauseAt, Header, header, is_lead, max_blob, merged, package_header, read_again};
 
 use crate::bytes::u16_at;
 use crate::fault::{FileFault, HeaderKind, ListFault};
@@ -27,10 +21,6 @@ pub struct Package {
 }
 
 impl Model for Package {
-    ghost use Rattle.std.specs.Prelude.{◌≡◌, Ok};
-    ghost use Rattle.rpm_header.specs.Header.{Header, header};
-    ghost use Rattle.rpm_file.specs.Package.{read_again};
-
     ghost Value = { Header };
 
     ghost view = { λ s. read_again s.blob.items };

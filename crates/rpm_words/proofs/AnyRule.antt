@@ -1,12 +1,6 @@
 -- What holds of each of several rules holds of the first.
 use Rattle.std.proofs.Common.{◌≡◌, ℕ, List, [], ◌∷◌, Option, Some, None, Bool, true, false, cond}
-use Rattle.std.specs.Option.{option_map}
-use Rattle.std.specs.List.{cons_option, best_of}
-use Rattle.rpm_words.specs.declared.fault.WordsFault.{WordsFault}
-use Rattle.rpm_words.specs.declared.fault.WordsKind.{WordsKind}
-use Rattle.rpm_words.specs.declared.fault.WordsKind.TheVariants.{NoMemory}
-use Rattle.rpm_words.specs.Command.{head}
-use Rattle.rpm_words.specs.Fault.{fault, is_before, earliest}
+use Rattle.rpm_words.proofs.Vocabulary.{best_of, cons_option, earliest, fault, head, is_before, NoMemory, option_map, WordsFault, WordsKind}
 
 abbrev IsRule : WordsFault → Type 0
 IsRule f = f.kind ≡ NoMemory → ⊥

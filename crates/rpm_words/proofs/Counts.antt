@@ -1,17 +1,9 @@
 -- There are no more arguments than words.
 use Rattle.std.proofs.Common.{◌≡◌, ℕ, ◌+◌, ◌≤◌, List, [], ◌∷◌, Option, Some, None, length, drop, refl, ◌∙◌, arith, length-append, length-drop}
-use Rattle.std.specs.Option.{option_map}
-use Rattle.std.specs.List.{filter_map, cons_option}
+use Rattle.rpm_words.proofs.Vocabulary.{argument_in, arguments, Awaits, Cluster, cons_option, Ends, filter_map, Inline, letters, Name, option_at, option_map}
+use Rattle.rpm_words.proofs.Vocabulary.{Plain, Program, Purpose, purpose_behind, Rest, said, said_behind, says, short_switch, Switch, Token, Unknown, Value}
+use Rattle.rpm_words.proofs.Vocabulary.{Whole}
 use Rattle.std.proofs.lemmas.List.Elements.{filter_map-append}
-use Rattle.rpm_words.specs.declared.switch.Program.{Program}
-use Rattle.rpm_words.specs.declared.switch.Switch.{Switch}
-use Rattle.rpm_words.specs.declared.purpose.Purpose.{Purpose}
-use Rattle.rpm_words.specs.declared.purpose.Purpose.TheVariants.{Name, Unknown, Cluster, Whole, Inline, Awaits, Value, Ends, Plain, Rest}
-use Rattle.rpm_words.specs.declared.token.Token.{Token}
-use Rattle.rpm_words.specs.Switch.{short_switch}
-use Rattle.rpm_words.specs.Purpose.{purpose_behind}
-use Rattle.rpm_words.specs.Token.{option_at, letters, says, said_behind, said}
-use Rattle.rpm_words.specs.Ask.{argument_in, arguments}
 
 no_letter : (word : ℕ) (o : Option Switch) (rest : List Token) →
     filter_map argument_in (cons_option (option_map (option_at word) o) rest) ≡ filter_map argument_in rest

@@ -1,13 +1,7 @@
 -- The arguments of a command that is read are what it takes.
 use Rattle.std.proofs.Common.{◌≡◌, ℕ, List, Result, Ok, Err, MatchResult, IfOk}
-use Rattle.std.specs.List.{AllByRecursion}
-use Rattle.rpm_words.specs.declared.switch.Program.{Program}
-use Rattle.rpm_words.specs.declared.fault.WordsFault.{WordsFault}
-use Rattle.rpm_words.specs.declared.fault.WordsKind.TheVariants.{NoMemory}
+use Rattle.rpm_words.proofs.Vocabulary.{AllByRecursion, asked_by, AskParts, fit_asked, HasNumbers, IsFit, NoMemory, numbers_asked, Program, WordsFault}
 use Rattle.rpm_words.specs.declared.ask.Mode.TheVariants as mode
-use Rattle.rpm_words.specs.Ask.{AskParts, asked_by, IsFit, HasNumbers}
-use Rattle.rpm_words.specs.inner.Given.{fit_asked}
-use Rattle.rpm_words.specs.inner.Numbered.{numbers_asked}
 
 pub read_fits : (program : Program) (words : List (List ℕ)) (r : Result AskParts WordsFault) →
     MatchResult r (λ a. asked_by program words ≡ Ok a) (λ f. (f.kind ≡ NoMemory → ⊥) → asked_by program words ≡ Err f) →

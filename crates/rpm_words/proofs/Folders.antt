@@ -1,21 +1,11 @@
 -- The folder that is named last, one more word at a time.
 use Rattle.std.proofs.Common.{◌≡◌, ℕ, ◌+◌, ◌≤◌, List, [], ◌∷◌, ◌++◌, Option, Some, None, unwrap_or, length, drop, refl, ap, sym, ◌∙◌, arith}
-use Rattle.std.specs.Option.{option_map}
-use Rattle.std.specs.List.{filter_map, cons_option, last_or, slice_get}
+use Rattle.rpm_words.proofs.Vocabulary.{After, Awaits, Choose, Cluster, cons_option, Ends, filter_map, Folder, folder, folder_behind, folder_in, Format}
+use Rattle.rpm_words.proofs.Vocabulary.{Inline, last_or, letters, Lists, Mode, Name, Nofiles, Noindex, option_at, option_map, own_place, Plain, Program}
+use Rattle.rpm_words.proofs.Vocabulary.{Purpose, purpose_behind, Rest, said, said_behind, says, short_switch, slice_get, Switch, text_at, Token, Unknown}
+use Rattle.rpm_words.proofs.Vocabulary.{Value, Whole}
 use Rattle.std.proofs.lemmas.List.Elements.{filter_map-append}
 use Rattle.std.proofs.lemmas.Grind.{common_steps}
-use Rattle.rpm_words.specs.declared.switch.Program.{Program}
-use Rattle.rpm_words.specs.declared.switch.Switch.{Switch}
-use Rattle.rpm_words.specs.declared.switch.Switch.TheVariants.{Mode, Choose, Lists, Format, After, Noindex, Nofiles, Folder}
-use Rattle.rpm_words.specs.declared.purpose.Purpose.{Purpose}
-use Rattle.rpm_words.specs.declared.purpose.Purpose.TheVariants.{Name, Unknown, Cluster, Whole, Inline, Awaits, Value, Ends, Plain, Rest}
-use Rattle.rpm_words.specs.declared.token.Token.{Token}
-use Rattle.rpm_words.specs.Switch.{short_switch}
-use Rattle.rpm_words.specs.Words.{text_at}
-use Rattle.rpm_words.specs.Purpose.{purpose_behind}
-use Rattle.rpm_words.specs.Token.{option_at, letters, says, said_behind, said}
-use Rattle.rpm_words.specs.Place.{folder, folder_in, own_place}
-use Rattle.rpm_words.specs.inner.Folder.{folder_behind}
 use Rattle.rpm_words.proofs.Tokens.{said_step, said_end}
 
 -- the folder at the end, where it is `before` in front of place i

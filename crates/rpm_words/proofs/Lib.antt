@@ -11,3 +11,4 @@ pub mod Spellings
 pub mod Tokens
 pub mod Told
 pub mod Within
+pub mod Vocabulary

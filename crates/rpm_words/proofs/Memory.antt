@@ -1,27 +1,10 @@
 -- No rule of a command line is about memory.
 use Rattle.std.proofs.Common.{◌≡◌, ℕ, List, [], ◌∷◌, Option, Some, None, false, ◌||◌, nat_lt, length, is_none, unwrap_or}
-use Rattle.std.specs.Option.{option_map_or}
-use Rattle.std.specs.Result.{is_err}
-use Rattle.std.specs.List.{filter_map, slice_get}
-use Rattle.rpm_version.specs.Capability.{capability}
-use Rattle.rpm_words.specs.declared.switch.Command.{Command}
-use Rattle.rpm_words.specs.declared.switch.Command.TheVariants.{Query}
-use Rattle.rpm_words.specs.declared.switch.Chosen.{Chosen}
-use Rattle.rpm_words.specs.declared.switch.Chosen.TheVariants.{Label}
-use Rattle.rpm_words.specs.declared.token.Token.{Token}
-use Rattle.rpm_words.specs.declared.token.Said.{Said}
-use Rattle.rpm_words.specs.declared.token.Said.TheVariants.{Refused, Sets, Gives, Argument}
-use Rattle.rpm_words.specs.declared.seen.Seen.{Seen}
-use Rattle.rpm_words.specs.declared.fault.WordsFault.{WordsFault}
-use Rattle.rpm_words.specs.declared.fault.WordsKind.TheVariants.{NoMode, Misplaced, MissingArgument, ExtraArgument, NoMemory}
-use Rattle.rpm_words.specs.declared.takes.Expected.{Expected}
-use Rattle.rpm_words.specs.declared.takes.Expected.TheVariants.{Text, Number, Capability}
-use Rattle.rpm_words.specs.Words.{text_at}
-use Rattle.rpm_words.specs.Number.{number}
-use Rattle.rpm_words.specs.Command.{is_other}
-use Rattle.rpm_words.specs.Fault.{fault, first_told}
-use Rattle.rpm_words.specs.Takes.{takes, fewest, most, expected, checked}
-use Rattle.rpm_words.specs.Broken.{is_refused, is_bad_number, token_fault, early_fault, no_value, no_mode, is_misplaced, misplaced_said, misplaced_in, misplaced, lacks_option, too_few, too_many, argument_fault, bad_argument, first_broken, is_awaiting}
+use Rattle.rpm_words.proofs.Vocabulary.{Argument, argument_fault, bad_argument, Capability, capability, checked, Chosen, Command, early_fault, Expected}
+use Rattle.rpm_words.proofs.Vocabulary.{expected, ExtraArgument, fault, fewest, filter_map, first_broken, first_told, Gives, is_awaiting, is_bad_number}
+use Rattle.rpm_words.proofs.Vocabulary.{is_err, is_misplaced, is_other, is_refused, Label, lacks_option, Misplaced, misplaced, misplaced_in, misplaced_said}
+use Rattle.rpm_words.proofs.Vocabulary.{MissingArgument, most, no_mode, no_value, NoMemory, NoMode, Number, number, option_map_or, Query, Refused, Said, Seen}
+use Rattle.rpm_words.proofs.Vocabulary.{Sets, slice_get, takes, Text, text_at, Token, token_fault, too_few, too_many, WordsFault}
 use Rattle.rpm_words.proofs.AnyRule.{AllRules, AreRules, earliest_rule, head_rule, mapped, rules_cons, test}
 
 token_rule : (words : List (List ℕ)) (command : Option Command) (chosen : Option Chosen) (token : Token) → AreRules (token_fault words command chosen token)

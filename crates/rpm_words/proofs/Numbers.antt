@@ -1,14 +1,9 @@
 -- What `parse` reads of digits.
 use Rattle.std.proofs.Common.{◌≡◌, ℕ, ◌<◌, ◌≤◌, ◌^◌, zero, suc, Bool, true, false, List, [], ◌∷◌, length, get_or, refl, ap, ◌∙◌, ◌&&◌, Result, Ok, Err, None, lit<, arith}
-use Rattle.std.specs.Char.{is_ascii_digit}
-use Rattle.std.specs.List.{list_all}
-use Rattle.std.specs.Result.{result_ok, OkIff}
-use Rattle.std.specs.Str.{IsUtf8, all_ascii_digits}
-use Rattle.std.specs.Str.Parse.{digits_value, ParsesUnsigned}
+use Rattle.rpm_words.proofs.Vocabulary.{all_ascii_digits, digits_value, is_ascii_digit, IsUtf8, list_all, number, OkIff, ParsesUnsigned, result_ok}
 use Rattle.std.proofs.lemmas.Str.Parse.{IsNumeralModel, numerals_by_value, tells_all_ascii_digits, parse_digits}
 use Rattle.std.proofs.lemmas.Str.{IsUtf8-from_ascii}
 use Rattle.std.proofs.lemmas.Grind.{common_steps}
-use Rattle.rpm_words.specs.Number.{number}
 
 pub digits_all : (text : List ℕ) → list_all is_ascii_digit text ≡ all_ascii_digits text
 digits_all [] = refl

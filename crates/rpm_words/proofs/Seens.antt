@@ -1,12 +1,7 @@
 -- What the options come to, one more token at a time.
 use Rattle.std.proofs.Common.{◌≡◌, ℕ, ◌+◌, ◌<◌, List, ◌∷◌, Option, Some, None, Bool, true, false, ◌||◌, length, drop, suc, get_or, refl, ap, sym, ◌∙◌, add-one, drop-cons}
-use Rattle.std.specs.Option.{option_or}
-use Rattle.std.specs.List.{filter_map, cons_option, last_or, list_any}
-use Rattle.rpm_words.specs.declared.token.Token.{Token}
-use Rattle.rpm_words.specs.declared.seen.Seen.{Seen}
-use Rattle.rpm_words.specs.Command.{head, command_of, chosen_of}
-use Rattle.rpm_words.specs.Seen.{printed_in, after_in, exercise_in, is_noindex, is_nofiles}
-use Rattle.rpm_words.specs.inner.Steps.{seen_with}
+use Rattle.rpm_words.proofs.Vocabulary.{after_in, chosen_of, command_of, cons_option, exercise_in, filter_map, head, is_nofiles, is_noindex, last_or}
+use Rattle.rpm_words.proofs.Vocabulary.{list_any, option_or, printed_in, Seen, seen_with, Token}
 
 -- what the tokens come to, after those that come to `before`
 abbrev pub seen_behind : List (List ℕ) → Seen → List Token → Seen

@@ -1,28 +1,12 @@
 -- What is so of each command that words ask for.
 use Rattle.std.proofs.Common.{◌≡◌, ℕ, ◌<◌, ◌≤◌, List, [], ◌∷◌, Option, Some, None, Bool, true, false, cond, Result, Ok, Err, ◌&&◌, nat_le, length, drop, unwrap_or, refl, subst, lit≤, MatchResult, IfOk, arith}
-use Rattle.std.specs.Option.{IfSome}
-use Rattle.std.specs.List.{All, filter_map, cons_option, last_or}
+use Rattle.rpm_words.proofs.Vocabulary.{All, Argument, argument_in, argument_said, arguments, asked_by, AskParts, By, Command, cons_option, Exercise}
+use Rattle.rpm_words.proofs.Vocabulary.{exercise_in, exercise_said, fault_or, Files, filter_map, first_broken, Format, format_printed, Gives, IfSome, IsSound}
+use Rattle.rpm_words.proofs.Vocabulary.{last_or, Lists, meant, Mode, mode_of, NoMemory, number, Printed, printed_in, printed_said, Program, Query, Said, said}
+use Rattle.rpm_words.proofs.Vocabulary.{seen, Sets, Span, text_at, Token, within_exercise, WordsFault}
 use Rattle.std.proofs.lemmas.List.Elements.{All-nil, All-cons, All-head, All-tail}
 use Rattle.std.proofs.lemmas.Grind.{common_steps}
-use Rattle.rpm_words.specs.declared.switch.Program.{Program}
-use Rattle.rpm_words.specs.declared.switch.Command.{Command}
-use Rattle.rpm_words.specs.declared.switch.Command.TheVariants.{Query, Exercise}
-use Rattle.rpm_words.specs.declared.switch.Switch.TheVariants.{Mode, Format, Lists}
-use Rattle.rpm_words.specs.declared.token.Token.{Token}
-use Rattle.rpm_words.specs.declared.token.Said.{Said}
-use Rattle.rpm_words.specs.declared.token.Said.TheVariants.{Sets, Gives, Argument}
-use Rattle.rpm_words.specs.declared.words.Span.{Span}
-use Rattle.rpm_words.specs.declared.seen.Printed.{Printed}
-use Rattle.rpm_words.specs.declared.seen.Printed.TheVariants.{Files, By}
-use Rattle.rpm_words.specs.declared.fault.WordsFault.{WordsFault}
-use Rattle.rpm_words.specs.declared.fault.WordsKind.TheVariants.{NoMemory}
 use Rattle.rpm_words.specs.declared.ask.Mode.TheVariants as mode
-use Rattle.rpm_words.specs.Words.{text_at}
-use Rattle.rpm_words.specs.Number.{number, within_exercise}
-use Rattle.rpm_words.specs.Token.{said}
-use Rattle.rpm_words.specs.Seen.{printed_said, printed_in, exercise_said, exercise_in, seen}
-use Rattle.rpm_words.specs.Broken.{first_broken}
-use Rattle.rpm_words.specs.Ask.{AskParts, argument_said, argument_in, arguments, mode_of, format_printed, meant, fault_or, asked_by, IsSound}
 use Rattle.rpm_words.proofs.Within.{BeginsIn, IsWithin, all_within}
 
 cons_all : {Y : Type 0} (Q : Y → Type 0) (o : Option Y) (ys : List Y) → IfSome o Q → All Q ys → All Q (cons_option o ys)

@@ -1,16 +1,9 @@
 -- Where a value in its option's word begins.
 use Rattle.std.proofs.Common.{◌≡◌, ℕ, ◌<◌, List, Option, Some, None, Bool, true, false, not, ◌||◌, cond, length, take, codes, refl, sym, subst}
 use borrow.Author.Tests.{ltb-true}
-use Rattle.std.specs.Option.{option_map_or}
-use Rattle.std.specs.List.{position_or_len, before_first}
-use Rattle.std.specs.Str.{bytes_eq}
-use Rattle.rpm_words.specs.declared.switch.Program.{Program}
-use Rattle.rpm_words.specs.declared.switch.Switch.{Switch}
-use Rattle.rpm_words.specs.declared.purpose.Purpose.{Purpose}
-use Rattle.rpm_words.specs.declared.purpose.Purpose.TheVariants.{Name, Unknown, Cluster, Whole, Inline, Awaits, Value, Ends, Plain, Rest}
-use Rattle.rpm_words.specs.Switch.{long_switch}
-use Rattle.rpm_words.specs.Purpose.{is_equals, has_equals, takes_value, inline, lone, spelled, long_purpose, is_cluster, own_purpose, purpose_behind}
-use Rattle.rpm_words.specs.inner.Folder.{IsSpelled}
+use Rattle.rpm_words.proofs.Vocabulary.{Awaits, before_first, bytes_eq, Cluster, Ends, has_equals, Inline, inline, is_cluster, is_equals, IsSpelled, lone}
+use Rattle.rpm_words.proofs.Vocabulary.{long_purpose, long_switch, Name, option_map_or, own_purpose, Plain, position_or_len, Program, Purpose, purpose_behind}
+use Rattle.rpm_words.proofs.Vocabulary.{Rest, spelled, Switch, takes_value, Unknown, Value, Whole}
 
 by_test : (text : List ℕ) (b : Bool) (p q : Purpose) → IsSpelled text p → IsSpelled text q → IsSpelled text (cond b p q)
 by_test text true p q h k = h

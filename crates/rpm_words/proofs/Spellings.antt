@@ -1,13 +1,9 @@
 -- A search through the spellings of options.
 use Rattle.std.proofs.Common.{◌≡◌, ℕ, ◌+◌, ◌≤◌, ◌<◌, List, [], ◌∷◌, length, get_or, drop, true, false, Bool, cond, nat_lt, Option, Some, None, IsSome, arith, refl, sym, ap, ◌∙◌}
-use Rattle.std.specs.Str.{bytes_eq}
-use Rattle.std.specs.List.{list_all}
+use Rattle.rpm_words.proofs.Vocabulary.{as_table, bytes_eq, list_all, Spelling, Switch, switch_in}
 use Rattle.std.proofs.lemmas.Bool.{and_parts, ltb-true}
 use Rattle.std.proofs.lemmas.List.{at_drop_more, at_drop_all}
 use Rattle.std.proofs.lemmas.Slice.Eq.{bytes_eq-Decides}
-use Rattle.rpm_words.specs.declared.switch.Spelling.{Spelling}
-use Rattle.rpm_words.specs.declared.switch.Switch.{Switch}
-use Rattle.rpm_words.specs.inner.Spellings.{as_table, switch_in}
 
 pub at_end : (rows : List Spelling) (text : List ℕ) (i : ℕ) → length rows ≤ i → switch_in (as_table (drop i rows)) text ≡ None
 unfolding switch_in

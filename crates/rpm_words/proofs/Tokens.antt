@@ -1,13 +1,7 @@
 -- The tokens of a command line, one more word at a time.
 use Rattle.std.proofs.Common.{◌≡◌, ℕ, ◌+◌, ◌≤◌, List, [], ◌∷◌, ◌++◌, Some, length, drop, zero, suc, ap, sym, ◌∙◌, arith, add-one, append_assoc, append-nil}
-use Rattle.std.specs.List.{slice_get}
+use Rattle.rpm_words.proofs.Vocabulary.{Name, Program, Purpose, purpose_behind, said, said_behind, says, slice_get, Token}
 use Rattle.std.proofs.lemmas.Grind.{common_steps}
-use Rattle.rpm_words.specs.declared.switch.Program.{Program}
-use Rattle.rpm_words.specs.declared.purpose.Purpose.{Purpose}
-use Rattle.rpm_words.specs.declared.purpose.Purpose.TheVariants.{Name}
-use Rattle.rpm_words.specs.declared.token.Token.{Token}
-use Rattle.rpm_words.specs.Purpose.{purpose_behind}
-use Rattle.rpm_words.specs.Token.{says, said_behind, said}
 
 pub drop_cut : {X : Type 0} (xs : List X) (i : ℕ) (x : X) → slice_get xs i ≡ Some x → drop i xs ≡ x ∷ drop (i + 1) xs
 drop_cut [] zero x h = cc

@@ -1,8 +1,6 @@
 -- The first of seven rules.
 use Rattle.std.proofs.Common.{◌≡◌, [], ◌∷◌, Option, Some, None, refl}
-use Rattle.std.specs.Option.{option_or}
-use Rattle.rpm_words.specs.declared.fault.WordsFault.{WordsFault}
-use Rattle.rpm_words.specs.Fault.{first_told}
+use Rattle.rpm_words.proofs.Vocabulary.{first_told, option_or, WordsFault}
 
 pub told : (a b c d e f g : Option WordsFault) →
     option_or (option_or (option_or (option_or (option_or (option_or a b) c) d) e) f) g ≡ first_told (a ∷ b ∷ c ∷ d ∷ e ∷ f ∷ g ∷ [])

@@ -1,20 +1,9 @@
 -- What a command line says stands within its words.
 use Rattle.std.proofs.Common.{◌≡◌, ℕ, zero, suc, ◌+◌, ◌<◌, ◌≤◌, List, [], ◌∷◌, Option, Some, None, length, drop, refl, add-one, arith}
-use Rattle.std.specs.Option.{option_map}
-use Rattle.std.specs.List.{All, cons_option}
+use Rattle.rpm_words.proofs.Vocabulary.{All, Argument, Awaits, Cluster, cons_option, Ends, Gives, Inline, IsSpelled, letters, Name, option_at, option_map}
+use Rattle.rpm_words.proofs.Vocabulary.{Plain, Program, Purpose, purpose_behind, Refused, Rest, Said, said, said_behind, says, short_switch, Switch, text_at}
+use Rattle.rpm_words.proofs.Vocabulary.{Token, token_at, Unknown, Value, Whole}
 use Rattle.std.proofs.lemmas.List.Elements.{All-nil, All-cons, All-append}
-use Rattle.rpm_words.specs.declared.switch.Program.{Program}
-use Rattle.rpm_words.specs.declared.switch.Switch.{Switch}
-use Rattle.rpm_words.specs.declared.purpose.Purpose.{Purpose}
-use Rattle.rpm_words.specs.declared.purpose.Purpose.TheVariants.{Name, Unknown, Cluster, Whole, Inline, Awaits, Value, Ends, Plain, Rest}
-use Rattle.rpm_words.specs.declared.token.Token.{Token}
-use Rattle.rpm_words.specs.declared.token.Said.{Said}
-use Rattle.rpm_words.specs.declared.token.Said.TheVariants.{Refused, Gives, Argument}
-use Rattle.rpm_words.specs.Switch.{short_switch}
-use Rattle.rpm_words.specs.Words.{text_at}
-use Rattle.rpm_words.specs.Purpose.{purpose_behind}
-use Rattle.rpm_words.specs.Token.{token_at, option_at, letters, says, said_behind, said}
-use Rattle.rpm_words.specs.inner.Folder.{IsSpelled}
 use Rattle.rpm_words.proofs.Spelled.{purpose_spelled}
 
 -- a value begins in its text, or at its end

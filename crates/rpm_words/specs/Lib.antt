@@ -4,6 +4,7 @@ pub mod Command
 pub mod Fault
 pub mod Number
 pub mod Place
+pub mod Prelude
 pub mod Purpose
 pub mod Seen
 pub mod Switch

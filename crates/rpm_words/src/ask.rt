@@ -1,11 +1,7 @@
 //! The command that a command line asks for.
 
-ghost use Rattle.std.specs.Prelude.{◌≡◌, ◌≢◌, ℕ, ◌<◌, ◌^◌, length, slice_get, Some, Ok, Err, IfOk, MatchResult, MatchOption};
-ghost use Rattle.std.specs.List.{AllByRecursion};
-ghost use Rattle.rpm_words.specs.declared.fault.WordsKind.TheVariants.{NoMemory};
-ghost use Rattle.rpm_words.specs.Fault.{fault};
-ghost use Rattle.rpm_words.specs.Place.{program_of};
-ghost use Rattle.rpm_words.specs.Ask.{argument_in, arguments, mode_of, ask, asked_by, IsSound, IsFit, HasNumbers};
+ghost use Rattle.std.specs.Prelude.{◌≡◌, ◌≢◌, ℕ, ◌<◌, ◌^◌, length, slice_get, Some, Ok, Err, IfOk, MatchResult, MatchOption, unwrap_or};
+ghost use Rattle.rpm_words.specs.Prelude.{AllByRecursion, argument_in, arguments, ask, asked_by, AskParts, asks, fault, HasNumbers, IsFit, IsSound, mode_of, NoMemory, program_of};
 
 use crate::broken::first_broken;
 use crate::fault::{WordsFault, WordsKind};
@@ -60,9 +56,6 @@ pub struct Ask {
 }
 
 impl Model for Ask {
-    ghost use Rattle.std.specs.Prelude.{length, ◌<◌, ◌^◌, unwrap_or};
-    ghost use Rattle.rpm_words.specs.Ask.{AskParts, asks};
-
     ghost Value = { AskParts };
 
     ghost view = { λ s. asks s.mode s.chosen s.after s.noindex s.printed s.arguments.items };
@@ -254,9 +247,6 @@ pub fn read(alloc: Global, words: &Words) -> Result<Ask, WordsFault>
 {
     match program_of(words) {
         Some(program) => read_options(alloc, program, words),
-        None => Err(WordsFault {
-            kind: WordsKind::NoMode,
-            word: 0,
-        }),
+        None => Err(WordsKind::NoMode.at(0)),
     }
 }

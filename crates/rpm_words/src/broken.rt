@@ -1,8 +1,7 @@
 //! The first rule that a command line breaks.
 
-ghost use Rattle.std.specs.Prelude.{◌≡◌, length};
-ghost use Rattle.std.specs.List.{slice_get};
-ghost use Rattle.rpm_words.specs.Broken.{is_bad_number, token_fault, early_fault, is_misplaced, misplaced_in, misplaced, lacks_option, argument_fault, bad_argument, no_mode, no_value, too_few, too_many, is_awaiting, first_broken};
+ghost use Rattle.std.specs.Prelude.{◌≡◌};
+ghost use Rattle.rpm_words.specs.Prelude.{argument_fault, bad_argument, early_fault, first_broken, is_awaiting, is_bad_number, is_misplaced, lacks_option, misplaced, misplaced_in, no_mode, no_value, token_fault, too_few, too_many};
 
 use crate::fault::{WordsFault, WordsKind, earlier};
 use crate::number::{exercise_number, number_in, number_of};
@@ -45,10 +44,7 @@ impl Token {
         } else {
             return None;
         };
-        Some(WordsFault {
-            kind,
-            word: self.word,
-        })
+        Some(kind.at(self.word))
     }
 
     /// Whether the token is an option that has a value.
@@ -66,10 +62,9 @@ impl Token {
         ensures { result ≡ misplaced_in command self.now }
     {
         match self.said {
-            Said::Sets(switch) if switch.is_misplaced(command) => Some(WordsFault {
-                kind: WordsKind::Misplaced,
-                word: self.word,
-            }),
+            Said::Sets(switch) if switch.is_misplaced(command) => Some(WordsKind::Misplaced.at(
+                self.word,
+            )),
             _ => None,
         }
     }
@@ -126,14 +121,10 @@ fn argument_fault(words: &Words, expected: Expected, word: u32) -> Option<WordsF
 {
     let text = words.text_at(word);
     match expected {
-        Expected::Number if number_of(text).is_none() => Some(WordsFault {
-            kind: WordsKind::BadNumber,
+        Expected::Number if number_of(text).is_none() => Some(WordsKind::BadNumber.at(word)),
+        Expected::Capability if Capability::read(text).is_err() => Some(WordsKind::BadCapability.at(
             word,
-        }),
-        Expected::Capability if Capability::read(text).is_err() => Some(WordsFault {
-            kind: WordsKind::BadCapability,
-            word,
-        }),
+        )),
         _ => None,
     }
 }
@@ -156,10 +147,7 @@ fn no_value(words: &Words, last: Option<Token>) -> Option<WordsFault>
     ensures { result ≡ no_value words.now last }
 {
     match last {
-        Some(token) if token.is_awaiting() => Some(WordsFault {
-            kind: WordsKind::MissingArgument,
-            word: words.len(),
-        }),
+        Some(token) if token.is_awaiting() => Some(WordsKind::MissingArgument.at(words.len())),
         _ => None,
     }
 }
@@ -169,10 +157,7 @@ fn no_mode(words: &Words, command: Option<Command>) -> Option<WordsFault>
     ensures { result ≡ no_mode words.now command }
 {
     match command {
-        None => Some(WordsFault {
-            kind: WordsKind::NoMode,
-            word: words.len(),
-        }),
+        None => Some(WordsKind::NoMode.at(words.len())),
         Some(_) => None,
     }
 }
@@ -198,10 +183,7 @@ fn too_few(
     ensures { result ≡ too_few words.now command seen.now takes arguments.now }
 {
     if lacks_option(command, seen) || arguments.len() < takes.fewest() {
-        Some(WordsFault {
-            kind: WordsKind::MissingArgument,
-            word: words.len(),
-        })
+        Some(WordsKind::MissingArgument.at(words.len()))
     } else {
         None
     }
@@ -212,10 +194,7 @@ fn too_many(takes: ArgumentRule, arguments: &[u32]) -> Option<WordsFault>
     ensures { result ≡ too_many takes arguments.now }
 {
     match takes.most() {
-        Some(most) if most < arguments.len() => Some(WordsFault {
-            kind: WordsKind::ExtraArgument,
-            word: arguments[most],
-        }),
+        Some(most) if most < arguments.len() => Some(WordsKind::ExtraArgument.at(arguments[most])),
         _ => None,
     }
 }

@@ -1,7 +1,7 @@
 //! The mode and the selection that a command line begins with.
 
 ghost use Rattle.std.specs.Prelude.{◌≡◌};
-ghost use Rattle.rpm_words.specs.Command.{command_of, chosen_of, is_other, is_same_command, is_same_chosen};
+ghost use Rattle.rpm_words.specs.Prelude.{chosen_of, command_of, is_other, is_same_chosen, is_same_command};
 
 use crate::switch::{Chosen, Command, Switch};
 use crate::token::{Said, Token};

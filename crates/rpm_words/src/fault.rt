@@ -1,8 +1,7 @@
 //! The rules that a command line can break.
 
 ghost use Rattle.std.specs.Prelude.{◌≡◌};
-ghost use Rattle.rpm_words.specs.Fault.{rank, is_before};
-ghost use Rattle.rpm_words.specs.inner.Steps.{earlier};
+ghost use Rattle.rpm_words.specs.Prelude.{earlier, fault, is_before, rank};
 
 /// The rule that is broken.
 #[derive(Debug, Clone, Copy, PartialEq, Eq)]
@@ -35,6 +34,13 @@ pub struct WordsFault {
 }
 
 impl WordsKind {
+    /// A fault of this kind at a word.
+    pub(crate) fn at(self, word: u32) -> WordsFault
+        ensures { result ≡ fault self word }
+    {
+        WordsFault { kind: self, word }
+    }
+
     /// Which of the faults of one word is told.
     fn rank(self) -> u8
         ensures { result ≡ rank self }

@@ -1,9 +1,7 @@
 //! The numbers that stand on a command line.
 
 ghost use Rattle.std.specs.Prelude.{◌≡◌};
-ghost use Rattle.std.specs.List.{list_all};
-ghost use Rattle.std.specs.Char.{is_ascii_digit};
-ghost use Rattle.rpm_words.specs.Number.{number, exercise_number};
+ghost use Rattle.rpm_words.specs.Prelude.{exercise_number, is_ascii_digit, list_all, number};
 
 use std::str::from_utf8;
 

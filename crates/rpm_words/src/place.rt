@@ -1,10 +1,7 @@
 //! The folder of the database.
 
 ghost use Rattle.std.specs.Prelude.{◌≡◌};
-ghost use Rattle.std.specs.List.{after_first};
-ghost use Rattle.rpm_words.specs.Purpose.{is_equals};
-ghost use Rattle.rpm_words.specs.Place.{program_of, place, folder};
-ghost use Rattle.rpm_words.specs.inner.Folder.{IsSpelled, folder_behind};
+ghost use Rattle.rpm_words.specs.Prelude.{after_first, folder, folder_behind, is_equals, IsSpelled, place, program_of};
 
 use crate::purpose::{Purpose, purpose_behind};
 use crate::switch::{Program, Switch};

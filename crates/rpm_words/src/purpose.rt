@@ -1,11 +1,7 @@
 //! What each word of a command line is there for.
 
 ghost use Rattle.std.specs.Prelude.{◌≡◌, length};
-ghost use Rattle.std.specs.Option.{option_map_or, is_some};
-ghost use Rattle.std.specs.List.{list_all};
-ghost use Rattle.rpm_words.specs.Switch.{long_switch, short_switch};
-ghost use Rattle.rpm_words.specs.Purpose.{purpose_behind, own_purpose, long_purpose, inline, lone, is_cluster, takes_value};
-ghost use Rattle.rpm_words.specs.declared.purpose.Purpose.TheVariants.{Unknown};
+ghost use Rattle.rpm_words.specs.Prelude.{inline, is_cluster, is_some, list_all, lone, long_purpose, long_switch, option_map_or, own_purpose, purpose_behind, short_switch, takes_value, Unknown};
 
 use crate::switch::{Command, Program, Switch, long_switch, short_switch};
 

@@ -1,9 +1,7 @@
 //! What the options of a command line come to.
 
 ghost use Rattle.std.specs.Prelude.{◌≡◌, None, drop};
-ghost use Rattle.rpm_words.specs.Words.{text_at};
-ghost use Rattle.rpm_words.specs.Seen.{printed_in, after_in, exercise_in, is_noindex, is_nofiles, seen};
-ghost use Rattle.rpm_words.specs.inner.Steps.{seen_with};
+ghost use Rattle.rpm_words.specs.Prelude.{after_in, exercise_in, is_nofiles, is_noindex, printed_in, seen, seen_with, text_at};
 
 use crate::number::{exercise_number, number_in};
 use crate::switch::{Chosen, Command, Switch};

@@ -1,9 +1,7 @@
 //! The options, and how each is spelled.
 
 ghost use Rattle.std.specs.Prelude.{◌≡◌, ◌≤◌, IsSome, length};
-ghost use Rattle.std.specs.Str.{bytes_eq};
-ghost use Rattle.rpm_words.specs.Switch.{long_switch, short_switch};
-ghost use Rattle.rpm_words.specs.inner.Spellings.{as_table, switch_in};
+ghost use Rattle.rpm_words.specs.Prelude.{as_table, bytes_eq, long_switch, short_switch, switch_in};
 
 /// The program that a command line calls.
 #[derive(Clone, Copy, PartialEq, Eq)]

@@ -1,7 +1,7 @@
 //! How many arguments a command takes, and of which kind.
 
 ghost use Rattle.std.specs.Prelude.{◌≡◌};
-ghost use Rattle.rpm_words.specs.Takes.{query_takes, takes, fewest, most, expected, checked};
+ghost use Rattle.rpm_words.specs.Prelude.{checked, expected, fewest, most, query_takes, takes};
 
 use crate::switch::{Chosen, Command};
 

@@ -1,7 +1,7 @@
 //! What a command line says, word by word and, in a cluster, letter by letter.
 
 ghost use Rattle.std.specs.Prelude.{◌≡◌, ◌++◌, ◌<◌, ◌^◌, OnOk, IfOk, length};
-ghost use Rattle.rpm_words.specs.Token.{says, letters, said};
+ghost use Rattle.rpm_words.specs.Prelude.{letters, said, says};
 
 use crate::purpose::{Purpose, purpose_behind};
 use crate::switch::{Program, Switch, short_switch};

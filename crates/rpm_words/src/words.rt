@@ -1,7 +1,7 @@
 //! The words of a command line.
 
-ghost use Rattle.std.specs.Prelude.{◌≡◌, ℕ, ◌<◌, [], ◌∷◌, ◌++◌, Some, length, slice_get, OnOk, OnErr};
-ghost use Rattle.rpm_words.specs.Words.{text_at, bytes_from};
+ghost use Rattle.std.specs.Prelude.{◌≡◌, ℕ, ◌<◌, [], ◌∷◌, ◌++◌, Some, length, slice_get, OnOk, OnErr, List, ◌^◌, map, string_bytes};
+ghost use Rattle.rpm_words.specs.Prelude.{bytes_from, text_at};
 
 use std::alloc::{AllocError, Global};
 use std::marker::Model;
@@ -23,8 +23,6 @@ pub struct Words {
 }
 
 impl Model for Words {
-    ghost use Rattle.std.specs.Prelude.{List, ℕ, ◌<◌, ◌^◌, map, length, string_bytes};
-
     ghost Value = { List (List ℕ) };
 
     ghost view = { λ s. map string_bytes s.items.items };

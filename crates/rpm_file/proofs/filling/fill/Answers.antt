@@ -1,7 +1,6 @@
 use Rattle.std.proofs.Common.{◌≡◌, ◌≤◌, ◌-◌, ◌++◌, ◌∙◌, sym, subst, take, drop, length, arith, length-drop, length-append}
 use Rattle.std.proofs.lemmas.List.{length-take, length-take-le}
-use Rattle.rpm_outside.specs.Browses.{Takes}
-use Rattle.rpm_outside.specs.inner.Browsing.{takes_then, reads_one, browses_then}
+use Rattle.rpm_file.proofs.Vocabulary.{browses_then, reads_one, Takes, takes_then}
 use Rattle.rpm_file.proofs.Filled.{front_put}
 use Rattle.rpm_file.proofs.filling.fill.Goals as goal
 use borrow.Rule.Slice.PartMut.{post_of}

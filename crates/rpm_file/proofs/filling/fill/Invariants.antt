@@ -1,6 +1,6 @@
 use Rattle.std.proofs.Common.{length, ◌-◌, ◌≤◌, take}
 use Rattle.std.specs.Prelude.{IsTrue}
-use Rattle.rpm_outside.specs.Browses.{Takes, Browses}
+use Rattle.rpm_file.proofs.Vocabulary.{Browses, Takes}
 use Rattle.rpm_file.proofs.filling.fill.Given as goal
 
 abbrev pub invariant-loop-done : goal.invariant-loop-done

@@ -1,4 +1,4 @@
-use Rattle.rpm_outside.specs.inner.Browsing.{browses_then}
+use Rattle.rpm_file.proofs.Vocabulary.{browses_then}
 use Rattle.rpm_file.proofs.filling.fill_upto.Goals as goal
 
 pub returns-in_err-count-clause-browses : goal.returns-in_err-count-clause-browses

@@ -1,7 +1,6 @@
 use Rattle.std.proofs.Common.{◌≤◌, ◌-◌, take, vec_len}
 use Rattle.std.specs.Prelude.{IsTrue}
-use Rattle.rpm_outside.specs.Browses.{Browses}
-use Rattle.rpm_file.specs.inner.Filling.{Extends}
+use Rattle.rpm_file.proofs.Vocabulary.{Browses, Extends}
 use Rattle.rpm_file.proofs.filling.fill_upto.Given as goal
 
 abbrev pub invariant-loop-done : goal.invariant-loop-done

@@ -1,8 +1,7 @@
 use Rattle.std.proofs.Common.{◌≡◌, ◌<◌, ◌++◌, ◌∙◌, ap, length, take, sym, List, ℕ, arith}
 use Rattle.std.proofs.lemmas.List.{length-take-le}
 use Rattle.std.proofs.lemmas.Result.{err_from_is_err_and}
-use Rattle.rpm_outside.specs.Browses.{left}
-use Rattle.rpm_file.specs.List.{front_header}
+use Rattle.rpm_file.proofs.Vocabulary.{front_header, left}
 use Rattle.rpm_file.proofs.Filled.{of_ok}
 use Rattle.rpm_file.proofs.Listed.{bad_front, whole_front, cut_front, told_fault, size_fault, no_fault, begun}
 use Rattle.rpm_file.proofs.list.read_behind.Goals as goal

@@ -1,4 +1,4 @@
-use Rattle.rpm_outside.specs.inner.Browsing.{browses_then}
+use Rattle.rpm_file.proofs.Vocabulary.{browses_then}
 use Rattle.rpm_file.proofs.Listed.{behind_intro}
 use Rattle.rpm_file.proofs.list.read_header.Goals as goal
 

@@ -1,8 +1,5 @@
 use Rattle.std.proofs.Common.{◌∙◌, ◌++◌, ◌∷◌, [], sym, subst, ap, List}
-use Rattle.rpm_header.specs.Header.{Item}
-use Rattle.rpm_header.specs.Build.{retagged}
-use Rattle.rpm_file.specs.Merging.{dribble}
-use Rattle.rpm_file.specs.inner.Joining.{HasTags}
+use Rattle.rpm_file.proofs.Vocabulary.{dribble, HasTags, Item, retagged}
 use Rattle.rpm_file.proofs.Merged.{next_joins, next_passed}
 use Rattle.rpm_file.proofs.merging.dribbles_of.Goals as goal
 use Rattle.rpm_file.proofs.merging.dribbles_of.Goals.{in-Some+in_ok-push_entry, in_default}

@@ -1,5 +1,5 @@
 use Rattle.std.proofs.Common.{◌≡◌, take}
-use Rattle.rpm_file.specs.Merging.{dribbles}
+use Rattle.rpm_file.proofs.Vocabulary.{dribbles}
 use Rattle.rpm_file.proofs.merging.dribbles_of.Given as goal
 
 abbrev pub invariant-loop-i : goal.invariant-loop-i

@@ -1,7 +1,5 @@
 use Rattle.std.proofs.Common.{subst, Result}
-use Rattle.rpm_header.specs.Header.{Header}
-use Rattle.rpm_file.specs.declared.fault.FileFault.{FileFault}
-use Rattle.rpm_file.specs.inner.Parts.{AnswersBytes}
+use Rattle.rpm_file.proofs.Vocabulary.{AnswersBytes, FileFault, Header}
 use Rattle.rpm_file.proofs.Merged.{merged_is}
 use Rattle.rpm_file.proofs.merging.merged.Goals as goal
 

@@ -1,6 +1,5 @@
 use Rattle.std.proofs.Common.{◌≡◌, ◌∙◌, sym, ap, subst, false, None, Some}
-use Rattle.rpm_file.specs.Merging.{is_null, joins_as}
-use Rattle.rpm_file.specs.inner.Joining.{JoinsUnder}
+use Rattle.rpm_file.proofs.Vocabulary.{is_null, joins_as, JoinsUnder}
 use Rattle.rpm_file.proofs.Merged.{none_null, none_joins, none_twice, joins, not_null}
 use Rattle.rpm_file.proofs.merging.tag_for.Goals as goal
 

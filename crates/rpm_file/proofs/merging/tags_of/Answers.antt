@@ -1,5 +1,5 @@
 use Rattle.std.proofs.Common.{◌+◌, sym, subst, take, arith, Bool, Vec, Global}
-use Rattle.rpm_file.specs.inner.Joining.{HasTags}
+use Rattle.rpm_file.proofs.Vocabulary.{HasTags}
 use Rattle.rpm_file.proofs.Tagged.{tags_begun, tags_noted, tags_kept}
 use Rattle.rpm_file.proofs.merging.tags_of.Goals as goal
 use Rattle.rpm_file.proofs.merging.tags_of.Goals.{then-tag-lt-TAGS, else-tag-lt-TAGS}

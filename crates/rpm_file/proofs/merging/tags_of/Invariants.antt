@@ -1,5 +1,5 @@
 use Rattle.std.proofs.Common.{take}
-use Rattle.rpm_file.specs.inner.Joining.{HasTags}
+use Rattle.rpm_file.proofs.Vocabulary.{HasTags}
 use Rattle.rpm_file.proofs.merging.tags_of.Given as goal
 
 abbrev pub invariant-loop-i : goal.invariant-loop-i

@@ -1,7 +1,5 @@
 use Rattle.std.proofs.Common.{◌+◌, length, subst, sym}
-use Rattle.rpm_header.specs.Dribbles.{dribbled_data}
-use Rattle.rpm_file.specs.inner.Parts.{IsMadeFault}
-use Rattle.rpm_file.specs.Merging.{with_entries}
+use Rattle.rpm_file.proofs.Vocabulary.{dribbled_data, IsMadeFault, with_entries}
 use Rattle.rpm_file.proofs.Merged.{keeps_limits, made_bytes, made_not}
 use Rattle.rpm_file.proofs.merging.with_entries.Goals as goal
 

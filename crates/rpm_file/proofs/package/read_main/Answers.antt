@@ -1,11 +1,7 @@
 use Rattle.std.proofs.Common.{ap, ◌∙◌, arith}
-use Rattle.rpm_header.specs.Header.{header}
+use Rattle.rpm_file.proofs.Vocabulary.{behind_padding, behind_signature, browses_then, headed, header, left, merged}
 use Rattle.std.proofs.lemmas.Result.{err_from_is_err_and}
 use Rattle.rpm_file.specs.declared.fault.HeaderKind.TheVariants as part
-use Rattle.rpm_outside.specs.Browses.{left}
-use Rattle.rpm_outside.specs.inner.Browsing.{browses_then}
-use Rattle.rpm_file.specs.Merging.{merged}
-use Rattle.rpm_file.specs.Package.{behind_signature, behind_padding, headed}
 use Rattle.rpm_file.proofs.Joined.{passed, padding_fault, main_fault, main_bad, main_good, made_answers, made_reads}
 use Rattle.rpm_file.proofs.package.read_main.Goals as goal
 

@@ -1,14 +1,8 @@
 use Rattle.std.proofs.Common.{◌≡◌, Result, Ok, Err, ap, ◌∙◌, refl, sym}
-use Rattle.std.specs.Result.{MatchResult, IsErrAnd}
+use Rattle.rpm_file.proofs.Vocabulary.{behind_lead, browses_then, FileFault, headed, Header, header, HeaderFault, IsErrAnd, left, MatchResult, package_header}
+use Rattle.rpm_file.proofs.Vocabulary.{Signature}
 use Rattle.std.proofs.lemmas.Result.{err_from_is_err_and}
-use Rattle.rpm_header.specs.Header.{Header, header}
-use Rattle.rpm_header.specs.declared.form.HeaderFault.{HeaderFault}
-use Rattle.rpm_file.specs.declared.fault.FileFault.{FileFault}
-use Rattle.rpm_file.specs.declared.fault.FileFault.TheVariants.{Signature}
 use Rattle.rpm_file.specs.declared.fault.HeaderKind.TheVariants as part
-use Rattle.rpm_outside.specs.Browses.{left}
-use Rattle.rpm_outside.specs.inner.Browsing.{browses_then}
-use Rattle.rpm_file.specs.Package.{behind_lead, package_header, headed}
 use Rattle.rpm_file.proofs.Joined.{passed, lead_fault, signature_fault, signature_bad, signature_good, whole_answers}
 use Rattle.rpm_file.proofs.package.read_package.Goals as goal
 

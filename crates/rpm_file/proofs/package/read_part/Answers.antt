@@ -1,7 +1,5 @@
 use Rattle.std.proofs.Common.{sym, subst}
-use Rattle.rpm_outside.specs.Browses.{left}
-use Rattle.rpm_file.specs.Package.{headed}
-use Rattle.rpm_file.specs.Answers.{IsFileFault}
+use Rattle.rpm_file.proofs.Vocabulary.{headed, IsFileFault, left}
 use Rattle.rpm_file.proofs.Packaged.{headed_none, headed_fault}
 use Rattle.rpm_file.proofs.package.read_part.Goals as goal
 

@@ -1,7 +1,6 @@
 use Rattle.std.proofs.Common.{sym}
 use Rattle.std.proofs.lemmas.Result.{err_from_is_err_and}
-use Rattle.rpm_outside.specs.Browses.{left}
-use Rattle.rpm_file.specs.Package.{behind_lead}
+use Rattle.rpm_file.proofs.Vocabulary.{behind_lead, left}
 use Rattle.rpm_file.proofs.Packaged.{lead_taken, lead_wrong, lead_short, taken_fault}
 use Rattle.rpm_file.proofs.package.skip_lead.Goals as goal
 

@@ -1,6 +1,6 @@
 use Rattle.std.proofs.Common.{◌≡◌, ◌-◌, ◌∙◌, ℕ, ap, length, arith}
 use Rattle.std.proofs.lemmas.List.{length-take-le}
-use Rattle.rpm_file.specs.Package.{padding_of}
+use Rattle.rpm_file.proofs.Vocabulary.{padding_of}
 use Rattle.rpm_file.proofs.Packaged.{padding_skipped}
 use Rattle.rpm_file.proofs.package.skip_padding.Goals as goal
 

@@ -1,6 +1,5 @@
 use Rattle.std.proofs.Common.{◌≡◌, ◌++◌, drop}
-use Rattle.std.specs.List.{filter_map}
-use Rattle.rpm_words.specs.Ask.{argument_in}
+use Rattle.rpm_words.proofs.Vocabulary.{argument_in, filter_map}
 use Rattle.rpm_words.proofs.ask.arguments_of.Given as goal
 
 abbrev pub invariant-loop-token : goal.invariant-loop-token

@@ -1,6 +1,5 @@
 use Rattle.std.proofs.Common.{◌≡◌, ◌≤◌, length, ap, sym, arith}
-use Rattle.rpm_words.specs.Token.{said}
-use Rattle.rpm_words.specs.Ask.{arguments}
+use Rattle.rpm_words.proofs.Vocabulary.{arguments, said}
 use Rattle.rpm_words.proofs.Counts.{few_arguments}
 use Rattle.rpm_words.proofs.Memory.{not_memory}
 use Rattle.rpm_words.proofs.ask.read_options.Goals as goal

@@ -1,5 +1,5 @@
 use Rattle.std.proofs.Common.{◌≡◌, drop}
-use Rattle.rpm_words.specs.Broken.{bad_argument}
+use Rattle.rpm_words.proofs.Vocabulary.{bad_argument}
 use Rattle.rpm_words.proofs.broken.bad_argument.Given as goal
 
 abbrev pub invariant-loop-word : goal.invariant-loop-word

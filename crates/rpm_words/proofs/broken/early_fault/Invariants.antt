@@ -1,8 +1,5 @@
 use Rattle.std.proofs.Common.{◌≡◌, ◌++◌, drop}
-use Rattle.std.specs.Option.{option_to_list}
-use Rattle.std.specs.List.{filter_map}
-use Rattle.rpm_words.specs.Fault.{earliest}
-use Rattle.rpm_words.specs.Broken.{token_fault, early_fault}
+use Rattle.rpm_words.proofs.Vocabulary.{earliest, early_fault, filter_map, option_to_list, token_fault}
 use Rattle.rpm_words.proofs.broken.early_fault.Given as goal
 
 abbrev pub invariant-loop-token : goal.invariant-loop-token

@@ -1,4 +1,4 @@
-use Rattle.rpm_words.specs.Broken.{first_broken}
+use Rattle.rpm_words.proofs.Vocabulary.{first_broken}
 use Rattle.rpm_words.proofs.Told.{told_by}
 use Rattle.rpm_words.proofs.broken.first_broken.Goals as goal
 

@@ -1,5 +1,5 @@
 use Rattle.std.proofs.Common.{◌≡◌, drop}
-use Rattle.rpm_words.specs.Broken.{misplaced}
+use Rattle.rpm_words.proofs.Vocabulary.{misplaced}
 use Rattle.rpm_words.proofs.broken.misplaced.Given as goal
 
 abbrev pub invariant-loop-token : goal.invariant-loop-token

@@ -1,7 +1,7 @@
 use Rattle.std.proofs.Common.{◌≡◌}
 use denote.Shadow.{shadow}
 use denote.Text.{Utf8}
-use Rattle.rpm_words.specs.Place.{folder}
+use Rattle.rpm_words.proofs.Vocabulary.{folder}
 use Rattle.rpm_words.proofs.Folders.{last_folder}
 use Rattle.rpm_words.proofs.place.folder_of.Given as goal
 

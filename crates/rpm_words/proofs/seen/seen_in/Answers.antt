@@ -1,5 +1,5 @@
 use Rattle.std.proofs.Common.{◌<◌, length, arith, refl}
-use Rattle.rpm_words.specs.Seen.{seen}
+use Rattle.rpm_words.proofs.Vocabulary.{seen}
 use Rattle.rpm_words.proofs.Seens.{seen_step}
 use Rattle.rpm_words.proofs.seen.seen_in.Goals as goal
 

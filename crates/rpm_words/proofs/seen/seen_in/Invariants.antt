@@ -1,5 +1,5 @@
 use Rattle.std.proofs.Common.{◌≡◌, drop}
-use Rattle.rpm_words.specs.Seen.{seen}
+use Rattle.rpm_words.proofs.Vocabulary.{seen}
 use Rattle.rpm_words.proofs.Seens.{seen_behind}
 use Rattle.rpm_words.proofs.seen.seen_in.Given as goal
 

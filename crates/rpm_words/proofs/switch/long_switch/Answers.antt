@@ -1,7 +1,6 @@
 use Rattle.std.proofs.Common.{refl, subst}
 use Rattle.std.specs.Prelude.{IsSome}
-use Rattle.rpm_words.specs.Switch.{long_switch, rpm_switch, rpmdb_switch}
-use Rattle.rpm_words.specs.inner.Spellings.{switch_in}
+use Rattle.rpm_words.proofs.Vocabulary.{long_switch, rpm_switch, rpmdb_switch, switch_in}
 use Rattle.rpm_words.proofs.Spellings.{found_is_short}
 use Rattle.rpm_words.proofs.switch.long_switch.Goals as goal
 

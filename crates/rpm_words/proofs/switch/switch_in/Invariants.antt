@@ -1,5 +1,5 @@
 use Rattle.std.proofs.Common.{◌≡◌, drop}
-use Rattle.rpm_words.specs.inner.Spellings.{as_table, switch_in}
+use Rattle.rpm_words.proofs.Vocabulary.{as_table, switch_in}
 use Rattle.rpm_words.proofs.switch.switch_in.Given as goal
 
 abbrev pub invariant-loop-spelling : goal.invariant-loop-spelling

@@ -1,5 +1,5 @@
 use Rattle.std.proofs.Common.{◌≡◌, ◌++◌, drop}
-use Rattle.rpm_words.specs.Token.{letters}
+use Rattle.rpm_words.proofs.Vocabulary.{letters}
 use Rattle.rpm_words.proofs.token.push_letters.Given as goal
 
 abbrev pub invariant-loop-byte : goal.invariant-loop-byte

@@ -1,5 +1,5 @@
 use Rattle.std.proofs.Common.{◌≡◌, ◌++◌, drop}
-use Rattle.rpm_words.specs.Token.{said_behind, said}
+use Rattle.rpm_words.proofs.Vocabulary.{said, said_behind}
 use Rattle.rpm_words.proofs.token.tokens_of.Given as goal
 
 abbrev pub invariant-loop-i : goal.invariant-loop-i
