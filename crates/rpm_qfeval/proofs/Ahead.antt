@@ -1,11 +1,7 @@
 -- The first text of those that are left.
 use Rattle.std.proofs.Common.{◌≡◌, ℕ, zero, suc, ◌+◌, List, [], ◌∷◌, drop, Option, Some, None, refl, sym, ap, ◌∙◌, arith}
 use Rattle.std.specs.Prelude.{slice_get}
-use Rattle.std.specs.Option.{option_map}
-use Rattle.std.specs.Iterator.{YieldsFirstBy}
-use Rattle.rpm_tags.specs.Value.{Elements, text_list}
-use Rattle.rpm_qfeval.specs.Formatters.{or_none}
-use Rattle.rpm_qfeval.specs.inner.Reached.{IsReadTo}
+use Rattle.rpm_qfeval.proofs.Vocabulary.{Elements, IsReadTo, option_map, or_none, text_list, YieldsFirstBy}
 use Rattle.rpm_qfeval.proofs.Steps.{begins_with}
 
 pub get_none : {X : Type 0} (xs : List X) (i : ℕ) → drop i xs ≡ [] → slice_get xs i ≡ None

@@ -2,14 +2,11 @@
 use Rattle.std.proofs.Common.{◌≡◌, ℕ, zero, suc, ◌+◌, ◌-◌, ◌≤◌, ◌<◌, Bool, true, false, nat_le}
 use Rattle.std.proofs.Common.{inl, inr, ℤ, pos, negsuc, unsigned_abs, ◌<ℤ◌, refl, sym, ap, ◌∙◌, arith}
 use Rattle.std.proofs.lemmas.Bool.{cases_lt, le-leb, lt-leb}
-use Rattle.jiff_core.specs.Calendar.{days_from_civil, day_count, IsCivilDate}
-use Rattle.jiff_core.specs.Date.{epoch_day}
-use Rattle.jiff_core.specs.declared.civil.date.Date.{Date}
+use Rattle.rpm_qfeval.proofs.Vocabulary.{Date, day_count, day_number, day_of, days_from_civil, epoch_day, IsCivilDate, last_begun, month_of, year_of}
 use Rattle.jiff_core.proofs.CalendarLemmas.{days_from_civil-day_count, day_count-epoch, day_count-day_of_year}
 use Rattle.jiff_core.proofs.CalendarLemmas.{day_count-lt_year, day_count-lt_month, day_count-day}
 use Rattle.jiff_core.proofs.MarchLemmas.{day_count-early}
 use Rattle.jiff_core.proofs.SignedLemmas.{signed_arith}
-use Rattle.rpm_qfeval.specs.Dates.{last_begun, day_number, year_of, month_of, day_of}
 use borrow.Author.Differences.{up, down}
 
 -- ---- the last one that has begun

@@ -2,8 +2,7 @@
 use Rattle.std.proofs.Common.{◌≡◌, ℕ, ◌+◌, ◌≤◌, ◌==◌, not, List, [], ◌∷◌, length, drop, Option, Some, None, refl, sym, ap, ◌∙◌, arith, eq-eqb}
 use Rattle.std.proofs.lemmas.Bool.{ne_eqb}
 use Rattle.std.specs.Prelude.{slice_get, find, filter_map, unwrap_or}
-use Rattle.std.specs.Option.{option_map}
-use Rattle.rpm_qfeval.specs.Meaning.{different}
+use Rattle.rpm_qfeval.proofs.Vocabulary.{different, option_map}
 use Rattle.rpm_qfeval.proofs.Steps.{drop_here, drop_all}
 
 module _ {X Y : Type 0} (f : X → Option Y) (xs : List X) (i : ℕ) where

@@ -2,7 +2,7 @@
 use Rattle.std.proofs.Common.{◌≡◌, ℕ, zero, suc, ◌+◌, ◌-◌, ◌≤◌, Bool, true, false, nat_le, cond, pos, refl, arith, leb-true}
 use Rattle.std.proofs.lemmas.Bool.{le-leb}
 use Rattle.jiff_core.proofs.CalendarLemmas.{day_count-epoch, day_count-day}
-use Rattle.rpm_qfeval.specs.Dates.{last_begun, day_number, year_of, month_of, day_of}
+use Rattle.rpm_qfeval.proofs.Vocabulary.{day_number, day_of, last_begun, month_of, year_of}
 use Rattle.rpm_qfeval.proofs.Calendar.{number_is, from_epoch}
 
 -- the last one that has begun has begun, where the first one has

@@ -3,13 +3,10 @@ use Rattle.std.proofs.Common.{◌≡◌, ℕ, suc, ◌+◌, ◌*◌, ◌/◌, �
 use Rattle.std.proofs.Common.{drop, [], ◌∷◌, ◌++◌, length, map, replicate, codes, refl, sym, ap, ◌∙◌, arith, append_assoc, length-append}
 use Rattle.std.proofs.lemmas.List.{map-append, length-replicate, take-append-drop, length-take-le}
 use Rattle.std.proofs.lemmas.List.Folds.{concat-append}
-use Rattle.std.specs.List.{concat}
-use Rattle.hex.specs.Hex.{encode_with, lower_digits}
+use Rattle.rpm_qfeval.proofs.Vocabulary.{base64_text, concat, encode_symbols, encode_with, escaped, escaped_text, hex_text, in_quotes, lower_digits}
+use Rattle.rpm_qfeval.proofs.Vocabulary.{padding_len, standard}
 use Rattle.hex.proofs.HexLemmas.{length-encode_with}
-use Rattle.base64.specs.Rfc4648.{encode_symbols, padding_len}
-use Rattle.base64.specs.Engines.{standard}
 use Rattle.base64.proofs.Canonical.{encode_symbols-append}
-use Rattle.rpm_qfeval.specs.Texts.{escaped, escaped_text, in_quotes, hex_text, base64_text}
 
 -- ---- quoted
 

@@ -1,21 +1,11 @@
 -- The definitions, computed on a small header and by the table of formatters: what they say doesn't come from the code.
 use Rattle.std.specs.Prelude.{◌≡◌, ℕ, List, [], ◌∷◌, codes, Bool, true, false, Result, Ok, Err, refl}
-use Rattle.std.specs.Fmt.{digits}
-use Rattle.hex.specs.Hex.{encode_with}
-use Rattle.base64.specs.Rfc4648.{encode_symbols}
-use Rattle.jiff_core.specs.Calendar.{days_from_civil, weekday_number, day_count, days_of_years, days_of_months}
+use Rattle.rpm_qfeval.proofs.Vocabulary.{blob_text, Bracket, bytes, Condition, day_count, day_of, days_from_civil, days_of_months, days_of_years, Dbinstance}
+use Rattle.rpm_qfeval.proofs.Vocabulary.{digits, encode_symbols, encode_with, End, Header, meaning, month_of, number_text, Numbers, Role, sizes, Stored}
+use Rattle.rpm_qfeval.proofs.Vocabulary.{stored, Tag, Tagged, Text, text_text, Texts, Tree, weekday_number, year_of}
 use Rattle.rpm_header.specs.declared.form.Form.TheVariants as form
-use Rattle.rpm_header.specs.Header.{Header, Numbers, Texts}
-use Rattle.rpm_tags.specs.declared.tag.Tag.{Tag}
-use Rattle.rpm_tags.specs.declared.tag.Tag.TheVariants.{Stored, Dbinstance}
-use Rattle.rpm_tags.specs.Value.{stored}
-use Rattle.rpm_qfparse.specs.declared.tree.Role.{Role}
 use Rattle.rpm_qfparse.specs.declared.tree.Role.TheVariants as role
 use Rattle.rpm_qfparse.specs.declared.tree.Show.TheVariants as show
-use Rattle.rpm_qfparse.specs.Tree.{Tree, End, Text, Tagged, Bracket, Condition}
-use Rattle.rpm_qfeval.specs.Dates.{year_of, month_of, day_of}
-use Rattle.rpm_qfeval.specs.Formatters.{number_text, text_text, blob_text}
-use Rattle.rpm_qfeval.specs.Meaning.{meaning, sizes, bytes}
 
 -- a name, two requirements and a mode
 small : Header

@@ -2,7 +2,7 @@
 use Rattle.std.proofs.Common.{◌≡◌, ℕ, zero, suc, ◌-◌, ◌*◌, ◌/◌, ◌%◌, ◌^◌, ◌<◌, ◌≤◌, Bool, false, cond, ◌==◌, List, [], ◌∷◌, refl, ap, ◌∙◌, arith}
 use Rattle.std.proofs.Math.Nat.{div-eq_of_lt, lt-div-mul-add, div-lt_iff_lt-mul, mod-eq-sub-div-mul, mul-le-mul_left, pow-suc}
 use Rattle.std.proofs.lemmas.Bool.{ne_eqb, eq-eqb}
-use Rattle.std.specs.Fmt.{digits, digits_onto, digit_glyph}
+use Rattle.rpm_qfeval.proofs.Vocabulary.{digit_glyph, digits, digits_onto}
 
 -- the last k digits of a number at most, and after them those that are known
 unfoldable pub onto : ℕ → ℕ → ℕ → List ℕ → List ℕ

@@ -13,3 +13,4 @@ pub mod Lists
 pub mod Glyphs
 pub mod Encodings
 pub mod NotNumbers
+pub mod Vocabulary

@@ -1,8 +1,7 @@
 -- Formatters of numbers, of a text or of a blob.
 use Rattle.std.proofs.Common.{◌≡◌, ℕ, List, codes, refl}
-use Rattle.rpm_qfparse.specs.declared.tree.Show.{Show}
+use Rattle.rpm_qfeval.proofs.Vocabulary.{blob_text, Show, text_text}
 use Rattle.rpm_qfparse.specs.declared.tree.Show.TheVariants as show
-use Rattle.rpm_qfeval.specs.Formatters.{text_text, blob_text}
 
 pub of_text : (f : Show) (count : ℕ) (text : List ℕ) → ¬ (f ≡ show.Plain) → ¬ (f ≡ show.Shescape) → ¬ (f ≡ show.Base64) → ¬ (f ≡ show.Arraysize)
     → text_text f count text ≡ codes "(not a number)"

@@ -3,19 +3,11 @@ use Rattle.std.proofs.Common.{◌≡◌, ℕ, zero, suc, ◌-◌, List, [], ◌�
 use Rattle.std.proofs.Common.{false, Option, Some, None, inl, inr, ◌⊎◌, refl, sym, ap, ◌∙◌, arith}
 use Rattle.std.proofs.lemmas.List.{append-nil, length-map}
 use Rattle.std.specs.Prelude.{slice_get, map, decimal}
-use Rattle.std.specs.Option.{option_map, option_and_then}
-use Rattle.rpm_header.specs.Header.{Header}
-use Rattle.rpm_tags.specs.declared.tag.Tag.TheVariants.{Stored}
-use Rattle.rpm_tags.specs.declared.tag.Tag.{Tag}
-use Rattle.rpm_tags.specs.Value.{Elements, NumberList, TextList, OneBlob, value, count_of, stored, texts_in, if_texts, numbers_in, if_numbers}
-use Rattle.rpm_qfparse.specs.declared.tree.TagPart.{TagPart}
+use Rattle.rpm_qfeval.proofs.Vocabulary.{count_of, Elements, Header, if_numbers, if_texts, IsPlain, NumberList, numbers_in, OneBlob, option_and_then}
+use Rattle.rpm_qfeval.proofs.Vocabulary.{option_map, or_none, padded, Stored, stored, Tag, TagPart, text_or_none, TextList, texts_in, value}
 use Rattle.rpm_qfparse.specs.declared.tree.Role.TheVariants as role
 use Rattle.rpm_qfparse.specs.declared.tree.Show.TheVariants as show
 use Rattle.rpm_qfparse.specs.declared.tree.Part.TheVariants as part
-use Rattle.rpm_qfeval.specs.Formatters.{or_none}
-use Rattle.rpm_qfeval.specs.Meaning.{text_or_none}
-use Rattle.rpm_qfeval.specs.Padded.{padded}
-use Rattle.rpm_qfeval.specs.inner.Ready.{IsPlain}
 
 pub some_texts : (v : Option Elements) (ts : List (List ℕ)) → Some ts ≡ if_texts v → v ≡ Some (TextList ts)
 some_texts (Some (TextList us)) ts e = let same : ts ≡ us = cc in ap (λ x. Some (TextList x)) (sym same)

@@ -1,12 +1,8 @@
 -- The parts of a proper tree are proper.
 use Rattle.std.proofs.Common.{◌≡◌, ℕ, zero, suc, ◌+◌, Bool, Some, subst}
 use Rattle.std.specs.Prelude.{slice_get}
-use Rattle.rpm_qfparse.specs.declared.tree.Part.{Part}
+use Rattle.rpm_qfeval.proofs.Vocabulary.{AreProper, Bracket, Condition, End, IsProper, Part, PartIsProper, parts_of, Tagged, Text, Tree}
 use Rattle.rpm_qfparse.specs.declared.tree.Part.TheVariants as part
-use Rattle.rpm_qfparse.specs.Tree.{Tree, End, Text, Tagged, Bracket, Condition}
-use Rattle.rpm_qfparse.specs.Shape.{parts_of}
-use Rattle.rpm_qfparse.specs.Law.{IsProper}
-use Rattle.rpm_qfeval.specs.inner.Proper.{AreProper, PartIsProper}
 
 module _ (in_bracket : Bool) (depth : ℕ) where
   same : (p q : Part) → Some p ≡ Some q → PartIsProper in_bracket p → PartIsProper in_bracket q

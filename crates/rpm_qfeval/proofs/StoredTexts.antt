@@ -1,9 +1,6 @@
 -- The texts of a stored tag are its value.
 use Rattle.std.proofs.Common.{◌≡◌, ℕ, List, Option, Some, sym, ap, ◌∙◌}
-use Rattle.rpm_header.specs.Header.{Header}
-use Rattle.rpm_tags.specs.declared.tag.Tag.{Tag}
-use Rattle.rpm_tags.specs.declared.tag.Tag.TheVariants.{Stored}
-use Rattle.rpm_tags.specs.Value.{Elements, NumberList, TextList, OneBlob, value, texts_in, if_texts}
+use Rattle.rpm_qfeval.proofs.Vocabulary.{Elements, Header, if_texts, NumberList, OneBlob, Stored, Tag, TextList, texts_in, value}
 
 by_texts : (v : Elements) (ts : List (List ℕ)) → Some ts ≡ if_texts (Some v) → v ≡ TextList ts
 by_texts (TextList us) ts e = let same : ts ≡ us = cc in ap TextList (sym same)

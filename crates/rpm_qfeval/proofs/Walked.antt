@@ -1,15 +1,9 @@
 -- What the parts of a format say, from a place on.
 use Rattle.std.proofs.Common.{◌≡◌, ℕ, suc, ◌+◌, ◌-◌, ◌<◌, ◌≤◌, List, [], ◌∷◌, ◌++◌, length, drop, map, Option, Some, None, refl, sym, ap, ◌∙◌, arith}
 use Rattle.std.specs.Prelude.{slice_get}
-use Rattle.std.specs.List.{concat, range_with_len}
-use Rattle.std.specs.Option.{option_or}
-use Rattle.rpm_header.specs.Header.{Header}
-use Rattle.rpm_qfparse.specs.declared.tree.Part.{Part}
+use Rattle.rpm_qfeval.proofs.Vocabulary.{bytes, concat, End, Header, option_or, Part, part_bytes, part_sizes, parts_of, range_with_len, sizes, Tree, tree_of}
+use Rattle.rpm_qfeval.proofs.Vocabulary.{whole_tree}
 use Rattle.rpm_qfparse.specs.declared.tree.Part.TheVariants as part
-use Rattle.rpm_qfparse.specs.Tree.{Tree, End}
-use Rattle.rpm_qfparse.specs.Shape.{parts_of, tree_of}
-use Rattle.rpm_qfparse.specs.inner.Falls.{whole_tree}
-use Rattle.rpm_qfeval.specs.Meaning.{bytes, part_bytes, sizes, part_sizes}
 use Rattle.rpm_qfeval.proofs.Steps.{drop_here, drop_all}
 
 module _ (h : Header) (number : ℕ) where

@@ -1,8 +1,10 @@
 pub mod Dates
 pub mod Formatters
+pub mod Frame
 pub mod Meaning
 pub mod Numbers
 pub mod Padded
+pub mod Prelude
 pub mod Printed
 pub mod Texts
 pub mod inner

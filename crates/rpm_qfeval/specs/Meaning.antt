@@ -15,7 +15,7 @@ use Rattle.rpm_qfparse.specs.declared.tree.Part.TheVariants as part
 use Rattle.rpm_qfparse.specs.Tree.{Tree, End, Text, Tagged, Bracket, Condition}
 use Rattle.rpm_qfparse.specs.Shape.{parts_of}
 use Rattle.rpm_qfeval.specs.Formatters.{number_text, shown, or_none}
-use Rattle.rpm_qfeval.specs.Padded.{padded}
+use Rattle.rpm_qfeval.specs.Padded.{in_width}
 
 -- ---- a tag
 
@@ -29,6 +29,13 @@ value_text role.Count f round v = number_text f (count_of v) (count_of v)
 abbrev pub text_or_none : Role → Show → ℕ → Option Elements → List ℕ
 text_or_none r f round None = or_none None
 text_or_none r f round (Some v) = value_text r f round v
+
+-- of a value that may be missing, and the element at a place of one, in the width of the tag
+abbrev pub found_text : TagPart → ℕ → Option Elements → List ℕ
+found_text p round v = in_width p (text_or_none p.role p.show round v)
+
+abbrev pub element_text : TagPart → Elements → ℕ → List ℕ
+element_text p v place = in_width p (or_none (shown p.show v place))
 
 -- ---- a bracket
 
@@ -56,7 +63,7 @@ module _ (h : Header) (number : ℕ) where
 
   -- a tag in a round
   abbrev pub tag_text : ℕ → TagPart → List ℕ
-  tag_text round p = padded p.left p.width (text_or_none p.role p.show round (value h number p.tag))
+  tag_text round p = found_text p round (value h number p.tag)
 
   -- how many elements a part asks for in a bracket, where it is such a tag
   abbrev pub direct : Part → Option ℕ
@@ -83,6 +90,10 @@ module _ (h : Header) (number : ℕ) where
   bytes round (Bracket inner rest) = rounds (counts inner) (λ i. bytes i inner) ++ bytes round rest
   bytes round (Condition tag first second rest) = (if is_present tag then bytes round first else bytes round second) ++ bytes round rest
 
+  -- what a bracket prints
+  abbrev pub bracket_bytes : Tree → List ℕ
+  bracket_bytes inner = rounds (counts inner) (λ i. bytes i inner)
+
   -- two counts that differ, or else the bytes
   abbrev pub bytes_or : Option (ℕ × ℕ) → Tree → Result (List ℕ) (ℕ × ℕ)
   bytes_or None tree = Ok (bytes 0 tree)
@@ -105,5 +116,5 @@ module _ (h : Header) (number : ℕ) where
   abbrev pub part_bytes : ℕ → Part → List ℕ
   part_bytes round (part.Text text) = text
   part_bytes round (part.Tag p) = tag_text round p
-  part_bytes round (part.Bracket inner) = rounds (counts inner) (λ i. bytes i inner)
+  part_bytes round (part.Bracket inner) = bracket_bytes inner
   part_bytes round (part.Condition tag first second) = if is_present tag then bytes round first else bytes round second

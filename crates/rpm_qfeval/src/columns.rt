@@ -1,12 +1,7 @@
 //! The values of the tags of a bracket, which are kept for its rounds.
 
 ghost use Rattle.std.specs.Prelude.{◌≡◌};
-ghost use Rattle.std.specs.Option.{option_map};
-ghost use Rattle.rpm_tags.specs.Value.{value, count_of};
-ghost use Rattle.rpm_qfeval.specs.inner.Columns.{AreValues, IsValue, IsColumn};
-ghost use Rattle.rpm_outside.specs.Sinks.{Writes};
-ghost use Rattle.rpm_qfeval.specs.Meaning.{text_or_none};
-ghost use Rattle.rpm_qfeval.specs.Padded.{padded};
+ghost use Rattle.rpm_qfeval.specs.Prelude.{AreValues, count_of, Found, found_text, IsColumn, IsValue, option_map, Puts, value};
 
 use crate::cursor::Cursor;
 use crate::elements::{put_none, put_value};
@@ -53,9 +48,6 @@ pub struct Column<'v, 'a> {
 }
 
 impl<'v, 'a> Model for Column<'v, 'a> {
-    ghost use Rattle.rpm_qfeval.specs.declared.columns.Found.{Found};
-    ghost use Rattle.rpm_qfeval.specs.inner.Columns.{IsColumn};
-
     ghost Value = { Found };
 
     ghost view = { λ s. s.found.now };
@@ -95,8 +87,7 @@ fn put_found<O: Sink>(
     found: &Found<'_>,
     round: u32,
 ) -> Result<(), Failed>
-    ensures { Writes O.tells O.taken O.faults O.follows sink.old sink.new
-        (padded part.now.left part.now.width (text_or_none part.now.role part.now.show round found.now.value)) result }
+    ensures { Puts O.Sink sink.old sink.new (found_text part.now round found.now.value) result }
 {
     match &found.value {
         None => put_none(sink, part),
@@ -130,17 +121,12 @@ impl<'v, 'a> Column<'v, 'a> {
     pub fn count(&self) -> Option<u32>
         ensures { result ≡ option_map count_of self.now.value }
     {
-        match &self.found.value {
-            None => None,
-            Some(value) => Some(value.count()),
-        }
+        Some(self.found.value.as_ref()?.count())
     }
 
     /// Puts the value by the role of a tag, in a round.
     pub fn put<O: Sink>(&mut self, sink: &mut O, part: &TagPart, round: u32) -> Result<(), Failed>
-        ensures puts { Writes O.tells O.taken O.faults O.follows sink.old sink.new
-            (padded part.now.left part.now.width (text_or_none part.now.role part.now.show round self.old.value))
-            result }
+        ensures puts { Puts O.Sink sink.old sink.new (found_text part.now round self.old.value) result }
         ensures same { self.new ≡ self.old }
     {
         let place = match part.role {

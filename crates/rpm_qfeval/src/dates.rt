@@ -1,10 +1,7 @@
 //! The dates of moments.
 
 ghost use Rattle.std.specs.Prelude.{◌≡◌, ◌≤◌, ◌<◌, ◌+◌, ◌/◌, ◌%◌, pos, slice_index_or, []};
-ghost use Rattle.jiff.specs.Words.{epoch_day};
-ghost use Rattle.jiff_core.specs.Time.{time_seconds};
-ghost use Rattle.jiff_core.specs.Weekday.{monday_zero};
-ghost use Rattle.rpm_qfeval.specs.Dates.{weekday_names, weekday_name, month_name, month_of, day_of, year_of, two, spaced, four, day_text, date_text};
+ghost use Rattle.rpm_qfeval.specs.Prelude.{date_text, day_of, day_text, epoch_day, four, monday_zero, month_name, month_of, spaced, time_seconds, two, weekday_name, weekday_names, year_of};
 
 use jiff::Timestamp;
 use jiff::civil::{DateTime, Weekday};

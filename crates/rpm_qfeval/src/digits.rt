@@ -1,7 +1,7 @@
 //! The digits of a number to the base 8 or 16.
 
-ghost use Rattle.std.specs.Prelude.{◌≡◌, ◌≤◌, ◌<◌, ◌+◌, ◌∷◌, length, drop, false};
-ghost use Rattle.std.specs.Fmt.{digits, digit_glyph};
+ghost use Rattle.std.specs.Prelude.{◌≡◌, ◌≤◌, ◌<◌, ◌+◌, ◌∷◌, drop, false, List, ℕ};
+ghost use Rattle.rpm_qfeval.specs.Prelude.{digit_glyph, digits};
 
 use std::marker::Model;
 
@@ -13,8 +13,6 @@ pub struct Digits {
 }
 
 impl Model for Digits {
-    ghost use Rattle.std.specs.Prelude.{List, ℕ, ◌≤◌, drop};
-
     ghost Value = { List ℕ };
 
     ghost view = { λ s. drop s.start s.bytes };
@@ -51,8 +49,8 @@ fn put_glyph(bytes: &mut [u8; 22], at: usize, digit: u64)
     bytes[at] = glyph(digit);
 }
 
-/// The digits of a number, without zeros in front and with small letters. Divides once for each.
-fn digits_in(number: u64, base: u64) -> Digits
+/// The digits of a number to a base, without zeros in front and with small letters. Divides once for each.
+pub fn digits_in(number: u64, base: u64) -> Digits
     requires low { 8 ≤ base }
     requires high { base ≤ 16 }
     ensures { result ≡ digits base false number }
@@ -68,18 +66,4 @@ fn digits_in(number: u64, base: u64) -> Digits
     start -= 1;
     put_glyph(&mut bytes, start, left);
     Digits { bytes, start }
-}
-
-/// A number to the base 8.
-pub fn octal(number: u64) -> Digits
-    ensures { result ≡ digits 8 false number }
-{
-    digits_in(number, 8)
-}
-
-/// A number to the base 16.
-pub fn hex(number: u64) -> Digits
-    ensures { result ≡ digits 16 false number }
-{
-    digits_in(number, 16)
 }

@@ -1,17 +1,12 @@
 //! An element of a value is put as its formatter shows it.
 
 ghost use Rattle.std.specs.Prelude.{◌≡◌, decimal, None};
-ghost use Rattle.std.specs.List.{concat};
-ghost use Rattle.rpm_outside.specs.Sinks.{Writes};
-ghost use Rattle.rpm_tags.specs.Value.{count_of};
-ghost use Rattle.rpm_qfeval.specs.Padded.{padded};
-ghost use Rattle.rpm_qfeval.specs.Formatters.{number_text, text_text, blob_text, shown, or_none};
-ghost use Rattle.rpm_qfeval.specs.Meaning.{value_text, tag_text};
+ghost use Rattle.rpm_qfeval.specs.Prelude.{blob_text, concat, count_of, element_text, in_width, number_text, or_none, Puts, tag_text, text_text, value_text};
 ghost use Rattle.rpm_qfeval.specs.Dates as dates;
 
 use crate::dates::{date, day};
-use crate::digits::{hex, octal};
-use crate::flags::{depflags, fflags};
+use crate::digits::digits_in;
+use crate::flags::{DEPFLAGS, FFLAGS, letters};
 use crate::modes::{fstate, perms};
 use crate::pieces::put_padded;
 use crate::shown::Shown;
@@ -23,8 +18,7 @@ use rpm_tags::{Class, Joined, TagValue, value};
 
 /// Puts bytes in the width of a tag.
 pub fn put_plain<O: Sink>(sink: &mut O, part: &TagPart, text: &[u8]) -> Result<(), Failed>
-    ensures { Writes O.tells O.taken O.faults O.follows sink.old sink.new
-        (padded part.now.left part.now.width text.now) result }
+    ensures { Puts O.Sink sink.old sink.new (in_width part.now text.now) result }
 {
     if part.width == 0 {
         return put_all(sink, text);
@@ -33,16 +27,14 @@ pub fn put_plain<O: Sink>(sink: &mut O, part: &TagPart, text: &[u8]) -> Result<(
 }
 
 fn put_decimal<O: Sink>(sink: &mut O, part: &TagPart, number: u64) -> Result<(), Failed>
-    ensures { Writes O.tells O.taken O.faults O.follows sink.old sink.new
-        (padded part.now.left part.now.width (decimal number)) result }
+    ensures { Puts O.Sink sink.old sink.new (in_width part.now (decimal number)) result }
 {
     let mut digits = Decimal::new();
     put_plain(sink, part, digits.format(number).as_bytes())
 }
 
 fn put_day<O: Sink>(sink: &mut O, part: &TagPart, number: u64) -> Result<(), Failed>
-    ensures { Writes O.tells O.taken O.faults O.follows sink.old sink.new
-        (padded part.now.left part.now.width (dates.day number)) result }
+    ensures { Puts O.Sink sink.old sink.new (in_width part.now (dates.day number)) result }
 {
     match u32::try_from(number) {
         Ok(second) => put_plain(sink, part, &day(second)),
@@ -51,8 +43,7 @@ fn put_day<O: Sink>(sink: &mut O, part: &TagPart, number: u64) -> Result<(), Fai
 }
 
 fn put_date<O: Sink>(sink: &mut O, part: &TagPart, number: u64) -> Result<(), Failed>
-    ensures { Writes O.tells O.taken O.faults O.follows sink.old sink.new
-        (padded part.now.left part.now.width (dates.date number)) result }
+    ensures { Puts O.Sink sink.old sink.new (in_width part.now (dates.date number)) result }
 {
     match u32::try_from(number) {
         Ok(second) => put_plain(sink, part, &date(second)),
@@ -67,16 +58,15 @@ pub fn put_number<O: Sink>(
     count: u32,
     number: u64,
 ) -> Result<(), Failed>
-    ensures { Writes O.tells O.taken O.faults O.follows sink.old sink.new
-        (padded part.now.left part.now.width (number_text part.now.show count number)) result }
+    ensures { Puts O.Sink sink.old sink.new (in_width part.now (number_text part.now.show count number)) result }
 {
     match part.show {
         Show::Plain | Show::Shescape => put_decimal(sink, part, number),
-        Show::Hex => put_plain(sink, part, hex(number).as_slice()),
-        Show::Octal => put_plain(sink, part, octal(number).as_slice()),
+        Show::Hex => put_plain(sink, part, digits_in(number, 16).as_slice()),
+        Show::Octal => put_plain(sink, part, digits_in(number, 8).as_slice()),
         Show::Perms => put_plain(sink, part, &perms(number)),
-        Show::Depflags => put_plain(sink, part, depflags(number).as_slice()),
-        Show::Fflags => put_plain(sink, part, fflags(number).as_slice()),
+        Show::Depflags => put_plain(sink, part, letters(&DEPFLAGS, number).as_slice()),
+        Show::Fflags => put_plain(sink, part, letters(&FFLAGS, number).as_slice()),
         Show::Fstate => put_plain(sink, part, fstate(number)),
         Show::Day => put_day(sink, part, number),
         Show::Date => put_date(sink, part, number),
@@ -92,8 +82,8 @@ pub fn put_text<O: Sink>(
     count: u32,
     text: &Joined<'_>,
 ) -> Result<(), Failed>
-    ensures { Writes O.tells O.taken O.faults O.follows sink.old sink.new
-        (padded part.now.left part.now.width (text_text part.now.show count (concat text.now))) result }
+    ensures { Puts O.Sink sink.old sink.new
+        (in_width part.now (text_text part.now.show count (concat text.now))) result }
 {
     match part.show {
         Show::Plain => put_padded(sink, part.left, part.width, &Shown::Joined(text)),
@@ -111,8 +101,8 @@ pub fn put_stored_text<O: Sink>(
     value: &TagValue<'_>,
     text: &[u8],
 ) -> Result<(), Failed>
-    ensures { Writes O.tells O.taken O.faults O.follows sink.old sink.new
-        (padded part.now.left part.now.width (text_text part.now.show (count_of value.now) text.now)) result }
+    ensures { Puts O.Sink sink.old sink.new
+        (in_width part.now (text_text part.now.show (count_of value.now) text.now)) result }
 {
     match part.show {
         Show::Plain => put_plain(sink, part, text),
@@ -125,8 +115,7 @@ pub fn put_stored_text<O: Sink>(
 
 /// Puts a blob, which is the only element of its value.
 pub fn put_blob<O: Sink>(sink: &mut O, part: &TagPart, bytes: &[u8]) -> Result<(), Failed>
-    ensures { Writes O.tells O.taken O.faults O.follows sink.old sink.new
-        (padded part.now.left part.now.width (blob_text part.now.show bytes.now)) result }
+    ensures { Puts O.Sink sink.old sink.new (in_width part.now (blob_text part.now.show bytes.now)) result }
 {
     match part.show {
         Show::Plain => put_padded(sink, part.left, part.width, &Shown::Hex(bytes)),
@@ -139,8 +128,7 @@ pub fn put_blob<O: Sink>(sink: &mut O, part: &TagPart, bytes: &[u8]) -> Result<(
 
 /// Puts what stands for an element that isn't there.
 pub fn put_none<O: Sink>(sink: &mut O, part: &TagPart) -> Result<(), Failed>
-    ensures { Writes O.tells O.taken O.faults O.follows sink.old sink.new
-        (padded part.now.left part.now.width (or_none None)) result }
+    ensures { Puts O.Sink sink.old sink.new (in_width part.now (or_none None)) result }
 {
     put_plain(sink, part, b"(none)")
 }
@@ -153,8 +141,7 @@ pub fn put_element<O: Sink>(
     value: &TagValue<'_>,
     place: u32,
 ) -> Result<(), Failed>
-    ensures { Writes O.tells O.taken O.faults O.follows sink.old sink.new
-        (padded part.now.left part.now.width (or_none (shown part.now.show value.now place))) result }
+    ensures { Puts O.Sink sink.old sink.new (element_text part.now value.now place) result }
 {
     let count = value.count();
     if place >= count {
@@ -174,8 +161,8 @@ pub fn put_value<O: Sink>(
     value: &TagValue<'_>,
     round: u32,
 ) -> Result<(), Failed>
-    ensures { Writes O.tells O.taken O.faults O.follows sink.old sink.new
-        (padded part.now.left part.now.width (value_text part.now.role part.now.show round value.now)) result }
+    ensures { Puts O.Sink sink.old sink.new
+        (in_width part.now (value_text part.now.role part.now.show round value.now)) result }
 {
     match part.role {
         Role::Element => put_element(sink, part, value, round),
@@ -195,8 +182,7 @@ pub fn put_looked_up<O: Sink>(
     number: u32,
     round: u32,
 ) -> Result<(), Failed>
-    ensures { Writes O.tells O.taken O.faults O.follows sink.old sink.new (tag_text view.now number round part.now)
-        result }
+    ensures { Puts O.Sink sink.old sink.new (tag_text view.now number round part.now) result }
 {
     match value(view, number, part.tag) {
         None => put_none(sink, part),

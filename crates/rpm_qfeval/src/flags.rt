@@ -1,15 +1,16 @@
 //! Flags, a letter each.
 
 ghost use Rattle.std.specs.Prelude.{◌≡◌, ◌≤◌, length};
-ghost use Rattle.rpm_qfeval.specs.Numbers.{letters, depflags, fflags};
+ghost use Rattle.rpm_qfeval.specs.Prelude.{letters};
 
 use crate::modes::has;
 use arrayvec::ArrayVec;
 
-// A bit, by its value, and its letter.
-const DEPFLAGS: [(u64, u8); 3] = [(2, b'<'), (4, b'>'), (8, b'=')];
+/// The comparison of a dependency, a letter for each bit, which is given by its value.
+pub const DEPFLAGS: [(u64, u8); 3] = [(2, b'<'), (4, b'>'), (8, b'=')];
 
-const FFLAGS: [(u64, u8); 9] = [
+/// The flags of a file.
+pub const FFLAGS: [(u64, u8); 9] = [
     (2, b'd'),
     (1, b'c'),
     (32, b's'),
@@ -21,7 +22,8 @@ const FFLAGS: [(u64, u8); 9] = [
     (4096, b'a'),
 ];
 
-fn letters(rows: &[(u64, u8)], number: u64) -> ArrayVec<u8, 9>
+/// The letters of the bits that a number has.
+pub fn letters(rows: &[(u64, u8)], number: u64) -> ArrayVec<u8, 9>
     requires { length rows.now ≤ 9 }
     ensures { result.items ≡ letters rows.now number }
 {
@@ -32,18 +34,4 @@ fn letters(rows: &[(u64, u8)], number: u64) -> ArrayVec<u8, 9>
         }
     }
     letters
-}
-
-/// The comparison of a dependency: `<`, `>` and `=` for the bits 2, 4 and 8.
-pub fn depflags(number: u64) -> ArrayVec<u8, 9>
-    ensures { result.items ≡ letters depflags number }
-{
-    letters(&DEPFLAGS, number)
-}
-
-/// The flags of a file.
-pub fn fflags(number: u64) -> ArrayVec<u8, 9>
-    ensures { result.items ≡ letters fflags number }
-{
-    letters(&FFLAGS, number)
 }

@@ -1,11 +1,7 @@
 //! Tags are asked for, in a bracket from the columns of its tags.
 
 ghost use Rattle.std.specs.Prelude.{◌≡◌, ◌<◌, length, true, IfSome};
-ghost use Rattle.std.specs.Option.{option_map};
-ghost use Rattle.rpm_tags.specs.Value.{value, count_of};
-ghost use Rattle.rpm_qfeval.specs.inner.Columns.{AreValues, IsOf};
-ghost use Rattle.rpm_outside.specs.Sinks.{Writes};
-ghost use Rattle.rpm_qfeval.specs.Meaning.{is_present, tag_text};
+ghost use Rattle.rpm_qfeval.specs.Prelude.{AreValues, count_of, is_present, IsOf, option_map, Puts, tag_text, value};
 
 use crate::columns::{Asked, Column};
 use crate::elements::put_looked_up;
@@ -78,10 +74,7 @@ pub fn count(
             return column.count();
         }
     }
-    match value(view, number, tag) {
-        None => None,
-        Some(found) => Some(found.count()),
-    }
+    Some(value(view, number, tag)?.count())
 }
 
 /// Whether a tag is present.
@@ -109,8 +102,7 @@ pub fn put_tag<O: Sink>(
     round: u32,
 ) -> Result<(), Failed>
     requires { AreValues view.now number columns.old }
-    ensures puts { Writes O.tells O.taken O.faults O.follows sink.old sink.new
-        (tag_text view.now number round part.now) result }
+    ensures puts { Puts O.Sink sink.old sink.new (tag_text view.now number round part.now) result }
     ensures same { columns.new ≡ columns.old }
 {
     if let Some(k) = place_of(columns, next, Asked::by(part)) {

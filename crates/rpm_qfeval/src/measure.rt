@@ -1,9 +1,7 @@
 //! How long a text is, without a copy of it.
 
 ghost use Rattle.std.specs.Prelude.{◌≡◌, ℕ, ◌-◌, length};
-ghost use Rattle.std.specs.List.{concat};
-ghost use Rattle.rpm_qfeval.specs.Texts.{escaped_text, hex_text, base64_text};
-ghost use Rattle.rpm_qfeval.specs.inner.Pieces.{text_of};
+ghost use Rattle.rpm_qfeval.specs.Prelude.{base64_text, concat, escaped_text, hex_text, text_of};
 
 use crate::shown::Shown;
 use rpm_tags::Joined;
@@ -12,11 +10,7 @@ use rpm_tags::Joined;
 fn lack_of(len: usize, width: u32) -> u32
     ensures { result ≡ width - len }
 {
-    if len < width as usize {
-        width - len as u32
-    } else {
-        0
-    }
+    (width as usize).saturating_sub(len) as u32
 }
 
 fn lack_of_escaped(text: &[u8], width: u32) -> u32

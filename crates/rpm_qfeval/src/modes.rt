@@ -1,7 +1,7 @@
 //! The modes and the states of files.
 
 ghost use Rattle.std.specs.Prelude.{◌≡◌, ◌≤◌};
-ghost use Rattle.rpm_qfeval.specs.Numbers.{has, kind_letter, letter_if, third_letter, perms, fstate};
+ghost use Rattle.rpm_qfeval.specs.Prelude.{fstate, has, kind_letter, letter_if, perms, third_letter};
 
 /// Whether a number has a bit.
 pub fn has(number: u64, bit: u64) -> bool

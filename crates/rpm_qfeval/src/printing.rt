@@ -1,17 +1,13 @@
 //! A format is printed.
 
-ghost use Rattle.std.specs.Prelude.{◌≡◌, ℕ, [], Ok, false};
-ghost use Rattle.rpm_outside.specs.Sinks.{Writes};
-ghost use Rattle.rpm_qfeval.specs.Dates.{day_number, year_of, month_of, day_of};
-ghost use Rattle.rpm_qfeval.specs.Meaning.{bytes, meaning};
-ghost use Rattle.rpm_qfeval.specs.inner.Proper.{AreProper};
-ghost use Rattle.rpm_qfeval.specs.Printed.{Prints, ending, eval_ending};
+ghost use Rattle.std.specs.Prelude.{◌≡◌, ℕ, [], Ok};
+ghost use Rattle.rpm_qfeval.specs.Prelude.{day_number, day_of, ending, eval_ending, meaning, month_of, Prints, year_of};
 
 use crate::sizes::sizes;
 use crate::writing::put_parts;
 use rpm_header::View;
 use rpm_outside::{Failed, Sink};
-use rpm_qfparse::{Format, Parts};
+use rpm_qfparse::Format;
 use std::alloc::Global;
 
 /// Why a format wasn't printed, or not the whole of it, by a call that takes no memory.
@@ -33,19 +29,6 @@ pub enum EvalFault {
     OutFault,
     /// Memory was wanting. No call answers it so far, since none takes memory.
     NoMemory,
-}
-
-/// Prints parts outside of brackets.
-fn print_parts<O: Sink>(
-    parts: &Parts,
-    view: &View<'_>,
-    number: u32,
-    sink: &mut O,
-) -> Result<(), Failed>
-    requires { AreProper false parts.now }
-    ensures { Writes O.tells O.taken O.faults O.follows sink.old sink.new (bytes view.now number 0 parts.now) result }
-{
-    put_parts(sink, parts, view, number)
 }
 
 /// Prints what a format says of a header and of the number of its package. Takes no memory.
@@ -92,7 +75,7 @@ pub fn print_direct<O: Sink>(
     if let Some((first, second)) = sizes(format.parts(), view, number) {
         return Err(DirectFault::SizesDiffer { first, second });
     }
-    match print_parts(format.parts(), view, number, sink) {
+    match put_parts(sink, format.parts(), view, number) {
         Ok(()) => Ok(()),
         Err(Failed) => Err(DirectFault::OutFault),
     }

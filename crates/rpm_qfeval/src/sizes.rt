@@ -1,10 +1,7 @@
 //! How many rounds a bracket has, and the first bracket whose tags disagree on it.
 
 ghost use Rattle.std.specs.Prelude.{◌≡◌, ℕ, ◌≤◌, length, false, None, slice_get, IfSome};
-ghost use Rattle.rpm_header.specs.Header.{Header};
-ghost use Rattle.rpm_qfeval.specs.inner.Columns.{AreValues};
-ghost use Rattle.rpm_qfeval.specs.inner.Ready.{StandReady, StandsReady};
-ghost use Rattle.rpm_qfeval.specs.Meaning.{direct, counts, different, sizes, part_sizes};
+ghost use Rattle.rpm_qfeval.specs.Prelude.{AreValues, counts, different, direct, Header, part_sizes, sizes, StandReady, StandsReady};
 
 use crate::columns::Column;
 use crate::lookup::{count, is_present};

@@ -1,10 +1,7 @@
 //! The stored texts of a value, for rounds that go from one to the next.
 
 ghost use Rattle.std.specs.Prelude.{◌≡◌};
-ghost use Rattle.rpm_tags.specs.Value.{TextList};
-ghost use Rattle.rpm_outside.specs.Sinks.{Writes};
-ghost use Rattle.rpm_qfeval.specs.Formatters.{shown, or_none};
-ghost use Rattle.rpm_qfeval.specs.Padded.{padded};
+ghost use Rattle.rpm_qfeval.specs.Prelude.{element_text, Puts, TextList};
 
 use crate::elements::{put_element, put_stored_text};
 use rpm_outside::{Failed, Sink};
@@ -63,8 +60,7 @@ impl<'v, 'a> Stream<'v, 'a> {
 
     /// Puts the text at a place. Over places that rise each text is read once.
     pub fn put<O: Sink>(&mut self, sink: &mut O, part: &TagPart, place: u32) -> Result<(), Failed>
-        ensures puts { Writes O.tells O.taken O.faults O.follows sink.old sink.new
-            (padded part.now.left part.now.width (or_none (shown part.now.show self.old place))) result }
+        ensures puts { Puts O.Sink sink.old sink.new (element_text part.now self.old place) result }
         ensures same { self.new ≡ self.old }
     {
         self.go_to(place);

@@ -1,13 +1,8 @@
 -- A draft that grows.
 use Rattle.std.proofs.Common.{◌≡◌, ℕ, ◌<◌, List, [], ◌∷◌, ◌++◌, length, refl, sym, ◌∙◌, ap, arith, Ok, Err}
-use Rattle.rpm_qfparse.specs.declared.tree.Part.{Part}
+use Rattle.rpm_qfparse.proofs.Vocabulary.{BeginsApart, behind, Bracket, Condition, End, in_front, IsNoText, onto, Part, Reading, Tagged, Text, Tree}
+use Rattle.rpm_qfparse.proofs.Vocabulary.{with_byte, with_text}
 use Rattle.rpm_qfparse.specs.declared.tree.Part.TheVariants as part
-use Rattle.rpm_qfparse.specs.Tree.{Tree, End, Text, Tagged, Bracket, Condition}
-use Rattle.rpm_qfparse.specs.Shape.{onto}
-use Rattle.rpm_qfparse.specs.Tag.{Reading}
-use Rattle.rpm_qfparse.specs.Format.{with_byte, behind}
-use Rattle.rpm_qfparse.specs.inner.Draft.{with_text, IsNoText, in_front}
-use Rattle.rpm_qfparse.specs.Law.{BeginsApart}
 
 pub with_text_push : (text : List ℕ) (b : ℕ) (rest : Tree) → with_text (text ++ b ∷ []) rest ≡ with_text text (with_byte b rest)
 with_text_push [] b rest = refl

@@ -1,10 +1,7 @@
 -- What a function answers where another one stopped.
 use Rattle.std.proofs.Common.{◌≡◌, ℕ, List, Result, Err, sym, subst, Bor}
-use Rattle.rpm_qfparse.specs.declared.fault.Stop.{Stop}
+use Rattle.rpm_qfparse.proofs.Vocabulary.{bare_fault, Faulty, Meets, Reading, Stop, StopsAs}
 use Rattle.rpm_qfparse.specs.declared.fault.Stop.TheVariants as stop
-use Rattle.rpm_qfparse.specs.Tag.{Faulty, Reading}
-use Rattle.rpm_qfparse.specs.inner.Bare.{bare_fault}
-use Rattle.rpm_qfparse.specs.inner.Draft.{Meets, StopsAs}
 
 pub stopped : {X : Type 0} (P : Reading X → Type 0) (r : Result (X × Bor (List ℕ)) Stop) (y e : Stop) → r ≡ Err y → y ≡ e → StopsAs P e → Meets P r
 stopped P r y e f g h = subst (Meets P) (sym f) (subst (StopsAs P) (sym g) h)

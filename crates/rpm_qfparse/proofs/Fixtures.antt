@@ -1,17 +1,10 @@
 -- The definition of a format, computed on small texts: what it says doesn't come from the code.
 use Rattle.std.specs.Prelude.{◌≡◌, ℕ, [], ◌∷◌, codes, Result, Ok, Err, true, false, refl}
-use Rattle.rpm_tags.specs.declared.tag.Tag.TheVariants.{Stored}
+use Rattle.rpm_qfparse.proofs.Vocabulary.{after_number, BarExpected, BraceExpected, Bracket, Condition, Element, EmptyTag, End, First, format, FormatFault}
+use Rattle.rpm_qfparse.proofs.Vocabulary.{FormatKind, Hex, MissingClose, MissingOpen, move_of, NestedBracket, number_of, Plain, reading, show_in, Stored}
+use Rattle.rpm_qfparse.proofs.Vocabulary.{table, tag_part, Tagged, TagPart, Text, Tree, UnknownFormatter, UnknownTag, WidthTooLarge}
 use Rattle.rpm_tags.specs.Table as names
-use Rattle.rpm_qfparse.specs.declared.fault.FormatFault.{FormatFault}
-use Rattle.rpm_qfparse.specs.declared.fault.FormatKind.{FormatKind}
-use Rattle.rpm_qfparse.specs.declared.fault.FormatKind.TheVariants.{MissingOpen, MissingClose, EmptyTag, UnknownTag, UnknownFormatter, WidthTooLarge, NestedBracket, BraceExpected, BarExpected}
-use Rattle.rpm_qfparse.specs.declared.tree.Role.TheVariants.{Element, First}
-use Rattle.rpm_qfparse.specs.declared.tree.Show.TheVariants.{Plain, Hex}
-use Rattle.rpm_qfparse.specs.declared.tree.TagPart.{TagPart}
-use Rattle.rpm_qfparse.specs.Tree.{Tree, End, Text, Tagged, Bracket, Condition}
-use Rattle.rpm_qfparse.specs.Tag.{number_of, after_number, tag_part, table, show_in}
-use Rattle.rpm_qfparse.specs.Moves.{condition, move_of}
-use Rattle.rpm_qfparse.specs.Format.{format, reading}
+use Rattle.rpm_qfparse.specs.Moves.{condition}
 
 abbrev fault : FormatKind → ℕ → Result Tree FormatFault
 fault kind place = Err (record { kind = kind; at = place })

@@ -1,12 +1,7 @@
 -- The rules give one result for each text.
 use Rattle.std.proofs.Common.{◌≡◌, ℕ, suc, ◌+◌, ◌-◌, ◌<◌, ◌≤◌, List, [], length, Result, Ok, Err, Bool, true, false, refl, sym, ◌∙◌, ap, arith, inl, inr, nat_lt, cond, ltb-true, ltb-false, subst}
-use Rattle.rpm_qfparse.specs.declared.fault.FormatKind.TheVariants.{TooLong}
-use Rattle.rpm_qfparse.specs.declared.fault.FormatFault.{FormatFault}
+use Rattle.rpm_qfparse.proofs.Vocabulary.{format, FormatFault, Gives, IsFormat, placed, Reading, reading, Reads, TooLong, Tree}
 use Rattle.rpm_qfparse.specs.declared.moves.Context.TheVariants as context
-use Rattle.rpm_qfparse.specs.Tree.{Tree}
-use Rattle.rpm_qfparse.specs.Tag.{Reading}
-use Rattle.rpm_qfparse.specs.Format.{Gives, format, placed, reading}
-use Rattle.rpm_qfparse.specs.Law.{IsFormat, Reads}
 use Rattle.rpm_qfparse.proofs.Top.{whole}
 use Rattle.rpm_qfparse.proofs.Unique.{only, sound, left}
 

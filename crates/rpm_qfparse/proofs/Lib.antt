@@ -11,3 +11,4 @@ pub mod Top
 pub mod Unique
 pub mod Widths
 pub mod Within
+pub mod Vocabulary

@@ -1,16 +1,12 @@
 -- What each tree that is read has, and that no fault is want of memory.
 use Rattle.std.proofs.Common.{◌≡◌, ℕ, ◌+◌, ◌<◌, ◌≤◌, List, [], ◌∷◌, drop, Bool, true, false, cond, Result, Ok, Err, refl, arith, subst, nat_le, leb-false, ◌==◌, if◌then◌else◌}
-use Rattle.rpm_tags.specs.declared.tag.Tag.{Tag}
-use Rattle.rpm_qfparse.specs.declared.fault.FormatKind.TheVariants.{UnexpectedBracket, UnexpectedBrace, NestedBracket, TooDeep}
-use Rattle.rpm_qfparse.specs.declared.moves.Context.{Context}
+use Rattle.rpm_qfparse.proofs.Vocabulary.{asked, Asks, asks, at_end, begins, behind, behind_second, between, Bracket, bracket, Branches, close, Condition}
+use Rattle.rpm_qfparse.proofs.Vocabulary.{condition, Context, End, Ends, ends, escaped, Faulty, Gives, in_bracket, in_condition, in_first, in_second}
+use Rattle.rpm_qfparse.proofs.Vocabulary.{is_bracket, is_branch, IsProper, Literal, literal, Move, move_of, NestedBracket, one, Opens, percent, Reading}
+use Rattle.rpm_qfparse.proofs.Vocabulary.{second_follows, Shows, shows, Stops, stops, Tag, tag, tag_part, Tagged, TagPart, Text, TooDeep, Tree, two}
+use Rattle.rpm_qfparse.proofs.Vocabulary.{UnexpectedBrace, UnexpectedBracket, with_byte}
 use Rattle.rpm_qfparse.specs.declared.moves.Context.TheVariants as context
-use Rattle.rpm_qfparse.specs.declared.tree.TagPart.{TagPart}
-use Rattle.rpm_qfparse.specs.Tree.{Tree, End, Text, Tagged, Bracket, Condition}
-use Rattle.rpm_qfparse.specs.Tag.{Faulty, Reading, begins, tag_part}
-use Rattle.rpm_qfparse.specs.Moves.{Move, Ends, Stops, Literal, Shows, Opens, Asks, asked, second_follows, close, escaped, shows, asks, percent, at_end, is_bracket, is_branch, move_of}
 use Rattle.rpm_qfparse.specs.Moves as moves
-use Rattle.rpm_qfparse.specs.Format.{Gives, Branches, ends, stops, literal, tag, bracket, in_bracket, condition, in_condition, one, two, in_first, between, in_second, behind_second, behind, with_byte}
-use Rattle.rpm_qfparse.specs.Law.{IsProper}
 use Rattle.rpm_qfparse.proofs.ProperTags.{Any, IsNarrowPart, IsOwn, Keeps, asked_keeps, close_keeps, second_keeps, tag_part_keeps}
 
 -- ---- moves

@@ -1,11 +1,8 @@
 -- Tags that are read are narrow, and no fault of a tag or a condition is want of memory.
 use Rattle.std.proofs.Common.{◌≡◌, ◌≢◌, ℕ, ◌+◌, ◌≤◌, List, [], length, drop, Bool, true, false, cond, Option, Some, None, Result, Ok, Err, refl, nat_lt, ltb-false, ◌==◌, if◌then◌else◌}
-use Rattle.rpm_tags.specs.Table.{tag_of}
-use Rattle.rpm_qfparse.specs.declared.fault.FormatKind.TheVariants.{MissingOpen, MissingClose, UnknownTag, UnknownFormatter, WidthTooLarge, QuestionExpected, BraceExpected, BarExpected, NoMemory}
-use Rattle.rpm_qfparse.specs.declared.tree.Role.{Role}
-use Rattle.rpm_qfparse.specs.declared.tree.TagPart.{TagPart}
-use Rattle.rpm_qfparse.specs.Tag.{Faulty, Reading, ◌>>=◌, or_fault, begins, split_once, side, number_of, after_number, width, role, named, show_of, name_and_show, formatter, tag_inside, tag_part}
-use Rattle.rpm_qfparse.specs.Moves.{asked, second_follows, close}
+use Rattle.rpm_qfparse.proofs.Vocabulary.{after_number, asked, BarExpected, begins, BraceExpected, close, Faulty, formatter, MissingClose, MissingOpen}
+use Rattle.rpm_qfparse.proofs.Vocabulary.{name_and_show, named, NoMemory, number_of, or_fault, QuestionExpected, Reading, Role, role, second_follows, show_of}
+use Rattle.rpm_qfparse.proofs.Vocabulary.{side, split_once, tag_inside, tag_of, tag_part, TagPart, UnknownFormatter, UnknownTag, width, WidthTooLarge, ◌>>=◌}
 
 abbrev pub IsOwn : Faulty → Type 0
 IsOwn e = e.0 ≢ NoMemory

@@ -1,11 +1,7 @@
 -- A search through the rows of the formatters.
 use Rattle.std.proofs.Common.{◌≡◌, ℕ, ◌+◌, ◌≤◌, ◌<◌, List, length, get_or, drop, true, false, cond, Option, Some, None, refl, sym, ◌∙◌, nat_eq}
-use Rattle.std.specs.Cmp.Lexicographic.{pointwise}
+use Rattle.rpm_qfparse.proofs.Vocabulary.{bare_rows, pointwise, Row, Show, show_in}
 use Rattle.std.proofs.lemmas.List.{at_drop_more, at_drop_all}
-use Rattle.rpm_qfparse.specs.declared.tag.Row.{Row}
-use Rattle.rpm_qfparse.specs.declared.tree.Show.{Show}
-use Rattle.rpm_qfparse.specs.Tag.{show_in}
-use Rattle.rpm_qfparse.specs.inner.Bare.{bare_rows}
 
 pub at_end : (rows : List Row) (name : List ℕ) (i : ℕ) → length rows ≤ i → show_in (bare_rows (drop i rows)) name ≡ None
 unfolding show_in

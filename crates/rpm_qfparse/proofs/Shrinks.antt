@@ -1,11 +1,9 @@
 -- What is left to read is shorter.
 use Rattle.std.proofs.Common.{ℕ, ◌+◌, ◌≤◌, List, [], length, drop, Bool, true, false, cond, Option, Some, None, Result, Ok, Err, arith, nat_lt, ◌==◌, if◌then◌else◌}
-use Rattle.rpm_qfparse.specs.declared.tree.Role.{Role}
-use Rattle.rpm_qfparse.specs.declared.tree.Role.TheVariants.{Element, First, Count}
-use Rattle.rpm_qfparse.specs.declared.fault.FormatKind.TheVariants.{UnknownFormatter, WidthTooLarge, MissingOpen, MissingClose, QuestionExpected, BraceExpected, BarExpected}
-use Rattle.rpm_tags.specs.Table.{tag_of}
-use Rattle.rpm_qfparse.specs.Tag.{Faulty, Reading, or_fault, begins, split_once, digit_count, number_of, after_number, side, width, role, named, show_of, formatter, name_and_show, tag_inside, tag_part}
-use Rattle.rpm_qfparse.specs.Moves.{asked, second_follows, close}
+use Rattle.rpm_qfparse.proofs.Vocabulary.{after_number, asked, BarExpected, begins, BraceExpected, close, Count, digit_count, Element, Faulty, First}
+use Rattle.rpm_qfparse.proofs.Vocabulary.{formatter, MissingClose, MissingOpen, name_and_show, named, number_of, or_fault, QuestionExpected, Reading, Role}
+use Rattle.rpm_qfparse.proofs.Vocabulary.{role, second_follows, show_of, side, split_once, tag_inside, tag_of, tag_part, UnknownFormatter, width}
+use Rattle.rpm_qfparse.proofs.Vocabulary.{WidthTooLarge}
 use Rattle.rpm_qfparse.proofs.Within.{FaultWithin, RestWithin, Within, bind_within, drop_within, fault_bind, fault_if, fault_of, fault_or, ok_within, or_ok, split_within, wider, within_if}
 
 pub side_within : (s : List ℕ) → length (side s).1 ≤ length s

@@ -1,12 +1,10 @@
 -- What a move leaves is no longer than the text.
 use Rattle.std.proofs.Common.{◌≡◌, ℕ, ◌<◌, ◌≤◌, List, [], ◌∷◌, length, drop, Bool, true, false, cond, Ok, Err, refl, arith, ◌==◌, nat_le, if◌then◌else◌}
-use Rattle.rpm_qfparse.specs.declared.tree.TagPart.{TagPart}
-use Rattle.rpm_qfparse.specs.declared.fault.FormatKind.TheVariants.{TooDeep, NestedBracket, UnexpectedBracket, UnexpectedBrace}
-use Rattle.rpm_tags.specs.declared.tag.Tag.{Tag}
-use Rattle.rpm_qfparse.specs.declared.moves.Context.{Context}
+use Rattle.rpm_qfparse.proofs.Vocabulary.{asked, Asks, asks, at_end, begins, Context, Ends, escaped, is_bracket, is_branch, Literal, Move, move_of}
+use Rattle.rpm_qfparse.proofs.Vocabulary.{NestedBracket, Opens, percent, Reading, Shows, shows, Stops, Tag, tag_part, TagPart, TooDeep, UnexpectedBrace}
+use Rattle.rpm_qfparse.proofs.Vocabulary.{UnexpectedBracket}
 use Rattle.rpm_qfparse.specs.declared.moves.Context.TheVariants as context
-use Rattle.rpm_qfparse.specs.Tag.{Reading, begins, tag_part}
-use Rattle.rpm_qfparse.specs.Moves.{asked, condition, Move, Ends, Stops, Literal, Shows, Opens, Asks, shows, asks, at_end, escaped, percent, is_bracket, is_branch, move_of}
+use Rattle.rpm_qfparse.specs.Moves.{condition}
 use Rattle.rpm_qfparse.proofs.Shrinks.{asked_within, tag_part_within}
 use Rattle.rpm_qfparse.proofs.Within.{Within, drop_within}
 

@@ -1,15 +1,10 @@
 -- At the top a format is read to its end.
 use Rattle.std.proofs.Common.{◌≡◌, ℕ, List, [], ◌∷◌, drop, Bool, true, false, cond, Ok, Err, refl, ◌==◌, if◌then◌else◌, subst}
-use Rattle.rpm_tags.specs.declared.tag.Tag.{Tag}
-use Rattle.rpm_qfparse.specs.declared.fault.FormatKind.TheVariants.{NestedBracket, UnexpectedBracket, UnexpectedBrace}
-use Rattle.rpm_qfparse.specs.declared.moves.Context.{Context}
+use Rattle.rpm_qfparse.proofs.Vocabulary.{Asks, asks, at_end, begins, behind, bracket, condition, Context, Ends, ends, escaped, Faulty, Gives, in_bracket}
+use Rattle.rpm_qfparse.proofs.Vocabulary.{in_condition, is_bracket, is_branch, Literal, literal, Move, move_of, NestedBracket, Opens, percent, Reading, Shows}
+use Rattle.rpm_qfparse.proofs.Vocabulary.{shows, Stops, stops, Tag, tag, tag_part, TagPart, Tree, UnexpectedBrace, UnexpectedBracket}
 use Rattle.rpm_qfparse.specs.declared.moves.Context.TheVariants as context
-use Rattle.rpm_qfparse.specs.declared.tree.TagPart.{TagPart}
-use Rattle.rpm_qfparse.specs.Tree.{Tree}
-use Rattle.rpm_qfparse.specs.Tag.{Faulty, Reading, begins, tag_part}
-use Rattle.rpm_qfparse.specs.Moves.{Move, Ends, Stops, Literal, Shows, Opens, Asks, shows, asks, at_end, escaped, percent, is_bracket, is_branch, move_of}
 use Rattle.rpm_qfparse.specs.Moves as moves
-use Rattle.rpm_qfparse.specs.Format.{Gives, ends, stops, literal, tag, bracket, in_bracket, condition, in_condition, behind}
 
 -- a move that doesn't end its context but at the end of the text
 abbrev GoesOn : Move → Type 0

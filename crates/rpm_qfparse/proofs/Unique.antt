@@ -1,11 +1,9 @@
 -- Each text is read as one tree or one fault.
 use Rattle.std.proofs.Common.{◌≡◌, ℕ, zero, suc, ◌+◌, ◌<◌, ◌≤◌, List, length, Bool, true, false, Result, Ok, Err, refl, ◌∙◌, ap, arith, subst, if◌then◌else◌}
-use Rattle.rpm_qfparse.specs.declared.moves.Context.{Context}
+use Rattle.rpm_qfparse.proofs.Vocabulary.{Asks, behind, behind_second, between, Bracket, bracket, Branches, branches_by, close, Condition, condition, Context}
+use Rattle.rpm_qfparse.proofs.Vocabulary.{Ends, ends, Faulty, Gives, in_bracket, in_condition, in_first, in_second, Literal, literal, Move, move_of, one}
+use Rattle.rpm_qfparse.proofs.Vocabulary.{Opens, Reading, reading, second_follows, Shows, step, Stops, stops, tag, Tagged, Tree, two, with_byte, ◌>>=◌}
 use Rattle.rpm_qfparse.specs.declared.moves.Context.TheVariants as context
-use Rattle.rpm_qfparse.specs.Tree.{Tree, Tagged, Bracket, Condition}
-use Rattle.rpm_qfparse.specs.Tag.{Faulty, Reading, ◌>>=◌}
-use Rattle.rpm_qfparse.specs.Moves.{Move, Ends, Stops, Literal, Shows, Opens, Asks, move_of, second_follows, close}
-use Rattle.rpm_qfparse.specs.Format.{Gives, Branches, ends, stops, literal, tag, bracket, in_bracket, condition, in_condition, one, two, in_first, between, in_second, behind_second, behind, with_byte, branches_by, step, reading}
 use Rattle.rpm_qfparse.proofs.Shrinks.{second_within, close_within}
 use Rattle.rpm_qfparse.proofs.Within.{Within, RestWithin, wider}
 use Rattle.rpm_qfparse.proofs.Smaller.{Smaller, move_smaller}

@@ -1,9 +1,7 @@
 -- The number of a width, digit by digit.
 use Rattle.std.proofs.Common.{◌≡◌, ℕ, suc, ◌+◌, ◌*◌, ◌-◌, ◌<◌, ◌≤◌, List, [], ◌∷◌, length, take, drop, get_or, Bool, true, false, cond, refl, ◌∙◌, ap, arith, if◌then◌else◌}
-use Rattle.std.specs.Char.{is_ascii_digit, digit_value}
-use Rattle.std.specs.Str.Parse.{digits_value_after}
+use Rattle.rpm_qfparse.proofs.Vocabulary.{after_number, digit_count, digit_value, digits_value_after, is_ascii_digit, number_of}
 use Rattle.std.proofs.lemmas.Str.{digit_value_digit}
-use Rattle.rpm_qfparse.specs.Tag.{digit_count, number_of, after_number}
 
 -- the number of which n are the first digits, and the text has the others in front
 unfoldable pub number_from : ℕ → List ℕ → ℕ

@@ -1,8 +1,6 @@
 -- What is left to read, and where a fault is, within so many bytes of the end.
 use Rattle.std.proofs.Common.{◌≡◌, ℕ, ◌+◌, ◌<◌, ◌≤◌, List, [], ◌∷◌, length, take, drop, Bool, true, false, cond, Option, Some, None, Result, Ok, Err, refl, arith, length-drop, length-take, subst, nat_lt, ◌==◌, ltb-true, ap}
-use Rattle.std.specs.List.{position_or_len}
-use Rattle.std.specs.Option.{option_map}
-use Rattle.rpm_qfparse.specs.Tag.{Faulty, Reading, ◌>>=◌, or_fault, begins, split_once}
+use Rattle.rpm_qfparse.proofs.Vocabulary.{begins, Faulty, option_map, or_fault, position_or_len, Reading, split_once, ◌>>=◌}
 
 -- a fault lies within so many bytes of the end
 abbrev pub FaultWithin : {X : Type 0} → ℕ → Result X Faulty → Type 0

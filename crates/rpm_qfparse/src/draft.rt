@@ -1,9 +1,7 @@
 //! Parts that are being collected.
 
 ghost use Rattle.std.specs.Prelude.{◌≡◌, OnOk, IfOk};
-ghost use Rattle.rpm_qfparse.specs.Tree.{Tree, End};
-ghost use Rattle.rpm_qfparse.specs.Format.{with_byte};
-ghost use Rattle.rpm_qfparse.specs.inner.Draft.{after, in_front, IsNoText, IsFlushed};
+ghost use Rattle.rpm_qfparse.specs.Prelude.{after, End, in_front, IsFlushed, IsNoText, Tree, with_byte};
 
 use crate::tree::{Bytes, Part, Parts};
 use std::alloc::{AllocError, Global};

@@ -1,9 +1,7 @@
 //! What a format begins with at a place.
 
 ghost use Rattle.std.specs.Prelude.{◌≡◌, ℕ, ◌<◌, [], Bool, OnOk};
-ghost use Rattle.rpm_qfparse.specs.Moves.{condition, escape, escaped, at_end, percent, move_of, second_follows, close};
-ghost use Rattle.rpm_qfparse.specs.inner.Draft.{MayOpen};
-ghost use Rattle.rpm_qfparse.specs.inner.Bare.{bare_reading, bare_rest, bare_move};
+ghost use Rattle.rpm_qfparse.specs.Prelude.{at_end, bare_move, bare_reading, bare_rest, close, condition, escape, escaped, MayOpen, move_of, percent, second_follows};
 
 use crate::fault::{Fault, FormatKind};
 use crate::tag::{begins, named, split_once, tag_part};
@@ -135,27 +133,12 @@ pub(crate) fn move_at(context: Context, in_bracket: bool, depth: u32, text: &[u8
     };
     match *byte {
         b'\\' => escaped(rest),
-        b'[' => {
-            if in_bracket {
-                Move::Stops(Fault::new(FormatKind::NestedBracket, text))
-            } else {
-                Move::Opens(rest)
-            }
-        }
-        b']' => {
-            if context == Context::Bracket {
-                Move::Ends(rest)
-            } else {
-                Move::Stops(Fault::new(FormatKind::UnexpectedBracket, text))
-            }
-        }
-        b'}' => {
-            if context == Context::Branch {
-                Move::Ends(rest)
-            } else {
-                Move::Stops(Fault::new(FormatKind::UnexpectedBrace, text))
-            }
-        }
+        b'[' if in_bracket => Move::Stops(Fault::new(FormatKind::NestedBracket, text)),
+        b'[' => Move::Opens(rest),
+        b']' if context == Context::Bracket => Move::Ends(rest),
+        b']' => Move::Stops(Fault::new(FormatKind::UnexpectedBracket, text)),
+        b'}' if context == Context::Branch => Move::Ends(rest),
+        b'}' => Move::Stops(Fault::new(FormatKind::UnexpectedBrace, text)),
         b'%' => percent(in_bracket, depth, text, rest),
         _ => Move::Literal(*byte, rest),
     }

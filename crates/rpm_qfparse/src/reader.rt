@@ -1,13 +1,8 @@
 //! Reading a format.
 
 ghost use Rattle.std.specs.Prelude.{◌≡◌, ◌≢◌, ℕ, ◌≤◌, ◌<◌, List, [], Result, Ok, Err, IfOk, IfErr, MatchResult, false};
+ghost use Rattle.rpm_qfparse.specs.Prelude.{Branches, format, FormatFault, Gives, IsFormat, IsProper, Meets, NoMemory, Reads, Tree};
 ghost use Rattle.rpm_qfparse.specs.declared.moves.Context.TheVariants as context;
-ghost use Rattle.rpm_qfparse.specs.declared.fault.FormatFault.{FormatFault};
-ghost use Rattle.rpm_qfparse.specs.declared.fault.FormatKind.TheVariants.{NoMemory};
-ghost use Rattle.rpm_qfparse.specs.Tree.{Tree};
-ghost use Rattle.rpm_qfparse.specs.Format.{Gives, Branches, format};
-ghost use Rattle.rpm_qfparse.specs.inner.Draft.{Meets};
-ghost use Rattle.rpm_qfparse.specs.Law.{IsFormat, IsProper, Reads};
 
 use crate::draft::Draft;
 use crate::fault::{FormatFault, FormatKind, Stop};

@@ -1,11 +1,7 @@
 //! A tag of a format, after its percent.
 
 ghost use Rattle.std.specs.Prelude.{◌≡◌, ◌==◌, ◌+◌, ◌≤◌, ◌<◌, length, true, nat_eq, IfSome};
-ghost use Rattle.std.specs.List.{position};
-ghost use Rattle.std.specs.Cmp.Lexicographic.{pointwise};
-ghost use Rattle.std.specs.Option.{option_map, ForSome};
-ghost use Rattle.rpm_qfparse.specs.Tag.{width, begins, split_once, named, show_of, show_in, formatter, name_and_show, role, side, tag_inside, tag_part};
-ghost use Rattle.rpm_qfparse.specs.inner.Bare.{bare_reading, bare_part, bare_name, bare_cut, bare_rows};
+ghost use Rattle.rpm_qfparse.specs.Prelude.{bare_cut, bare_name, bare_part, bare_reading, bare_rows, begins, formatter, ForSome, name_and_show, named, option_map, pointwise, position, role, show_in, show_of, side, split_once, tag_inside, tag_part, width};
 
 use crate::fault::{Fault, FormatKind};
 use crate::tree::{Role, Show, TagPart};
@@ -107,10 +103,7 @@ pub(crate) fn named<'a>(name: &[u8], place: &'a [u8]) -> Result<Tag, Fault<'a>>
     if name.is_empty() {
         return Err(Fault::new(FormatKind::EmptyTag, place));
     }
-    match tag_of(name) {
-        None => Err(Fault::new(FormatKind::UnknownTag, place)),
-        Some(tag) => Ok(tag),
-    }
+    tag_of(name).ok_or(Fault::new(FormatKind::UnknownTag, place))
 }
 
 fn has_name(row: &Row, name: &[u8]) -> bool
@@ -155,10 +148,7 @@ fn formatter<'a>(name: Option<&[u8]>, far: usize, place: &'a [u8]) -> Result<Sho
     let Some(name) = name else {
         return Ok(Show::Plain);
     };
-    match show_of(name) {
-        None => Err(Fault::new(FormatKind::UnknownFormatter, &place[far..])),
-        Some(show) => Ok(show),
-    }
+    show_of(name).ok_or(Fault::new(FormatKind::UnknownFormatter, &place[far..]))
 }
 
 /// What stands between the braces of a tag, and begins at a place.

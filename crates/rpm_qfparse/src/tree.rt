@@ -1,9 +1,7 @@
 //! The tree of a format.
 
 ghost use Rattle.std.specs.Prelude.{◌≡◌, ◌<◌, length, slice_get, Some, false};
-ghost use Rattle.rpm_qfparse.specs.Law.{IsProper};
-ghost use Rattle.rpm_qfparse.specs.Shape.{parts_of, load};
-ghost use Rattle.rpm_qfparse.specs.Tree.{weight};
+ghost use Rattle.rpm_qfparse.specs.Prelude.{IsProper, load, parts_of, Tree, tree_code, weight};
 
 use rpm_tags::Tag;
 use std::alloc::Global;
@@ -166,11 +164,6 @@ pub struct Format {
 }
 
 impl Model for Format {
-    ghost use Rattle.std.specs.Prelude.{false};
-    ghost use Rattle.rpm_qfparse.specs.Tree.{Tree};
-    ghost use Rattle.rpm_qfparse.specs.inner.Coding.{tree_code};
-    ghost use Rattle.rpm_qfparse.specs.Law.{IsProper};
-
     ghost Value = { Tree };
 
     ghost coded = { tree_code };

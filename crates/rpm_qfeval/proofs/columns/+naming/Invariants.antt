@@ -1,6 +1,5 @@
 use Rattle.std.proofs.Common.{◌+◌, ◌*◌}
-use Rattle.rpm_qfparse.specs.Tree.{weight}
-use Rattle.rpm_qfparse.specs.Shape.{load}
+use Rattle.rpm_qfeval.proofs.Vocabulary.{load, weight}
 use Rattle.rpm_qfeval.proofs.columns.+naming.Given as goal
 
 abbrev pub decreases-add_asked_by : goal.decreases-add_asked_by

@@ -1,4 +1,4 @@
-use Rattle.rpm_qfeval.specs.inner.Columns.{AreValues}
+use Rattle.rpm_qfeval.proofs.Vocabulary.{AreValues}
 use Rattle.rpm_qfeval.proofs.columns.add_columns.Given as goal
 
 abbrev pub invariant-loop-found : goal.invariant-loop-found

@@ -1,4 +1,4 @@
-use Rattle.rpm_qfeval.specs.inner.Columns.{AreValues}
+use Rattle.rpm_qfeval.proofs.Vocabulary.{AreValues}
 use Rattle.rpm_qfeval.proofs.columns.look_up.Given as goal
 
 abbrev pub invariant-loop-asked : goal.invariant-loop-asked

@@ -1,5 +1,5 @@
 use Rattle.std.proofs.Common.{◌≡◌, ℕ, List, [], ◌∷◌, ◌++◌, ◌/◌, ◌%◌, get_or, codes, refl, ◌∙◌, rules}
-use Rattle.rpm_qfeval.specs.Dates.{weekday_name, month_name, month_of, day_of, year_of, two, spaced, four}
+use Rattle.rpm_qfeval.proofs.Vocabulary.{day_of, four, month_name, month_of, spaced, two, weekday_name, year_of}
 use Rattle.rpm_qfeval.proofs.Lists.{three}
 use Rattle.rpm_qfeval.proofs.dates.date.Goals as goal
 

@@ -1,8 +1,6 @@
 use Rattle.std.proofs.Common.{◌≡◌, ◌/◌, ◌%◌, pos, ◌+ℤ◌, ◌*ℤ◌, arith, to_z, w64}
 use Rattle.std.proofs.lemmas.Int.{to_z_pos}
-use Rattle.jiff_core.specs.DateTime.{civil_nanos}
-use Rattle.jiff_core.specs.Date.{epoch_day}
-use Rattle.jiff_core.specs.Time.{time_seconds, time_nanos}
+use Rattle.rpm_qfeval.proofs.Vocabulary.{civil_nanos, epoch_day, time_nanos, time_seconds}
 use Rattle.jiff_core.proofs.SignedLemmas.{signed_arith}
 use Rattle.rpm_qfeval.proofs.Moments.{day_and_time}
 use Rattle.rpm_qfeval.proofs.dates.datetime.Goals as goal

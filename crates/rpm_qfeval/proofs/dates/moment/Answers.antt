@@ -1,8 +1,6 @@
 use Rattle.std.proofs.Common.{◌≡◌, ℕ, ◌≤◌, ◌<◌, ◌^◌, ◌/◌, pos, ℤ, unsigned_abs, ap, ◌∙◌, sym, arith, w8, w16, of_z, to_z, rules}
-use Rattle.std.specs.Int.{Width}
-use Rattle.jiff_core.specs.declared.civil.date.Date.{Date}
+use Rattle.rpm_qfeval.proofs.Vocabulary.{Date, month_name, Width, year_of}
 use Rattle.jiff_core.proofs.SignedLemmas.{back_small}
-use Rattle.rpm_qfeval.specs.Dates.{month_name, year_of}
 use Rattle.rpm_qfeval.proofs.Calendar.{Found, found}
 use Rattle.rpm_qfeval.proofs.dates.moment.Goals as goal
 use mir.Val.{hbits}

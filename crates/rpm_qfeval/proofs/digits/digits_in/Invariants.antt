@@ -1,5 +1,5 @@
 use Rattle.std.proofs.Common.{◌≡◌, ◌≤◌, ◌<◌, ◌+◌, ◌^◌, false, length, drop}
-use Rattle.std.specs.Fmt.{digits}
+use Rattle.rpm_qfeval.proofs.Vocabulary.{digits}
 use Rattle.rpm_qfeval.proofs.Glyphs.{onto}
 use Rattle.rpm_qfeval.proofs.digits.digits_in.Given as goal
 

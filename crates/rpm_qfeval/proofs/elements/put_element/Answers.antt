@@ -1,10 +1,7 @@
 use Rattle.std.proofs.Common.{◌≡◌, ℕ, zero, suc, ◌≤◌, List, [], ◌∷◌, length, Some, None, cond, refl, ap, arith}
 use Rattle.std.proofs.lemmas.Bool.{ne_eqb}
 use Rattle.std.specs.Prelude.{slice_get}
-use Rattle.std.specs.Option.{option_map}
-use Rattle.rpm_qfparse.specs.declared.tree.Show.{Show}
-use Rattle.rpm_tags.specs.Value.{Elements, NumberList, TextList, OneBlob, count_of}
-use Rattle.rpm_qfeval.specs.Formatters.{shown, number_text, text_text, blob_text}
+use Rattle.rpm_qfeval.proofs.Vocabulary.{blob_text, count_of, Elements, number_text, NumberList, OneBlob, option_map, Show, shown, text_text, TextList}
 use Rattle.rpm_qfeval.proofs.elements.put_element.Goals as goal
 
 past : {X : Type 0} (xs : List X) (i : ℕ) → length xs ≤ i → slice_get xs i ≡ None

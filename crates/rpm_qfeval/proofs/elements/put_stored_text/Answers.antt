@@ -1,4 +1,4 @@
-use Rattle.rpm_tags.specs.Value.{count_of}
+use Rattle.rpm_qfeval.proofs.Vocabulary.{count_of}
 use Rattle.rpm_qfeval.proofs.NotNumbers.{of_text}
 use Rattle.rpm_qfeval.proofs.elements.put_stored_text.Goals as goal
 

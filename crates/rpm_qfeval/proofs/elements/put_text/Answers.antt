@@ -1,4 +1,4 @@
-use Rattle.std.specs.List.{concat}
+use Rattle.rpm_qfeval.proofs.Vocabulary.{concat}
 use Rattle.rpm_qfeval.proofs.NotNumbers.{of_text}
 use Rattle.rpm_qfeval.proofs.elements.put_text.Goals as goal
 

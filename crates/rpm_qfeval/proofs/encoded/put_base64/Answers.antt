@@ -1,5 +1,5 @@
 use Rattle.std.proofs.Common.{arith}
-use Rattle.rpm_outside.specs.inner.Upto.{upto_more, upto_stop, upto_last}
+use Rattle.rpm_qfeval.proofs.Vocabulary.{upto_last, upto_more, upto_stop}
 use Rattle.rpm_qfeval.proofs.Encodings.{base64-cut}
 use Rattle.rpm_qfeval.proofs.encoded.put_base64.Goals as goal
 

@@ -1,4 +1,4 @@
-use Rattle.rpm_outside.specs.inner.Upto.{upto_more, upto_stop, upto_last}
+use Rattle.rpm_qfeval.proofs.Vocabulary.{upto_last, upto_more, upto_stop}
 use Rattle.rpm_qfeval.proofs.Encodings.{hex-cut}
 use Rattle.rpm_qfeval.proofs.encoded.put_hex.Goals as goal
 

@@ -1,6 +1,5 @@
 use Rattle.std.proofs.Common.{length}
-use Rattle.rpm_qfeval.specs.Texts.{hex_text}
-use Rattle.rpm_outside.specs.inner.Upto.{Upto}
+use Rattle.rpm_qfeval.proofs.Vocabulary.{hex_text, Upto}
 use Rattle.rpm_qfeval.proofs.encoded.put_hex.Given as goal
 
 abbrev pub invariant-loop-rest : goal.invariant-loop-rest

@@ -1,6 +1,6 @@
 use Rattle.std.proofs.Common.{◌≡◌, ℕ, ◌+◌, List, [], ◌∷◌, ◌++◌, length, drop, get_or}
 use Rattle.std.proofs.Common.{true, false, refl, sym, ap, ◌∙◌, arith, append_assoc, append-nil, length-append}
-use Rattle.rpm_qfeval.specs.Numbers.{has, letters}
+use Rattle.rpm_qfeval.proofs.Vocabulary.{has, letters}
 use Rattle.rpm_qfeval.proofs.Steps.{drop_all, drop_at}
 use Rattle.rpm_qfeval.proofs.flags.letters.Goals.{then-has, else-has}
 use Rattle.rpm_qfeval.proofs.flags.letters.Goals as goal

@@ -1,5 +1,5 @@
 use Rattle.std.proofs.Common.{◌≡◌, ◌≤◌, ◌++◌, length, drop}
-use Rattle.rpm_qfeval.specs.Numbers.{letters}
+use Rattle.rpm_qfeval.proofs.Vocabulary.{letters}
 use Rattle.rpm_qfeval.proofs.flags.letters.Given as goal
 
 abbrev pub invariant-loop-bit : goal.invariant-loop-bit

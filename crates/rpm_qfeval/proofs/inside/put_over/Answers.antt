@@ -1,7 +1,6 @@
 use Rattle.std.proofs.Common.{◌≡◌, ℕ, List, [], ◌∷◌, Some, ap, subst}
 use Rattle.std.specs.Prelude.{slice_get}
-use Rattle.rpm_outside.specs.Sinks.{Writes}
-use Rattle.rpm_qfeval.specs.Meaning.{bytes, rounds, counts}
+use Rattle.rpm_qfeval.proofs.Vocabulary.{bytes, counts, rounds, Writes}
 use Rattle.rpm_qfeval.proofs.inside.put_over.Goals as goal
 
 first_counts : (counts : List ℕ) (count : ℕ) (f : ℕ → List ℕ) → Some count ≡ slice_get counts 0 → rounds (count ∷ []) f ≡ rounds counts f

@@ -1,8 +1,6 @@
 use Rattle.std.proofs.Common.{arith, length, ◌≤◌, refl, sym, ◌∙◌}
-use Rattle.rpm_qfparse.specs.Shape.{parts_of}
-use Rattle.rpm_qfeval.specs.Meaning.{bytes}
+use Rattle.rpm_qfeval.proofs.Vocabulary.{bytes, parts_of, upto_done, upto_more, upto_start, upto_stop}
 use Rattle.rpm_qfeval.proofs.Walked.{bytes_start, bytes_here, bytes_end}
-use Rattle.rpm_outside.specs.inner.Upto.{upto_start, upto_more, upto_stop, upto_done}
 use Rattle.rpm_qfeval.proofs.inside.put_round.Goals as goal
 
 pub loop-i-init : goal.loop-i-init

@@ -1,7 +1,5 @@
 use Rattle.std.proofs.Common.{◌≡◌, drop}
-use Rattle.rpm_qfparse.specs.Shape.{parts_of, tree_of}
-use Rattle.rpm_qfeval.specs.Meaning.{bytes}
-use Rattle.rpm_outside.specs.inner.Upto.{Upto}
+use Rattle.rpm_qfeval.proofs.Vocabulary.{bytes, parts_of, tree_of, Upto}
 use Rattle.rpm_qfeval.proofs.inside.put_round.Given as goal
 
 abbrev pub invariant-loop-i : goal.invariant-loop-i

@@ -1,7 +1,6 @@
 use Rattle.std.proofs.Common.{refl, sym, ◌∙◌}
-use Rattle.rpm_qfeval.specs.Meaning.{bytes}
+use Rattle.rpm_qfeval.proofs.Vocabulary.{bytes, upto_done, upto_more, upto_start, upto_stop}
 use Rattle.rpm_qfeval.proofs.Walked.{round_start, round_here, round_end}
-use Rattle.rpm_outside.specs.inner.Upto.{upto_start, upto_more, upto_stop, upto_done}
 use Rattle.rpm_qfeval.proofs.inside.put_rounds.Goals as goal
 
 pub loop-round-init : goal.loop-round-init

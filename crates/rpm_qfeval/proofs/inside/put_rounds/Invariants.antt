@@ -1,7 +1,5 @@
 use Rattle.std.proofs.Common.{◌≡◌, ◌-◌, map}
-use Rattle.std.specs.List.{concat, range_with_len}
-use Rattle.rpm_qfeval.specs.Meaning.{bytes}
-use Rattle.rpm_outside.specs.inner.Upto.{Upto}
+use Rattle.rpm_qfeval.proofs.Vocabulary.{bytes, concat, range_with_len, Upto}
 use Rattle.rpm_qfeval.proofs.inside.put_rounds.Given as goal
 
 abbrev pub invariant-loop-round : goal.invariant-loop-round

@@ -1,5 +1,5 @@
 use Rattle.std.proofs.Common.{◌≡◌, ◌-◌, length, drop}
-use Rattle.rpm_qfeval.specs.Texts.{escaped_text}
+use Rattle.rpm_qfeval.proofs.Vocabulary.{escaped_text}
 use Rattle.rpm_qfeval.proofs.measure.lack_of_escaped.Given as goal
 
 abbrev pub invariant-loop-byte : goal.invariant-loop-byte

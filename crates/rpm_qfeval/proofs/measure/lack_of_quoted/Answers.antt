@@ -1,6 +1,5 @@
 use Rattle.std.proofs.Common.{◌≡◌, ℕ, ◌+◌, ◌-◌, List, ◌∷◌, length, drop, sym, arith, ap, ◌∙◌, length-append}
-use Rattle.std.specs.List.{concat}
-use Rattle.rpm_qfeval.specs.Texts.{escaped_text}
+use Rattle.rpm_qfeval.proofs.Vocabulary.{concat, escaped_text}
 use Rattle.rpm_qfeval.proofs.Steps.{drop_here, drop_none}
 use Rattle.rpm_qfeval.proofs.Encodings.{escaped-append}
 use Rattle.rpm_qfeval.proofs.measure.lack_of_quoted.Goals as goal

@@ -1,6 +1,5 @@
 use Rattle.std.proofs.Common.{◌≡◌, ◌-◌, length, drop}
-use Rattle.std.specs.List.{concat}
-use Rattle.rpm_qfeval.specs.Texts.{escaped_text}
+use Rattle.rpm_qfeval.proofs.Vocabulary.{concat, escaped_text}
 use Rattle.rpm_qfeval.proofs.measure.lack_of_quoted.Given as goal
 
 abbrev pub invariant-loop-part : goal.invariant-loop-part

@@ -3,7 +3,7 @@ use Rattle.std.proofs.lemmas.List.{take_all}
 use Rattle.std.proofs.lemmas.Bool.{leb-false}
 use Rattle.std.proofs.lemmas.List.Quantifiers.{position-Some}
 use Rattle.std.proofs.lemmas.List.Sums.{fails_before_first}
-use Rattle.std.specs.List.{position_or_len}
+use Rattle.rpm_qfeval.proofs.Vocabulary.{position_or_len}
 use Rattle.rpm_qfeval.proofs.Encodings.{run_is, plain_is}
 use Rattle.rpm_qfeval.proofs.pieces.cut_at_quote.Goals as goal
 

@@ -1,6 +1,5 @@
 use Rattle.std.proofs.Common.{◌≡◌}
-use Rattle.rpm_qfeval.specs.Texts.{escaped_text}
-use Rattle.rpm_outside.specs.inner.Upto.{upto_more, upto_stop, upto_last}
+use Rattle.rpm_qfeval.proofs.Vocabulary.{escaped_text, upto_last, upto_more, upto_stop}
 use Rattle.rpm_qfeval.proofs.pieces.put_escaped.Goals as goal
 
 pub loop-run-preserved : goal.loop-run-preserved

@@ -1,6 +1,5 @@
 use Rattle.std.proofs.Common.{length}
-use Rattle.rpm_qfeval.specs.Texts.{escaped_text}
-use Rattle.rpm_outside.specs.inner.Upto.{Upto}
+use Rattle.rpm_qfeval.proofs.Vocabulary.{escaped_text, Upto}
 use Rattle.rpm_qfeval.proofs.pieces.put_escaped.Given as goal
 
 abbrev pub invariant-loop-run : goal.invariant-loop-run

@@ -1,6 +1,5 @@
 use Rattle.std.proofs.Common.{refl, sym, arith, ap}
-use Rattle.std.specs.List.{concat}
-use Rattle.rpm_outside.specs.inner.Upto.{upto_start, upto_more, upto_stop, upto_done}
+use Rattle.rpm_qfeval.proofs.Vocabulary.{concat, upto_done, upto_more, upto_start, upto_stop}
 use Rattle.rpm_qfeval.proofs.Steps.{drop_here, drop_none, within}
 use Rattle.rpm_qfeval.proofs.pieces.put_joined.Goals as goal
 

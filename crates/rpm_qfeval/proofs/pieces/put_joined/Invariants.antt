@@ -1,6 +1,5 @@
 use Rattle.std.proofs.Common.{◌-◌, length, drop}
-use Rattle.std.specs.List.{concat}
-use Rattle.rpm_outside.specs.inner.Upto.{Upto}
+use Rattle.rpm_qfeval.proofs.Vocabulary.{concat, Upto}
 use Rattle.rpm_qfeval.proofs.pieces.put_joined.Given as goal
 
 abbrev pub invariant-loop-part : goal.invariant-loop-part

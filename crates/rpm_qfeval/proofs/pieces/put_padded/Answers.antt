@@ -1,6 +1,5 @@
 use Rattle.std.proofs.Common.{◌≡◌, ℕ, ◌-◌, Bool, true, false, List, ◌++◌, length, replicate, sym, ap, ◌∙◌}
-use Rattle.rpm_qfeval.specs.Padded.{padded}
-use Rattle.rpm_outside.specs.inner.Upto.{both, first_stops}
+use Rattle.rpm_qfeval.proofs.Vocabulary.{both, first_stops, padded}
 use Rattle.rpm_qfeval.proofs.pieces.put_padded.Goals as goal
 
 at_left : (left : Bool) (width spaces : ℕ) (text : List ℕ) → spaces ≡ width - length text → left ≡ true → text ++ replicate {A = ℕ} spaces 32

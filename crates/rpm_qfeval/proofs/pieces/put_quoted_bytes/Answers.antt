@@ -1,5 +1,5 @@
 use Rattle.std.proofs.Common.{refl}
-use Rattle.rpm_outside.specs.inner.Upto.{both, first_stops, upto_start, upto_more, upto_stop}
+use Rattle.rpm_qfeval.proofs.Vocabulary.{both, first_stops, upto_more, upto_start, upto_stop}
 use Rattle.rpm_qfeval.proofs.pieces.put_quoted_bytes.Goals as goal
 
 pub returns-in_err-put_all : goal.returns-in_err-put_all

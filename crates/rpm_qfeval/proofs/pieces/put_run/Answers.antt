@@ -1,5 +1,5 @@
 use Rattle.std.proofs.Common.{refl}
-use Rattle.rpm_outside.specs.inner.Upto.{both, first_stops}
+use Rattle.rpm_qfeval.proofs.Vocabulary.{both, first_stops}
 use Rattle.rpm_qfeval.proofs.pieces.put_run.Goals as goal
 
 pub returns-in_err-put_all : goal.returns-in_err-put_all

@@ -1,5 +1,5 @@
 use Rattle.std.proofs.Common.{◌≡◌, ℕ, ◌+◌, ◌-◌, ◌<◌, List, ◌++◌, replicate, sym, ap, ◌∙◌, arith}
-use Rattle.rpm_outside.specs.inner.Upto.{upto_more, upto_stop, upto_last}
+use Rattle.rpm_qfeval.proofs.Vocabulary.{upto_last, upto_more, upto_stop}
 use Rattle.rpm_qfeval.proofs.Lists.{replicate_more}
 use Rattle.rpm_qfeval.proofs.pieces.put_spaces.Goals as goal
 

@@ -1,5 +1,5 @@
 use Rattle.std.proofs.Common.{replicate}
-use Rattle.rpm_outside.specs.inner.Upto.{Upto}
+use Rattle.rpm_qfeval.proofs.Vocabulary.{Upto}
 use Rattle.rpm_qfeval.proofs.pieces.put_spaces.Given as goal
 
 abbrev pub invariant-loop-left : goal.invariant-loop-left

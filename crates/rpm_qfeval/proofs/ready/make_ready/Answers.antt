@@ -1,11 +1,6 @@
 use Rattle.std.proofs.Common.{◌≡◌, ℕ, ◌+◌, List, [], ◌∷◌, ◌++◌, length, Some, inl, inr, sym, ap, ◌∙◌, subst}
 use Rattle.std.specs.Prelude.{slice_get}
-use Rattle.rpm_header.specs.Header.{Header}
-use Rattle.rpm_qfparse.specs.Tree.{Tree}
-use Rattle.rpm_qfparse.specs.Shape.{parts_of}
-use Rattle.rpm_qfparse.specs.declared.tree.Part.{Part}
-use Rattle.rpm_qfeval.specs.declared.ready.Ready.{Ready}
-use Rattle.rpm_qfeval.specs.inner.Ready.{StandsReady, StandReady}
+use Rattle.rpm_qfeval.proofs.Vocabulary.{Header, Part, parts_of, Ready, StandReady, StandsReady, Tree}
 use Rattle.rpm_qfeval.proofs.Plain.{get_more}
 use Rattle.rpm_qfeval.proofs.ready.make_ready.Goals as goal
 

@@ -1,5 +1,5 @@
 use Rattle.std.proofs.Common.{◌≡◌, length}
-use Rattle.rpm_qfeval.specs.inner.Ready.{StandReady}
+use Rattle.rpm_qfeval.proofs.Vocabulary.{StandReady}
 use Rattle.rpm_qfeval.proofs.ready.make_ready.Given as goal
 
 abbrev pub invariant-loop-i : goal.invariant-loop-i

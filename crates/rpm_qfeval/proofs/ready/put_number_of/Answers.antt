@@ -1,6 +1,6 @@
 use Rattle.std.proofs.Common.{◌≡◌, ℕ, List, Some, refl, rules}
 use Rattle.std.specs.Prelude.{slice_get, map, decimal}
-use Rattle.rpm_qfeval.specs.Formatters.{or_none}
+use Rattle.rpm_qfeval.proofs.Vocabulary.{or_none}
 use Rattle.rpm_qfeval.proofs.Plain.{get_map}
 use Rattle.rpm_qfeval.proofs.ready.put_number_of.Goals as goal
 

@@ -1,5 +1,5 @@
 use Rattle.std.proofs.Common.{arith, length, ◌≤◌}
-use Rattle.rpm_qfparse.specs.Shape.{parts_of}
+use Rattle.rpm_qfeval.proofs.Vocabulary.{parts_of}
 use Rattle.rpm_qfeval.proofs.Walked.{sizes_start, sizes_next, sizes_found, sizes_end}
 use Rattle.rpm_qfeval.proofs.sizes.+sizing.Goals as goal
 

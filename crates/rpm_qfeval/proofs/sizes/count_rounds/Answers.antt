@@ -1,7 +1,6 @@
 use Rattle.std.proofs.Common.{arith, length, ◌≤◌}
 use Rattle.std.specs.Prelude.{slice_get}
-use Rattle.rpm_qfparse.specs.Shape.{parts_of}
-use Rattle.rpm_qfeval.specs.Meaning.{direct}
+use Rattle.rpm_qfeval.proofs.Vocabulary.{direct, parts_of}
 use Rattle.rpm_qfeval.proofs.Counts.{passes, first, ends}
 use Rattle.rpm_qfeval.proofs.sizes.count_rounds.Goals as goal
 

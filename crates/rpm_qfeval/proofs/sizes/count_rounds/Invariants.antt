@@ -1,7 +1,6 @@
 use Rattle.std.proofs.Common.{◌≡◌, drop}
 use Rattle.std.specs.Prelude.{slice_get, filter_map}
-use Rattle.rpm_qfparse.specs.Shape.{parts_of}
-use Rattle.rpm_qfeval.specs.Meaning.{direct, counts}
+use Rattle.rpm_qfeval.proofs.Vocabulary.{counts, direct, parts_of}
 use Rattle.rpm_qfeval.proofs.sizes.count_rounds.Given as goal
 
 abbrev pub invariant-loop-i : goal.invariant-loop-i

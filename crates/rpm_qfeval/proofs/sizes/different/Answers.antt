@@ -1,6 +1,5 @@
 use Rattle.std.proofs.Common.{arith, length, ◌≤◌, sym, ◌∙◌}
-use Rattle.rpm_qfparse.specs.Shape.{parts_of}
-use Rattle.rpm_qfeval.specs.Meaning.{direct, counts}
+use Rattle.rpm_qfeval.proofs.Vocabulary.{counts, direct, parts_of}
 use Rattle.rpm_qfeval.proofs.Counts.{few, differs_from, passes, same_count, other_count, all_same}
 use Rattle.rpm_qfeval.proofs.sizes.different.Goals as goal
 use Rattle.rpm_qfeval.proofs.sizes.different.Goals.{in-Some+else-count-first, in_default}

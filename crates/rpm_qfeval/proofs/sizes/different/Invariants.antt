@@ -1,7 +1,6 @@
 use Rattle.std.proofs.Common.{◌≡◌, drop}
 use Rattle.std.specs.Prelude.{filter_map}
-use Rattle.rpm_qfparse.specs.Shape.{parts_of}
-use Rattle.rpm_qfeval.specs.Meaning.{direct, counts, different}
+use Rattle.rpm_qfeval.proofs.Vocabulary.{counts, different, direct, parts_of}
 use Rattle.rpm_qfeval.proofs.Counts.{differs_from}
 use Rattle.rpm_qfeval.proofs.sizes.different.Given as goal
 

@@ -1,7 +1,6 @@
 use Rattle.std.proofs.Common.{◌≤◌, length, ap, arith}
 use Rattle.std.specs.Prelude.{filter_map}
-use Rattle.rpm_qfparse.specs.Shape.{parts_of}
-use Rattle.rpm_qfeval.specs.Meaning.{direct}
+use Rattle.rpm_qfeval.proofs.Vocabulary.{direct, parts_of}
 use Rattle.rpm_qfeval.proofs.Counts.{gives_few, gives_no_more}
 use Rattle.rpm_qfeval.proofs.Steps.{drop_all}
 use Rattle.rpm_qfeval.proofs.sizes.elements_in.Goals as goal

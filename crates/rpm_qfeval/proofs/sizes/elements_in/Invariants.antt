@@ -1,8 +1,6 @@
 use Rattle.std.proofs.Common.{ℕ, ◌+◌, ◌≤◌, length, drop}
 use Rattle.std.specs.Prelude.{filter_map}
-use Rattle.rpm_header.specs.Header.{Header}
-use Rattle.rpm_qfparse.specs.Shape.{parts_of}
-use Rattle.rpm_qfeval.specs.Meaning.{direct, counts}
+use Rattle.rpm_qfeval.proofs.Vocabulary.{counts, direct, Header, parts_of}
 use Rattle.rpm_qfeval.proofs.sizes.elements_in.Given as goal
 
 abbrev pub invariant-loop-i : goal.invariant-loop-i

@@ -1,8 +1,5 @@
 use Rattle.std.proofs.Common.{◌+◌, ◌*◌, drop}
-use Rattle.rpm_qfparse.specs.Tree.{weight}
-use Rattle.rpm_qfparse.specs.Shape.{parts_of, tree_of, load}
-use Rattle.rpm_qfeval.specs.Meaning.{bytes}
-use Rattle.rpm_outside.specs.inner.Upto.{Upto}
+use Rattle.rpm_qfeval.proofs.Vocabulary.{bytes, load, parts_of, tree_of, Upto, weight}
 use Rattle.rpm_qfeval.proofs.writing.+writing.Given as goal
 
 abbrev pub decreases-put_part : goal.decreases-put_part

@@ -2,10 +2,8 @@ use Rattle.std.proofs.Common.{ℕ, ◌+◌, ◌<◌, ◌≤◌, Ok, Err, true, s
 use Rattle.std.proofs.lemmas.Result.{err_from_is_err_and}
 use Rattle.rpm_qfparse.specs.declared.moves.Context.TheVariants as context
 use Rattle.rpm_qfparse.specs.declared.fault.Stop.TheVariants as stop
-use Rattle.rpm_qfparse.specs.Tree.{End, Tagged, Bracket, Condition}
-use Rattle.rpm_qfparse.specs.inner.Bare.{bare_fault}
-use Rattle.rpm_qfparse.specs.Format.{Gives, Branches, behind, with_byte, ends, stops, literal, tag, bracket, in_bracket, condition, in_condition, one, two, in_first, between, in_second, behind_second}
-use Rattle.rpm_qfparse.specs.inner.Draft.{after}
+use Rattle.rpm_qfparse.proofs.Vocabulary.{after, bare_fault, behind, behind_second, between, Bracket, bracket, Branches, Condition, condition, End, ends}
+use Rattle.rpm_qfparse.proofs.Vocabulary.{Gives, in_bracket, in_condition, in_first, in_second, literal, one, stops, tag, Tagged, two, with_byte}
 use Rattle.rpm_qfparse.proofs.Drafts.{behind_behind}
 use Rattle.rpm_qfparse.proofs.Exits.{stopped, passed_on}
 use Rattle.rpm_qfparse.proofs.Unique.{moved, left, left_of}

@@ -1,8 +1,5 @@
 use Rattle.std.proofs.Common.{◌+◌, ◌*◌, ◌-◌, length, cond}
-use Rattle.rpm_qfparse.specs.Tree.{Tree}
-use Rattle.rpm_qfparse.specs.Tag.{Reading}
-use Rattle.rpm_qfparse.specs.Format.{Gives, behind}
-use Rattle.rpm_qfparse.specs.inner.Draft.{after}
+use Rattle.rpm_qfparse.proofs.Vocabulary.{after, behind, Gives, Reading, Tree}
 use Rattle.rpm_qfparse.proofs.reader.+reading.Given as goal
 
 -- brackets don't nest, and conditions do so at most sixteen times

@@ -1,6 +1,5 @@
 use Rattle.std.proofs.Common.{◌∙◌, Ok, Err, false, sym, ap, subst}
-use Rattle.rpm_qfparse.specs.Law.{IsProper}
-use Rattle.rpm_qfparse.specs.inner.Bare.{bare_fault}
+use Rattle.rpm_qfparse.proofs.Vocabulary.{bare_fault, IsProper}
 use Rattle.rpm_qfparse.proofs.Law.{format_placed}
 use Rattle.rpm_qfparse.proofs.Proper.{proper}
 use Rattle.rpm_qfparse.proofs.Unique.{left}

@@ -1,6 +1,5 @@
 use Rattle.std.proofs.Common.{◌≡◌, drop}
-use Rattle.rpm_qfparse.specs.Tag.{show_in}
-use Rattle.rpm_qfparse.specs.inner.Bare.{bare_rows}
+use Rattle.rpm_qfparse.proofs.Vocabulary.{bare_rows, show_in}
 use Rattle.rpm_qfparse.proofs.tag.show_in.Given as goal
 
 abbrev pub invariant-loop-row : goal.invariant-loop-row

@@ -1,4 +1,4 @@
-use Rattle.rpm_qfparse.specs.Tag.{table}
+use Rattle.rpm_qfparse.proofs.Vocabulary.{table}
 use Rattle.rpm_qfparse.proofs.tag.show_of.Goals as goal
 
 -- the rows of the code are those of the table

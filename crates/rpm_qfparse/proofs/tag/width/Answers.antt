@@ -1,5 +1,5 @@
 use Rattle.std.proofs.Common.{◌<◌, arith, rules}
-use Rattle.rpm_qfparse.specs.Tag.{number_of}
+use Rattle.rpm_qfparse.proofs.Vocabulary.{number_of}
 use Rattle.rpm_qfparse.proofs.Widths.{too_large, number_of_is, after_number_is}
 use Rattle.rpm_qfparse.proofs.tag.width.Goals as goal
 

@@ -1,5 +1,5 @@
 use Rattle.std.proofs.Common.{◌≡◌, ◌≤◌, length}
-use Rattle.rpm_qfparse.specs.Tag.{number_of, after_number}
+use Rattle.rpm_qfparse.proofs.Vocabulary.{after_number, number_of}
 use Rattle.rpm_qfparse.proofs.Widths.{number_from, after_digits}
 use Rattle.rpm_qfparse.proofs.tag.width.Given as goal
 

@@ -1,4 +1,4 @@
-use Rattle.std.specs.List.{concat}
+use Rattle.rpm_qfeval.proofs.Vocabulary.{concat}
 use Rattle.rpm_qfeval.proofs.Ahead.{one_ahead}
 use Rattle.rpm_qfeval.proofs.cursor.Cursor.go_to.Goals as goal
 

@@ -1,7 +1,5 @@
 use Rattle.std.proofs.Common.{◌-◌, ◌≡◌}
-use Rattle.std.specs.List.{concat}
-use Rattle.std.specs.Option.{option_map}
-use Rattle.rpm_qfeval.specs.inner.Reached.{IsReadTo}
+use Rattle.rpm_qfeval.proofs.Vocabulary.{concat, IsReadTo, option_map}
 use Rattle.rpm_qfeval.proofs.cursor.Cursor.go_to.Given as goal
 
 abbrev pub invariant-loop-self : goal.invariant-loop-self

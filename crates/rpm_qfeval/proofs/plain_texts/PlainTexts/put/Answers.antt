@@ -1,5 +1,5 @@
 use Rattle.std.proofs.Common.{◌≡◌, ℕ, List, [], drop, Some, None, sym, ◌∙◌, arith, subst}
-use Rattle.rpm_outside.specs.Sinks.{Writes}
+use Rattle.rpm_qfeval.proofs.Vocabulary.{Writes}
 use Rattle.rpm_qfeval.proofs.Ahead.{get_none, text_here}
 use Rattle.rpm_qfeval.proofs.Steps.{begins_with}
 use Rattle.rpm_qfeval.proofs.plain_texts.PlainTexts.put.Goals as goal

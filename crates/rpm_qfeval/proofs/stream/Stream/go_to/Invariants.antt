@@ -1,6 +1,5 @@
 use Rattle.std.proofs.Common.{◌-◌, ◌≡◌}
-use Rattle.std.specs.Option.{option_copied}
-use Rattle.rpm_qfeval.specs.inner.Reached.{IsReadTo}
+use Rattle.rpm_qfeval.proofs.Vocabulary.{IsReadTo, option_copied}
 use Rattle.rpm_qfeval.proofs.stream.Stream.go_to.Given as goal
 
 abbrev pub invariant-loop-self : goal.invariant-loop-self

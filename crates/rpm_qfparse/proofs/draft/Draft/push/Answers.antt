@@ -1,5 +1,5 @@
 use Rattle.std.proofs.Common.{◌∙◌}
-use Rattle.rpm_qfparse.specs.inner.Draft.{in_front}
+use Rattle.rpm_qfparse.proofs.Vocabulary.{in_front}
 use Rattle.rpm_qfparse.proofs.Drafts.{apart, pushed}
 use Rattle.rpm_qfparse.proofs.draft.Draft.push.Goals as goal
 

@@ -1,6 +1,5 @@
 use Rattle.std.proofs.Common.{◌∙◌, ap}
-use Rattle.rpm_qfparse.specs.inner.Draft.{with_text}
-use Rattle.rpm_qfparse.specs.Shape.{onto}
+use Rattle.rpm_qfparse.proofs.Vocabulary.{onto, with_text}
 use Rattle.rpm_qfparse.proofs.Drafts.{with_text_push}
 use Rattle.rpm_qfparse.proofs.draft.Draft.push_byte.Goals as goal
 
