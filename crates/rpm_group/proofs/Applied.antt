@@ -2,19 +2,10 @@
 use Rattle.std.proofs.Common.{◌≡◌, inl, inr, ℕ, suc, ◌+◌, ◌<◌, ◌≤◌, List, [], ◌∷◌, ◌++◌, length, take, drop, true, false, refl, sym, ap, subst, ◌∙◌, arith, append_assoc}
 use Rattle.std.proofs.lemmas.List.{append-nil, length-take, length-drop}
 use Rattle.std.proofs.lemmas.Bool.{cases_eq}
-use Rattle.rpm_outside.specs.declared.disk.File.{File}
-use Rattle.rpm_outside.specs.Files.{Units, Files, file_of, with_file, put, unit_at}
-use Rattle.rpm_outside.specs.Crash.{LeavesOnly}
-use Rattle.rpm_outside.specs.inner.Moments.{leaves_then, leaves_weaker}
-use Rattle.rpm_outside.specs.Logs.{Entry, LogState, Closed, Malformed, Open, is_head, entry_at, before, heads, with_entry, with_entries}
-use Rattle.rpm_outside.specs.Words.{word}
-use Rattle.rpm_outside.specs.inner.LogRules.{heads_right, heads_wrong, heads_done, heads_more, head_parts, entry_units}
-use Rattle.rpm_outside.specs.Entries.{HasUnit, Covers}
-use Rattle.rpm_outside.specs.inner.EntryLaws.{within_changed}
-use Rattle.rpm_outside.specs.Changed.{WasChanged, LeavesChanged}
-use Rattle.rpm_group.specs.declared.log.Head.{Head}
-use Rattle.rpm_group.specs.inner.LogReadings.{HeadIs}
-use Rattle.rpm_group.specs.inner.Leavings.{WasWithin}
+use Rattle.rpm_group.proofs.Vocabulary.{before, Closed, Covers, Entry, entry_at, entry_units, File, file_of, Files, HasUnit, Head, head_parts, HeadIs, heads}
+use Rattle.rpm_group.proofs.Vocabulary.{heads_done, heads_more, heads_right, heads_wrong, is_head, leaves_then, leaves_weaker, LeavesChanged, LeavesOnly}
+use Rattle.rpm_group.proofs.Vocabulary.{LogState, Malformed, Open, put, unit_at, Units, WasChanged, WasWithin, with_entries, with_entry, with_file}
+use Rattle.rpm_group.proofs.Vocabulary.{within_changed, word}
 
 pub with_entries-append : (es fs : List Entry) (files : Files) → with_entries (es ++ fs) files ≡ with_entries fs (with_entries es files)
 with_entries-append [] fs files = refl

@@ -3,7 +3,7 @@ use Rattle.std.proofs.Common.{◌≡◌, ◌⊎◌, ⊎_elim, ℕ, ◌+◌, ◌-
 use Rattle.std.proofs.lemmas.List.{length-take, length-drop, get_or-take, get_or-drop, get_or_append_left, get_or-append_right, same_lists}
 use Rattle.std.specs.Prelude.{if◌then◌else◌, Bool, true, false, Some, None}
 use borrow.Rule.Slice.PartMut.{put_mid}
-use Rattle.rpm_group.specs.Held.{unit_in}
+use Rattle.rpm_group.proofs.Vocabulary.{unit_in}
 
 -- where two lists have the same unit
 same_unit : (xs ys : List ℕ) (i j : ℕ) → 16 * i + 16 ≤ length xs → 16 * j + 16 ≤ length ys

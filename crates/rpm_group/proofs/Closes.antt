@@ -1,16 +1,9 @@
 -- What a crash leaves while a log is closed.
 use Rattle.std.proofs.Common.{◌≡◌, ⊎_elim, ℕ, ◌<◌, List, [], ◌∷◌, length, true, refl, sym, ap, subst, ◌∙◌}
-use Rattle.rpm_outside.specs.declared.disk.File.TheVariants.{Log}
-use Rattle.rpm_outside.specs.Files.{Units, Files, with_file, put, unit_at}
-use Rattle.rpm_outside.specs.Crash.{LeavesOnly, TornFile, Elapses, OnlyAfter}
-use Rattle.rpm_outside.specs.inner.Moments.{started, one_more, leaves_weaker}
-use Rattle.rpm_outside.specs.Logs.{Entry, LogState, Closed, Open, is_blank, log_state, unlogged, with_entries, reopened}
-use Rattle.rpm_outside.specs.inner.LogLaws.{NotLog, log_not_log, torn_first, reopened_open, reopened_within, closing, blank_closed, first_unit, within_log, entries_log, unlogged_entries, entries_done}
-use Rattle.rpm_outside.specs.Entries.{Within}
-use Rattle.rpm_group.specs.Loads.{IsSound}
-use Rattle.rpm_group.specs.Readings.{IsOpen}
-use Rattle.rpm_group.specs.inner.Leavings.{WasWithin}
-use Rattle.rpm_group.specs.Settled.{ReopensAs}
+use Rattle.rpm_group.proofs.Vocabulary.{blank_closed, Closed, closing, Elapses, entries_done, entries_log, Entry, Files, first_unit, is_blank, IsOpen}
+use Rattle.rpm_group.proofs.Vocabulary.{IsSound, leaves_weaker, LeavesOnly, Log, log_not_log, log_state, LogState, NotLog, one_more, OnlyAfter, Open, put}
+use Rattle.rpm_group.proofs.Vocabulary.{reopened, reopened_open, reopened_within, ReopensAs, started, torn_first, TornFile, unit_at, Units, unlogged}
+use Rattle.rpm_group.proofs.Vocabulary.{unlogged_entries, WasWithin, with_entries, with_file, Within, within_log}
 
 -- a log that is closed or open isn't malformed
 pub closed_sound : (log : Units) → log_state log ≡ Closed → IsSound (log_state log)

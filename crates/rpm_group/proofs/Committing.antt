@@ -1,22 +1,9 @@
 -- The stages of a commit.
 use Rattle.std.proofs.Common.{◌≡◌, inl, inr, ⊎_elim, ℕ, ◌+◌, ◌<◌, ◌≤◌, ◌^◌, List, [], ◌∷◌, ◌++◌, length, refl, sym, ap, subst, ◌∙◌, arith, length-append}
-use Rattle.rpm_outside.specs.declared.disk.File.TheVariants.{Pkg, Idx, Log}
-use Rattle.rpm_outside.specs.Files.{Files, with_file, put}
-use Rattle.rpm_outside.specs.Crash.{LeavesOnly, TornFile, Elapses, OnlyAfter}
-use Rattle.rpm_outside.specs.inner.Moments.{started, one_more}
-use Rattle.rpm_outside.specs.Changed.{ChangedIn, LeavesChanged}
-use Rattle.rpm_outside.specs.inner.ChangedLaws.{changed_leaves_then, changed_leaves_more}
-use Rattle.rpm_outside.specs.Logs.{Entry, Closed, Open, log_state, unlogged, with_entries, reopened}
-use Rattle.rpm_outside.specs.inner.LogLaws.{torn_first, reopened_closed, reopened_open}
-use Rattle.rpm_outside.specs.LogWrites.{EntriesIn, IsGate}
-use Rattle.rpm_outside.specs.inner.LogWriting.{entries_kept, entries_then, opened_is}
-use Rattle.rpm_group.specs.declared.layers.Layers.{Layers}
-use Rattle.rpm_group.specs.Held.{laid}
-use Rattle.rpm_group.specs.inner.Logged.{Logged}
-use Rattle.rpm_group.specs.Orders.{HeadsEndInZeros}
-use Rattle.rpm_group.specs.Settled.{ReopensAs}
-use Rattle.rpm_group.specs.Groups.{BeforeOrAfter}
-use Rattle.rpm_group.specs.inner.Grouped.{IsGroup}
+use Rattle.rpm_group.proofs.Vocabulary.{BeforeOrAfter, changed_leaves_more, changed_leaves_then, ChangedIn, Closed, Elapses, entries_kept, entries_then}
+use Rattle.rpm_group.proofs.Vocabulary.{EntriesIn, Entry, Files, HeadsEndInZeros, Idx, IsGate, IsGroup, laid, Layers, LeavesChanged, LeavesOnly, Log}
+use Rattle.rpm_group.proofs.Vocabulary.{log_state, Logged, one_more, OnlyAfter, Open, opened_is, Pkg, put, reopened, reopened_closed, reopened_open}
+use Rattle.rpm_group.proofs.Vocabulary.{ReopensAs, started, torn_first, TornFile, unlogged, with_entries, with_file}
 use Rattle.rpm_group.proofs.Applied.{with_entries-append}
 use Rattle.rpm_group.proofs.LoggedLaws.{covers_before, covers_behind}
 use Rattle.rpm_group.proofs.LaidRuns.{logged_laid}

@@ -2,11 +2,8 @@
 use Rattle.std.proofs.Common.{◌≡◌, ℕ, ◌+◌, ◌*◌, ◌/◌, ◌<◌, ◌≤◌, List, ◌++◌, length, take, drop, sym, ap, ◌∙◌, arith}
 use Rattle.std.proofs.lemmas.List.{length-take, length-drop, drop-drop}
 use Rattle.std.proofs.Math.Seq.{take-add}
-use Rattle.rpm_outside.specs.declared.disk.File.{File}
-use Rattle.rpm_outside.specs.declared.disk.File.TheVariants.{Log}
-use Rattle.rpm_outside.specs.Files.{Units, Files, file_of, with_file, put}
-use Rattle.rpm_outside.specs.inner.FileLaws.{file_of-with, other_file, with_file-with_file}
-use Rattle.rpm_outside.specs.inner.PutMore.{put_some, put_some_is, put_some_append}
+use Rattle.rpm_group.proofs.Vocabulary.{File, file_of, file_of-with, Files, Log, other_file, put, put_some, put_some_append, put_some_is, Units, with_file}
+use Rattle.rpm_group.proofs.Vocabulary.{with_file-with_file}
 
 pub page_count : (n : ℕ) (page : List ℕ) → length page ≡ 4096 → n ≤ 256 → length (take (16 * n) page) / 16 ≡ n
 page_count n page long le = omega (arith, length-take (16 * n) page)

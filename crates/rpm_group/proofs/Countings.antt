@@ -2,8 +2,7 @@
 use Rattle.std.proofs.Common.{◌≡◌, inl, inr, ℕ, zero, suc, ◌+◌, ◌-◌, ◌<◌, ◌≤◌, refl, sym, ap, ◌∙◌, arith, true, false}
 use Rattle.std.specs.Prelude.{Bool, ◌&&◌, not}
 use Rattle.std.proofs.lemmas.Bool.{cases_lt, and_left, and_right, and_from}
-use Rattle.rpm_group.specs.Held.{Table}
-use Rattle.rpm_group.specs.Counts.{count_below, is_held, begins_run, log_units}
+use Rattle.rpm_group.proofs.Vocabulary.{begins_run, count_below, is_held, log_units, Table}
 use Rattle.rpm_group.proofs.Counts.{count_all, count_later, count_none, none_pass, step_one}
 
 pub log_units_later : (table : Table) (from end : ℕ) → from ≤ end → log_units table from ≤ log_units table end

@@ -2,7 +2,7 @@
 use Rattle.std.proofs.Common.{◌≡◌, inl, inr, ℕ, zero, suc, ◌+◌, ◌<◌, ◌≤◌, sym, ap, ◌∙◌, arith, true, false}
 use Rattle.std.specs.Prelude.{Bool, if◌then◌else◌}
 use Rattle.std.proofs.lemmas.Bool.{cases_lt, cases_Bool}
-use Rattle.rpm_group.specs.Counts.{count_below}
+use Rattle.rpm_group.proofs.Vocabulary.{count_below}
 
 pub step : (test : ℕ → Bool) (n : ℕ) → test n ≡ false → count_below test (suc n) ≡ count_below test n
 unfolding count_below

@@ -1,19 +1,8 @@
 -- A run that is written to the log is an entry there.
 use Rattle.std.proofs.Common.{◌≡◌, ℕ, suc, ◌+◌, ◌<◌, ◌≤◌, ◌^◌, List, [], ◌∷◌, ◌++◌, length, max, sym, ap, subst, ◌∙◌, arith}
-use Rattle.rpm_outside.specs.declared.disk.File.{File}
-use Rattle.rpm_outside.specs.declared.disk.File.TheVariants.{Pkg, Idx, Log}
-use Rattle.rpm_outside.specs.Files.{Units, Files, with_file, unit_at, put}
-use Rattle.rpm_outside.specs.Crash.{TornFile}
-use Rattle.rpm_outside.specs.inner.Puts.{length-put, put_before, put_inside}
-use Rattle.rpm_outside.specs.inner.History.{torn_file_whole}
-use Rattle.rpm_outside.specs.Changed.{ChangedIn}
-use Rattle.rpm_outside.specs.inner.ChangedLaws.{torn_changed, changed_more}
-use Rattle.rpm_outside.specs.Logs.{Entry}
-use Rattle.rpm_outside.specs.Words.{word, unit_of_words}
-use Rattle.rpm_outside.specs.inner.UnitLaws.{word_0, word_1, word_2, word_3}
-use Rattle.rpm_outside.specs.LogWrites.{number_of, EntryIn, EntriesIn}
-use Rattle.rpm_outside.specs.inner.LogWriting.{entries_kept, entries_push}
-use Rattle.rpm_group.specs.Orders.{HeadsEndInZeros}
+use Rattle.rpm_group.proofs.Vocabulary.{changed_more, ChangedIn, entries_kept, entries_push, EntriesIn, Entry, EntryIn, File, Files, HeadsEndInZeros, Idx}
+use Rattle.rpm_group.proofs.Vocabulary.{length-put, Log, number_of, Pkg, put, put_before, put_inside, torn_changed, torn_file_whole, TornFile, unit_at}
+use Rattle.rpm_group.proofs.Vocabulary.{unit_of_words, Units, with_file, word, word_0, word_1, word_2, word_3}
 use Rattle.rpm_group.proofs.Orders.{heads_kept, heads_push}
 
 number_small : (file : File) → number_of file < 2 ^ 32

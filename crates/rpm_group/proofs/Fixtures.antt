@@ -1,9 +1,6 @@
 -- The definitions of the log, computed on small logs: what they say doesn't come from the code.
 use Rattle.std.specs.Prelude.{◌≡◌, ℕ, List, [], ◌∷◌, refl, replicate}
-use Rattle.rpm_outside.specs.declared.disk.File.TheVariants.{Pkg}
-use Rattle.rpm_outside.specs.Files.{blank, put}
-use Rattle.rpm_outside.specs.Logs.{Closed, Malformed, Open, log_state, reopened, is_gate, is_head, entry_at, heads}
-use Rattle.rpm_outside.specs.Words.{word}
+use Rattle.rpm_group.proofs.Vocabulary.{blank, Closed, entry_at, heads, is_gate, is_head, log_state, Malformed, Open, Pkg, put, reopened, word}
 
 -- `RpmL`, version 1, so many entries, the last unit
 gate : ℕ → ℕ → List ℕ

@@ -1,16 +1,8 @@
 -- A commit record that opens a log.
 use Rattle.std.proofs.Common.{◌≡◌, ℕ, ◌+◌, ◌-◌, ◌<◌, ◌≤◌, ◌^◌, List, [], ◌∷◌, length, sym, ap, subst, ◌∙◌, arith}
-use Rattle.rpm_outside.specs.declared.disk.File.TheVariants.{Log}
-use Rattle.rpm_outside.specs.Files.{Units, Files, with_file, put}
-use Rattle.rpm_outside.specs.Crash.{LeavesOnly, TornFile, Elapses, OnlyAfter}
-use Rattle.rpm_outside.specs.Logs.{Entry, Closed, Open, log_state, unlogged, with_entries}
-use Rattle.rpm_outside.specs.LogWrites.{EntriesIn, IsGate}
-use Rattle.rpm_outside.specs.inner.LogWriting.{entries_long, word_full, opened_is}
-use Rattle.rpm_outside.specs.Words.{word, unit_of_words}
-use Rattle.rpm_outside.specs.inner.UnitLaws.{word_0, word_1, word_2, word_3}
-use Rattle.rpm_group.specs.declared.group.Tail.{Tail}
-use Rattle.rpm_group.specs.Groups.{BeforeOrAfter}
-use Rattle.rpm_group.specs.inner.Grouped.{IsTail}
+use Rattle.rpm_group.proofs.Vocabulary.{BeforeOrAfter, Closed, Elapses, entries_long, EntriesIn, Entry, Files, IsGate, IsTail, LeavesOnly, Log, log_state}
+use Rattle.rpm_group.proofs.Vocabulary.{OnlyAfter, Open, opened_is, put, Tail, TornFile, unit_of_words, Units, unlogged, with_entries, with_file, word}
+use Rattle.rpm_group.proofs.Vocabulary.{word_0, word_1, word_2, word_3, word_full}
 use Rattle.rpm_group.proofs.Committing.{opening_leaves}
 
 -- a commit record that opens a log

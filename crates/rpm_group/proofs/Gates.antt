@@ -1,17 +1,11 @@
 -- What was read of the commit record and of a head, where the log reads as before.
 use Rattle.std.proofs.Common.{◌≡◌, ℕ, suc, ◌+◌, true, false, length, refl, sym, ap, subst, ◌∙◌, arith, List, ◌∷◌, [], ◌++◌, ◌==◌}
 use Rattle.std.specs.Prelude.{if◌then◌else◌, Bool}
-use Rattle.rpm_outside.specs.declared.disk.File.TheVariants.{Pkg, Idx, Log}
-use Rattle.rpm_outside.specs.Files.{Files, Units, unit_at}
-use Rattle.rpm_outside.specs.Logs.{Entry, LogState, Closed, Malformed, Open, is_blank, is_gate, is_head, entry_at, heads, log_state}
-use Rattle.rpm_outside.specs.Words.{word}
-use Rattle.rpm_outside.specs.inner.LogLaws.{blank_closed}
-use Rattle.rpm_outside.specs.inner.LogRules.{gate_wrong, gate_right, gate_last, head_parts, after, after-wrong, after-open, after-push, heads_right, heads_wrong, heads_done, heads_more}
-use Rattle.rpm_group.specs.declared.log.Head.{Head}
+use Rattle.rpm_group.proofs.Vocabulary.{after, after-open, after-push, after-wrong, blank_closed, Closed, Entry, entry_at, Files, gate_last, gate_right}
+use Rattle.rpm_group.proofs.Vocabulary.{gate_wrong, GateSays, Head, head_parts, HeadIs, heads, heads_done, heads_more, heads_right, heads_wrong, HeadSays}
+use Rattle.rpm_group.proofs.Vocabulary.{Idx, is_blank, is_gate, is_head, IsHead, IsOpen, Log, log_state, LogState, Malformed, Open, Opened, Pkg, unit_at}
+use Rattle.rpm_group.proofs.Vocabulary.{Units, word}
 use Rattle.std.proofs.Common.{Option}
-use Rattle.rpm_group.specs.Readings.{IsOpen}
-use Rattle.rpm_group.specs.inner.LogReadings.{GateSays, IsHead, HeadIs, HeadSays}
-use Rattle.rpm_group.specs.declared.log.Reading.TheVariants.{Opened}
 
 module _ (files mid : Files) (gate : List ℕ) (units : ℕ) (same : mid ≡ files) (is : gate ≡ unit_at mid.log 0) where
   here : gate ≡ unit_at files.log 0

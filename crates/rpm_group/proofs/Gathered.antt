@@ -3,12 +3,7 @@ use Rattle.std.proofs.Common.{◌≡◌, inl, inr, ℕ, ◌+◌, ◌/◌, List, 
 use Rattle.std.specs.Prelude.{Option, Some, None, is_some, unwrap_or}
 use Rattle.std.proofs.lemmas.List.{get_or_past}
 use Rattle.std.proofs.lemmas.Bool.{cases_lt}
-use Rattle.rpm_outside.specs.Files.{units_of, blank}
-use Rattle.rpm_outside.specs.inner.Cuts.{length-cut_up}
-use Rattle.rpm_outside.specs.inner.PutLaws.{same_units}
-use Rattle.rpm_group.specs.Held.{Table, unit_in, held_at}
-use Rattle.rpm_group.specs.inner.Holding.{LaysOver}
-use Rattle.rpm_group.specs.inner.HeldUnits.{units_held, AreHeld}
+use Rattle.rpm_group.proofs.Vocabulary.{AreHeld, blank, held_at, LaysOver, length-cut_up, same_units, Table, unit_in, units_held, units_of}
 use Rattle.rpm_group.proofs.Laids.{unit_of_bytes}
 use Rattle.rpm_group.proofs.Runs.{length-units_held, unit_at-units_held}
 

@@ -2,14 +2,8 @@
 use Rattle.std.proofs.Common.{◌≡◌, inl, inr, ℕ, ◌-◌, ◌<◌, List, sym, ap, subst, ◌∙◌, arith}
 use Rattle.std.specs.Prelude.{Option, None, unwrap_or}
 use Rattle.std.proofs.lemmas.Bool.{cases_lt}
-use Rattle.rpm_outside.specs.declared.disk.File.{File}
-use Rattle.rpm_outside.specs.declared.disk.File.TheVariants.{Pkg, Idx, Log}
-use Rattle.rpm_outside.specs.Files.{Units, Files, file_of, with_file, unit_at, cases_file}
-use Rattle.rpm_outside.specs.inner.PutLaws.{same_units}
-use Rattle.rpm_outside.specs.inner.FileLaws.{file_of-with, other_file}
-use Rattle.rpm_outside.specs.Logs.{Entry, with_entries}
-use Rattle.rpm_group.specs.Held.{Table, held_at, laid, EndsAt}
-use Rattle.rpm_group.specs.inner.Logged.{Logged}
+use Rattle.rpm_group.proofs.Vocabulary.{cases_file, EndsAt, Entry, File, file_of, file_of-with, Files, held_at, Idx, laid, Log, Logged, other_file, Pkg}
+use Rattle.rpm_group.proofs.Vocabulary.{same_units, Table, unit_at, Units, with_entries, with_file}
 use Rattle.rpm_group.proofs.Laids.{length-laid, unit_at-laid}
 use Rattle.rpm_group.proofs.LoggedLaws.{unheld_is}
 

@@ -4,12 +4,8 @@ use Rattle.std.specs.Prelude.{Option, Some, None, unwrap_or}
 use Rattle.std.proofs.lemmas.List.{get_or_past}
 use Rattle.std.proofs.lemmas.List.FromFn.{length-map-range_with_len, get_or-map-range_with_len}
 use Rattle.std.proofs.lemmas.Bool.{cases_lt}
-use Rattle.rpm_outside.specs.Files.{Units, unit_at, units_of, blank, put}
-use Rattle.rpm_outside.specs.inner.Cuts.{length-cut_up, unit_at-cut_up}
-use Rattle.rpm_outside.specs.inner.Puts.{length-put, put_before, put_inside, put_after}
-use Rattle.rpm_outside.specs.inner.PutLaws.{same_units}
-use Rattle.rpm_group.specs.Held.{Table, unit_in, held_at, unit_over, laid, EndsAt}
-use Rattle.rpm_group.specs.inner.Holding.{Holds, SameHeld}
+use Rattle.rpm_group.proofs.Vocabulary.{blank, EndsAt, held_at, Holds, laid, length-cut_up, length-put, put, put_after, put_before, put_inside, same_units}
+use Rattle.rpm_group.proofs.Vocabulary.{SameHeld, Table, unit_at, unit_at-cut_up, unit_in, unit_over, Units, units_of}
 
 pub length-laid : (table : Table) (end : ℕ) (file : Units) → length (laid table end file) ≡ max (length file) end
 unfolding laid

@@ -22,3 +22,4 @@ pub mod Entering
 pub mod Orders
 pub mod Committing
 pub mod Longest
+pub mod Vocabulary

@@ -3,16 +3,9 @@ use Rattle.std.proofs.Common.{◌≡◌, inl, inr, ℕ, ◌+◌, ◌-◌, ◌<�
 use Rattle.std.specs.Prelude.{Option, Some, None, is_some, unwrap_or}
 use Rattle.std.proofs.lemmas.Bool.{cases_lt}
 use Rattle.std.proofs.lemmas.List.{length_push}
-use Rattle.rpm_outside.specs.declared.disk.File.{File}
-use Rattle.rpm_outside.specs.Files.{Units, Files, file_of, unit_at, put, blank}
-use Rattle.rpm_outside.specs.inner.Puts.{length-put, put_before, put_inside, put_after}
-use Rattle.rpm_outside.specs.inner.FileLaws.{file_of-with, other_file}
-use Rattle.rpm_outside.specs.Logs.{Entry, with_entries}
-use Rattle.rpm_outside.specs.Entries.{Covers}
-use Rattle.rpm_group.specs.Held.{Table, held_at, unit_over}
-use Rattle.rpm_group.specs.Counts.{is_held, begins_run, count_below}
-use Rattle.rpm_group.specs.inner.HeldUnits.{AreHeld}
-use Rattle.rpm_group.specs.inner.Logged.{Logged, run_entry}
+use Rattle.rpm_group.proofs.Vocabulary.{AreHeld, begins_run, blank, count_below, Covers, Entry, File, file_of, file_of-with, Files, held_at, is_held}
+use Rattle.rpm_group.proofs.Vocabulary.{length-put, Logged, other_file, put, put_after, put_before, put_inside, run_entry, Table, unit_at, unit_over, Units}
+use Rattle.rpm_group.proofs.Vocabulary.{with_entries}
 use Rattle.rpm_group.proofs.Orders.{runs_more, runs_push}
 use Rattle.rpm_group.proofs.Applied.{with_entries-append}
 use Rattle.rpm_group.proofs.Runs.{length-units_held, unit_at-units_held}

@@ -2,12 +2,8 @@
 use Rattle.std.proofs.Common.{inl, inr, ℕ, zero, suc, ◌*◌, ◌≤◌, length, arith}
 use Rattle.std.specs.Prelude.{Bool}
 use Rattle.std.proofs.lemmas.Bool.{cases_Bool}
-use Rattle.rpm_outside.specs.Files.{Units, Files}
-use Rattle.rpm_group.specs.declared.layers.Layers.{Layers}
-use Rattle.rpm_group.specs.declared.pages.Pages.{Pages}
-use Rattle.rpm_group.specs.Counts.{count_below, is_held, begins_run}
-use Rattle.rpm_group.specs.Layers.{laid_file, laid_files}
-use Rattle.rpm_group.specs.Groups.{units_of_log, needed, longest_log}
+use Rattle.rpm_group.proofs.Vocabulary.{begins_run, count_below, Files, is_held, laid_file, laid_files, Layers, longest_log, needed, Pages, Units}
+use Rattle.rpm_group.proofs.Vocabulary.{units_of_log}
 use Rattle.rpm_group.proofs.Counts.{step, step_one}
 use Rattle.rpm_group.proofs.Laids.{length-laid}
 

@@ -1,11 +1,6 @@
 -- One run more in the log: its room, and what a crash leaves of it.
 use Rattle.std.proofs.Common.{◌≡◌, ℕ, ◌+◌, ◌-◌, ◌≤◌, ◌^◌, arith}
-use Rattle.rpm_outside.specs.declared.disk.File.TheVariants.{Log}
-use Rattle.rpm_outside.specs.Files.{Files}
-use Rattle.rpm_outside.specs.Changed.{LeavesChanged}
-use Rattle.rpm_outside.specs.inner.ChangedLaws.{changed_leaves_then, changed_leaves_more}
-use Rattle.rpm_group.specs.Held.{Table}
-use Rattle.rpm_group.specs.Counts.{log_units}
+use Rattle.rpm_group.proofs.Vocabulary.{changed_leaves_more, changed_leaves_then, Files, LeavesChanged, Log, log_units, Table}
 use Rattle.rpm_group.proofs.Countings.{log_units_later}
 
 -- there is room for one more run

@@ -1,18 +1,7 @@
 -- Entries in their order, and a log that keeps them.
 use Rattle.std.proofs.Common.{◌≡◌, ℕ, ◌+◌, ◌<◌, ◌≤◌, List, [], ◌∷◌, ◌++◌, length, sym, ap, ◌∙◌, subst, arith}
-use Rattle.rpm_outside.specs.declared.disk.File.{File}
-use Rattle.rpm_outside.specs.declared.disk.File.TheVariants.{Log}
-use Rattle.rpm_outside.specs.Files.{Units, Files, with_file, unit_at, put}
-use Rattle.rpm_outside.specs.inner.Puts.{length-put, put_after}
-use Rattle.rpm_outside.specs.Logs.{Entry}
-use Rattle.rpm_outside.specs.Words.{word}
-use Rattle.rpm_outside.specs.LogWrites.{EntriesIn}
-use Rattle.rpm_outside.specs.inner.LogWriting.{entries_kept, entries_end}
-use Rattle.rpm_group.specs.declared.layers.Layers.{Layers}
-use Rattle.rpm_group.specs.Groups.{needed}
-use Rattle.rpm_group.specs.Orders.{AreRuns, HeadsEndInZeros, IsLogged}
-use Rattle.rpm_group.specs.inner.Behind.{KeepsBehind}
-use Rattle.rpm_group.specs.inner.Grouped.{IsGroup}
+use Rattle.rpm_group.proofs.Vocabulary.{AreRuns, entries_end, entries_kept, EntriesIn, Entry, File, Files, HeadsEndInZeros, IsGroup, IsLogged, KeepsBehind}
+use Rattle.rpm_group.proofs.Vocabulary.{Layers, length-put, Log, needed, put, put_after, unit_at, Units, with_file, word}
 
 pub runs_more : (file : File) (from a b : ℕ) (entries : List Entry) → AreRuns file from a entries → a ≤ b → AreRuns file from b entries
 runs_more file from a b [] is le = omega (arith, is, le)

@@ -4,11 +4,7 @@ use Rattle.std.specs.Prelude.{OnOk, Option, Some, None, is_some, unwrap_or, fals
 use Rattle.std.proofs.lemmas.List.{length-take, length-drop, get_or-take, get_or-drop, get_or_append_left, get_or-append_right, get_or-replicate, get_or_past, length-replicate, same_lists}
 use Rattle.std.proofs.lemmas.Bool.{cases_lt}
 use borrow.Rule.Slice.PartMut.{put_mid}
-use Rattle.rpm_outside.specs.Files.{Units, unit_at, units_of, blank}
-use Rattle.rpm_outside.specs.inner.Cuts.{length-cut_up}
-use Rattle.rpm_outside.specs.inner.PutLaws.{same_units}
-use Rattle.rpm_group.specs.Held.{Table, unit_in, held_at, laid, EndsAt}
-use Rattle.rpm_group.specs.inner.Holding.{LaysOver}
+use Rattle.rpm_group.proofs.Vocabulary.{blank, EndsAt, held_at, laid, LaysOver, length-cut_up, same_units, Table, unit_at, unit_in, Units, units_of}
 use Rattle.rpm_group.proofs.ByteLaws.{length-put_mid, get_or_put_inside}
 use Rattle.rpm_group.proofs.Laids.{unit_of_bytes, unit_at-laid}
 

@@ -4,13 +4,8 @@ use Rattle.std.specs.Prelude.{unwrap_or}
 use Rattle.std.proofs.lemmas.List.{get_or_past, get_or_append_left, get_or-append_right}
 use Rattle.std.proofs.lemmas.List.FromFn.{length-map-range_with_len, get_or-map-range_with_len}
 use Rattle.std.proofs.lemmas.Bool.{cases_lt}
-use Rattle.rpm_outside.specs.declared.disk.File.{File}
-use Rattle.rpm_outside.specs.Files.{Units, Files, file_of, with_file, unit_at, blank, put}
-use Rattle.rpm_outside.specs.inner.PutLaws.{same_units}
-use Rattle.rpm_outside.specs.inner.FileLaws.{file_of-with, with_file-with_file}
-use Rattle.rpm_outside.specs.inner.PutMore.{put_some, put_some_is, put_some_append}
-use Rattle.rpm_group.specs.Held.{Table, held_at}
-use Rattle.rpm_group.specs.inner.HeldUnits.{units_held}
+use Rattle.rpm_group.proofs.Vocabulary.{blank, File, file_of, file_of-with, Files, held_at, put, put_some, put_some_append, put_some_is, same_units, Table}
+use Rattle.rpm_group.proofs.Vocabulary.{unit_at, Units, units_held, with_file, with_file-with_file}
 
 held_unit : Table → ℕ → List ℕ
 held_unit table i = unwrap_or (held_at table i) blank

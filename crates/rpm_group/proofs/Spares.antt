@@ -1,11 +1,6 @@
 -- Counts of what was read, of the disk below and without it.
 use Rattle.std.proofs.Common.{◌≡◌, ℕ, ◌+◌, refl, arith}
-use Rattle.rpm_outside.specs.declared.disk.File.{File}
-use Rattle.rpm_outside.specs.declared.disk.File.TheVariants.{Pkg, Idx, Log}
-use Rattle.rpm_outside.specs.Causes.{RoseBy}
-use Rattle.rpm_outside.specs.Crash.{bytes_for}
-use Rattle.rpm_group.specs.declared.spared.Spared.{Spared}
-use Rattle.rpm_group.specs.Spared.{spared_of, CountsRead}
+use Rattle.rpm_group.proofs.Vocabulary.{bytes_for, CountsRead, File, Idx, Log, Pkg, RoseBy, Spared, spared_of}
 
 bytes_sum : (file f : File) (m n most : ℕ) → m + n ≡ most → bytes_for file f m + bytes_for file f n ≡ bytes_for file f most
 bytes_sum Pkg Pkg m n most is = is

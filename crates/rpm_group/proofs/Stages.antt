@@ -1,18 +1,8 @@
 -- One stage of a commit after another.
 use Rattle.std.proofs.Common.{◌≡◌, inl, inr, ⊎_elim, ℕ, ◌≤◌, ◌^◌, List, refl, ap, subst, ◌∙◌, arith}
-use Rattle.rpm_outside.specs.declared.disk.File.TheVariants.{Log}
-use Rattle.rpm_outside.specs.Files.{Files}
-use Rattle.rpm_outside.specs.Crash.{LeavesOnly}
-use Rattle.rpm_outside.specs.inner.Moments.{leaves_then, leaves_weaker}
-use Rattle.rpm_outside.specs.Changed.{ChangedIn, WasChanged, LeavesChanged}
-use Rattle.rpm_outside.specs.Logs.{Entry, Closed, Open, log_state, unlogged, with_entries, reopened, is_blank}
-use Rattle.rpm_outside.specs.inner.LogLaws.{reopened_closed, reopened_open, blank_closed}
-use Rattle.rpm_outside.specs.inner.LogRules.{closed_blank}
-use Rattle.rpm_group.specs.declared.layers.Layers.{Layers}
-use Rattle.rpm_group.specs.inner.Leavings.{WasWithin}
-use Rattle.rpm_group.specs.Settled.{ReopensAs}
-use Rattle.rpm_group.specs.Groups.{BeforeOrAfter}
-use Rattle.rpm_group.specs.inner.Grouped.{with_held, IsGroup}
+use Rattle.rpm_group.proofs.Vocabulary.{BeforeOrAfter, blank_closed, ChangedIn, Closed, closed_blank, Entry, Files, is_blank, IsGroup, Layers, leaves_then}
+use Rattle.rpm_group.proofs.Vocabulary.{leaves_weaker, LeavesChanged, LeavesOnly, Log, log_state, Open, reopened, reopened_closed, reopened_open, ReopensAs}
+use Rattle.rpm_group.proofs.Vocabulary.{unlogged, WasChanged, WasWithin, with_entries, with_held}
 use Rattle.rpm_group.proofs.Closes.{written_leaves, closed_sound}
 
 pub still_closed : (old new : Files) (first end : ℕ) → 1 ≤ first → log_state old.log ≡ Closed → ChangedIn Log first end old new → log_state new.log ≡ Closed

@@ -1,12 +1,10 @@
 -- What is held in a table of which one page was put, and units that are held page by page.
 use Rattle.std.proofs.Common.{◌≡◌, ◌⊎◌, inl, inr, ⊎_elim, ℕ, ◌+◌, ◌-◌, ◌*◌, ◌/◌, ◌%◌, ◌<◌, ◌≤◌, List, [], ◌∷◌, ◌++◌, length, take, drop, map, get_or, set, sym, ap, ◌∙◌, arith, get_or-set_same, get_or-set_other}
 use Rattle.std.specs.Prelude.{Option, Some, None, Box, true, is_some}
-use Rattle.std.specs.declared.alloc.Global.{Global}
+use Rattle.rpm_group.proofs.Vocabulary.{Global, held_at, Holds, in_page, in_paged, KeepsPages, Leaf, LeafKeeps, LeafSame, LeafWrote, Page, page_at, page_in}
+use Rattle.rpm_group.proofs.Vocabulary.{SameHeld, SamePages, Table, unit_in}
 use Rattle.std.proofs.lemmas.List.{length-take, length-drop, length-map, map-append, map-set, get_or-map, get_or_append_left, get_or_past, length_push, get_or_push, get_or-take, get_or-drop, same_lists}
 use Rattle.std.proofs.lemmas.Bool.{cases_lt, cases_eq, cases_order}
-use Rattle.rpm_group.specs.declared.page.Page.{Page}
-use Rattle.rpm_group.specs.Held.{Leaf, Table, unit_in, in_page, page_in, page_at, in_paged, held_at}
-use Rattle.rpm_group.specs.inner.Holding.{LeafSame, LeafKeeps, LeafWrote, SamePages, SameHeld, KeepsPages, Holds}
 
 pub push_default : {A : Type 0} (xs : List A) (d : A) (i : ℕ) → get_or (xs ++ d ∷ []) i d ≡ get_or xs i d
 push_default xs d i = elim (cases_order i (length xs)) [

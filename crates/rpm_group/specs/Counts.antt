@@ -1,5 +1,5 @@
 -- How many units are held, and in how many runs.
-use Rattle.std.specs.Prelude.{ℕ, ◌+◌, Bool, ◌&&◌, not, is_some, if◌then◌else◌}
+use Rattle.std.specs.Prelude.{◌≡◌, ℕ, ◌+◌, ◌<◌, ◌≤◌, Bool, ◌&&◌, not, is_some, if◌then◌else◌}
 use Rattle.std.proofs.Common.{zero, suc}
 use Rattle.rpm_group.specs.Held.{Table, held_at}
 
@@ -20,3 +20,10 @@ begins_run table (suc i) = is_held table (suc i) && not (is_held table i)
 -- how many units a log takes for what is held of a file: a head for each run, and the units
 abbrev pub log_units : Table → ℕ → ℕ
 log_units table end = count_below (begins_run table) end + count_below (is_held table) end
+
+-- the first place from one on where it is so or isn't, or the end
+pub record IsNext (is : ℕ → Bool) (so : Bool) (first last next : ℕ) : Type 0 where
+  pub from : first ≤ next
+  pub end : next ≤ last
+  pub between : (k : ℕ) → first ≤ k → k < next → is k ≡ not so
+  pub found : next < last → is next ≡ so

@@ -1,7 +1,6 @@
 -- What stands around a call that takes a disk, by the ghost members of its kind: beside the words of `rpm_outside`, those of a group.
-use Rattle.std.specs.Prelude.{◌-◌, Result}
+use Rattle.std.specs.Prelude.{Result}
 use Rattle.rpm_outside.specs.declared.disk.Disk as disk
-use Rattle.rpm_outside.specs.declared.disk.File.{File}
 use Rattle.rpm_outside.specs.Frame as frame
 use Rattle.rpm_group.specs.Groups as groups
 use Rattle.rpm_group.specs.LogReads as reads
@@ -25,14 +24,6 @@ module _ {D : Type 0} (d : disk.Ghosts D) where
   pub record ReadsNothing {T E : Type 0} (result : Result T E) (old new : D) : Type 0 where
     pub nothing : reads.ReadsNothing d.moment d.bytes_read d.follows old new
     pub cause : frame.DiskCause d result old new
-
-  -- one file was read, nothing else happened, and an error comes only where the disk counted a fault
-  abbrev pub ReadsAt : {T E : Type 0} → File → Result T E → D → D → Type 0
-  ReadsAt file result old new = frame.Reads d file (d.bytes_read new file - d.bytes_read old file) result old new
-
-  -- the same for an answer of several errors, of which this comes only where the disk counted a fault
-  abbrev pub ReadsAtOr : File → Type 0 → D → D → Type 0
-  ReadsAtOr file what old new = frame.ReadsOr d file (d.bytes_read new file - d.bytes_read old file) what old new
 
   -- nothing at all happened
   abbrev pub Unwritten : D → D → Type 0

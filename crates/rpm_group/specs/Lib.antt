@@ -5,6 +5,7 @@ pub mod Layers
 pub mod Spared
 pub mod Below
 pub mod Overlay
+pub mod Prelude
 pub mod Loads
 pub mod Settled
 pub mod Loaded

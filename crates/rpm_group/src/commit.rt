@@ -1,20 +1,7 @@
 //! What an overlay holds becomes one change of the disk below.
 
 ghost use Rattle.std.specs.Prelude.{◌≡◌, ◌⊎◌, ◌↔◌, ℕ, ◌+◌, ◌-◌, ◌*◌, ◌/◌, ◌%◌, ◌<◌, ◌≤◌, ◌^◌, IsTrue, length, Ok, Err, OnOk, OnErr, IfOk, IfErr, List};
-ghost use Rattle.rpm_outside.specs.Frame.{images, LeavesIn, DiskFault, LeavesChanged};
-ghost use Rattle.rpm_outside.specs.Files.{Files, file_of, with_file};
-ghost use Rattle.rpm_outside.specs.Crash.{Untouched};
-ghost use Rattle.rpm_outside.specs.Changed.{ChangedIn};
-ghost use Rattle.rpm_outside.specs.Logs.{Entry, Closed, Open, log_state, unlogged, with_entries, reopened};
-ghost use Rattle.rpm_outside.specs.Changes.{AreSettled, IsSettled};
-ghost use Rattle.rpm_group.specs.inner.Logged.{CoversHeld};
-ghost use Rattle.rpm_group.specs.Orders.{IsLogged};
-ghost use Rattle.rpm_group.specs.inner.Behind.{KeepsBehind};
-ghost use Rattle.rpm_group.specs.inner.Leavings.{WasWithin};
-ghost use Rattle.rpm_group.specs.Groups.{runs_of, units_of_log, needed, BeforeOrAfter};
-ghost use Rattle.rpm_group.specs.inner.Grouped.{with_held, IsGroup, IsTail};
-ghost use Rattle.rpm_group.specs.Commits.{IsCommit, IsFull, CommitSays};
-ghost use Rattle.rpm_group.specs.Frame.{OnlyReadsLog, OnlyReadsLogOr, ReadsNothing, Unwritten};
+ghost use Rattle.rpm_group.specs.Prelude.{AreSettled, BeforeOrAfter, ChangedIn, Closed, CommitSays, CoversHeld, DiskFault, Entry, file_of, Files, images, IsCommit, IsFull, IsGroup, IsLogged, IsSettled, IsTail, KeepsBehind, LeavesChanged, LeavesIn, log_state, needed, OnlyReadsLog, OnlyReadsLogOr, Open, overlay_below, overlay_held, overlay_starved, ReadsNothing, reopened, runs_of, units_of_log, unlogged, Untouched, Unwritten, WasWithin, with_entries, with_file, with_held};
 
 use crate::group::{Tail, apply_runs, log_runs};
 use crate::layers::Layers;
@@ -150,8 +137,6 @@ fn write_held<D: Disk>(disk: &mut D, held: &Layers) -> Result<(), CommitFault>
 }
 
 impl<D: Disk> Overlay<D> {
-    ghost use Rattle.rpm_group.specs.Overlay.{overlay_below, overlay_held, overlay_starved};
-
     /// Makes what is held of the two files one change of the disk below, and hands that back. What is held of the log
     /// is dropped.
     ///

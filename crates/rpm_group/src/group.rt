@@ -1,18 +1,7 @@
 //! What is held is written as one change: to the log, and from memory to the files.
 
 ghost use Rattle.std.specs.Prelude.{◌≡◌, ◌⊎◌, ℕ, ◌+◌, ◌-◌, ◌*◌, ◌/◌, ◌%◌, ◌<◌, ◌≤◌, ◌^◌, IsTrue, length, OnOk, OnErr, IfOk, IfErr, List, Err};
-ghost use Rattle.rpm_outside.specs.Frame.{images, LeavesIn, LeavesChanged};
-ghost use Rattle.rpm_outside.specs.Files.{Files, file_of, with_file};
-ghost use Rattle.rpm_outside.specs.Crash.{Untouched};
-ghost use Rattle.rpm_outside.specs.Changed.{ChangedIn};
-ghost use Rattle.rpm_outside.specs.Logs.{Entry, Closed, log_state, unlogged, with_entries, reopened};
-ghost use Rattle.rpm_outside.specs.LogWrites.{EntriesIn};
-ghost use Rattle.rpm_group.specs.Held.{laid};
-ghost use Rattle.rpm_group.specs.Counts.{begins_run, count_below, log_units};
-ghost use Rattle.rpm_group.specs.Orders.{HeadsEndInZeros};
-ghost use Rattle.rpm_group.specs.inner.Logged.{Logged, CoversHeld};
-ghost use Rattle.rpm_group.specs.inner.Leavings.{WasWithin};
-ghost use Rattle.rpm_group.specs.Frame.{ReadsNothing};
+ghost use Rattle.rpm_group.specs.Prelude.{begins_run, ChangedIn, Closed, count_below, CoversHeld, EntriesIn, Entry, file_of, Files, HeadsEndInZeros, images, laid, LeavesChanged, LeavesIn, log_state, log_units, Logged, ReadsNothing, reopened, unlogged, Untouched, WasWithin, with_entries, with_file};
 
 use crate::pages::Pages;
 use crate::scan::next_unit;

@@ -1,8 +1,7 @@
 //! What is held of the three files.
 
 ghost use Rattle.std.specs.Prelude.{◌≡◌, ℕ, ◌+◌, ◌/◌, ◌%◌, ◌<◌, ◌≤◌, ◌^◌, length, OnOk, OnErr};
-ghost use Rattle.rpm_outside.specs.Files.{Files, file_of, with_file, units_of, put};
-ghost use Rattle.rpm_group.specs.Layers.{pages_of, laid_files};
+ghost use Rattle.rpm_group.specs.Prelude.{file_of, Files, FitsAt, laid_files, pages_of, put, units_of, with_file};
 
 use crate::pages::Pages;
 use rpm_outside::File;
@@ -51,9 +50,7 @@ impl Layers {
         unit: u64,
         bytes: &[u8],
     ) -> Result<(), AllocError>
-        requires some { 0 < length bytes.now }
-        requires whole { length bytes.now % 16 ≡ 0 }
-        requires room { unit + length bytes.now / 16 ≤ 2 ^ 28 }
+        requires { FitsAt unit bytes.now }
         ensures ok { OnOk result ((files : Files) → laid_files self.new files
             ≡ with_file file (put unit (units_of bytes.now) (file_of file (laid_files self.old files)))
             (laid_files self.old files)) }

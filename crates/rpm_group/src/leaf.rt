@@ -1,8 +1,7 @@
 //! A leaf of the table: 256 pages by number, of which some are there. A leaf is as long as its last page wants.
 
 ghost use Rattle.std.specs.Prelude.{◌≡◌, ℕ, ◌+◌, ◌/◌, ◌%◌, ◌<◌, ◌≤◌, true, length, is_some, OnOk};
-ghost use Rattle.rpm_group.specs.Held.{page_in};
-ghost use Rattle.rpm_group.specs.inner.Holding.{LeafSame, LeafKeeps, LeafWrote};
+ghost use Rattle.rpm_group.specs.Prelude.{LeafKeeps, LeafSame, LeafWrote, page_in};
 
 use crate::page::{Page, empty_page};
 use std::alloc::{AllocError, Global};

@@ -1,16 +1,7 @@
 //! An overlay that holds the change of an open log.
 
 ghost use Rattle.std.specs.Prelude.{◌≡◌, ℕ, ◌+◌, ◌*◌, ◌/◌, ◌%◌, ◌<◌, ◌≤◌, ◌^◌, IsTrue, length, take, drop, Err, None, OnOk, IfOk, IfErr};
-ghost use Rattle.rpm_outside.specs.Frame.{LooksAt, DiskFault};
-ghost use Rattle.rpm_outside.specs.Files.{Files, file_of, with_file, put, unit_at};
-ghost use Rattle.rpm_outside.specs.Causes.{HasCauseAt};
-ghost use Rattle.rpm_outside.specs.Logs.{log_state, with_entries, reopened};
-ghost use Rattle.rpm_group.specs.Readings.{entries_of, IsOpen};
-ghost use Rattle.rpm_group.specs.inner.LogReadings.{heads_behind};
-ghost use Rattle.rpm_outside.specs.declared.disk.File.TheVariants.{Log};
-ghost use Rattle.rpm_group.specs.Layers.{laid_files};
-ghost use Rattle.rpm_group.specs.Loads.{LoadSays, IsOutside};
-ghost use Rattle.rpm_group.specs.Frame.{ReadsAtOr};
+ghost use Rattle.rpm_group.specs.Prelude.{disk_after, DiskFault, entries_of, file_of, Files, FitsAt, HasCauseAt, heads_behind, IsDiskFault, IsLoaded, IsOpen, IsOutside, laid_files, LoadedSays, LoadSays, Log, log_state, LooksAt, overlay_below, overlay_held, put, ReadsAtOr, reopened, unit_at, with_entries, with_file};
 
 use crate::layers::{Layers, no_layers};
 use crate::log::{Gate, Reading, read_head, read_log};
@@ -39,10 +30,8 @@ fn hold_piece<D: Disk>(
     at: u64,
     bytes: &mut [u8],
 ) -> Result<(), LoadFault>
-    requires some { 0 < length bytes.old }
-    requires whole { length bytes.old % 16 ≡ 0 }
+    requires fits { FitsAt at bytes.old }
     requires within { IsTrue D.tells → from + length bytes.old / 16 ≤ length (D.files disk.old).log }
-    requires room { at + length bytes.old / 16 ≤ 2 ^ 28 }
     ensures held { OnOk result (IsTrue D.tells → (files : Files)
         → laid_files held.new files ≡ with_file file
         (put at (take (length bytes.old / 16) (drop from (D.files disk.old).log))
@@ -147,9 +136,6 @@ pub struct LoadRefused<D> {
 }
 
 impl<D: Disk> Overlay<D> {
-    ghost use Rattle.rpm_group.specs.Loaded.{disk_after, IsLoaded, LoadedSays, IsDiskFault};
-    ghost use Rattle.rpm_group.specs.Overlay.{overlay_below, overlay_held};
-
     /// An overlay over a disk that holds the entries of an open log, and nothing where the log is closed.
     ///
     /// It neither writes nor syncs. Of the disk it reads the log alone: its units once, and its heads twice.

@@ -1,12 +1,7 @@
 //! The commit record and the heads of the log.
 
 ghost use Rattle.std.specs.Prelude.{◌≡◌, ◌==◌, if◌then◌else◌, ℕ, ◌+◌, ◌*◌, ◌/◌, ◌<◌, ◌≤◌, ◌^◌, IsTrue, length, IfOk, IfSome};
-ghost use Rattle.rpm_outside.specs.Files.{Files, unit_at};
-ghost use Rattle.rpm_outside.specs.Logs.{is_blank, is_gate, is_head};
-ghost use Rattle.rpm_outside.specs.Words.{word};
-ghost use Rattle.rpm_group.specs.inner.LogReadings.{GateSays, LogSays, IsHead, HeadSays, HeadsSay, heads_behind};
-ghost use Rattle.rpm_outside.specs.declared.disk.File.TheVariants.{Log};
-ghost use Rattle.rpm_group.specs.Frame.{ReadsAt};
+ghost use Rattle.rpm_group.specs.Prelude.{Files, GateSays, heads_behind, HeadSays, HeadsSay, is_blank, is_gate, is_head, IsHead, Log, LogSays, ReadsAt, unit_at, word};
 
 use rpm_outside::{Disk, Failed, File, word};
 

@@ -1,19 +1,12 @@
 //! Reading what is held over what a disk has.
 
-ghost use Rattle.std.specs.Prelude.{◌≡◌, ℕ, ◌+◌, ◌-◌, ◌*◌, ◌/◌, ◌%◌, ◌<◌, ◌≤◌, ◌^◌, min, IsTrue, length, take, drop, OnOk, IfOk, false};
-ghost use Rattle.rpm_outside.specs.Frame.{Reads};
-ghost use Rattle.rpm_outside.specs.Files.{Files, Units, file_of, units_of, unit_at};
-ghost use Rattle.rpm_outside.specs.Causes.{RoseBy};
-ghost use Rattle.rpm_outside.specs.Crash.{Untouched, bytes_for};
-ghost use Rattle.rpm_group.specs.Held.{unit_in};
-ghost use Rattle.rpm_group.specs.Counts.{is_held};
-ghost use Rattle.rpm_group.specs.Layers.{laid_files};
-ghost use Rattle.rpm_group.specs.Spared.{CountsRead};
-ghost use Rattle.rpm_group.specs.inner.Over.{ReadsOver};
+ghost use Rattle.std.specs.Prelude.{◌≡◌, ℕ, ◌+◌, ◌-◌, ◌*◌, ◌/◌, ◌%◌, ◌<◌, ◌≤◌, ◌^◌, IsTrue, length, take, drop, OnOk, IfOk, false};
+ghost use Rattle.rpm_group.specs.Prelude.{bytes_for, CountsRead, file_of, Files, is_held, laid_files, Reads, ReadsOver, RoseBy, unit_at, unit_in, Units, units_of, Untouched};
 
 use crate::layers::Layers;
 use crate::pages::Pages;
 use crate::spared::Spared;
+use crate::table::lay;
 use rpm_outside::{Disk, Failed, File};
 
 /// Reads units, or none.
@@ -31,13 +24,6 @@ fn read_some<D: Disk>(below: &mut D, file: File, unit: u64, into: &mut [u8]) -> 
         return Ok(());
     }
     below.read_at(file, unit, into)
-}
-
-/// How many of so many units from this one on a file of this length has.
-fn available(unit: u64, length: u64, count: usize) -> usize
-    ensures { result ≡ min (length - unit) count }
-{
-    length.saturating_sub(unit).min(count as u64) as usize
 }
 
 /// Reads units below, which are zeros past the end. A function of its own, so that a read of a file of which nothing
@@ -58,7 +44,7 @@ fn read_below<D: Disk>(
     ensures counts { CountsRead D.bytes_read file (length into.old) below.old below.new spared.old spared.new }
     ensures reads { Reads D.Disk file (length into.old) result below.old below.new }
 {
-    let there = available(unit, end, into.len() / 16);
+    let there = end.saturating_sub(unit).min(into.len() as u64 / 16) as usize;
     spared.add(file, into.len() - 16 * there);
     into[16 * there..].fill(0);
     read_some(below, file, unit, &mut into[..16 * there])
@@ -90,13 +76,13 @@ fn read_partly<D: Disk>(
         spared.add(file, into.len());
         return Err(Failed);
     };
-    let whole = pages.length(end);
+    let whole = end.max(pages.end);
     // Only the disk below can count the fault of a read past the end.
     if unit > whole || into.len() as u64 / 16 > whole - unit {
         return below.read_at(file, unit, into);
     }
     read_below(below, spared, file, unit, end, into)?;
-    pages.lay(unit as usize, into);
+    lay(&pages.table, unit as usize, into);
     Ok(())
 }
 
@@ -119,7 +105,7 @@ fn read_units<D: Disk>(
     let pages = layers.file(file);
     if pages.covers(unit, into.len() as u64 / 16) {
         spared.add(file, into.len());
-        pages.lay(unit as usize, into);
+        lay(&pages.table, unit as usize, into);
         return Ok(());
     }
     read_partly(layers, below, spared, file, unit, into)

@@ -1,8 +1,7 @@
 //! A disk over a disk: what is written is held in memory.
 
 ghost use Rattle.std.specs.Prelude.{◌≡◌, ◌↔◌, ◌≢◌, ℕ, ◌+◌, ◌<◌, IsTrue, true, refl};
-ghost use Rattle.rpm_outside.specs.Files.{Files};
-ghost use Rattle.rpm_group.specs.Layers.{laid_files};
+ghost use Rattle.rpm_group.specs.Prelude.{File, Files, held_units, IsOver, keeps_refl, keeps_trans, KeepsBelow, laid_files, overlay_below, overlay_held, overlay_read, overlay_starved, StarvesOrHolds};
 
 use crate::layers::Layers;
 use crate::over::read_over;
@@ -26,9 +25,6 @@ pub struct Overlay<D: Disk> {
 }
 
 impl<D: Disk> Overlay<D> {
-    ghost use Rattle.rpm_group.specs.Overlay.{IsOver, overlay_starved, overlay_below, overlay_held};
-    ghost use Rattle.rpm_group.specs.Groups.{held_units};
-
     /// An overlay on which nothing was done yet.
     pub(crate) fn of(alloc: Global, below: D, held: Layers) -> Overlay<D>
         ensures { IsOver below held result }
@@ -47,15 +43,7 @@ impl<D: Disk> Overlay<D> {
     pub fn release(self) -> D
         ensures { result ≡ overlay_below self }
     {
-        let Overlay {
-            alloc: _,
-            below,
-            held: _,
-            moment: _,
-            starved: _,
-            spared: _,
-        } = self;
-        below
+        self.below
     }
 
     /// The disk below and what is held.
@@ -63,15 +51,7 @@ impl<D: Disk> Overlay<D> {
         ensures below { result.0 ≡ overlay_below self }
         ensures held { result.1 ≡ overlay_held self }
     {
-        let Overlay {
-            alloc: _,
-            below,
-            held,
-            moment: _,
-            starved: _,
-            spared: _,
-        } = self;
-        (below, held)
+        (self.below, self.held)
     }
 
     /// How many units are held. It looks at each mark of the pages that are there.
@@ -93,10 +73,6 @@ impl<D: Disk> Overlay<D> {
 }
 
 impl<D: Disk> Disk for Overlay<D> {
-    ghost use Rattle.rpm_outside.specs.declared.disk.File.{File};
-    ghost use Rattle.rpm_group.specs.Below.{KeepsBelow, keeps_refl, keeps_trans};
-    ghost use Rattle.rpm_group.specs.Overlay.{overlay_read, StarvesOrHolds};
-
     ghost tells = { D.tells };
 
     ghost files = { λ disk. laid_files disk.held (D.files disk.below) };
@@ -128,7 +104,7 @@ impl<D: Disk> Disk for Overlay<D> {
 
     fn len(&mut self, file: File) -> Result<u64, Failed> {
         let below = self.below.len(file)?;
-        Ok(self.held.file(file).length(below))
+        Ok(below.max(self.held.file(file).end))
     }
 
     fn read_at(&mut self, file: File, unit: u64, into: &mut [u8]) -> Result<(), Failed> {

@@ -1,8 +1,7 @@
 //! 256 units of a file, of which some are held.
 
 ghost use Rattle.std.specs.Prelude.{◌≡◌, ◌⊎◌, ℕ, ◌+◌, ◌*◌, ◌/◌, ◌%◌, ◌<◌, ◌≤◌, true, false, None, Some, length, not, slice_index_or, unwrap_or, IsTrue};
-ghost use Rattle.rpm_group.specs.Held.{unit_in, in_page};
-ghost use Rattle.rpm_group.specs.inner.Holding.{PageWrote};
+ghost use Rattle.rpm_group.specs.Prelude.{in_page, PageWrote, unit_in};
 
 // No more bytes than that are copied unit by unit.
 const FEW_BYTES: usize = 64;

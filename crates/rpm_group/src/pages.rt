@@ -1,13 +1,13 @@
 //! What is held of a file.
 
-ghost use Rattle.std.specs.Prelude.{◌≡◌, ◌≢◌, ◌⊎◌, ℕ, ◌+◌, ◌-◌, ◌/◌, ◌%◌, ◌<◌, ◌≤◌, ◌^◌, max, None, length, OnOk, OnErr, IsTrue};
-ghost use Rattle.rpm_outside.specs.Files.{Units, units_of, put};
+ghost use Rattle.std.specs.Prelude.{◌≡◌, ◌≢◌, ◌⊎◌, ℕ, ◌+◌, ◌-◌, ◌/◌, ◌%◌, ◌<◌, ◌≤◌, ◌^◌, None, length, OnOk, OnErr, IsTrue};
+ghost use Rattle.rpm_outside.specs.Files.{FitsAt, Units, units_of, put};
 ghost use Rattle.rpm_group.specs.Held.{held_at, EndsAt, laid};
 ghost use Rattle.rpm_group.specs.inner.Holding.{Holds, SameHeld, LaysOver};
 ghost use Rattle.rpm_group.specs.inner.HeldUnits.{AreHeld};
 
 use crate::scan::next_absent;
-use crate::table::{Table, add_pages, copy_held, hold, lay};
+use crate::table::{Table, add_pages, copy_held, hold};
 use std::alloc::{AllocError, Global};
 
 /// The held units of a file, and the end of the last.
@@ -37,9 +37,7 @@ impl Pages {
     ///
     /// `AllocError` where memory is wanting. What is held is then as it was.
     pub fn hold(&mut self, alloc: Global, unit: u64, bytes: &[u8]) -> Result<(), AllocError>
-        requires some { 0 < length bytes.now }
-        requires whole { length bytes.now % 16 ≡ 0 }
-        requires room { unit + length bytes.now / 16 ≤ 2 ^ 28 }
+        requires { FitsAt unit bytes.now }
         ensures ok { OnOk result ((file : Units) → laid self.new.table.items self.new.end file
             ≡ put unit (units_of bytes.now) (laid self.old.table.items self.old.end file)) }
         ensures err { OnErr result ((file : Units)
@@ -62,15 +60,6 @@ impl Pages {
         unit <= self.end && count <= self.end - unit && copy_held(&self.table, unit as usize, into)
     }
 
-    /// Copies the held ones of the units from this one on over others.
-    pub fn lay(&self, unit: usize, into: &mut [u8])
-        requires whole { length into.old % 16 ≡ 0 }
-        requires room { unit + length into.old / 16 < 2 ^ 64 }
-        ensures { LaysOver unit self.now.table.items into.old into.new }
-    {
-        lay(&self.table, unit, into);
-    }
-
     /// Whether all of so many units from this one on are held.
     pub fn covers(&self, unit: u64, count: u64) -> bool
         ensures within { IsTrue result → unit + count ≤ self.now.end }
@@ -82,13 +71,6 @@ impl Pages {
         }
         let end = (unit + count) as usize;
         next_absent(&self.table, unit as usize, end) == end
-    }
-
-    /// How long the file is, where it is so long below.
-    pub fn length(&self, below: u64) -> u64
-        ensures { result ≡ max below self.now.end }
-    {
-        below.max(self.end)
     }
 }
 

@@ -1,19 +1,7 @@
 //! What a crash left of a change is finished.
 
 ghost use Rattle.std.specs.Prelude.{◌≡◌, ◌↔◌, ℕ, ◌+◌, ◌*◌, ◌/◌, ◌%◌, ◌<◌, ◌≤◌, ◌^◌, IsTrue, length, take, drop, Ok, Err, None, true, OnOk, IfOk, IfErr};
-ghost use Rattle.rpm_outside.specs.Frame.{images, LeavesIn, DiskFault, LeavesChanged};
-ghost use Rattle.rpm_outside.specs.Files.{Files, file_of, with_file, put, unit_at};
-ghost use Rattle.rpm_outside.specs.Entries.{Within};
-ghost use Rattle.rpm_outside.specs.Logs.{Closed, log_state, unlogged, with_entries, reopened};
-ghost use Rattle.rpm_group.specs.Readings.{entries_of, IsOpen};
-ghost use Rattle.rpm_group.specs.inner.LogReadings.{IsHead, heads_behind};
-ghost use Rattle.rpm_group.specs.Settled.{ReopensAs, ReopensAsOneOf, RecoverSays, RecoverKeeps};
-ghost use Rattle.rpm_group.specs.inner.Behind.{KeepsBehind};
-ghost use Rattle.rpm_group.specs.inner.Leavings.{WasWithin};
-ghost use Rattle.rpm_outside.specs.declared.disk.File.TheVariants.{Log};
-ghost use Rattle.rpm_outside.specs.Looks.{LooksAt};
-ghost use Rattle.rpm_outside.specs.Changes.{AreSettled, IsSettled};
-ghost use Rattle.rpm_group.specs.Frame.{ReadsLog, OnlyReadsLog, OnlyReadsLogOr};
+ghost use Rattle.rpm_group.specs.Prelude.{AreSettled, Closed, DiskFault, entries_of, file_of, Files, FitsAt, heads_behind, images, IsHead, IsOpen, IsSettled, KeepsBehind, LeavesChanged, LeavesIn, Log, log_state, OnlyReadsLog, OnlyReadsLogOr, put, ReadsLog, RecoverKeeps, RecoverSays, reopened, ReopensAs, ReopensAsOneOf, unit_at, unlogged, WasWithin, with_entries, with_file, Within};
 
 use crate::log::{Gate, Reading, read_head, read_log};
 use rpm_outside::{Disk, Failed, File};
@@ -59,10 +47,8 @@ fn copy_piece<D: Disk>(
     at: u64,
     bytes: &mut [u8],
 ) -> Result<(), Failed>
-    requires some { 0 < length bytes.old }
-    requires whole { length bytes.old % 16 ≡ 0 }
+    requires fits { FitsAt at bytes.old }
     requires within { IsTrue D.tells → from + length bytes.old / 16 ≤ length (D.files disk.old).log }
-    requires room { at + length bytes.old / 16 ≤ 2 ^ 28 }
     ensures written { OnOk result (IsTrue D.tells
         → D.files disk.new ≡ with_file file (put at (take (length bytes.old / 16) (drop from (D.files disk.old).log))
         (file_of file (D.files disk.old))) (D.files disk.old)) }

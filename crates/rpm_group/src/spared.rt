@@ -1,10 +1,7 @@
 //! What an overlay reads without the disk below.
 
 ghost use Rattle.std.specs.Prelude.{◌≡◌, ℕ};
-ghost use Rattle.rpm_outside.specs.declared.disk.File.{File};
-ghost use Rattle.rpm_outside.specs.Causes.{RoseBy};
-ghost use Rattle.rpm_outside.specs.Crash.{bytes_for};
-ghost use Rattle.rpm_group.specs.Spared.{spared_of};
+ghost use Rattle.rpm_group.specs.Prelude.{bytes_for, File, RoseBy, spared_of};
 
 use rpm_outside::File;
 

@@ -5,9 +5,7 @@
 //! nothing is held costs 24 bytes.
 
 ghost use Rattle.std.specs.Prelude.{◌≡◌, ℕ, ◌+◌, ◌-◌, ◌*◌, ◌/◌, ◌%◌, ◌<◌, ◌≤◌, ◌^◌, true, None, length, is_some, OnOk, MatchOption, IsTrue};
-ghost use Rattle.rpm_group.specs.Held.{in_page, page_at, held_at};
-ghost use Rattle.rpm_group.specs.inner.Holding.{SamePages, SameHeld, AreThere, KeepsPages, Holds, LaysOver};
-ghost use Rattle.rpm_group.specs.inner.HeldUnits.{AreHeld};
+ghost use Rattle.rpm_group.specs.Prelude.{AreHeld, AreThere, held_at, Holds, in_page, KeepsPages, LaysOver, page_at, SameHeld, SamePages};
 
 use crate::leaf::{Leaf, add, hold as hold_in_leaf};
 use crate::page::Page;

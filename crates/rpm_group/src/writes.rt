@@ -1,12 +1,7 @@
 //! Runs of held units are written to a disk.
 
 ghost use Rattle.std.specs.Prelude.{◌≡◌, ℕ, ◌+◌, ◌-◌, ◌*◌, ◌/◌, ◌%◌, ◌<◌, ◌≤◌, ◌^◌, IsTrue, true, length, OnOk, ◌∷◌};
-ghost use Rattle.rpm_outside.specs.Frame.{images, LeavesChanged};
-ghost use Rattle.rpm_outside.specs.Files.{Files, file_of, with_file, units_of, put};
-ghost use Rattle.rpm_outside.specs.Words.{unit_of_words};
-ghost use Rattle.rpm_outside.specs.LogWrites.{number_of};
-ghost use Rattle.rpm_group.specs.inner.HeldUnits.{units_held, AreHeld};
-ghost use Rattle.rpm_group.specs.Frame.{ReadsNothing};
+ghost use Rattle.rpm_group.specs.Prelude.{AreHeld, file_of, Files, FitsAt, images, LeavesChanged, number_of, put, ReadsNothing, unit_of_words, units_held, units_of, with_file};
 
 use crate::table::{Table, lay};
 use rpm_outside::{Disk, Failed, File, unit_of_words};
@@ -34,10 +29,8 @@ fn write_piece<D: Disk>(
     from: usize,
     bytes: &mut [u8],
 ) -> Result<(), Failed>
-    requires some { 0 < length bytes.old }
-    requires whole { length bytes.old % 16 ≡ 0 }
+    requires fits { FitsAt at bytes.old }
     requires held { AreHeld table.now.items from (from + length bytes.old / 16) }
-    requires room { at + length bytes.old / 16 ≤ 2 ^ 28 }
     requires small { from + length bytes.old / 16 ≤ 2 ^ 28 }
     ensures written { OnOk result (IsTrue D.tells → D.files disk.new
         ≡ with_file file (put at (units_held table.now.items from (length bytes.old / 16))

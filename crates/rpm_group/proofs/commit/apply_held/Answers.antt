@@ -1,11 +1,5 @@
 use Rattle.std.proofs.Common.{ℕ, List, arith}
-use Rattle.rpm_outside.specs.Files.{Files}
-use Rattle.rpm_outside.specs.Crash.{LeavesOnly}
-use Rattle.rpm_outside.specs.inner.Moments.{leaves_then, leaves_weaker}
-use Rattle.rpm_outside.specs.inner.Leaves.{then_back}
-use Rattle.rpm_outside.specs.Logs.{Entry}
-use Rattle.rpm_outside.specs.inner.EntryLaws.{within_then}
-use Rattle.rpm_group.specs.inner.Leavings.{WasWithin}
+use Rattle.rpm_group.proofs.Vocabulary.{Entry, Files, leaves_then, leaves_weaker, LeavesOnly, then_back, WasWithin, within_then}
 use Rattle.rpm_group.proofs.commit.apply_held.Goals as goal
 
 -- two runs of writes that the same entries make

@@ -1,11 +1,5 @@
 use Rattle.std.proofs.Common.{◌≡◌, ◌^◌, ◌++◌, sym, ap, subst, ◌∙◌, arith}
-use Rattle.rpm_outside.specs.declared.disk.File.TheVariants.{Log}
-use Rattle.rpm_outside.specs.Files.{Files}
-use Rattle.rpm_outside.specs.Changed.{ChangedIn, WasChanged}
-use Rattle.rpm_outside.specs.inner.ChangedLaws.{changed_then, changed_more}
-use Rattle.rpm_outside.specs.inner.Leaves.{sync_leaves}
-use Rattle.rpm_outside.specs.LogWrites.{EntriesIn}
-use Rattle.rpm_group.specs.Orders.{HeadsEndInZeros}
+use Rattle.rpm_group.proofs.Vocabulary.{changed_more, changed_then, ChangedIn, EntriesIn, Files, HeadsEndInZeros, Log, sync_leaves, WasChanged}
 use Rattle.rpm_group.proofs.Committing.{group_of, tail_of, heads_of, log_leaves, log_settled}
 use Rattle.rpm_group.proofs.commit.log_held.Goals as goal
 

@@ -1,10 +1,5 @@
 use Rattle.std.proofs.Common.{length, ap, ◌∙◌, arith}
-use Rattle.rpm_outside.specs.Files.{Files, units_of}
-use Rattle.rpm_outside.specs.inner.Cuts.{cut_up_one}
-use Rattle.rpm_outside.specs.inner.UnitLaws.{length-unit}
-use Rattle.rpm_outside.specs.inner.Leaves.{sync_leaves}
-use Rattle.rpm_outside.specs.Logs.{unlogged, with_entries}
-use Rattle.rpm_group.specs.Groups.{BeforeOrAfter}
+use Rattle.rpm_group.proofs.Vocabulary.{BeforeOrAfter, cut_up_one, Files, length-unit, sync_leaves, units_of, unlogged, with_entries}
 use Rattle.rpm_group.proofs.Orders.{gate_keeps}
 use Rattle.rpm_group.proofs.GateOpens.{opens, gate_leaves, gate_opened}
 use Rattle.rpm_group.proofs.commit.open_log.Goals as goal
@@ -16,7 +11,8 @@ returns-in_err-write_at-clause-images g c = λ told entries is.
     let gate = c.unit_of_words-gate.result in
     gate_leaves D.moment D.left_since c.args.disk.now c.write_at.new.self files gate (units_of gate) entries c.args.tail
     (cut_up_one gate (ap length c.unit_of_words-gate.ensures ∙ length-unit _ _ _ _))
-    (opens gate entries c.args.tail files.log c.unit_of_words-gate.ensures is c.requires.some (omega arith) c.requires.place c.requires.small) (c.requires.closed told)
+    (opens gate entries c.args.tail files.log c.unit_of_words-gate.ensures is c.requires.some (omega arith) c.requires.place c.requires.small)
+    (c.requires.closed told)
     (c.requires.settled told) (c.write_at.ensures.images told) (c.write_at.ensures.time told)
 
 pub returns-in_err-sync-clause-images : goal.returns-in_err-sync-clause-images
@@ -27,8 +23,10 @@ returns-in_err-sync-clause-images g c = λ told entries is.
     let files : Files = D.files old in
     let gate = c.unit_of_words-gate.result in
     sync_leaves D.moment D.left_since old mid c.sync.new.self (BeforeOrAfter (unlogged files) (with_entries entries (unlogged files)))
-    (gate_leaves D.moment D.left_since old mid files gate (units_of gate) entries c.args.tail (cut_up_one gate (ap length c.unit_of_words-gate.ensures ∙ length-unit _ _ _ _))
-    (opens gate entries c.args.tail files.log c.unit_of_words-gate.ensures is c.requires.some (omega arith) c.requires.place c.requires.small) (c.requires.closed told)
+    (gate_leaves D.moment D.left_since old mid files gate (units_of gate) entries c.args.tail (cut_up_one gate (ap length c.unit_of_words-gate.ensures ∙
+    length-unit _ _ _ _))
+    (opens gate entries c.args.tail files.log c.unit_of_words-gate.ensures is c.requires.some (omega arith) c.requires.place c.requires.small)
+    (c.requires.closed told)
     (c.requires.settled told) (c.write_at.ensures.images told) (c.write_at.ensures.time told))
     (c.sync.ensures.time told) (c.sync.ensures.images told)
     (λ image left. g.met.D.Disk.earlier mid (D.moment old) (D.moment mid) image told c.write_at.ensures.later (omega arith) left)
@@ -41,8 +39,10 @@ returns-clause-images g c = λ told entries is.
     let files : Files = D.files old in
     let gate = c.unit_of_words-gate.result in
     sync_leaves D.moment D.left_since old mid c.sync.new.self (BeforeOrAfter (unlogged files) (with_entries entries (unlogged files)))
-    (gate_leaves D.moment D.left_since old mid files gate (units_of gate) entries c.args.tail (cut_up_one gate (ap length c.unit_of_words-gate.ensures ∙ length-unit _ _ _ _))
-    (opens gate entries c.args.tail files.log c.unit_of_words-gate.ensures is c.requires.some (omega arith) c.requires.place c.requires.small) (c.requires.closed told)
+    (gate_leaves D.moment D.left_since old mid files gate (units_of gate) entries c.args.tail (cut_up_one gate (ap length c.unit_of_words-gate.ensures ∙
+    length-unit _ _ _ _))
+    (opens gate entries c.args.tail files.log c.unit_of_words-gate.ensures is c.requires.some (omega arith) c.requires.place c.requires.small)
+    (c.requires.closed told)
     (c.requires.settled told) (c.write_at.ensures.images told) (c.write_at.ensures.time told))
     (c.sync.ensures.time told) (c.sync.ensures.images told)
     (λ image left. g.met.D.Disk.earlier mid (D.moment old) (D.moment mid) image told c.write_at.ensures.later (omega arith) left)
@@ -54,7 +54,8 @@ returns-clause-open g c = λ told entries is.
     let gate = c.unit_of_words-gate.result in
     gate_opened files (D.files c.write_at.new.self) (D.files c.sync.new.self) gate (units_of gate) entries c.args.tail
     (cut_up_one gate (ap length c.unit_of_words-gate.ensures ∙ length-unit _ _ _ _))
-    (opens gate entries c.args.tail files.log c.unit_of_words-gate.ensures is c.requires.some (omega arith) c.requires.place c.requires.small) (c.in_ok-write_at.ensures.written told)
+    (opens gate entries c.args.tail files.log c.unit_of_words-gate.ensures is c.requires.some (omega arith) c.requires.place c.requires.small)
+    (c.in_ok-write_at.ensures.written told)
     (c.sync.ensures.same told)
 
 pub returns-clause-behind : goal.returns-clause-behind

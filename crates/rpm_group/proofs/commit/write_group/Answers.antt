@@ -1,12 +1,7 @@
 use Rattle.std.proofs.Common.{inl, inr, ◌+◌, sym, ap, subst, ◌∙◌, arith}
 use Rattle.std.proofs.lemmas.Result.{on_ok_weaker}
 use Rattle.std.proofs.lemmas.Bool.{cases_lt}
-use Rattle.rpm_outside.specs.Files.{Units, Files}
-use Rattle.rpm_outside.specs.Logs.{LogState, unlogged, with_entries}
-use Rattle.rpm_outside.specs.inner.LogLaws.{log_not_log}
-use Rattle.rpm_group.specs.Readings.{entries_of}
-use Rattle.rpm_group.specs.Groups.{runs_of}
-use Rattle.rpm_group.specs.inner.Behind.{KeepsBehind}
+use Rattle.rpm_group.proofs.Vocabulary.{entries_of, Files, KeepsBehind, log_not_log, LogState, runs_of, Units, unlogged, with_entries}
 use Rattle.rpm_group.proofs.Orders.{keeps_then, group_logged}
 use Rattle.rpm_group.proofs.Countings.{no_runs}
 use Rattle.rpm_group.proofs.Closes.{applied_settled, mid_open, mid_done}

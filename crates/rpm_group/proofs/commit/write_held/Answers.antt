@@ -1,10 +1,6 @@
 use Rattle.std.proofs.Common.{◌≡◌, inl, inr, ℕ, ◌-◌, ◌<◌, [], refl, sym, ap, subst, ◌∙◌, arith}
 use Rattle.std.proofs.lemmas.Bool.{cases_lt}
-use Rattle.rpm_outside.specs.Files.{Units, Files}
-use Rattle.rpm_group.specs.declared.pages.Pages.{Pages}
-use Rattle.rpm_group.specs.Held.{held_at, laid, EndsAt}
-use Rattle.rpm_group.specs.Counts.{log_units}
-use Rattle.rpm_group.specs.Layers.{laid_file}
+use Rattle.rpm_group.proofs.Vocabulary.{EndsAt, Files, held_at, laid, laid_file, log_units, Pages, Units}
 use Rattle.rpm_group.proofs.Countings.{nothing_held}
 use Rattle.rpm_group.proofs.LoggedLaws.{unheld_is}
 use Rattle.rpm_group.proofs.Laids.{laid_none}

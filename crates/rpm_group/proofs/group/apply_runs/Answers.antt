@@ -1,11 +1,5 @@
 use Rattle.std.proofs.Common.{◌≡◌, ℕ, ◌+◌, ◌-◌, ◌<◌, ◌++◌, ◌∷◌, [], refl, sym, ap, subst, ◌∙◌, arith}
-use Rattle.rpm_outside.specs.Files.{Files}
-use Rattle.rpm_outside.specs.inner.Moments.{started}
-use Rattle.rpm_outside.specs.Logs.{with_entry}
-use Rattle.rpm_outside.specs.inner.EntryLaws.{within_none}
-use Rattle.rpm_group.specs.LogReads.{nothing_none, nothing_then}
-use Rattle.rpm_group.specs.inner.Logged.{Logged, run_entry}
-use Rattle.rpm_group.specs.inner.Leavings.{WasWithin}
+use Rattle.rpm_group.proofs.Vocabulary.{Files, Logged, nothing_none, nothing_then, run_entry, started, WasWithin, with_entry, within_none}
 use Rattle.rpm_group.proofs.Applied.{within_more, with_entries-append}
 use Rattle.rpm_group.proofs.Countings.{none_begun, gap_begins, run_begins}
 use Rattle.rpm_group.proofs.LoggedLaws.{logged_none, logged_gap, logged_more}

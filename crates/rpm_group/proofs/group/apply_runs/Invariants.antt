@@ -1,10 +1,5 @@
 use Rattle.std.proofs.Common.{◌≡◌, ◌-◌, ◌<◌, ◌≤◌, false, List, IsTrue}
-use Rattle.rpm_outside.specs.Crash.{LeavesOnly}
-use Rattle.rpm_outside.specs.Logs.{Entry, with_entries}
-use Rattle.rpm_group.specs.Counts.{is_held}
-use Rattle.rpm_group.specs.LogReads.{ReadsNothing}
-use Rattle.rpm_group.specs.inner.Logged.{Logged, CoversHeld}
-use Rattle.rpm_group.specs.inner.Leavings.{WasWithin}
+use Rattle.rpm_group.proofs.Vocabulary.{CoversHeld, Entry, is_held, LeavesOnly, Logged, ReadsNothing, WasWithin, with_entries}
 use Rattle.rpm_group.proofs.group.apply_runs.Given as goal
 
 abbrev pub invariant-loop-at : goal.invariant-loop-at

@@ -1,13 +1,7 @@
 mod Places
 use Rattle.std.proofs.Common.{IsTrue, ◌≡◌, ℕ, ◌+◌, ◌-◌, ◌<◌, ◌^◌, ◌++◌, ◌∷◌, [], length, refl, sym, ap, subst, arith}
-use Rattle.rpm_outside.specs.declared.disk.File.TheVariants.{Log}
-use Rattle.rpm_outside.specs.Files.{Files, with_file, put}
-use Rattle.rpm_outside.specs.inner.ChangedLaws.{leaves_none, changed_none, changed_then}
-use Rattle.rpm_group.specs.Counts.{begins_run, count_below, log_units}
-use Rattle.rpm_group.specs.LogReads.{nothing_none, nothing_then}
-use Rattle.rpm_group.specs.inner.Logged.{Logged, run_entry}
-use Rattle.rpm_outside.specs.Words.{unit_of_words}
-use Rattle.rpm_outside.specs.LogWrites.{number_of}
+use Rattle.rpm_group.proofs.Vocabulary.{begins_run, changed_none, changed_then, count_below, Files, leaves_none, Log, log_units, Logged, nothing_none}
+use Rattle.rpm_group.proofs.Vocabulary.{nothing_then, number_of, put, run_entry, unit_of_words, with_file}
 use Rattle.rpm_group.proofs.Runs.{length-units_held}
 use Rattle.rpm_group.proofs.Countings.{none_begun, log_units_none, gap_begins, gap_counted, run_begins, run_counted}
 use Rattle.rpm_group.proofs.Entering.{head_unit, entered_more, entered_heads, put_changed}

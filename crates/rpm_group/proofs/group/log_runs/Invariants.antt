@@ -1,12 +1,6 @@
 use Rattle.std.proofs.Common.{◌≡◌, ◌+◌, ◌-◌, ◌<◌, ◌≤◌, ◌^◌, false, List, IsTrue}
-use Rattle.rpm_outside.specs.declared.disk.File.TheVariants.{Log}
-use Rattle.rpm_outside.specs.Changed.{ChangedIn, LeavesChanged}
-use Rattle.rpm_outside.specs.Logs.{Entry}
-use Rattle.rpm_outside.specs.LogWrites.{EntriesIn}
-use Rattle.rpm_group.specs.Counts.{is_held, begins_run, count_below, log_units}
-use Rattle.rpm_group.specs.LogReads.{ReadsNothing}
-use Rattle.rpm_group.specs.Orders.{HeadsEndInZeros}
-use Rattle.rpm_group.specs.inner.Logged.{Logged}
+use Rattle.rpm_group.proofs.Vocabulary.{begins_run, ChangedIn, count_below, EntriesIn, Entry, HeadsEndInZeros, is_held, LeavesChanged, Log, log_units, Logged}
+use Rattle.rpm_group.proofs.Vocabulary.{ReadsNothing}
 use Rattle.rpm_group.proofs.group.log_runs.Given as goal
 
 abbrev pub invariant-loop-at : goal.invariant-loop-at

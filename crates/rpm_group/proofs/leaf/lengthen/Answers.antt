@@ -1,8 +1,7 @@
 use Rattle.std.proofs.Common.{List, Option, None, length, get_or, ap, ◌∙◌, arith}
 use Rattle.std.specs.Prelude.{Box}
-use Rattle.std.specs.declared.alloc.Global.{Global}
+use Rattle.rpm_group.proofs.Vocabulary.{Global, Page}
 use Rattle.std.proofs.lemmas.List.{length_push}
-use Rattle.rpm_group.specs.declared.page.Page.{Page}
 use Rattle.rpm_group.proofs.Tables.{push_default}
 use Rattle.rpm_group.proofs.leaf.lengthen.Goals as goal
 

@@ -1,5 +1,5 @@
 use Rattle.std.proofs.Common.{◌≡◌, ℕ, ◌≤◌, length}
-use Rattle.rpm_group.specs.Held.{page_in}
+use Rattle.rpm_group.proofs.Vocabulary.{page_in}
 use Rattle.rpm_group.proofs.leaf.lengthen.Given as goal
 
 abbrev pub invariant-loop-k : goal.invariant-loop-k

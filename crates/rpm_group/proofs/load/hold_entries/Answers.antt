@@ -1,11 +1,5 @@
 use Rattle.std.proofs.Common.{◌+◌, ◌-◌, Option, Some, None, IfSome, Err, sym, ap, subst, ◌∙◌, arith}
-use Rattle.rpm_outside.specs.Files.{Files}
-use Rattle.rpm_outside.specs.declared.disk.File.TheVariants.{Log}
-use Rattle.rpm_outside.specs.inner.Looking.{looks_at_then}
-use Rattle.rpm_group.specs.declared.log.Head.{Head}
-use Rattle.rpm_group.specs.Readings.{entries_of}
-use Rattle.rpm_group.specs.inner.LogReadings.{heads_behind, IsHead, HeadIs}
-use Rattle.rpm_group.specs.Layers.{laid_files}
+use Rattle.rpm_group.proofs.Vocabulary.{entries_of, Files, Head, HeadIs, heads_behind, IsHead, laid_files, Log, looks_at_then}
 use Rattle.rpm_group.proofs.Gates.{read_as}
 use Rattle.rpm_group.proofs.Applied.{left_wrong, done_more, done_all}
 use Rattle.rpm_group.proofs.load.hold_entries.Goals as goal
@@ -41,7 +35,8 @@ loop-k-preserved g c =
           (omega (arith, says.count)) (ap (λ (f : Files). f.log) same) (c.in_ok-hold_units.ensures.held told files);
       looks =
           looks_at_then _ _ _ _ _ _ Log g.met.D.Disk.follows_trans c.args.disk.now c.read_head.new.disk c.hold_units.new.disk
-          (looks_at_then _ _ _ _ _ _ Log g.met.D.Disk.follows_trans c.args.disk.now c.loop-k.disk c.read_head.new.disk inv.looks c.read_head.ensures.reads.looks)
+          (looks_at_then _ _ _ _ _ _ Log g.met.D.Disk.follows_trans c.args.disk.now c.loop-k.disk c.read_head.new.disk inv.looks
+          c.read_head.ensures.reads.looks)
           c.hold_units.ensures.reads.looks;
       faults = omega (arith, inv.faults, c.read_head.ensures.reads.cause.later, c.hold_units.ensures.reads.cause.later);
     }

@@ -1,10 +1,5 @@
 use Rattle.std.proofs.Common.{◌+◌, ◌-◌, ◌≤◌, IsTrue}
-use Rattle.rpm_outside.specs.Files.{Files}
-use Rattle.rpm_group.specs.Readings.{entries_of}
-use Rattle.rpm_group.specs.inner.LogReadings.{heads_behind}
-use Rattle.rpm_outside.specs.declared.disk.File.TheVariants.{Log}
-use Rattle.rpm_outside.specs.Looks.{LooksAt}
-use Rattle.rpm_group.specs.Layers.{laid_files}
+use Rattle.rpm_group.proofs.Vocabulary.{entries_of, Files, heads_behind, laid_files, Log, LooksAt}
 use Rattle.rpm_group.proofs.Applied.{Done}
 use Rattle.rpm_group.proofs.load.hold_entries.Given as goal
 

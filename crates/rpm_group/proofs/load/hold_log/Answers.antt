@@ -1,12 +1,6 @@
 use Rattle.std.proofs.Common.{◌≡◌, sym, ap, subst, ◌∙◌}
-use Rattle.rpm_outside.specs.declared.disk.File.TheVariants.{Log}
-use Rattle.rpm_outside.specs.Files.{Units, Files, with_file}
-use Rattle.rpm_outside.specs.Logs.{LogState, Closed, log_state, with_entries, reopened}
-use Rattle.rpm_outside.specs.inner.LogLaws.{log_not_log, entries_log, unlogged_entries, reopened_open}
-use Rattle.rpm_group.specs.declared.log.Reading.{Reading}
-use Rattle.rpm_group.specs.Readings.{entries_of, IsOpen}
-use Rattle.rpm_group.specs.inner.LogReadings.{LogSays, heads_behind}
-use Rattle.rpm_group.specs.Layers.{laid_files}
+use Rattle.rpm_group.proofs.Vocabulary.{Closed, entries_log, entries_of, Files, heads_behind, IsOpen, laid_files, Log, log_not_log, log_state, LogSays}
+use Rattle.rpm_group.proofs.Vocabulary.{LogState, Reading, reopened, reopened_open, Units, unlogged_entries, with_entries, with_file}
 use Rattle.rpm_group.proofs.Readouts.{on_ok_map}
 use Rattle.rpm_group.proofs.load.hold_log.Goals as goal
 

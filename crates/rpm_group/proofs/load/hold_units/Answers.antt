@@ -1,8 +1,5 @@
 use Rattle.std.proofs.Common.{Err, ◌*◌, ◌/◌, length, take, sym, ap, ◌∙◌, arith}
-use Rattle.rpm_outside.specs.Files.{Files}
-use Rattle.rpm_outside.specs.declared.disk.File.TheVariants.{Log}
-use Rattle.rpm_outside.specs.inner.Looking.{looks_at_then}
-use Rattle.rpm_group.specs.Layers.{laid_files}
+use Rattle.rpm_group.proofs.Vocabulary.{Files, laid_files, Log, looks_at_then}
 use Rattle.rpm_group.proofs.Copies.{page_count, copied_more, copied_all}
 use Rattle.rpm_group.proofs.load.hold_units.Goals as goal
 

@@ -1,9 +1,5 @@
 use Rattle.std.proofs.Common.{◌≡◌, ◌-◌, ◌≤◌, take, drop, IsTrue}
-use Rattle.rpm_outside.specs.Files.{Files, file_of, with_file}
-use Rattle.rpm_outside.specs.inner.PutMore.{put_some}
-use Rattle.rpm_outside.specs.declared.disk.File.TheVariants.{Log}
-use Rattle.rpm_outside.specs.Looks.{LooksAt}
-use Rattle.rpm_group.specs.Layers.{laid_files}
+use Rattle.rpm_group.proofs.Vocabulary.{file_of, Files, laid_files, Log, LooksAt, put_some, with_file}
 use Rattle.rpm_group.proofs.load.hold_units.Given as goal
 
 abbrev pub invariant-loop-done : goal.invariant-loop-done

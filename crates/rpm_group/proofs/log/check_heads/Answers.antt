@@ -1,11 +1,6 @@
 use Rattle.std.proofs.Common.{◌≡◌, ℕ, ◌+◌, ◌-◌, [], length, ap, subst, arith}
 use Rattle.std.proofs.Common.{Option, Some, None, IfSome}
-use Rattle.rpm_group.specs.declared.log.Head.{Head}
-use Rattle.rpm_outside.specs.Files.{Files}
-use Rattle.rpm_outside.specs.Logs.{heads}
-use Rattle.rpm_group.specs.inner.LogReadings.{IsHead, HeadIs, heads_behind}
-use Rattle.rpm_outside.specs.declared.disk.File.TheVariants.{Log}
-use Rattle.rpm_outside.specs.inner.Looking.{looks_at_none, looks_at_then}
+use Rattle.rpm_group.proofs.Vocabulary.{Files, Head, HeadIs, heads, heads_behind, IsHead, Log, looks_at_none, looks_at_then}
 use Rattle.rpm_group.proofs.Gates.{read_as, next_wrong, next_right, end_right, end_wrong}
 use Rattle.rpm_group.proofs.log.check_heads.Goals as goal
 
@@ -51,7 +46,8 @@ loop-k-preserved g c =
           next_right (heads_behind c.args.gate files.log) so_far.0 (c.args.gate.entries - c.loop-k._k) c.loop-k.p c.args.gate.last files.log left
           so_far.1 (omega arith)
           (c.args.gate.entries - (c.loop-k._k + 1)) (c.loop-k.p + (1 + head.count)) (omega arith) says.right (omega (arith, says.count));
-      looks = looks_at_then _ _ _ _ _ _ Log g.met.D.Disk.follows_trans c.args.disk.now c.loop-k.disk c.read_head.new.disk inv.looks c.read_head.ensures.reads.looks;
+      looks = looks_at_then _ _ _ _ _ _ Log g.met.D.Disk.follows_trans c.args.disk.now c.loop-k.disk c.read_head.new.disk inv.looks
+          c.read_head.ensures.reads.looks;
       faults = omega (arith, inv.faults, c.read_head.ensures.reads.cause.later);
     }
 

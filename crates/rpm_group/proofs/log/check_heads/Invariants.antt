@@ -1,9 +1,5 @@
 use Rattle.std.proofs.Common.{◌≡◌, ◌+◌, ◌-◌, ◌≤◌, IsTrue, List}
-use Rattle.rpm_outside.specs.Logs.{Entry, heads}
-use Rattle.rpm_outside.specs.inner.LogRules.{after}
-use Rattle.rpm_group.specs.inner.LogReadings.{heads_behind}
-use Rattle.rpm_outside.specs.declared.disk.File.TheVariants.{Log}
-use Rattle.rpm_outside.specs.Looks.{LooksAt}
+use Rattle.rpm_group.proofs.Vocabulary.{after, Entry, heads, heads_behind, Log, LooksAt}
 use Rattle.rpm_group.proofs.log.check_heads.Given as goal
 
 abbrev pub invariant-loop-k : goal.invariant-loop-k

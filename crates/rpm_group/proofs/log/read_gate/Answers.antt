@@ -1,5 +1,5 @@
 use Rattle.std.proofs.Common.{sym, ◌∙◌}
-use Rattle.rpm_outside.specs.inner.LogRules.{none_closed}
+use Rattle.rpm_group.proofs.Vocabulary.{none_closed}
 use Rattle.rpm_group.proofs.Gates.{blank_read, wrong_read, right_read}
 use Rattle.rpm_group.proofs.log.read_gate.Goals as goal
 

@@ -1,6 +1,5 @@
 use Rattle.std.proofs.Common.{sym}
-use Rattle.rpm_outside.specs.Files.{unit_at}
-use Rattle.rpm_outside.specs.inner.LogRules.{head_past}
+use Rattle.rpm_group.proofs.Vocabulary.{head_past, unit_at}
 use Rattle.rpm_group.proofs.Gates.{head_read, head_says}
 use Rattle.rpm_group.proofs.log.read_head.Goals as goal
 

@@ -1,10 +1,5 @@
 use Rattle.std.proofs.Common.{◌≡◌, ℕ, ◌+◌, ◌/◌, true, false, length, take, drop, refl, sym, ap, subst, ◌∙◌, arith}
-use Rattle.rpm_outside.specs.Files.{Units, Files, file_of}
-use Rattle.rpm_outside.specs.inner.Looking.{read_none}
-use Rattle.rpm_group.specs.declared.pages.Pages.{Pages}
-use Rattle.rpm_group.specs.Layers.{laid_file, file_of-laid}
-use Rattle.rpm_group.specs.inner.HeldUnits.{AreHeld}
-use Rattle.rpm_group.specs.inner.Over.{ReadsOver}
+use Rattle.rpm_group.proofs.Vocabulary.{AreHeld, file_of, file_of-laid, Files, laid_file, Pages, read_none, ReadsOver, Units}
 use Rattle.rpm_group.proofs.Laids.{length-laid}
 use Rattle.rpm_group.proofs.Readouts.{read_laid}
 use Rattle.rpm_group.proofs.Spares.{counts_spared}
@@ -26,7 +21,8 @@ returns-then-copy_held g c = record {
       (c.if-copy_held.ensures.lays refl)
       ∙ ap (λ (p : Pages). take n (drop unit (laid_file p file))) c.file.ensures
       ∙ ap (λ (us : Units). take n (drop unit us)) (sym (file_of-laid c.args.file c.args.layers.now files));
-  counts = counts_spared g.D.Disk.bytes_read c.args.file _ _ c.args.below.now c.args.below.now c.args.spared.now c.add.new.self c.copy_held.auto.into (λ f. refl) c.add.ensures;
+  counts = counts_spared g.D.Disk.bytes_read c.args.file _ _ c.args.below.now c.args.below.now c.args.spared.now c.add.new.self c.copy_held.auto.into (λ f.
+      refl) c.add.ensures;
   reads = record {
     looks = record {
       untouched = λ told. record { same = refl; images = λ t image left. left; kept = λ t image left. left };

@@ -1,10 +1,5 @@
 use Rattle.std.proofs.Common.{◌≡◌, ℕ, ◌+◌, ◌/◌, ◌≤◌, max, length, take, drop, refl, sym, ap, ◌∙◌, subst, arith}
-use Rattle.rpm_outside.specs.declared.disk.File.{File}
-use Rattle.rpm_outside.specs.Files.{Units, Files, file_of, unit_at}
-use Rattle.rpm_group.specs.declared.layers.Layers.{Layers}
-use Rattle.rpm_group.specs.declared.pages.Pages.{Pages}
-use Rattle.rpm_group.specs.Held.{laid, EndsAt}
-use Rattle.rpm_group.specs.Layers.{pages_of, laid_file, laid_files, file_of-laid}
+use Rattle.rpm_group.proofs.Vocabulary.{EndsAt, File, file_of, file_of-laid, Files, laid, laid_file, laid_files, Layers, Pages, pages_of, unit_at, Units}
 use Rattle.rpm_group.proofs.Laids.{length-laid, laid_none}
 use Rattle.rpm_group.proofs.Spares.{counts_below, counts_spared, counts_after}
 use Rattle.rpm_group.proofs.Readouts.{on_ok_map, read_laid}
@@ -44,8 +39,8 @@ returns-then-pages-eq0-clause-units g c =
 
 pub read_at-requires-then-unit-whole-clause-within : goal.read_at-requires-then-unit-whole-clause-within
 read_at-requires-then-unit-whole-clause-within g c = λ told.
-    let fits = never c.args.unit (length c.args.into.now / 16) c.in-Ok.end c.length-whole.result c.args.file c.args.layers.now
-    (g.D.Disk.files c.args.below.now) c.file-pages.result.now (c.in-Ok.ensures.length told) c.file-pages.ensures c.length-whole.ensures
+    let fits = never c.args.unit (length c.args.into.now / 16) c.in-Ok.end c.max-whole.result c.args.file c.args.layers.now
+    (g.D.Disk.files c.args.below.now) c.file-pages.result.now (c.in-Ok.ensures.length told) c.file-pages.ensures c.max-whole.ensures
     (c.requires.within told) in
     elim c.then-unit-whole.branch [
       | then-unit-whole-via-then-unit-whole w ↦ absurd (omega (arith, fits, w.if-unit-whole.true))
@@ -56,8 +51,8 @@ pub returns-then-unit-whole-clause-units : goal.returns-then-unit-whole-clause-u
 returns-then-unit-whole-clause-units g c =
     on_ok_map c.read_at-then-unit-whole.result c.read_at-then-unit-whole.ensures.units
     (λ read told.
-    let fits = never c.args.unit (length c.args.into.now / 16) c.in-Ok.end c.length-whole.result c.args.file c.args.layers.now
-    (g.D.Disk.files c.args.below.now) c.file-pages.result.now (c.in-Ok.ensures.length told) c.file-pages.ensures c.length-whole.ensures
+    let fits = never c.args.unit (length c.args.into.now / 16) c.in-Ok.end c.max-whole.result c.args.file c.args.layers.now
+    (g.D.Disk.files c.args.below.now) c.file-pages.result.now (c.in-Ok.ensures.length told) c.file-pages.ensures c.max-whole.ensures
     (c.requires.within told) in
     elim c.then-unit-whole.branch [
       | then-unit-whole-via-then-unit-whole w ↦ absurd (omega (arith, fits, w.if-unit-whole.true))
@@ -71,12 +66,12 @@ returns-clause-units g c = λ told.
     let n = length c.args.into.now / 16 in
     let pages = c.file-pages.result.now in
     let file : Units = file_of c.args.file files in
-    let fits = never c.args.unit n c.in-Ok.end c.length-whole.result c.args.file c.args.layers.now files pages (c.in-Ok.ensures.length told)
-    c.file-pages.ensures c.length-whole.ensures (c.requires.within told) in
+    let fits = never c.args.unit n c.in-Ok.end c.max-whole.result c.args.file c.args.layers.now files pages (c.in-Ok.ensures.length told)
+    c.file-pages.ensures c.max-whole.ensures (c.requires.within told) in
     let same = (c.in-Ok.ensures.untouched told).same in
     read_laid pages.table.items pages.end file c.args.unit n c.read_below.new.into c.lay.new.into pages.past
     (omega (arith, c.lay.auto.into, c.read_below.auto.into)) (sym c.lay.auto.into)
-    (omega (arith, fits, length-laid pages.table.items pages.end file, c.length-whole.ensures, c.in-Ok.ensures.length told))
+    (omega (arith, fits, length-laid pages.table.items pages.end file, c.max-whole.ensures, c.in-Ok.ensures.length told))
     (λ k below unheld. c.in_ok-read_below.ensures.units told k below ∙ ap (λ (f : Files). unit_at (file_of c.args.file f) (c.args.unit + k)) same)
     c.lay.ensures
     ∙ ap (λ (p : Pages). take n (drop c.args.unit (laid_file p file))) c.file-pages.ensures

@@ -1,9 +1,5 @@
 use Rattle.std.proofs.Common.{◌≡◌, ◌+◌, ◌/◌, true, false, length, take, drop, refl, sym, ap, ◌∙◌, arith}
-use Rattle.rpm_outside.specs.Files.{Units, Files, file_of}
-use Rattle.rpm_outside.specs.inner.Looking.{read_none}
-use Rattle.rpm_group.specs.declared.pages.Pages.{Pages}
-use Rattle.rpm_group.specs.Layers.{laid_file, file_of-laid}
-use Rattle.rpm_group.specs.inner.HeldUnits.{AreHeld}
+use Rattle.rpm_group.proofs.Vocabulary.{AreHeld, file_of, file_of-laid, Files, laid_file, Pages, read_none, Units}
 use Rattle.rpm_group.proofs.Laids.{length-laid}
 use Rattle.rpm_group.proofs.Readouts.{read_laid}
 use Rattle.rpm_group.proofs.Spares.{counts_spared}

@@ -3,7 +3,7 @@ use Rattle.std.specs.Prelude.{if◌then◌else◌, Bool, Some}
 use Rattle.std.proofs.lemmas.List.{get_or-replicate, get_or_past, length-replicate}
 use Rattle.std.proofs.lemmas.Bool.{cases_lt}
 use Rattle.std.proofs.Common.{arith}
-use Rattle.rpm_group.specs.Held.{unit_in}
+use Rattle.rpm_group.proofs.Vocabulary.{unit_in}
 use Rattle.rpm_group.proofs.page.empty_page.Goals as goal
 
 no_mark : (n k : ℕ) → get_or (replicate n false) k false ≡ false

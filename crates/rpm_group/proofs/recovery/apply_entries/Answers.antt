@@ -1,9 +1,5 @@
 use Rattle.std.proofs.Common.{◌∙◌, arith}
-use Rattle.rpm_outside.specs.inner.Leaves.{then_back}
-use Rattle.rpm_outside.specs.inner.LogLaws.{heads_not_log}
-use Rattle.rpm_group.specs.Readings.{entries_of}
-use Rattle.rpm_group.specs.inner.LogReadings.{heads_behind}
-use Rattle.rpm_group.specs.inner.Leavings.{WasWithin}
+use Rattle.rpm_group.proofs.Vocabulary.{entries_of, heads_behind, heads_not_log, then_back, WasWithin}
 use Rattle.rpm_group.proofs.Closes.{applied_settled}
 use Rattle.rpm_group.proofs.recovery.apply_entries.Goals as goal
 

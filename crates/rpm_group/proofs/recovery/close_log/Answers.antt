@@ -1,9 +1,5 @@
 use Rattle.std.proofs.Common.{refl, ap, ◌∙◌, arith}
-use Rattle.rpm_outside.specs.Files.{Files}
-use Rattle.rpm_outside.specs.inner.Leaves.{sync_leaves}
-use Rattle.rpm_outside.specs.Logs.{unlogged, log_state}
-use Rattle.rpm_group.specs.Readings.{entries_of}
-use Rattle.rpm_group.specs.Settled.{ReopensAs}
+use Rattle.rpm_group.proofs.Vocabulary.{entries_of, Files, log_state, ReopensAs, sync_leaves, unlogged}
 use Rattle.rpm_group.proofs.Orders.{gate_keeps}
 use Rattle.rpm_group.proofs.Closes.{closing_leaves, closed_after}
 use Rattle.rpm_group.proofs.recovery.close_log.Goals as goal

@@ -1,15 +1,6 @@
 use Rattle.std.proofs.Common.{◌≡◌, ℕ, ◌+◌, ◌-◌, [], Option, None, IfSome, refl, sym, ap, subst, ◌∙◌, arith}
-use Rattle.rpm_outside.specs.declared.disk.File.TheVariants.{Pkg, Idx}
-use Rattle.rpm_outside.specs.Files.{Files}
-use Rattle.rpm_outside.specs.inner.Moments.{started}
-use Rattle.rpm_outside.specs.Logs.{heads}
-use Rattle.rpm_outside.specs.inner.EntryLaws.{within_none}
-use Rattle.rpm_outside.specs.inner.Leaves.{then_look}
-use Rattle.rpm_group.specs.declared.log.Head.{Head}
-use Rattle.rpm_group.specs.LogReads.{reads_none, reads_then}
-use Rattle.rpm_group.specs.Readings.{entries_of}
-use Rattle.rpm_group.specs.inner.LogReadings.{heads_behind, IsHead, HeadIs, HeadSays}
-use Rattle.rpm_group.specs.inner.Leavings.{WasWithin}
+use Rattle.rpm_group.proofs.Vocabulary.{entries_of, Files, Head, HeadIs, heads, heads_behind, HeadSays, Idx, IsHead, Pkg, reads_none, reads_then, started}
+use Rattle.rpm_group.proofs.Vocabulary.{then_look, WasWithin, within_none}
 use Rattle.rpm_group.proofs.Copies.{log_stays}
 use Rattle.rpm_group.proofs.Applied.{Done, left_wrong, head_covers, done_more, done_all, within_more}
 use Rattle.rpm_group.proofs.recovery.copy_entries.Goals as goal

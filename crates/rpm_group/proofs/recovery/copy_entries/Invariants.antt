@@ -1,9 +1,5 @@
 use Rattle.std.proofs.Common.{◌≡◌, ◌+◌, ◌-◌, ◌≤◌, IsTrue}
-use Rattle.rpm_outside.specs.Crash.{LeavesOnly}
-use Rattle.rpm_group.specs.LogReads.{ReadsLog}
-use Rattle.rpm_group.specs.Readings.{entries_of}
-use Rattle.rpm_group.specs.inner.LogReadings.{heads_behind}
-use Rattle.rpm_group.specs.inner.Leavings.{WasWithin}
+use Rattle.rpm_group.proofs.Vocabulary.{entries_of, heads_behind, LeavesOnly, ReadsLog, WasWithin}
 use Rattle.rpm_group.proofs.Applied.{Done}
 use Rattle.rpm_group.proofs.recovery.copy_entries.Given as goal
 

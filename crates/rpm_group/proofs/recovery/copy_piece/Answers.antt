@@ -1,8 +1,5 @@
 use Rattle.std.proofs.Common.{◌≡◌, ℕ, ◌+◌, ◌/◌, List, length, ap, arith}
-use Rattle.rpm_outside.specs.Files.{units_of}
-use Rattle.rpm_outside.specs.inner.Cuts.{length-cut_up}
-use Rattle.rpm_outside.specs.inner.ChangedLaws.{write_leaves}
-use Rattle.rpm_outside.specs.inner.Leaves.{changed_after_look}
+use Rattle.rpm_group.proofs.Vocabulary.{changed_after_look, length-cut_up, units_of, write_leaves}
 use Rattle.rpm_group.proofs.recovery.copy_piece.Goals as goal
 
 long : (at n : ℕ) (bytes : List ℕ) → length bytes ≡ n → at + length (units_of bytes) ≡ at + n / 16

@@ -1,7 +1,5 @@
 use Rattle.std.proofs.Common.{◌+◌, ◌*◌, ◌/◌, length, take, refl, ◌∙◌, arith}
-use Rattle.rpm_outside.specs.inner.FileLaws.{with_itself}
-use Rattle.rpm_outside.specs.inner.ChangedLaws.{leaves_none, changed_leaves_then, changed_leaves_more}
-use Rattle.rpm_group.specs.LogReads.{reads_none, reads_then}
+use Rattle.rpm_group.proofs.Vocabulary.{changed_leaves_more, changed_leaves_then, leaves_none, reads_none, reads_then, with_itself}
 use Rattle.rpm_group.proofs.Copies.{page_count, copied_more, copied_all, log_stays}
 use Rattle.rpm_group.proofs.recovery.copy_units.Goals as goal
 

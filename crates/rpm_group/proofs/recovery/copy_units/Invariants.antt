@@ -1,8 +1,5 @@
 use Rattle.std.proofs.Common.{◌≡◌, ◌+◌, ◌-◌, ◌≤◌, take, drop, IsTrue}
-use Rattle.rpm_outside.specs.Files.{file_of, with_file}
-use Rattle.rpm_outside.specs.Changed.{LeavesChanged}
-use Rattle.rpm_outside.specs.inner.PutMore.{put_some}
-use Rattle.rpm_group.specs.LogReads.{ReadsLog}
+use Rattle.rpm_group.proofs.Vocabulary.{file_of, LeavesChanged, put_some, ReadsLog, with_file}
 use Rattle.rpm_group.proofs.recovery.copy_units.Given as goal
 
 abbrev pub invariant-loop-done : goal.invariant-loop-done

@@ -1,12 +1,6 @@
 use Rattle.std.proofs.Common.{◌≡◌, ℕ, length, sym, ap, subst, ◌∙◌, arith}
-use Rattle.rpm_outside.specs.Files.{Files, Units}
-use Rattle.rpm_outside.specs.Crash.{LeavesOnly}
-use Rattle.rpm_outside.specs.inner.Moments.{leaves_then, leaves_weaker}
-use Rattle.rpm_outside.specs.Logs.{LogState, log_state, unlogged, with_entries, reopened}
-use Rattle.rpm_group.specs.Readings.{entries_of, IsOpen}
-use Rattle.rpm_group.specs.inner.LogReadings.{heads_behind}
-use Rattle.rpm_group.specs.inner.Leavings.{WasWithin}
-use Rattle.rpm_group.specs.Settled.{ReopensAs}
+use Rattle.rpm_group.proofs.Vocabulary.{entries_of, Files, heads_behind, IsOpen, leaves_then, leaves_weaker, LeavesOnly, log_state, LogState, reopened}
+use Rattle.rpm_group.proofs.Vocabulary.{ReopensAs, Units, unlogged, WasWithin, with_entries}
 use Rattle.rpm_group.proofs.Closes.{mid_log, mid_open, mid_done, mid_stands, written_leaves, open_as}
 use Rattle.rpm_group.proofs.recovery.finish.Goals as goal
 

@@ -1,12 +1,7 @@
 use Rattle.std.specs.Prelude.{Bool, true, false, Result, Ok, Err, IfOk, IfErr, IsTrue}
 use Rattle.std.proofs.Common.{◌≡◌, refl, ap, ◌∙◌}
-use Rattle.rpm_outside.specs.Files.{Files}
-use Rattle.rpm_outside.specs.inner.Moments.{leaves_then, leaves_weaker}
-use Rattle.rpm_outside.specs.inner.Leaves.{then_look}
-use Rattle.rpm_outside.specs.Logs.{reopened}
-use Rattle.rpm_group.specs.Settled.{ReopensAs, ReopensAsOneOf, RecoverKeeps}
-use Rattle.rpm_group.specs.declared.recovery.RecoverFault.{RecoverFault}
-use Rattle.rpm_group.specs.declared.recovery.RecoverFault.TheVariants.{BadLog, DiskFault}
+use Rattle.rpm_group.proofs.Vocabulary.{BadLog, DiskFault, Files, leaves_then, leaves_weaker, RecoverFault, RecoverKeeps, reopened, ReopensAs, ReopensAsOneOf}
+use Rattle.rpm_group.proofs.Vocabulary.{then_look}
 use Rattle.rpm_group.proofs.recovery.recover.Goals as goal
 
 -- where a change was finished, or the disk failed, nothing has to be kept

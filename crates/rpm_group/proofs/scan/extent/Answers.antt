@@ -1,5 +1,5 @@
 use Rattle.std.proofs.Common.{◌≡◌, ℕ, ◌<◌, sym, ap, arith}
-use Rattle.rpm_group.specs.Counts.{is_held, begins_run, count_below}
+use Rattle.rpm_group.proofs.Vocabulary.{begins_run, count_below, is_held}
 use Rattle.rpm_group.proofs.Countings.{none_begun, none_held, gap_begins, gap_units, run_begins, run_units}
 use Rattle.rpm_group.proofs.scan.extent.Goals as goal
 

@@ -1,5 +1,5 @@
 use Rattle.std.proofs.Common.{◌≡◌, ◌+◌, ◌*◌, ◌-◌, ◌<◌, ◌≤◌, false}
-use Rattle.rpm_group.specs.Counts.{is_held, begins_run, count_below}
+use Rattle.rpm_group.proofs.Vocabulary.{begins_run, count_below, is_held}
 use Rattle.rpm_group.proofs.scan.extent.Given as goal
 
 abbrev pub invariant-loop-at : goal.invariant-loop-at

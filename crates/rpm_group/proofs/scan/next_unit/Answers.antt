@@ -1,8 +1,7 @@
 use Rattle.std.proofs.Common.{◌≡◌, inl, inr, ℕ, ◌+◌, ◌-◌, ◌*◌, ◌/◌, ◌%◌, ◌<◌, ◌≤◌, refl, ap, ◌∙◌, arith}
 use Rattle.std.specs.Prelude.{Bool, not}
 use Rattle.std.proofs.lemmas.Bool.{cases_lt}
-use Rattle.rpm_group.specs.Held.{Table}
-use Rattle.rpm_group.specs.Counts.{is_held}
+use Rattle.rpm_group.proofs.Vocabulary.{is_held, Table}
 use Rattle.rpm_group.proofs.scan.next_unit.Goals as goal
 
 -- as far as a place in the page
@@ -17,9 +16,26 @@ between_more table from at q next held is before here i low high = elim (cases_l
       ap (λ (j : ℕ). is_held table j) place ∙ here k (omega (arith, is, later)) (omega arith)
 ]
 
-pub returns-then-next-stop-clause-between : goal.returns-then-next-stop-clause-between
-returns-then-next-stop-clause-between c = between_more c.args.table.now.items c.args.from c.loop-at.at (c.loop-at.at / 256) c.next_in-next.result
-    c.args.held refl c.loop-at.invariant.between c.next_in-next.ensures.between
+pub returns-then-next-stop : goal.returns-then-next-stop
+returns-then-next-stop c =
+    let next = c.next_in-next.ensures in
+    record {
+      from = omega (arith, c.loop-at.invariant.from, next.from);
+      end = omega (arith, next.end, c.min-stop.ensures);
+      between = between_more c.args.table.now.items c.args.from c.loop-at.at (c.loop-at.at / 256) c.next_in-next.result c.args.held refl
+          c.loop-at.invariant.between next.between;
+      found = λ below. next.found c.if-next-stop.true;
+    }
+
+pub returns : goal.returns
+returns c =
+    let was = c.loop-at.invariant in
+    record {
+      from = c.requires.ordered;
+      end = omega arith;
+      between = λ i low high. was.between i low (omega (arith, high, c.loop-at-test.false));
+      found = λ below. absurd (omega (arith, below));
+    }
 
 pub loop-at-preserved : goal.loop-at-preserved
 loop-at-preserved c =

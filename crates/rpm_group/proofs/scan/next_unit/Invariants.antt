@@ -1,6 +1,6 @@
 use Rattle.std.proofs.Common.{◌≡◌, ℕ, ◌-◌, ◌<◌, ◌≤◌}
 use Rattle.std.specs.Prelude.{not}
-use Rattle.rpm_group.specs.Counts.{is_held}
+use Rattle.rpm_group.proofs.Vocabulary.{is_held}
 use Rattle.rpm_group.proofs.scan.next_unit.Given as goal
 
 abbrev pub invariant-loop-at : goal.invariant-loop-at

@@ -1,5 +1,5 @@
 use Rattle.std.proofs.Common.{◌≡◌, ℕ, ◌+◌, ◌-◌, ◌*◌, ◌/◌, ◌<◌, ◌≤◌, false}
-use Rattle.rpm_group.specs.Counts.{is_held}
+use Rattle.rpm_group.proofs.Vocabulary.{is_held}
 use Rattle.rpm_group.proofs.scan.skip_absent.Given as goal
 
 abbrev pub invariant-loop-q : goal.invariant-loop-q

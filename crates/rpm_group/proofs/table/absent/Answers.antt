@@ -1,7 +1,7 @@
 use Rattle.std.proofs.Common.{◌≡◌, ℕ, ◌+◌, ◌-◌, ◌*◌, ◌/◌, ◌%◌, ◌==◌, true, None, get_or, ap, ◌∙◌, arith}
 use Rattle.std.proofs.lemmas.Bool.Decides.{nat_tests}
 use Rattle.std.proofs.lemmas.List.{get_or_past}
-use Rattle.rpm_group.specs.Held.{held_at}
+use Rattle.rpm_group.proofs.Vocabulary.{held_at}
 use Rattle.rpm_group.proofs.Tables.{held_in_page, page_read, page_past}
 use Rattle.rpm_group.proofs.table.absent.Goals as goal
 use Rattle.rpm_group.proofs.table.absent.Goals.{then-q-len-via-then-q-len, then-q-len-via-else-q-len+then-is_empty}

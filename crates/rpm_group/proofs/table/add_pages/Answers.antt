@@ -1,7 +1,7 @@
 use Rattle.std.proofs.Common.{◌≡◌, ℕ, inl, inr, true, subst, ◌∙◌, arith}
 use Rattle.std.specs.Prelude.{is_some}
 use Rattle.std.proofs.lemmas.Bool.{cases_lt}
-use Rattle.rpm_group.specs.Held.{page_at}
+use Rattle.rpm_group.proofs.Vocabulary.{page_at}
 use Rattle.rpm_group.proofs.table.add_pages.Goals as goal
 
 pub loop-q-preserved : goal.loop-q-preserved

@@ -1,4 +1,4 @@
-use Rattle.rpm_group.specs.inner.Holding.{SameHeld, AreThere}
+use Rattle.rpm_group.proofs.Vocabulary.{AreThere, SameHeld}
 use Rattle.rpm_group.proofs.table.add_pages.Given as goal
 
 abbrev pub invariant-loop-q : goal.invariant-loop-q

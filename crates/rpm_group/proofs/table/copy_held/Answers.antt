@@ -1,7 +1,6 @@
 use Rattle.std.proofs.Common.{◌≡◌, ℕ, ◌+◌, ◌-◌, ◌*◌, ◌/◌, ◌%◌, sym, ap, ◌∙◌, arith}
 use Rattle.std.specs.Prelude.{Option, List, is_some, unwrap_or}
-use Rattle.rpm_group.specs.Held.{unit_in, held_at}
-use Rattle.rpm_group.specs.Counts.{is_held}
+use Rattle.rpm_group.proofs.Vocabulary.{held_at, is_held, unit_in}
 use Rattle.rpm_group.proofs.table.copy_held.Goals as goal
 
 pub returns-in-Some-clause-held : goal.returns-in-Some-clause-held

@@ -1,6 +1,5 @@
 use Rattle.std.proofs.Common.{◌≡◌, ◌⊎◌, ℕ, ◌+◌, ◌-◌, ◌<◌, ◌≤◌, Some}
-use Rattle.rpm_group.specs.Held.{unit_in, held_at}
-use Rattle.rpm_group.specs.inner.Holding.{KeepsPages}
+use Rattle.rpm_group.proofs.Vocabulary.{held_at, KeepsPages, unit_in}
 use Rattle.rpm_group.proofs.table.hold.Given as goal
 
 abbrev pub invariant-loop-done : goal.invariant-loop-done

@@ -3,7 +3,7 @@ use Rattle.std.specs.Prelude.{unwrap_or}
 use Rattle.std.proofs.lemmas.List.{length-take, length-drop}
 use Rattle.std.proofs.lemmas.Bool.{cases_lt}
 use borrow.Rule.Slice.PartMut.{put_mid}
-use Rattle.rpm_group.specs.Held.{Table, unit_in, held_at}
+use Rattle.rpm_group.proofs.Vocabulary.{held_at, Table, unit_in}
 use Rattle.rpm_group.proofs.ByteLaws.{unit_put_inside, unit_put_outside}
 use Rattle.rpm_group.proofs.Tables.{unit_in_part}
 use Rattle.rpm_group.proofs.table.lay.Goals as goal

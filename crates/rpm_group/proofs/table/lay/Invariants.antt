@@ -1,6 +1,6 @@
 use Rattle.std.proofs.Common.{◌≡◌, ℕ, ◌+◌, ◌-◌, ◌<◌, ◌≤◌}
 use Rattle.std.specs.Prelude.{unwrap_or}
-use Rattle.rpm_group.specs.Held.{unit_in, held_at}
+use Rattle.rpm_group.proofs.Vocabulary.{held_at, unit_in}
 use Rattle.rpm_group.proofs.table.lay.Given as goal
 
 abbrev pub invariant-loop-done : goal.invariant-loop-done

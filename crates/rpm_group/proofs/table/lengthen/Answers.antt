@@ -1,6 +1,6 @@
 use Rattle.std.proofs.Common.{length, ap, ◌∙◌, arith}
 use Rattle.std.proofs.lemmas.List.{length_push}
-use Rattle.rpm_group.specs.Held.{Table, page_at}
+use Rattle.rpm_group.proofs.Vocabulary.{page_at, Table}
 use Rattle.rpm_group.proofs.Tables.{leaf_pushed}
 use Rattle.rpm_group.proofs.table.lengthen.Goals as goal
 

@@ -1,5 +1,5 @@
 use Rattle.std.proofs.Common.{◌≤◌, length}
-use Rattle.rpm_group.specs.inner.Holding.{SamePages}
+use Rattle.rpm_group.proofs.Vocabulary.{SamePages}
 use Rattle.rpm_group.proofs.table.lengthen.Given as goal
 
 abbrev pub invariant-loop-k : goal.invariant-loop-k

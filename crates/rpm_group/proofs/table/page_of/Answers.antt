@@ -1,7 +1,6 @@
 use Rattle.std.proofs.Common.{◌%◌, Some, None, sym, ap, ◌∙◌, arith}
 use Rattle.std.proofs.lemmas.List.{get_or_default, get_or_past}
-use Rattle.rpm_group.specs.declared.page.Page.{Page}
-use Rattle.rpm_group.specs.Held.{in_page}
+use Rattle.rpm_group.proofs.Vocabulary.{in_page, Page}
 use Rattle.rpm_group.proofs.Tables.{held_in_page, page_read, page_past}
 use Rattle.rpm_group.proofs.table.page_of.Goals as goal
 

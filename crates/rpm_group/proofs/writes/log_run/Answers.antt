@@ -1,11 +1,6 @@
 use Rattle.std.proofs.Common.{◌≡◌, ℕ, ◌+◌, ◌-◌, ◌<◌, List, ◌∷◌, length, ap, ◌∙◌, arith}
-use Rattle.rpm_outside.specs.declared.disk.File.TheVariants.{Log}
-use Rattle.rpm_outside.specs.Files.{Units, Files, with_file, units_of, put}
-use Rattle.rpm_outside.specs.inner.Cuts.{cut_up_one}
-use Rattle.rpm_outside.specs.inner.PutLaws.{put_split}
-use Rattle.rpm_outside.specs.inner.UnitLaws.{length-unit}
-use Rattle.rpm_outside.specs.inner.ChangedLaws.{changed_leaves_then, changed_leaves_more, write_leaves}
-use Rattle.rpm_group.specs.inner.HeldUnits.{units_held}
+use Rattle.rpm_group.proofs.Vocabulary.{changed_leaves_more, changed_leaves_then, cut_up_one, Files, length-unit, Log, put, put_split, Units, units_held}
+use Rattle.rpm_group.proofs.Vocabulary.{units_of, with_file, write_leaves}
 use Rattle.rpm_group.proofs.Readouts.{on_ok_map}
 use Rattle.rpm_group.proofs.Runs.{length-units_held}
 use Rattle.rpm_group.proofs.writes.log_run.Goals as goal

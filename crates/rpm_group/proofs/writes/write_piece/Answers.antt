@@ -1,7 +1,5 @@
 use Rattle.std.proofs.Common.{◌≡◌, ℕ, ◌+◌, ◌/◌, List, length, ap, ◌∙◌, arith}
-use Rattle.rpm_outside.specs.Files.{Units, Files, file_of, with_file, units_of, put}
-use Rattle.rpm_outside.specs.inner.Cuts.{length-cut_up}
-use Rattle.rpm_outside.specs.inner.ChangedLaws.{write_leaves}
+use Rattle.rpm_group.proofs.Vocabulary.{file_of, Files, length-cut_up, put, Units, units_of, with_file, write_leaves}
 use Rattle.rpm_group.proofs.Gathered.{gathered_units}
 use Rattle.rpm_group.proofs.writes.write_piece.Goals as goal
 

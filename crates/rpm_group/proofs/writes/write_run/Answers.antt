@@ -1,11 +1,7 @@
 use Rattle.std.proofs.Common.{◌≡◌, ℕ, ◌+◌, ◌-◌, ◌*◌, ◌/◌, ◌≤◌, List, length, take, refl, ap, ◌∙◌, arith}
 use Rattle.std.proofs.lemmas.List.{length-take}
-use Rattle.rpm_outside.specs.Files.{Files, file_of, with_file, put}
-use Rattle.rpm_outside.specs.inner.FileLaws.{with_itself}
-use Rattle.rpm_outside.specs.inner.ChangedLaws.{leaves_none, changed_leaves_then, changed_leaves_more}
-use Rattle.rpm_outside.specs.inner.PutMore.{put_some}
-use Rattle.rpm_group.specs.LogReads.{nothing_none, nothing_then}
-use Rattle.rpm_group.specs.inner.HeldUnits.{units_held}
+use Rattle.rpm_group.proofs.Vocabulary.{changed_leaves_more, changed_leaves_then, file_of, Files, leaves_none, nothing_none, nothing_then, put, put_some}
+use Rattle.rpm_group.proofs.Vocabulary.{units_held, with_file, with_itself}
 use Rattle.rpm_group.proofs.ByteLaws.{length-put_mid}
 use Rattle.rpm_group.proofs.Runs.{run_more, run_none, run_all}
 use Rattle.rpm_group.proofs.writes.write_run.Goals as goal
@@ -71,7 +67,8 @@ loop-done-preserved g c =
           (changed_leaves_more D.moment D.left_since c.args.file place (place + length (take (16 * n) c.loop-done.buffer) / 16) c.args.at
           (c.args.at + (c.args.end - c.args.from)) c.loop-done.disk c.write_piece.new.disk
           (omega arith) (omega (arith, k, c.min-n.ensures, inv.from)) (c.write_piece.ensures.images told));
-      reads = nothing_then _ _ _ g.met.D.Disk.follows_trans c.args.disk.now c.loop-done.disk c.write_piece.new.disk inv.reads c.write_piece.ensures.reads.nothing;
+      reads = nothing_then _ _ _ g.met.D.Disk.follows_trans c.args.disk.now c.loop-done.disk c.write_piece.new.disk inv.reads
+          c.write_piece.ensures.reads.nothing;
       faults = omega (arith, inv.faults, c.write_piece.ensures.reads.cause.later);
     }
 

@@ -1,9 +1,5 @@
 use Rattle.std.proofs.Common.{◌≡◌, ◌+◌, ◌-◌, ◌≤◌, length, IsTrue}
-use Rattle.rpm_outside.specs.Files.{file_of, with_file}
-use Rattle.rpm_outside.specs.Changed.{LeavesChanged}
-use Rattle.rpm_outside.specs.inner.PutMore.{put_some}
-use Rattle.rpm_group.specs.inner.HeldUnits.{units_held}
-use Rattle.rpm_group.specs.LogReads.{ReadsNothing}
+use Rattle.rpm_group.proofs.Vocabulary.{file_of, LeavesChanged, put_some, ReadsNothing, units_held, with_file}
 use Rattle.rpm_group.proofs.writes.write_run.Given as goal
 
 abbrev pub invariant-loop-done : goal.invariant-loop-done

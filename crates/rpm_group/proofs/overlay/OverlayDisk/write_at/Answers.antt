@@ -1,8 +1,5 @@
 use Rattle.std.proofs.Common.{◌≡◌, inr, ℕ, refl, sym, subst, ◌∙◌}
-use Rattle.rpm_outside.specs.declared.disk.File.{File}
-use Rattle.rpm_outside.specs.Files.{Units, Files, file_of, with_file, units_of, put}
-use Rattle.rpm_outside.specs.Crash.{TornFile}
-use Rattle.rpm_outside.specs.inner.History.{torn_file_none, torn_file_whole}
+use Rattle.rpm_group.proofs.Vocabulary.{File, file_of, Files, put, torn_file_none, torn_file_whole, TornFile, Units, units_of, with_file}
 use Rattle.rpm_group.proofs.overlay.OverlayDisk.write_at.Goals as goal
 
 -- where nothing was written

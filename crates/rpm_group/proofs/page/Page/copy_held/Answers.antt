@@ -1,5 +1,5 @@
 use Rattle.std.proofs.Common.{◌≡◌, ◌+◌, ◌-◌, ◌*◌, List, ℕ, Some, true, false, get_or, sym, ap, ◌∙◌, arith}
-use Rattle.rpm_group.specs.Held.{unit_in}
+use Rattle.rpm_group.proofs.Vocabulary.{unit_in}
 use Rattle.rpm_group.proofs.ByteLaws.{marked}
 use Rattle.rpm_group.proofs.Tables.{unit_in_part}
 use Rattle.rpm_group.proofs.page.Page.copy_held.Goals as goal

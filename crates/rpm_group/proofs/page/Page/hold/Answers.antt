@@ -1,6 +1,6 @@
 use Rattle.std.proofs.Common.{◌≡◌, ◌+◌, ◌-◌, ◌*◌, ◌/◌, ◌≤◌, false, length, get_or, refl, ap, ◌∙◌, Some, arith}
 use borrow.Rule.Slice.PartMut.{put_mid}
-use Rattle.rpm_group.specs.Held.{unit_in}
+use Rattle.rpm_group.proofs.Vocabulary.{unit_in}
 use Rattle.rpm_group.proofs.ByteLaws.{unit_put_inside, unit_put_outside, marked, same_mark}
 use Rattle.rpm_group.proofs.page.Page.hold.Goals as goal
 

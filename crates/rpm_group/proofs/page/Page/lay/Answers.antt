@@ -1,6 +1,6 @@
 use Rattle.std.proofs.Common.{◌≡◌, ◌+◌, ◌-◌, ◌*◌, ◌/◌, List, ℕ, true, false, length, get_or, sym, ap, ◌∙◌, arith}
 use Rattle.std.specs.Prelude.{Option, unwrap_or}
-use Rattle.rpm_group.specs.Held.{unit_in}
+use Rattle.rpm_group.proofs.Vocabulary.{unit_in}
 use Rattle.rpm_group.proofs.ByteLaws.{marked}
 use Rattle.rpm_group.proofs.Marks.{none_so}
 use Rattle.rpm_group.proofs.Tables.{unit_in_part}

@@ -2,8 +2,7 @@ use Rattle.std.proofs.Common.{◌≡◌, inl, inr, ℕ, ◌+◌, ◌-◌, ◌*�
 use Rattle.std.proofs.lemmas.List.{length-take, length-drop, take_all}
 use Rattle.std.specs.Prelude.{unwrap_or, Option}
 use borrow.Rule.Slice.PartMut.{put_mid}
-use Rattle.rpm_group.specs.declared.page.Page.{Page}
-use Rattle.rpm_group.specs.Held.{unit_in, in_page}
+use Rattle.rpm_group.proofs.Vocabulary.{in_page, Page, unit_in}
 use Rattle.rpm_group.proofs.ByteLaws.{unit_put_inside, unit_put_outside, marked, unmarked}
 use Rattle.rpm_group.proofs.page.Page.lay_some.Goals as goal
 use Rattle.rpm_group.proofs.page.Page.lay_some.Goals.{then-self-at, else-self-at}

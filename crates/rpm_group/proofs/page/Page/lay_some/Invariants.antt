@@ -1,6 +1,6 @@
 use Rattle.std.proofs.Common.{◌≡◌, ℕ, ◌+◌, ◌<◌, ◌≤◌}
 use Rattle.std.specs.Prelude.{unwrap_or}
-use Rattle.rpm_group.specs.Held.{unit_in, in_page}
+use Rattle.rpm_group.proofs.Vocabulary.{in_page, unit_in}
 use Rattle.rpm_group.proofs.page.Page.lay_some.Given as goal
 
 abbrev pub invariant-loop-k : goal.invariant-loop-k
