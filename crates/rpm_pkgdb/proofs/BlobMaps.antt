@@ -1,22 +1,14 @@
 -- The map of the blobs after a write.
 use Rattle.std.proofs.Common.{◌≡◌, ◌≢◌, inl, inr, ℕ, ◌+◌, ◌-◌, ◌<◌, ◌≤◌, List, length, take, drop, true, false, ◌==◌, Option, Some, None, refl, sym, ap, ◌∙◌, subst, arith, set, length-drop, eq-eqb, if◌then◌else◌}
-use Rattle.std.specs.Option.{option_map}
-use Rattle.std.specs.Ordering.{nat_cmp, eq_by_cmp}
-use Rattle.std.specs.Cmp.{unsigned_tied}
+use Rattle.rpm_pkgdb.proofs.Vocabulary.{AreSound, blank, blob_in, blobs, blocks_at, end_of, eq_by_cmp, Frame, frame_of, free, get-blobs, has_number}
+use Rattle.rpm_pkgdb.proofs.Vocabulary.{is_framed, is_used, IsPlaced, nat_cmp, option_map, SameBlocks, Slot, slot_at, slot_with, Store, unit_at, Units}
+use Rattle.rpm_pkgdb.proofs.Vocabulary.{unsigned_tied}
 use Rattle.std.specs.FinMap as finite
 use Rattle.std.proofs.lemmas.Cmp.{nat_cmp_total}
 use Rattle.std.proofs.lemmas.List.{same_lists, get_or-take, get_or-drop, get_or_default, length-take}
 use Rattle.std.proofs.lemmas.Bool.{cases_eq}
 use Rattle.std.proofs.lemmas.Bool.Decides.{nat_tests}
-use Rattle.rpm_outside.specs.Files.{Units, unit_at, blank}
-use Rattle.rpm_pkgdb.specs.declared.slot.Slot.{Slot}
-use Rattle.rpm_pkgdb.specs.Slots.{slot_at, slot_with, is_used, end_of, has_number, free}
-use Rattle.rpm_pkgdb.specs.Store.{Store}
-use Rattle.rpm_pkgdb.specs.Blobs.{Frame, blocks_at, frame_of, is_framed, blob_in, blobs}
-use Rattle.rpm_pkgdb.specs.BlobLaws.{get-blobs}
 use Rattle.rpm_pkgdb.proofs.Facts.{number_facts}
-use Rattle.rpm_pkgdb.specs.Undamaged.{AreSound, IsPlaced}
-use Rattle.rpm_pkgdb.specs.Quiet.{SameBlocks}
 use Rattle.rpm_pkgdb.proofs.ClearLaws.{set_other, set_here}
 use Rattle.rpm_pkgdb.proofs.Places.{Search, Here, Nowhere, search_for, with_at, with_set_other, freed_absent}
 
@@ -124,7 +116,9 @@ module _ (a b : Units) (pages : ℕ) (st ut : Store) (k n : ℕ) (has : has_numb
           blocks j i (ap is_used stays ∙ used) (subst (λ (t : Slot). t.offset ≤ i) (sym stays) from) (subst (λ (t : Slot). i < end_of t) (sym stays) to)
 
       gone : (m : ℕ) → m ≡ n → finite.get (blobs b ut) m ≡ None
-      gone m here = ap (finite.get (blobs b ut)) here ∙ get-blobs b ut n ∙ (let e : slot_with n ut.slots ≡ None = ap (slot_with n) is ∙ freed_absent pages (length a) st.slots sound_a n k has in rw e refl)
+      gone m here =
+          let e : slot_with n ut.slots ≡ None = ap (slot_with n) is ∙ freed_absent pages (length a) st.slots sound_a n k has in
+          ap (finite.get (blobs b ut)) here ∙ get-blobs b ut n ∙ (rw e refl)
 
 module _ (a b : Units) (pages : ℕ) (st ut : Store) (k n : ℕ) (s : Slot) (below : k < length st.slots) (sound_a : AreSound pages (length a) st.slots)
     (sound_b : AreSound pages (length b) ut.slots) where

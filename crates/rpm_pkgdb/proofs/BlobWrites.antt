@@ -1,14 +1,8 @@
 -- A blob that is written in three parts.
 use Rattle.std.proofs.Common.{◌≡◌, ℕ, ◌+◌, ◌-◌, ◌*◌, ◌/◌, ◌%◌, ◌≤◌, List, ◌++◌, length, take, drop, sym, ap, ◌∙◌, arith, append_assoc, length-append, take-append-drop}
 use Rattle.std.proofs.lemmas.List.{length-take}
-use Rattle.rpm_outside.specs.Files.{Units, units_of, put}
-use Rattle.rpm_outside.specs.Crash.{Torn}
-use Rattle.rpm_outside.specs.inner.Cuts.{length-cut_up}
-use Rattle.rpm_pkgdb.specs.Blobs.{blocks_for}
-use Rattle.rpm_pkgdb.specs.Checksums.{adler}
-use Rattle.rpm_pkgdb.specs.Framing.{head_of, padding, tail_of, framed}
+use Rattle.rpm_pkgdb.proofs.Vocabulary.{adler, blocks_for, framed, head_of, length-cut_up, padding, put, SameOutside, tail_of, Torn, Units, units_of}
 use Rattle.rpm_pkgdb.proofs.FramingLaws.{length-head_of}
-use Rattle.rpm_pkgdb.specs.Stays.{SameOutside}
 use Rattle.rpm_pkgdb.proofs.ClearLaws.{torn_outside, outside_then, outside_wider}
 use Rattle.rpm_pkgdb.proofs.PutParts.{put_append, units_of-append}
 

@@ -2,16 +2,9 @@
 use Rattle.std.proofs.Common.{◌≡◌, ℕ, ◌+◌, ◌≤◌, Result, Ok, Err, OnOk, OnErr, IsErr, IsErrAnd, subst, sym, arith}
 use Rattle.std.specs.Prelude.{IsTrue}
 use Rattle.rpm_outside.specs.declared.disk.Disk as disk
-use Rattle.rpm_outside.specs.declared.failed.Failed.{Failed}
-use Rattle.rpm_outside.specs.declared.disk.File.TheVariants.{Pkg}
-use Rattle.rpm_outside.specs.Files.{Units, Files}
-use Rattle.rpm_outside.specs.Crash.{LeavesOnly}
-use Rattle.rpm_outside.specs.Changes.{Stops}
+use Rattle.rpm_pkgdb.proofs.Vocabulary.{Failed, Files, images, LeavesOnly, Pkg, Reads, ReadsOr, Rose, Stops, StopsIn, Units, Writes}
 use Rattle.rpm_outside.specs.inner.Changing as shared
 use Rattle.rpm_outside.specs.inner.Looking as reading
-use Rattle.rpm_outside.specs.Causes.{Rose}
-use Rattle.rpm_outside.specs.Frame.{Reads, ReadsOr, Writes, images}
-use Rattle.rpm_pkgdb.specs.Frame.{StopsIn}
 
 -- the answer so far of a run that goes on
 abbrev pub done : Result (Unit {0}) Failed

@@ -1,19 +1,11 @@
 -- What stays of a store where units are written.
 use Rattle.std.proofs.Common.{◌≡◌, ◌≢◌, inl, inr, ℕ, ◌+◌, ◌*◌, ◌<◌, ◌≤◌, List, [], ◌∷◌, length, true, refl, sym, ap, ◌∙◌, subst, arith, set, get_or-set_same, get_or-set_other, length-set}
 use Rattle.std.proofs.lemmas.Bool.{cases_lt, cases_eq}
-use Rattle.rpm_outside.specs.Files.{Units, unit_at, put}
-use Rattle.rpm_outside.specs.Crash.{Torn}
-use Rattle.rpm_outside.specs.inner.Puts.{length-put, put_before, put_inside, put_after}
-use Rattle.rpm_outside.specs.inner.PutLaws.{same_units}
-use Rattle.rpm_pkgdb.specs.declared.slot.Slot.{Slot}
-use Rattle.rpm_pkgdb.specs.Slots.{slot_at, is_used, free}
-use Rattle.rpm_pkgdb.specs.Store.{Store}
-use Rattle.rpm_pkgdb.specs.Words.{word}
-use Rattle.rpm_pkgdb.specs.Undamaged.{AreApart, AreSound, IsSlotUnit, IsLawful, IsHeadUnit, IsMade, IsPlaced}
+use Rattle.rpm_pkgdb.proofs.Vocabulary.{AreApart, AreSound, free, is_used, IsClear, IsHeadUnit, IsLawful, IsMade, IsPlaced, IsSlotUnit, length-put, put}
+use Rattle.rpm_pkgdb.proofs.Vocabulary.{put_after, put_before, put_inside, same_units, SameBlocks, SameOutside, Slot, slot_at, Store, Torn, unit_at, Units}
+use Rattle.rpm_pkgdb.proofs.Vocabulary.{word}
 use Rattle.rpm_pkgdb.proofs.Pairwise.{apart_swapped}
-use Rattle.rpm_pkgdb.specs.Stays.{SameOutside}
-use Rattle.rpm_pkgdb.specs.inner.Clear.{IsClear, IsPut}
-use Rattle.rpm_pkgdb.specs.Quiet.{SameBlocks}
+use Rattle.rpm_pkgdb.specs.inner.Clear.{IsPut}
 
 -- ---- files
 

@@ -2,10 +2,7 @@
 use Rattle.std.proofs.Common.{◌≡◌, ◌⊎◌, inl, inr, ℕ, ◌+◌, ◌-◌, ◌*◌, ◌/◌, ◌<◌, ◌≤◌, List, length, take, drop, ap, ◌∙◌, arith, length-drop}
 use Rattle.std.proofs.lemmas.List.{get_or-take, get_or-drop, length-take}
 use Rattle.std.proofs.lemmas.Bool.{cases_lt}
-use Rattle.rpm_outside.specs.Files.{Units, unit_at, put, blank}
-use Rattle.rpm_outside.specs.Crash.{Torn}
-use Rattle.rpm_outside.specs.inner.Puts.{length-put, put_before, put_inside}
-use Rattle.rpm_pkgdb.specs.Stays.{SameOutside}
+use Rattle.rpm_pkgdb.proofs.Vocabulary.{blank, length-put, put, put_before, put_inside, SameOutside, Torn, unit_at, Units}
 use Rattle.rpm_pkgdb.proofs.ClearLaws.{torn_outside, outside_wider}
 
 -- how many units are read

@@ -1,16 +1,9 @@
 -- What a crash leaves while a slot is set free and its blocks become zeros.
 use Rattle.std.proofs.Common.{◌≡◌, ◌≢◌, inl, inr, ℕ, ◌+◌, ◌*◌, ◌<◌, ◌≤◌, List, [], ◌∷◌, length, true, refl, sym, ap, ◌∙◌, subst, arith}
 use Rattle.std.proofs.lemmas.Bool.{cases_eq}
-use Rattle.rpm_outside.specs.Files.{Units, put}
-use Rattle.rpm_outside.specs.Crash.{Torn}
-use Rattle.rpm_pkgdb.specs.declared.slot.Slot.{Slot}
-use Rattle.rpm_pkgdb.specs.Slots.{slot_at, is_used, end_of, free}
-use Rattle.rpm_pkgdb.specs.Store.{Store, Keeps}
-use Rattle.rpm_pkgdb.specs.Undamaged.{AreApart, AreSound, IsSlotUnit, IsMade}
+use Rattle.rpm_pkgdb.proofs.Vocabulary.{AreApart, AreSound, BeforeOrAfter, end_of, free, HasSlot, is_used, IsClear, IsMade, IsSlotUnit, Keeps, put}
+use Rattle.rpm_pkgdb.proofs.Vocabulary.{SameBlocks, SameOutside, Slot, slot_at, StandsAs, Store, Torn, Units, with_free}
 use Rattle.rpm_pkgdb.proofs.Made.{made, from_made}
-use Rattle.rpm_pkgdb.specs.Stays.{SameOutside}
-use Rattle.rpm_pkgdb.specs.inner.Clear.{IsClear}
-use Rattle.rpm_pkgdb.specs.Quiet.{SameBlocks, StandsAs, BeforeOrAfter, HasSlot, with_free}
 use Rattle.rpm_pkgdb.proofs.ClearLaws.{torn_one, put_length, sound_longer, set_here, set_other, free_sound, set_made, page_blocks, outside_made, outside_blocks}
 
 -- ---- used blocks

@@ -1,16 +1,11 @@
 -- The blobs of images while a number is erased.
 use Rattle.std.proofs.Common.{◌≡◌, inl, inr, ℕ, ◌≤◌, true, refl, ap, ◌∙◌}
 use Rattle.std.specs.FinMap as finite
-use Rattle.rpm_outside.specs.Files.{Units}
-use Rattle.rpm_pkgdb.specs.declared.slot.Slot.{Slot}
-use Rattle.rpm_pkgdb.specs.Slots.{slot_at, has_number}
+use Rattle.rpm_pkgdb.proofs.Vocabulary.{BeforeOrAfter, BlobMap, blobs, ErasesTo, has_number, HasSlot, in_file, Keeps, Slot, slot_at, StandsAs, StandsFor}
+use Rattle.rpm_pkgdb.proofs.Vocabulary.{Store, Units, with_free}
 use Rattle.rpm_pkgdb.proofs.Facts.{has_it_from}
-use Rattle.rpm_pkgdb.specs.Store.{Store, Keeps, in_file}
-use Rattle.rpm_pkgdb.specs.Blobs.{blobs}
 use Rattle.rpm_pkgdb.proofs.BlobMaps.{same_blobs, freed_blobs}
 use Rattle.rpm_pkgdb.proofs.Made.{made}
-use Rattle.rpm_pkgdb.specs.Quiet.{BlobMap, StandsAs, StandsFor, BeforeOrAfter, HasSlot, with_free}
-use Rattle.rpm_pkgdb.specs.Written.{ErasesTo}
 
 pub unfolded : (image : Units) (st : Store) → blobs image (in_file st) ≡ blobs image st
 unfolding blobs
@@ -29,11 +24,6 @@ stands_for st file image some keeps stands =
       field_is = refl;
       blobs_are = unfolded image st ∙ same_blobs file image st.pages st st refl here.sound there.sound stands.blocks;
     }
-
--- of equal generations, fields and maps
-pub stands_for_same : (g f g' f' : ℕ) (B B' : BlobMap) (image : Units) → g ≡ g' → f ≡ f' → B ≡ B' → StandsFor g f B image → StandsFor g' f' B' image
-stands_for_same g f g' f' B B' image e_g e_f e_B s =
-    record { value = s.value; undamaged = s.undamaged; generation_is = s.generation_is ∙ e_g; field_is = s.field_is ∙ e_f; blobs_are = s.blobs_are ∙ e_B }
 
 module _ (st : Store) (k n : ℕ) (s : Slot) (has : HasSlot st k s) (number : s.number ≡ n) (file : Units) (keeps : Keeps file st) where
   has_it : has_number n (slot_at st.slots k) ≡ true

@@ -1,18 +1,10 @@
 -- The number field while it is written.
 use Rattle.std.proofs.Common.{◌≡◌, ◌⊎◌, inl, inr, ℕ, ◌+◌, ◌≤◌, List, [], ◌∷◌, length, Option, Some, None, refl, sym, ap, ◌∙◌, subst, arith}
-use Rattle.rpm_outside.specs.Files.{Units, unit_at, put}
-use Rattle.rpm_outside.specs.inner.Puts.{length-put}
-use Rattle.rpm_pkgdb.specs.Words.{word}
-use Rattle.rpm_pkgdb.specs.Slots.{slot_at}
-use Rattle.rpm_pkgdb.specs.Store.{Store}
-use Rattle.rpm_pkgdb.specs.Undamaged.{AreSound, IsSlotUnit, IsLawful, IsHeadUnit, IsMade}
+use Rattle.rpm_pkgdb.proofs.Vocabulary.{AreSound, BlobTorn, FieldPut, FieldTorn, IsHeadUnit, IsLawful, IsMade, IsSlotUnit, length-put, put, SameBlocks}
+use Rattle.rpm_pkgdb.proofs.Vocabulary.{SameOutside, slot_at, StandsAs, Store, unit_at, Units, with_next, word}
 use Rattle.rpm_pkgdb.proofs.Made.{made, from_made}
-use Rattle.rpm_pkgdb.specs.Stays.{SameOutside}
-use Rattle.rpm_pkgdb.specs.Quiet.{SameBlocks, StandsAs}
 use Rattle.rpm_pkgdb.proofs.ClearLaws.{torn_one, put_here, put_elsewhere, put_length, page_blocks}
 use Rattle.rpm_pkgdb.proofs.Erases.{blocks_then}
-use Rattle.rpm_pkgdb.specs.inner.Puts.{FieldPut, FieldTorn, BlobTorn}
-use Rattle.rpm_pkgdb.specs.Written.{with_next}
 
 module _ (file : Units) (st : Store) (m : IsMade file st) where
   field_made : (unit : List ℕ) (next : ℕ) → word 0 unit ≡ next → IsMade (put 1 (unit ∷ []) file) (record st { field = next })

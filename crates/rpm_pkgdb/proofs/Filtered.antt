@@ -1,7 +1,7 @@
 -- What a filter keeps, and the least of a list.
 use Rattle.std.proofs.Common.{◌≡◌, inl, inr, ℕ, zero, suc, ◌≤◌, List, [], ◌∷◌, min, true, Bool, MatchOption, refl, sym, ap, ◌∙◌, arith}
 use Rattle.std.specs.Prelude.{Contains}
-use Rattle.std.specs.List.{filter, reduce, fold}
+use Rattle.rpm_pkgdb.proofs.Vocabulary.{filter, fold, reduce}
 use Rattle.std.proofs.lemmas.Bool.{cases_lt}
 use Rattle.rpm_pkgdb.proofs.Facts.{cases_Bool}
 

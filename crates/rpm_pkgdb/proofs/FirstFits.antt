@@ -1,13 +1,9 @@
 -- The first fit as a function is the least block at which so many fit.
 use Rattle.std.proofs.Common.{◌≡◌, inl, inr, ℕ, zero, suc, ◌+◌, ◌-◌, ◌^◌, ◌<◌, ◌≤◌, List, [], ◌∷◌, length, map, min, true, false, nat_le, Option, Some, None, MatchOption, refl, sym, ap, ◌∙◌, arith}
 use Rattle.std.specs.Prelude.{Contains}
-use Rattle.std.specs.List.{filter, reduce, list_any}
+use Rattle.rpm_pkgdb.proofs.Vocabulary.{end_of, filter, first_fit, Fits, fits, FitsNowhere, free, IsLeast, list_any, meets, reduce, Slot, slot_at}
 use Rattle.std.proofs.lemmas.Bool.{cases_lt}
 use Rattle.std.proofs.lemmas.Bool.Decides.{nat_tests}
-use Rattle.rpm_pkgdb.specs.declared.slot.Slot.{Slot}
-use Rattle.rpm_pkgdb.specs.Slots.{slot_at, end_of, meets, free}
-use Rattle.rpm_pkgdb.specs.Plans.{Fits, IsLeast, FitsNowhere}
-use Rattle.rpm_pkgdb.specs.Placing.{fits, first_fit}
 use Rattle.rpm_pkgdb.proofs.Facts.{cases_Bool, some_place, no_place, none_at, meet_facts, meet_from}
 use Rattle.rpm_pkgdb.proofs.Pairwise.{used_below}
 use Rattle.rpm_pkgdb.proofs.FullLaws.{least_same}

@@ -1,26 +1,12 @@
 -- A blob that is written is read back.
 use Rattle.std.proofs.Common.{◌≡◌, ℕ, suc, None, if◌then◌else◌, ◌+◌, ◌-◌, ◌*◌, ◌/◌, ◌^◌, ◌<◌, ◌≤◌, List, ◌∷◌, ◌++◌, length, take, drop, true, Some, refl, sym, ap, ◌∙◌, arith, append_assoc, length-append, length-drop, codes}
-use Rattle.std.specs.Int.{w32, from_le_bytes}
+use Rattle.rpm_pkgdb.proofs.Vocabulary.{adler, begins, blank, blob_in, blocks_at, blocks_for, bytes_of, bytes_of-cut_up, bytes_of_word, cut_up, Frame}
+use Rattle.rpm_pkgdb.proofs.Vocabulary.{frame_of, framed, from_le_bytes, head_of, Holds, is_framed, is_head, is_tail, length-cut_up, padding, Slot, summed}
+use Rattle.rpm_pkgdb.proofs.Vocabulary.{tail, tail_of, unit_at, Units, units_of, w32}
 use Rattle.std.proofs.lemmas.Nat.{from_le_bytes-to_le_bytes_4}
 use Rattle.std.proofs.lemmas.List.{take-append-le, take_all, drop-append-le, drop_all, length-replicate, length-take, same_lists, get_or-take, get_or-drop, get_or_default}
 use Rattle.std.proofs.lemmas.Bool.Decides.{nat_tests}
-use Rattle.rpm_outside.specs.Files.{Units, unit_at, units_of, cut_up, bytes_of, blank}
-use Rattle.rpm_pkgdb.specs.inner.Clear.{Holds}
-use Rattle.rpm_outside.specs.inner.Cuts.{length-cut_up, bytes_of-cut_up}
-use Rattle.rpm_pkgdb.specs.declared.slot.Slot.{Slot}
-use Rattle.rpm_outside.specs.Words.{word, bytes_of_word}
-use Rattle.rpm_pkgdb.specs.Words.{begins}
-use Rattle.rpm_pkgdb.specs.Blobs.{Frame, blocks_for, is_head, is_tail, is_framed, tail, blocks_at, frame_of, blob_in}
-use Rattle.rpm_pkgdb.specs.Checksums.{adler}
-use Rattle.rpm_pkgdb.specs.Framing.{head_of, padding, tail_of, summed, framed}
-
-pub length-word : (n : ℕ) → length (bytes_of_word n) ≡ 4
-unfolding bytes_of_word
-length-word n = refl
-
-word-back : (n : ℕ) (rest : List ℕ) → n < 2 ^ 32 → from_le_bytes w32 (bytes_of_word n ++ rest) ≡ n
-unfolding bytes_of_word
-word-back n rest fits = from_le_bytes-to_le_bytes_4 n fits
+use Rattle.rpm_outside.specs.Words.{word}
 
 pub length-head_of : (n g size : ℕ) → length (head_of n g size) ≡ 16
 unfolding head_of bytes_of_word

@@ -1,11 +1,7 @@
 -- Free slots that are written.
 use Rattle.std.proofs.Common.{◌≡◌, ℕ, ◌+◌, ◌-◌, ◌*◌, ◌/◌, ◌<◌, ◌≤◌, List, length, take, drop, replicate, sym, ap, ◌∙◌, subst, arith, length-drop}
 use Rattle.std.proofs.lemmas.List.{same_lists, get_or-take, get_or-drop, get_or-replicate, length-take}
-use Rattle.rpm_outside.specs.Files.{Units, units_of, unit_at, put, blank}
-use Rattle.rpm_outside.specs.inner.Cuts.{unit_at-cut_up, length-cut_up}
-use Rattle.rpm_outside.specs.inner.Puts.{put_inside}
-use Rattle.rpm_pkgdb.specs.Slots.{free}
-use Rattle.rpm_pkgdb.specs.Undamaged.{IsSlotUnit}
+use Rattle.rpm_pkgdb.proofs.Vocabulary.{blank, free, IsSlotUnit, length-cut_up, put, put_inside, unit_at, unit_at-cut_up, Units, units_of}
 
 module _ (page : List ℕ) (count : ℕ) (long : length page ≡ 4096) (few : count ≤ 256) where
   abbrev front : List ℕ

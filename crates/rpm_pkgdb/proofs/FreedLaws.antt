@@ -1,15 +1,8 @@
 -- Blocks that become zeros, and stay so.
 use Rattle.std.proofs.Common.{◌≡◌, ◌⊎◌, inl, inr, ℕ, zero, suc, ◌+◌, ◌*◌, ◌<◌, ◌≤◌, List, [], ◌∷◌, ◌++◌, length, replicate, true, Option, Some, None, refl, sym, ap, ◌∙◌, subst, arith, set}
 use Rattle.std.proofs.lemmas.Bool.{cases_eq, cases_lt, cases_Bool}
-use Rattle.rpm_outside.specs.Files.{Units, unit_at, blank, put}
-use Rattle.rpm_outside.specs.inner.Puts.{put_before, put_after}
-use Rattle.rpm_pkgdb.specs.declared.slot.Slot.{Slot}
-use Rattle.rpm_pkgdb.specs.declared.moved_blocks.Move.{Move}
-use Rattle.rpm_pkgdb.specs.Slots.{slot_at, is_used, end_of, free}
-use Rattle.rpm_pkgdb.specs.Freed.{HasBlock, AreFreed, KeepsBlank}
-use Rattle.rpm_pkgdb.specs.Growing.{moved}
-use Rattle.rpm_pkgdb.specs.Stays.{SameOutside}
-use Rattle.rpm_pkgdb.specs.inner.Puts.{FieldPut, BlobPut}
+use Rattle.rpm_pkgdb.proofs.Vocabulary.{AreFreed, blank, BlobPut, end_of, FieldPut, free, HasBlock, is_used, KeepsBlank, Move, moved, put, put_after}
+use Rattle.rpm_pkgdb.proofs.Vocabulary.{put_before, SameOutside, Slot, slot_at, unit_at, Units}
 use Rattle.rpm_pkgdb.proofs.ClearLaws.{put_elsewhere}
 use Rattle.rpm_pkgdb.proofs.GrowLaws.{at_front}
 use Rattle.rpm_pkgdb.proofs.Pairwise.{used_below}

@@ -1,14 +1,8 @@
 -- Blocks that moves set free.
 use Rattle.std.proofs.Common.{◌≡◌, ◌≢◌, ℕ, ◌+◌, ◌*◌, ◌<◌, ◌≤◌, List, length, take, true, sym, subst, arith}
 use Rattle.std.proofs.lemmas.Bool.Decides.{nat_tests}
-use Rattle.rpm_outside.specs.Files.{Units, unit_at, blank}
-use Rattle.rpm_pkgdb.specs.declared.slot.Slot.{Slot}
-use Rattle.rpm_pkgdb.specs.declared.moved_blocks.Move.{Move}
-use Rattle.rpm_pkgdb.specs.Slots.{slot_at, is_used, end_of}
-use Rattle.rpm_pkgdb.specs.Store.{Store, Keeps}
-use Rattle.rpm_pkgdb.specs.Growing.{moved, next_end}
-use Rattle.rpm_pkgdb.specs.Freed.{AreFreed, KeepsBlank}
-use Rattle.rpm_pkgdb.specs.inner.MoveLists.{AreMovesOf, with_moves, move_at}
+use Rattle.rpm_pkgdb.proofs.Vocabulary.{AreFreed, AreMovesOf, blank, end_of, is_used, Keeps, KeepsBlank, Move, move_at, moved, next_end, Slot, slot_at, Store}
+use Rattle.rpm_pkgdb.proofs.Vocabulary.{unit_at, Units, with_moves}
 use Rattle.rpm_pkgdb.proofs.Made.{made}
 use Rattle.rpm_pkgdb.proofs.FreedLaws.{freed_more}
 use Rattle.rpm_pkgdb.proofs.MoveSteps.{current, can_move, then_after}

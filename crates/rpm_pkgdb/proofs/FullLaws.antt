@@ -1,16 +1,9 @@
 -- A plan shows that the store isn't full: only one list of moves is asked for.
 use Rattle.std.proofs.Common.{◌≡◌, ◌≢◌, inl, inr, ℕ, ◌+◌, ◌*◌, ◌<◌, ◌≤◌, List, [], ◌∷◌, true, Bool, Option, Some, None, is_none, refl, sym, ap, ◌∙◌, subst, arith}
 use Rattle.std.proofs.lemmas.Bool.{cases_eq, cases_lt}
-use Rattle.rpm_pkgdb.specs.declared.slot.Slot.{Slot}
-use Rattle.rpm_pkgdb.specs.declared.moved_blocks.Move.{Move}
-use Rattle.rpm_pkgdb.specs.declared.plan.Plan.{Plan}
-use Rattle.rpm_pkgdb.specs.Slots.{slot_at, is_used}
-use Rattle.rpm_pkgdb.specs.Store.{Store}
-use Rattle.rpm_pkgdb.specs.Blobs.{blocks_for}
-use Rattle.rpm_pkgdb.specs.Plans.{Fits, IsLeast, FitsNowhere, AreAllUsed}
-use Rattle.rpm_pkgdb.specs.Growing.{after_move, after_moves, IsNextMove, AreMoves, AreBehind, CanAdd, NeedsPage, grown, next_end}
-use Rattle.rpm_pkgdb.specs.Planned.{moves_of, IsPlan, IsFor, CantMove, IsFull}
-use Rattle.rpm_pkgdb.specs.Planned.IsFull.{NoRoom, NoMove}
+use Rattle.rpm_pkgdb.proofs.Vocabulary.{after_move, after_moves, AreAllUsed, AreBehind, AreMoves, blocks_for, CanAdd, CantMove, Fits, FitsNowhere, grown}
+use Rattle.rpm_pkgdb.proofs.Vocabulary.{is_used, IsFor, IsFull, IsLeast, IsNextMove, IsPlan, Move, moves_of, NeedsPage, next_end, NoMove, NoRoom, Plan, Slot}
+use Rattle.rpm_pkgdb.proofs.Vocabulary.{slot_at, Store}
 
 pub least_same : (slots : List Slot) (count from a b : ℕ) → IsLeast slots count from a → IsLeast slots count from b → a ≡ b
 least_same slots count from a b in_a in_b = elim (cases_lt a b) [

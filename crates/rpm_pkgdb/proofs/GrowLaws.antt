@@ -4,23 +4,14 @@ use Rattle.std.specs.FinMap as finite
 use Rattle.std.proofs.lemmas.Cmp.{nat_cmp_total}
 use Rattle.std.proofs.lemmas.Bool.{cases_lt}
 use Rattle.std.proofs.lemmas.List.{get_or_append_left, get_or-append_right, get_or-replicate, get_or_past, length-replicate}
-use Rattle.rpm_outside.specs.Files.{Units, unit_at, put}
-use Rattle.rpm_outside.specs.Crash.{Torn}
-use Rattle.rpm_pkgdb.specs.declared.slot.Slot.{Slot}
-use Rattle.rpm_pkgdb.specs.Words.{word}
+use Rattle.rpm_pkgdb.proofs.Vocabulary.{AreApart, AreSound, BeforeOrAfter, blobs, CanGrow, end_of, free, has_number, HasFreePage, is_used, IsClear}
+use Rattle.rpm_pkgdb.proofs.Vocabulary.{IsHeadUnit, IsMade, IsPlaced, IsSlotUnit, Keeps, put, SameOutside, Slot, slot_at, slot_with, StandsAs, Store, Torn}
+use Rattle.rpm_pkgdb.proofs.Vocabulary.{unit_at, Units, with_page, word}
 use Rattle.rpm_pkgdb.proofs.Facts.{cases_Bool, number_facts}
-use Rattle.rpm_pkgdb.specs.Slots.{slot_at, slot_with, is_used, end_of, has_number, free}
-use Rattle.rpm_pkgdb.specs.Store.{Store, Keeps}
-use Rattle.rpm_pkgdb.specs.Blobs.{blobs}
 use Rattle.rpm_pkgdb.proofs.BlobMaps.{same_get}
-use Rattle.rpm_pkgdb.specs.Undamaged.{AreApart, AreSound, IsSlotUnit, IsHeadUnit, IsMade, IsPlaced}
 use Rattle.rpm_pkgdb.proofs.Made.{made, from_made}
 use Rattle.rpm_pkgdb.proofs.Pairwise.{used_below}
-use Rattle.rpm_pkgdb.specs.Stays.{SameOutside}
-use Rattle.rpm_pkgdb.specs.inner.Clear.{IsClear}
 use Rattle.rpm_pkgdb.proofs.ClearLaws.{torn_one, put_here, put_elsewhere, put_length, outside_made, outside_blocks}
-use Rattle.rpm_pkgdb.specs.Quiet.{StandsAs, BeforeOrAfter}
-use Rattle.rpm_pkgdb.specs.inner.Grows.{with_page, CanGrow, HasFreePage}
 use Rattle.rpm_pkgdb.proofs.Erases.{blocks_then}
 
 -- ---- free slots after others

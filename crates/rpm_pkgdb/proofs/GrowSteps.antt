@@ -1,14 +1,7 @@
 -- A slot page is added after its moves.
 use Rattle.std.proofs.Common.{◌≡◌, ◌⊎◌, ℕ, ◌+◌, ◌^◌, ◌<◌, ◌≤◌, List, length, take, true, sym, ap, ◌∙◌, subst, arith}
-use Rattle.rpm_outside.specs.Files.{Units}
-use Rattle.rpm_pkgdb.specs.declared.slot.Slot.{Slot}
-use Rattle.rpm_pkgdb.specs.declared.moved_blocks.Move.{Move}
-use Rattle.rpm_pkgdb.specs.Slots.{slot_at, is_used, end_of}
-use Rattle.rpm_pkgdb.specs.Pairs.{Pairs}
-use Rattle.rpm_pkgdb.specs.Store.{Store, Keeps}
-use Rattle.rpm_pkgdb.specs.Growing.{CanAdd}
-use Rattle.rpm_pkgdb.specs.inner.Keeping.{IsKept}
-use Rattle.rpm_pkgdb.specs.inner.MoveLists.{IsMovable, move_at, with_moves, IsNextOf}
+use Rattle.rpm_pkgdb.proofs.Vocabulary.{CanAdd, end_of, is_used, IsKept, IsMovable, IsNextOf, Keeps, Move, move_at, Pairs, Slot, slot_at, Store, Units}
+use Rattle.rpm_pkgdb.proofs.Vocabulary.{with_moves}
 use Rattle.rpm_pkgdb.proofs.Made.{made}
 use Rattle.rpm_pkgdb.proofs.Pairwise.{used_below}
 use Rattle.rpm_pkgdb.proofs.MoveListLaws.{next_of, unmoved}

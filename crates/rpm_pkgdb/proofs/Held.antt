@@ -1,18 +1,12 @@
 -- The slot of a number that a value holds.
 use Rattle.std.proofs.Common.{◌≡◌, ◌≢◌, inl, inr, ℕ, ◌+◌, ◌^◌, ◌<◌, ◌≤◌, List, length, true, Some, None, IsSome, min, sym, ap, ◌∙◌, subst, arith, set, length-set}
 use Rattle.std.proofs.lemmas.Bool.{cases_eq}
-use Rattle.rpm_pkgdb.specs.declared.slot.Slot.{Slot}
-use Rattle.rpm_pkgdb.specs.Slots.{slot_at, slot_with, is_used, has_number, end_of, free, IsPackageNumber}
-use Rattle.rpm_pkgdb.specs.Pairs.{Pairs, find_in, Drops}
+use Rattle.rpm_pkgdb.proofs.Vocabulary.{AreSound, AreUsedTo, Drops, end_of, erased, find_in, free, freed, has_number, HasSlot, is_used, IsKept}
+use Rattle.rpm_pkgdb.proofs.Vocabulary.{IsPackageNumber, Pairs, Slot, slot_at, slot_with, Store, with_free}
 use Rattle.rpm_pkgdb.proofs.Facts.{number_facts}
-use Rattle.rpm_pkgdb.specs.Store.{Store}
 use Rattle.rpm_pkgdb.proofs.ClearLaws.{free_sound, set_here, set_other}
 use Rattle.rpm_pkgdb.proofs.Pairwise.{used_below}
-use Rattle.rpm_pkgdb.specs.inner.Keeping.{IsKept, AreUsedTo}
-use Rattle.rpm_pkgdb.specs.Undamaged.{AreSound}
-use Rattle.rpm_pkgdb.specs.Quiet.{HasSlot, with_free}
 use Rattle.rpm_pkgdb.proofs.Places.{freed_is_set, with_at}
-use Rattle.rpm_pkgdb.specs.Written.{freed, erased}
 use Rattle.rpm_pkgdb.proofs.Kept.{slot_missing}
 
 pub not_held : (numbers : Pairs) (pages : ℕ) (slots : List Slot) → IsKept numbers pages slots → (n : ℕ) → IsSome (slot_with n slots)

@@ -1,18 +1,12 @@
 -- The slot of a number, by a map to its place; and a lawful head.
 use Rattle.std.proofs.Common.{◌≡◌, ℕ, zero, suc, ◌*◌, ◌^◌, ◌<◌, ◌≤◌, List, [], ◌∷◌, length, get_or, take, drop, Bool, true, false, Option, Some, None, IsSome, is_some, refl, sym, ap, ◌∙◌, arith, inl, inr, if◌then◌else◌}
-use Rattle.std.specs.List.{list_any, find}
+use Rattle.rpm_pkgdb.proofs.Vocabulary.{find, free, greatest_number, has_number, HasPlaces, head_reason, is_used, IsGreatest, IsNext, IsPackageNumber}
+use Rattle.rpm_pkgdb.proofs.Vocabulary.{list_any, Slot, slot_at, slot_with, unit_at, Units, word}
 use Rattle.std.proofs.lemmas.List.Folds.{list_any_at}
 use Rattle.std.proofs.lemmas.Bool.{cases_lt, cases_Bool}
 use Rattle.std.proofs.lemmas.Bool.Decides.{nat_tests}
-use Rattle.rpm_outside.specs.Files.{Units, unit_at}
-use Rattle.rpm_pkgdb.specs.declared.slot.Slot.{Slot}
 use Rattle.rpm_pkgdb.proofs.Facts.{number_facts}
 use Rattle.rpm_pkgdb.proofs.Known.{place_known}
-use Rattle.rpm_pkgdb.specs.Words.{word}
-use Rattle.rpm_pkgdb.specs.Slots.{is_used, has_number, slot_with, free, slot_at, greatest_number, IsPackageNumber}
-use Rattle.rpm_pkgdb.specs.Damages.{head_reason}
-use Rattle.rpm_pkgdb.specs.Pairs.{IsNext, IsGreatest}
-use Rattle.rpm_pkgdb.specs.inner.Maps.{HasPlaces}
 
 pub find_none : {X : Type 0} (p : X → Bool) (xs : List X) → list_any p xs ≡ false → find p xs ≡ None
 find_none p [] none = refl

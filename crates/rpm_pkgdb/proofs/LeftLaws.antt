@@ -1,23 +1,9 @@
 -- The packages' blocks in what a crash leaves.
 use Rattle.std.proofs.Common.{◌≡◌, inl, inr, ℕ, ◌≤◌, List, length, take, drop, true, Option, Some, None, refl, ap, ◌∙◌}
-use Rattle.std.specs.Option.{option_map}
-use Rattle.rpm_outside.specs.Files.{Units, units_of}
-use Rattle.rpm_pkgdb.specs.declared.slot.Slot.{Slot}
-use Rattle.rpm_pkgdb.specs.declared.plan.Target.{Target}
-use Rattle.rpm_pkgdb.specs.Slots.{slot_at, slot_with, has_number}
-use Rattle.rpm_pkgdb.specs.Store.{Store, Keeps, in_file}
-use Rattle.rpm_pkgdb.specs.Blobs.{blobs}
-use Rattle.rpm_pkgdb.specs.Framing.{framed}
-use Rattle.rpm_pkgdb.specs.Plans.{slot_for}
-use Rattle.rpm_pkgdb.specs.Growing.{moved}
-use Rattle.rpm_pkgdb.specs.Stays.{blocks_with, AllStay, StaysBut}
-use Rattle.rpm_pkgdb.specs.Quiet.{StandsAs, BeforeOrAfter, HasSlot, with_free}
-use Rattle.rpm_pkgdb.specs.Written.{next_field, with_next, with_blob}
-use Rattle.rpm_pkgdb.specs.inner.Grows.{CanGrow, with_page}
-use Rattle.rpm_pkgdb.specs.inner.Puts.{CanPut, StandsWith, WhilePut}
-use Rattle.rpm_pkgdb.specs.inner.Puts.WhilePut.{Before, Numbered, After}
-use Rattle.rpm_pkgdb.specs.inner.Settings.{CanMove, WhileMoved, with_slot}
-use Rattle.rpm_pkgdb.specs.inner.Still.{StandsStill}
+use Rattle.rpm_pkgdb.proofs.Vocabulary.{After, AllStay, Before, BeforeOrAfter, blobs, blocks_with, CanGrow, CanMove, CanPut, framed, has_number, HasSlot}
+use Rattle.rpm_pkgdb.proofs.Vocabulary.{in_file, Keeps, moved, next_field, Numbered, option_map, Slot, slot_at, slot_for, slot_with, StandsAs, StandsStill}
+use Rattle.rpm_pkgdb.proofs.Vocabulary.{StandsWith, StaysBut, Store, Target, Units, units_of, WhileMoved, WhilePut, with_blob, with_free, with_next}
+use Rattle.rpm_pkgdb.proofs.Vocabulary.{with_page, with_slot}
 use Rattle.rpm_pkgdb.proofs.BlobMaps.{same_blobs}
 use Rattle.rpm_pkgdb.proofs.ClearLaws.{set_here}
 use Rattle.rpm_pkgdb.proofs.ErasesTo.{unfolded}

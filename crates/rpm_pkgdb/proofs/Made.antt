@@ -1,19 +1,13 @@
 -- A file says a store that is made exactly where its units say it pairwise.
 use Rattle.std.proofs.Common.{◌≡◌, inl, inr, ℕ, ◌+◌, ◌-◌, ◌*◌, ◌<◌, ◌≤◌, List, length, get_or, drop, true, false, not, Option, Some, None, Result, Ok, refl, sym, ap, ◌∙◌, subst, arith, codes, length-drop}
-use Rattle.std.specs.List.{list_any}
+use Rattle.rpm_pkgdb.proofs.Vocabulary.{AreSound, begins, blank, blank_store, Damage, free, head_reason, in_file, is_blank, is_nonzero, IsHeadUnit, IsLawful}
+use Rattle.rpm_pkgdb.proofs.Vocabulary.{IsMade, Keeps, list_any, made_or_damaged, made_store, Reason, slot_at, slot_of, slots_in, Store, store, store_of}
+use Rattle.rpm_pkgdb.proofs.Vocabulary.{table, table_fault, unit_at, Units, unless}
 use Rattle.std.proofs.lemmas.List.{get_or-take, get_or-drop, get_or_past, get_or_default, length-take, same_lists}
 use Rattle.std.proofs.lemmas.Bool.{cases_lt}
 use Rattle.std.proofs.lemmas.Bool.Decides.{nat_tests}
-use Rattle.rpm_outside.specs.Files.{Units, unit_at, blank}
-use Rattle.rpm_pkgdb.specs.declared.slot.Damage.{Damage}
-use Rattle.rpm_pkgdb.specs.declared.slot.Reason.{Reason}
 use Rattle.rpm_outside.specs.Words.{word}
-use Rattle.rpm_pkgdb.specs.Words.{begins, is_nonzero}
-use Rattle.rpm_pkgdb.specs.Slots.{slot_of, slots_in, slot_at, free}
-use Rattle.rpm_pkgdb.specs.Damages.{head_reason, table, table_fault}
-use Rattle.rpm_pkgdb.specs.Store.{Store, store, blank_store, made_store, made_or_damaged, store_of, is_blank, unless, Keeps, in_file}
 use Rattle.rpm_pkgdb.proofs.Facts.{cases_Bool, none_at}
-use Rattle.rpm_pkgdb.specs.Undamaged.{AreSound, IsLawful, IsHeadUnit, IsMade}
 use Rattle.rpm_pkgdb.proofs.Pairwise.{magics, sound_from, none_from, slot_in, count_in}
 
 -- ---- a unit of zeros

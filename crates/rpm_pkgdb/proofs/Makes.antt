@@ -1,29 +1,17 @@
 -- What a crash leaves while a database is made.
 use Rattle.std.proofs.Common.{◌≡◌, inl, inr, ℕ, ◌+◌, List, [], ◌∷◌, length, replicate, true, not, None, Ok, refl, sym, ap, ◌∙◌, subst, arith}
-use Rattle.std.specs.List.{list_any}
-use Rattle.std.specs.Option.{option_map}
-use Rattle.std.specs.Ordering.{nat_cmp}
+use Rattle.rpm_pkgdb.proofs.Vocabulary.{AreSound, blank_store, blob_in, blobs, Files, frame_of, free, get-blobs, has_number, in_file, is_blank, is_nonzero}
+use Rattle.rpm_pkgdb.proofs.Vocabulary.{is_used, IsFirstPage, IsHeadUnit, IsMade, IsQuiet, IsSlotUnit, Keeps, list_any, made_new, MakesTo, nat_cmp}
+use Rattle.rpm_pkgdb.proofs.Vocabulary.{option_map, put, SameOutside, Slot, slot_at, slot_with, Store, store, Torn, unit_at, Units, word}
 use Rattle.std.specs.FinMap as finite
 use Rattle.std.proofs.lemmas.Cmp.{nat_cmp_total}
 use Rattle.std.proofs.lemmas.Bool.{cases_lt}
 use Rattle.std.proofs.lemmas.List.{get_or-replicate, get_or_past, length-replicate}
-use Rattle.rpm_outside.specs.Files.{Units, Files, unit_at, put}
-use Rattle.rpm_outside.specs.Crash.{Torn}
-use Rattle.rpm_pkgdb.specs.declared.slot.Slot.{Slot}
-use Rattle.rpm_pkgdb.specs.Words.{word, is_nonzero}
-use Rattle.rpm_pkgdb.specs.Slots.{slot_at, slot_with, is_used, has_number, free}
-use Rattle.rpm_pkgdb.specs.Store.{Store, store, blank_store, is_blank, Keeps, in_file}
-use Rattle.rpm_pkgdb.specs.Blobs.{blobs, frame_of, blob_in}
-use Rattle.rpm_pkgdb.specs.BlobLaws.{get-blobs}
 use Rattle.rpm_pkgdb.proofs.Facts.{cases_Bool}
-use Rattle.rpm_pkgdb.specs.Undamaged.{AreSound, IsSlotUnit, IsHeadUnit, IsMade}
 use Rattle.rpm_pkgdb.proofs.Made.{from_made, made_pages}
-use Rattle.rpm_pkgdb.specs.Stays.{SameOutside}
 use Rattle.rpm_pkgdb.proofs.ClearLaws.{torn_one, put_here, put_elsewhere, put_length}
 use Rattle.rpm_pkgdb.proofs.Places.{Search, Here, Nowhere, search_for}
-use Rattle.rpm_pkgdb.specs.Quiet.{IsQuiet, IsFirstPage}
 use Rattle.rpm_pkgdb.proofs.ErasesTo.{unfolded}
-use Rattle.rpm_pkgdb.specs.Written.{made_new, MakesTo}
 
 -- ---- blank files
 

@@ -1,22 +1,10 @@
 -- The first slot that meets an earlier one: over two lists, over one slot more, and where there is none.
 use Rattle.std.proofs.Common.{◌≡◌, ℕ, suc, ◌+◌, ◌<◌, List, [], ◌∷◌, ◌++◌, length, take, drop, Option, None, refl, sym, ap, ◌∙◌, subst, arith, append_assoc, take-append-drop}
-use Rattle.std.specs.Option.{option_map, option_or}
+use Rattle.rpm_pkgdb.proofs.Vocabulary.{AllApart, AreApart, AreBounded, AreOwn, Damage, damage_at, Damaged, DiskFault, free, is_used, meeting, NoMemory}
+use Rattle.rpm_pkgdb.proofs.Vocabulary.{OpenFault, option_map, option_or, option_or-assoc, Reason, run, SaysHere, shared_fault, shared_reason, Slot, slot_at}
+use Rattle.rpm_pkgdb.proofs.Vocabulary.{slot_fault, slot_of, slots_in, Units}
 use Rattle.std.proofs.Math.Seq.{get_or-append_seam}
 use Rattle.std.proofs.lemmas.List.{append-nil, get_or_append_left, take_more}
-use Rattle.rpm_outside.specs.Files.{Units}
-use Rattle.rpm_pkgdb.specs.declared.slot.Slot.{Slot}
-use Rattle.rpm_pkgdb.specs.declared.slot.Reason.{Reason}
-use Rattle.rpm_pkgdb.specs.declared.slot.Damage.{Damage}
-use Rattle.rpm_pkgdb.specs.declared.slot.OpenFault.{OpenFault}
-use Rattle.rpm_pkgdb.specs.declared.slot.OpenFault.TheVariants.{Damaged, DiskFault, NoMemory}
-use Rattle.rpm_pkgdb.specs.Slots.{slot_of, slots_in, slot_at, is_used, free}
-use Rattle.rpm_pkgdb.specs.Damages.{damage_at, shared_reason, slot_fault}
-use Rattle.rpm_pkgdb.specs.Store.{SaysHere}
-use Rattle.rpm_pkgdb.specs.Undamaged.{AreApart}
-use Rattle.rpm_pkgdb.specs.inner.Keys.{AllApart}
-use Rattle.rpm_pkgdb.specs.inner.Meetings.{meeting, shared_fault}
-use Rattle.rpm_pkgdb.specs.inner.Runs.{run, option_or-assoc}
-use Rattle.rpm_pkgdb.specs.inner.Tables.{AreOwn, AreBounded}
 use Rattle.rpm_pkgdb.proofs.Pairwise.{shared_none}
 use Rattle.rpm_pkgdb.proofs.Steps.{or_else_none}
 

@@ -2,14 +2,8 @@
 use Rattle.std.proofs.Common.{◌≡◌, ◌⊎◌, inl, inr, ℕ, zero, suc, ◌+◌, ◌*◌, ◌<◌, ◌≤◌, List, [], ◌∷◌, ◌++◌, length, take, refl, sym, ap, ◌∙◌, subst, arith, set, get_or-set_same, get_or-set_other}
 use Rattle.std.proofs.lemmas.Bool.{cases_eq}
 use Rattle.std.proofs.lemmas.List.{take_more}
-use Rattle.rpm_pkgdb.specs.declared.slot.Slot.{Slot}
-use Rattle.rpm_pkgdb.specs.declared.moved_blocks.Move.{Move}
-use Rattle.rpm_pkgdb.specs.Slots.{slot_at, free}
-use Rattle.rpm_pkgdb.specs.Store.{Store}
+use Rattle.rpm_pkgdb.proofs.Vocabulary.{AreMovesOf, CanMove, free, IsNextOf, Move, move_at, moved, no_move, Slot, slot_at, Store, with_move, with_moves}
 use Rattle.rpm_pkgdb.proofs.Pairwise.{used_below}
-use Rattle.rpm_pkgdb.specs.inner.Settings.{CanMove}
-use Rattle.rpm_pkgdb.specs.Growing.{moved}
-use Rattle.rpm_pkgdb.specs.inner.MoveLists.{no_move, move_at, with_move, with_moves, IsNextOf, AreMovesOf}
 
 pub next_can : (value : Store) (m : Move) → 1 ≤ value.pages → IsNextOf value m → CanMove value m.place (slot_at value.slots m.place) m.to
 next_can value m made next = record {

@@ -1,18 +1,12 @@
 -- The moves of a page as a function are those of the relation.
 use Rattle.std.proofs.Common.{◌≡◌, ◌≢◌, inl, inr, ℕ, suc, ◌<◌, ◌≤◌, List, [], ◌∷◌, set, true, false, Bool, nat_lt, ◌&&◌, Option, Some, None, refl, ap, ◌∙◌, arith}
-use Rattle.std.specs.List.{list_any}
-use Rattle.std.specs.Option.{option_map, option_and_then}
+use Rattle.rpm_pkgdb.proofs.Vocabulary.{after_move, after_moves, all_moves, AreBehind, AreMoves, count_before, first_fit, first_used, FitsNowhere, free}
+use Rattle.rpm_pkgdb.proofs.Vocabulary.{is_first, is_used, IsFirstBefore, IsNextMove, list_any, Move, moved, moves_from, next_move, one_before}
+use Rattle.rpm_pkgdb.proofs.Vocabulary.{option_and_then, option_map, Slot, slot_at}
 use Rattle.std.proofs.lemmas.Bool.{cases_eq}
 use Rattle.std.proofs.lemmas.Bool.Decides.{nat_tests}
 use Rattle.std.proofs.lemmas.List.Folds.{list_any_at}
 use Rattle.std.proofs.lemmas.List.Sums.{position_or_len_is, sum_by-cons}
-use Rattle.rpm_pkgdb.specs.declared.slot.Slot.{Slot}
-use Rattle.rpm_pkgdb.specs.declared.moved_blocks.Move.{Move}
-use Rattle.rpm_pkgdb.specs.Slots.{slot_at, is_used, free}
-use Rattle.rpm_pkgdb.specs.Plans.{FitsNowhere}
-use Rattle.rpm_pkgdb.specs.Growing.{moved, after_move, after_moves, IsNextMove, AreMoves, AreBehind}
-use Rattle.rpm_pkgdb.specs.Placing.{first_fit, is_first, first_used, next_move, moves_from, one_before, count_before, all_moves}
-use Rattle.rpm_pkgdb.specs.inner.Pages.{IsFirstBefore}
 use Rattle.rpm_pkgdb.proofs.Facts.{cases_Bool, no_place}
 use Rattle.rpm_pkgdb.proofs.Pairwise.{used_below}
 use Rattle.rpm_pkgdb.proofs.PageLaws.{one_less}

@@ -1,13 +1,7 @@
 -- One move of several.
 use Rattle.std.proofs.Common.{◌≡◌, ℕ, ◌+◌, ◌<◌, ◌≤◌, List, length, take, Some, ap, ◌∙◌, subst, arith, ◌*◌}
-use Rattle.rpm_pkgdb.specs.declared.slot.Slot.{Slot}
-use Rattle.rpm_pkgdb.specs.declared.moved_blocks.Move.{Move}
-use Rattle.rpm_pkgdb.specs.Slots.{slot_at}
-use Rattle.rpm_pkgdb.specs.Store.{Store}
-use Rattle.rpm_pkgdb.specs.inner.Settings.{CanMove, with_slot}
-use Rattle.rpm_pkgdb.specs.Growing.{moved, moving_cost}
+use Rattle.rpm_pkgdb.proofs.Vocabulary.{AreMovesOf, CanMove, Move, move_at, moved, moving_cost, no_move, Slot, slot_at, Store, with_moves, with_slot}
 use Rattle.std.proofs.lemmas.List.Sums.{sum_by_more, sum_by-take-le}
-use Rattle.rpm_pkgdb.specs.inner.MoveLists.{AreMovesOf, with_moves, move_at, no_move}
 use Rattle.rpm_pkgdb.proofs.MoveListLaws.{Keep, next_can, next_of, after_more, keep_all, unmoved}
 
 abbrev pub old_slot : List Slot → Move → Slot

@@ -1,30 +1,19 @@
 -- Blocks that are moved: the blobs stay.
 use Rattle.std.proofs.Common.{◌≡◌, ◌≢◌, inl, inr, ℕ, ◌+◌, ◌-◌, ◌<◌, ◌≤◌, List, [], ◌∷◌, length, take, drop, true, if◌then◌else◌, Option, Some, None, refl, sym, ap, ◌∙◌, subst, arith, set, length-drop}
-use Rattle.std.specs.Option.{option_map}
+use Rattle.rpm_pkgdb.proofs.Vocabulary.{blank, blob_in, blobs, blocks_at, blocks_of, CanMove, CanSet, end_of, Frame, frame_of, get-blobs, has_number, Holds}
+use Rattle.rpm_pkgdb.proofs.Vocabulary.{is_framed, is_used, IsMade, IsSlotUnit, Keeps, moved, option_map, put, SameOutside, Slot, slot_at, slot_with}
+use Rattle.rpm_pkgdb.proofs.Vocabulary.{StandsAs, StandsSet, Store, Torn, unit_at, Units, WhileMoved, with_slot}
 use Rattle.std.specs.FinMap as finite
 use Rattle.std.proofs.lemmas.Cmp.{nat_cmp_total}
 use Rattle.std.proofs.lemmas.Bool.{cases_eq}
 use Rattle.std.proofs.lemmas.Bool.Decides.{nat_tests}
 use Rattle.std.proofs.lemmas.List.{get_or-take, get_or-drop, length-take}
-use Rattle.rpm_outside.specs.Files.{Units, unit_at, put, blank}
-use Rattle.rpm_outside.specs.Crash.{Torn}
-use Rattle.rpm_pkgdb.specs.declared.slot.Slot.{Slot}
-use Rattle.rpm_pkgdb.specs.Slots.{slot_at, slot_with, is_used, end_of, has_number}
 use Rattle.rpm_pkgdb.proofs.Facts.{has_it_from}
-use Rattle.rpm_pkgdb.specs.Store.{Store, Keeps}
-use Rattle.rpm_pkgdb.specs.Blobs.{Frame, frame_of, is_framed, blocks_at, blob_in, blobs}
-use Rattle.rpm_pkgdb.specs.BlobLaws.{get-blobs}
 use Rattle.rpm_pkgdb.proofs.BlobMaps.{other_get, other_number}
-use Rattle.rpm_pkgdb.specs.Undamaged.{IsSlotUnit, IsMade}
 use Rattle.rpm_pkgdb.proofs.Made.{made}
 use Rattle.rpm_pkgdb.proofs.Places.{with_at}
-use Rattle.rpm_pkgdb.specs.Stays.{SameOutside}
-use Rattle.rpm_pkgdb.specs.inner.Clear.{Holds}
 use Rattle.rpm_pkgdb.proofs.ClearLaws.{set_here}
 use Rattle.rpm_pkgdb.proofs.FramingLaws.{held_part}
-use Rattle.rpm_pkgdb.specs.Quiet.{StandsAs}
-use Rattle.rpm_pkgdb.specs.inner.Settings.{CanSet, with_slot, StandsSet, CanMove, blocks_of, WhileMoved}
-use Rattle.rpm_pkgdb.specs.Growing.{moved}
 use Rattle.rpm_pkgdb.proofs.SettingLaws.{aside_stands, set_stands, while_set, set_aside, old_clear, set_alike}
 
 module _ (st : Store) (place : ℕ) (old : Slot) (to : ℕ) (can : CanMove st place old to) (F0 : Units) (keeps : Keeps F0 st) where

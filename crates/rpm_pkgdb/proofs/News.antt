@@ -1,12 +1,7 @@
 -- The fields of a value once a database was made.
 use Rattle.std.proofs.Common.{◌≡◌, ℕ, ◌^◌, List, [], ◌++◌, true, replicate, Option, Some, None, ap, ◌∙◌, arith}
 use Rattle.std.proofs.lemmas.List.{length-replicate, nil_from_length}
-use Rattle.rpm_blocks.specs.Blocks.{Blocks}
-use Rattle.rpm_pkgdb.specs.declared.slot.Slot.{Slot}
-use Rattle.rpm_pkgdb.specs.Slots.{free, slot_at, is_used}
-use Rattle.rpm_pkgdb.specs.Pairs.{Pairs}
-use Rattle.rpm_pkgdb.specs.inner.Keeping.{IsKept}
-use Rattle.rpm_pkgdb.specs.inner.Ranges.{HasUsed}
+use Rattle.rpm_pkgdb.proofs.Vocabulary.{Blocks, free, HasUsed, is_used, IsKept, Pairs, Slot, slot_at}
 use Rattle.rpm_pkgdb.proofs.Pairwise.{used_below}
 use Rattle.rpm_pkgdb.proofs.Makes.{not_used, new_sound}
 

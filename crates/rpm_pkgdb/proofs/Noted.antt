@@ -3,23 +3,14 @@ use Rattle.std.proofs.Common.{◌≡◌, ◌≢◌, ◌⊎◌, inl, inr, ℕ, �
 use Rattle.std.specs.Prelude.{Contains}
 use Rattle.std.proofs.lemmas.Bool.{cases_eq}
 use Rattle.std.proofs.lemmas.Bool.Decides.{nat_tests}
-use Rattle.rpm_blocks.specs.declared.Range.{Range}
-use Rattle.rpm_blocks.specs.Blocks.{Blocks, with_range, without}
-use Rattle.rpm_blocks.specs.Laws.{with_range_here, with_range_keeps, with_range_only, without_keeps, without_only, begins_in}
-use Rattle.rpm_pkgdb.specs.declared.slot.Slot.{Slot}
-use Rattle.rpm_pkgdb.specs.declared.plan.Target.{Target}
+use Rattle.rpm_pkgdb.proofs.Vocabulary.{Adds, AreRangesOf, AreUsedTo, begins_in, Blocks, blocks_for, find_in, Forgets, ForgetsSlot, free, has_number}
+use Rattle.rpm_pkgdb.proofs.Vocabulary.{HasStart, HasUsed, is_used, IsFreeIn, IsKept, IsPackageNumber, IsTarget, Pairs, Range, range_of, Remembers, Slot}
+use Rattle.rpm_pkgdb.proofs.Vocabulary.{slot_at, slot_for, Store, Target, UsedBy, with_range, with_range_here, with_range_keeps, with_range_only, without}
+use Rattle.rpm_pkgdb.proofs.Vocabulary.{without_keeps, without_only}
 use Rattle.rpm_pkgdb.proofs.Facts.{cases_Bool, number_facts, has_it_from}
-use Rattle.rpm_pkgdb.specs.Slots.{slot_at, is_used, has_number, free, IsPackageNumber}
-use Rattle.rpm_pkgdb.specs.Pairs.{Pairs, find_in}
-use Rattle.rpm_pkgdb.specs.inner.Maps.{Adds}
-use Rattle.rpm_pkgdb.specs.Store.{Store}
-use Rattle.rpm_pkgdb.specs.Blobs.{blocks_for}
 use Rattle.rpm_pkgdb.proofs.Pairwise.{used_below}
 use Rattle.rpm_pkgdb.proofs.ClearLaws.{set_here, set_other}
-use Rattle.rpm_pkgdb.specs.inner.Keeping.{IsKept, AreUsedTo}
-use Rattle.rpm_pkgdb.specs.inner.Ranges.{range_of, UsedBy, AreRangesOf, HasUsed, HasStart, Forgets, ForgetsSlot, Remembers, IsFreeIn}
 use Rattle.rpm_pkgdb.proofs.RangeLaws.{other_start}
-use Rattle.rpm_pkgdb.specs.Plans.{IsTarget, slot_for}
 use Rattle.rpm_pkgdb.proofs.PlanLaws.{fits_to}
 use Rattle.rpm_pkgdb.proofs.PutsLaws.{target_sound, number_le, other_number}
 

@@ -1,17 +1,9 @@
 -- What a store is, by its unit 0.
 use Rattle.std.proofs.Common.{◌≡◌, ℕ, ◌*◌, ◌≤◌, inl, inr, List, [], ◌∷◌, length, true, false, not, Option, Some, None, Result, Ok, Err, IfOk, IfErr, refl, sym, ap, subst, ◌∙◌, arith}
-use Rattle.std.specs.List.{list_any}
-use Rattle.rpm_outside.specs.Files.{Units, unit_at, blank}
-use Rattle.rpm_pkgdb.specs.declared.slot.Reason.{Reason}
-use Rattle.rpm_pkgdb.specs.declared.slot.Damage.{Damage}
-use Rattle.rpm_pkgdb.specs.declared.slot.OpenFault.{OpenFault}
-use Rattle.rpm_pkgdb.specs.declared.slot.OpenFault.TheVariants.{NoMemory}
-use Rattle.rpm_pkgdb.specs.Words.{word, is_nonzero}
-use Rattle.rpm_pkgdb.specs.Costs.{head_cost, opening_cost}
+use Rattle.rpm_pkgdb.proofs.Vocabulary.{blank, blank_store, Damage, damage_at, head_cost, head_reason, in_file, is_blank, is_nonzero, Keeps, list_any}
+use Rattle.rpm_pkgdb.proofs.Vocabulary.{made_or_damaged, NoMemory, OpenFault, opening_cost, OpenIs, Reason, Store, store, store_of, unit_at, Units, word}
 use Rattle.rpm_pkgdb.proofs.Kept.{lawful}
 use Rattle.std.proofs.lemmas.Bool.{cases_Bool}
-use Rattle.rpm_pkgdb.specs.Store.{is_blank, Store, store, store_of, blank_store, in_file, Keeps, made_or_damaged, OpenIs}
-use Rattle.rpm_pkgdb.specs.Damages.{head_reason, damage_at}
 
 pub store_empty : (file : Units) → length file ≡ 0 → store file ≡ Ok blank_store
 unfolding store blank

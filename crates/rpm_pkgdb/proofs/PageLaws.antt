@@ -4,23 +4,10 @@ use Rattle.std.specs.Prelude.{Contains}
 use Rattle.std.proofs.lemmas.Bool.{cases_eq}
 use Rattle.std.proofs.lemmas.Bool.Decides.{nat_tests}
 use Rattle.std.proofs.lemmas.List.Sums.{sum_by-set}
-use Rattle.rpm_blocks.specs.declared.Range.{Range}
-use Rattle.rpm_blocks.specs.Blocks.{range, with_range, without}
-use Rattle.rpm_blocks.specs.Laws.{with_range_here, with_range_keeps, with_range_only, without_keeps, without_only}
-use Rattle.rpm_pkgdb.specs.declared.slot.Slot.{Slot}
-use Rattle.rpm_pkgdb.specs.declared.moved_blocks.Move.{Move}
-use Rattle.rpm_pkgdb.specs.declared.page_plan.Page.{Page}
-use Rattle.rpm_pkgdb.specs.Slots.{slot_at, is_used, free}
-use Rattle.rpm_pkgdb.specs.Store.{Store}
-use Rattle.rpm_pkgdb.specs.Plans.{IsLeast, FitsNowhere}
-use Rattle.rpm_pkgdb.specs.Undamaged.{AreSound}
-use Rattle.rpm_pkgdb.specs.inner.Ranges.{range_of, AreRangesOf}
-use Rattle.rpm_pkgdb.specs.inner.Settings.{CanSet}
-use Rattle.rpm_pkgdb.specs.Growing.{moved}
-use Rattle.rpm_pkgdb.specs.Growing.{after_move, after_moves, IsNextMove, AreMoves, AreBehind}
-use Rattle.rpm_pkgdb.specs.Planned.{CantMove}
-use Rattle.rpm_pkgdb.specs.inner.Pages.{IsFirstBefore, IsPlanning, AllMoved}
-use Rattle.rpm_pkgdb.specs.Placing.{one_before, count_before}
+use Rattle.rpm_pkgdb.proofs.Vocabulary.{after_move, after_moves, AllMoved, AreBehind, AreMoves, AreRangesOf, AreSound, CanSet, CantMove, count_before}
+use Rattle.rpm_pkgdb.proofs.Vocabulary.{FitsNowhere, free, is_used, IsFirstBefore, IsLeast, IsNextMove, IsPlanning, Move, moved, one_before, Page, Range}
+use Rattle.rpm_pkgdb.proofs.Vocabulary.{range, range_of, Slot, slot_at, Store, with_range, with_range_here, with_range_keeps, with_range_only, without}
+use Rattle.rpm_pkgdb.proofs.Vocabulary.{without_keeps, without_only}
 use Rattle.rpm_pkgdb.proofs.ClearLaws.{set_here, set_other}
 use Rattle.rpm_pkgdb.proofs.RangeLaws.{other_start}
 use Rattle.rpm_pkgdb.proofs.SettingLaws.{set_sound}

@@ -1,18 +1,10 @@
 -- The slot that the rule of places takes, and the moves of the page that it asks for.
 use Rattle.std.proofs.Common.{◌≡◌, inl, inr, ℕ, ◌^◌, List, length, true, false, Bool, not, nat_lt, Option, Some, None, if◌then◌else◌, refl, sym, ap, ◌∙◌, arith}
-use Rattle.std.specs.Option.{option_map}
-use Rattle.std.specs.List.{position_or_len}
+use Rattle.rpm_pkgdb.proofs.Vocabulary.{all_moves, AreAllUsed, AreSound, first_free, free, has_number, is_used, IsFirstFree, Move, NeedsPage, next_end}
+use Rattle.rpm_pkgdb.proofs.Vocabulary.{option_map, page_moves, position_or_len, Slot, slot_at, Store}
 use Rattle.std.proofs.lemmas.Bool.{cases_lt}
 use Rattle.std.proofs.lemmas.Bool.Decides.{nat_tests}
 use Rattle.std.proofs.lemmas.List.Sums.{position_or_len_is, fails_before_first}
-use Rattle.rpm_pkgdb.specs.declared.slot.Slot.{Slot}
-use Rattle.rpm_pkgdb.specs.declared.moved_blocks.Move.{Move}
-use Rattle.rpm_pkgdb.specs.Slots.{slot_at, is_used, has_number, free}
-use Rattle.rpm_pkgdb.specs.Store.{Store}
-use Rattle.rpm_pkgdb.specs.Undamaged.{AreSound}
-use Rattle.rpm_pkgdb.specs.Plans.{IsFirstFree, AreAllUsed}
-use Rattle.rpm_pkgdb.specs.Growing.{NeedsPage, next_end}
-use Rattle.rpm_pkgdb.specs.Placing.{first_free, all_moves, page_moves}
 use Rattle.rpm_pkgdb.proofs.Facts.{cases_Bool, number_facts}
 use Rattle.rpm_pkgdb.proofs.Pairwise.{used_below}
 use Rattle.rpm_pkgdb.proofs.MoveRules.{all_made}

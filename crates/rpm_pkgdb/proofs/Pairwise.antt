@@ -1,18 +1,13 @@
 -- Nothing is wrong with a table exactly where each slot is right by itself and any two used ones are apart.
 use Rattle.std.proofs.Common.{◌≡◌, inl, inr, ℕ, zero, suc, ◌+◌, ◌-◌, ◌<◌, List, [], ◌∷◌, length, take, map, true, false, Option, Some, None, refl, sym, ap, ◌∙◌, subst, arith, codes}
-use Rattle.std.specs.List.{list_any, range_with_len}
-use Rattle.std.specs.Option.{option_map, option_or}
+use Rattle.rpm_pkgdb.proofs.Vocabulary.{AreApart, AreSound, begins, blank, damage_at, end_of, fault_at, first, free, has_number, is_used, IsPlaced, list_any}
+use Rattle.rpm_pkgdb.proofs.Vocabulary.{meets, option_map, option_or, own_reason, range_with_len, shared_reason, Slot, slot_at, slot_fault, slot_of, slots_in}
+use Rattle.rpm_pkgdb.proofs.Vocabulary.{table_fault, unit_at, Units, used_reason}
 use Rattle.std.proofs.lemmas.List.{get_or-take, get_or_past, length-take}
 use Rattle.std.proofs.lemmas.Bool.{cases_lt}
 use Rattle.std.proofs.lemmas.Bool.Decides.{nat_tests}
-use Rattle.rpm_outside.specs.Files.{Units, unit_at, blank}
-use Rattle.rpm_pkgdb.specs.declared.slot.Slot.{Slot}
-use Rattle.rpm_pkgdb.specs.Words.{begins}
-use Rattle.rpm_pkgdb.specs.Slots.{slot_of, slots_in, slot_at, is_used, end_of, free, has_number, meets}
-use Rattle.rpm_pkgdb.specs.Damages.{own_reason, used_reason, shared_reason, slot_fault, damage_at, first, fault_at, table_fault}
 use Rattle.rpm_pkgdb.proofs.Facts.{cases_Bool, none_at, no_place, number_facts, has_it_from, meet_facts, meet_from}
 use Rattle.rpm_pkgdb.proofs.Sound.{placed, fresh_number, fresh_blocks, no_own, no_shared}
-use Rattle.rpm_pkgdb.specs.Undamaged.{AreApart, AreSound, IsPlaced}
 
 -- ---- the first of some faults
 

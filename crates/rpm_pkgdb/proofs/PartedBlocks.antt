@@ -2,10 +2,7 @@
 use Rattle.std.proofs.Common.{◌≡◌, ℕ, suc, ◌+◌, ◌-◌, ◌*◌, ◌/◌, ◌<◌, ◌≤◌, List, ◌++◌, length, take, drop, sym, ap, ◌∙◌, arith}
 use Rattle.std.proofs.Math.Seq.{drop-cons}
 use Rattle.std.proofs.lemmas.List.{drop-append-le, drop_all, get_or-take, get_or-drop, length-take}
-use Rattle.rpm_outside.specs.Files.{Units, unit_at, units_of, bytes_of, blank}
-use Rattle.rpm_outside.specs.inner.Cuts.{unit_at-cut_up}
-use Rattle.rpm_pkgdb.specs.declared.slot.Slot.{Slot}
-use Rattle.rpm_pkgdb.specs.Blobs.{Frame, blocks_at}
+use Rattle.rpm_pkgdb.proofs.Vocabulary.{blank, blocks_at, bytes_of, Frame, Slot, unit_at, unit_at-cut_up, Units, units_of}
 
 abbrev pub parts : List ℕ → List ℕ → Frame
 parts head rest = record { head = head; rest = rest }

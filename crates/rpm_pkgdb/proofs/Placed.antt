@@ -1,22 +1,13 @@
 -- Where the slot of a number lies, in a store without damage.
 use Rattle.std.proofs.Common.{◌≡◌, ℕ, zero, suc, ◌<◌, List, [], ◌∷◌, ◌++◌, length, true, Option, Some, None, Result, Ok, refl, sym, ap, ◌∙◌, arith, inl, inr}
 use Rattle.std.proofs.lemmas.Bool.{cases_Bool}
-use Rattle.std.specs.Option.{option_or}
-use Rattle.std.specs.List.{list_any}
-use Rattle.rpm_outside.specs.Files.{Units, unit_at}
-use Rattle.rpm_pkgdb.specs.declared.slot.Slot.{Slot}
-use Rattle.rpm_pkgdb.specs.declared.slot.Reason.{Reason}
-use Rattle.rpm_pkgdb.specs.declared.slot.Damage.{Damage}
+use Rattle.rpm_pkgdb.proofs.Vocabulary.{blank_store, Damage, free, has_number, head_reason, is_blank, is_used, IsPlaced, list_any, made_or_damaged}
+use Rattle.rpm_pkgdb.proofs.Vocabulary.{made_store, option_or, own_reason, Reason, run, Slot, slot_at, slot_fault, slot_of, slot_with, slots_in, Store, store}
+use Rattle.rpm_pkgdb.proofs.Vocabulary.{table, table_fault, table_is_run, unit_at, Units, unless, word}
 use Rattle.rpm_pkgdb.proofs.Facts.{number_facts}
 use Rattle.rpm_pkgdb.proofs.Kept.{find_none, find_some}
 use Rattle.rpm_pkgdb.proofs.Sound.{placed_slot, no_own}
 use Rattle.rpm_pkgdb.proofs.Steps.{length-slots_in}
-use Rattle.rpm_pkgdb.specs.Words.{word}
-use Rattle.rpm_pkgdb.specs.Store.{Store, store, blank_store, made_store, made_or_damaged, is_blank, unless}
-use Rattle.rpm_pkgdb.specs.Damages.{head_reason, slot_fault, own_reason, table, table_fault}
-use Rattle.rpm_pkgdb.specs.Slots.{is_used, has_number, slot_with, slot_of, slots_in, free, slot_at}
-use Rattle.rpm_pkgdb.specs.inner.Runs.{run, table_is_run}
-use Rattle.rpm_pkgdb.specs.Undamaged.{IsPlaced}
 
 both_none : {X : Type 0} (a b : Option X) → option_or a b ≡ None → (a ≡ None) × (b ≡ None)
 both_none None b e = (refl, e)

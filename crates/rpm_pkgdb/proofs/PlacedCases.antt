@@ -1,10 +1,6 @@
 -- The rule of places at work on packages of 80 bytes, which take seven blocks each.
 use Rattle.std.proofs.Common.{◌≡◌, ℕ, List, [], ◌∷◌, ◌++◌, replicate, false, Some, None, refl}
-use Rattle.rpm_pkgdb.specs.declared.slot.Slot.{Slot}
-use Rattle.rpm_pkgdb.specs.Slots.{free}
-use Rattle.rpm_pkgdb.specs.Store.{Store}
-use Rattle.rpm_pkgdb.specs.Written.{erased, freed}
-use Rattle.rpm_pkgdb.specs.Placing.{first_fit, first_free, page_moves, placed, placed_in, put_in}
+use Rattle.rpm_pkgdb.proofs.Vocabulary.{erased, first_fit, first_free, free, freed, page_moves, placed, placed_in, put_in, Slot, Store}
 
 slot : ℕ → ℕ → Slot
 slot number start = record { number = number; offset = start; count = 7 }

@@ -1,22 +1,10 @@
 -- Plans are those that the rule of places says, and the store is full where it says so.
 use Rattle.std.proofs.Common.{◌≡◌, ℕ, ◌*◌, ◌≤◌, List, length, true, false, Bool, Option, Some, None, is_none, if◌then◌else◌, refl, sym, ap, ◌∙◌, subst, arith}
 use Rattle.std.specs.Prelude.{IfSome}
-use Rattle.std.specs.Option.{option_map, option_and_then}
-use Rattle.std.specs.List.{position_or_len}
-use Rattle.rpm_pkgdb.specs.declared.moved_blocks.Move.{Move}
-use Rattle.rpm_pkgdb.specs.declared.plan.Target.{Target}
-use Rattle.rpm_pkgdb.specs.declared.plan.Plan.{Plan}
-use Rattle.rpm_pkgdb.specs.Slots.{slot_at, has_number}
-use Rattle.rpm_pkgdb.specs.Pairs.{Pairs}
-use Rattle.rpm_pkgdb.specs.Store.{Store, next_number}
-use Rattle.rpm_pkgdb.specs.Blobs.{blocks_for}
-use Rattle.rpm_pkgdb.specs.Plans.{IsFirstFree, AreAllUsed, IsLeast, FitsNowhere, IsTarget}
-use Rattle.rpm_pkgdb.specs.Growing.{after_moves, NeedsPage, grown, next_end}
-use Rattle.rpm_pkgdb.specs.Planned.{moves_of, IsPlan, IsFor, CantMove, IsFull}
-use Rattle.rpm_pkgdb.specs.Planned.IsFull.{NoRoom, NoMove}
-use Rattle.rpm_pkgdb.specs.Placing.{first_free, page_moves, Placement, placed_in, placed, placement_of, replaced_by}
-use Rattle.rpm_pkgdb.specs.inner.Keeping.{IsKept}
-use Rattle.rpm_pkgdb.specs.inner.Pages.{IsFirstBefore}
+use Rattle.rpm_pkgdb.proofs.Vocabulary.{after_moves, AreAllUsed, blocks_for, CantMove, first_free, FitsNowhere, grown, has_number, IsFirstBefore, IsFirstFree}
+use Rattle.rpm_pkgdb.proofs.Vocabulary.{IsFor, IsFull, IsKept, IsLeast, IsPlan, IsTarget, Move, moves_of, NeedsPage, next_end, next_number, NoMove, NoRoom}
+use Rattle.rpm_pkgdb.proofs.Vocabulary.{option_and_then, option_map, page_moves, Pairs, placed, placed_in, Placement, placement_of, Plan, position_or_len}
+use Rattle.rpm_pkgdb.proofs.Vocabulary.{replaced_by, slot_at, Store, Target}
 use Rattle.rpm_pkgdb.proofs.Pairwise.{used_below}
 use Rattle.rpm_pkgdb.proofs.RangeLaws.{other_start}
 use Rattle.rpm_pkgdb.proofs.PlannedLaws.{first_behind, moves_sound, none_for}

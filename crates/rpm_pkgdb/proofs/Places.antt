@@ -1,15 +1,11 @@
 -- Which slot has a number, where slots are sound or one is set.
 use Rattle.std.proofs.Common.{◌≡◌, inl, inr, ℕ, zero, suc, ◌<◌, List, [], ◌∷◌, length, get_or, true, false, Bool, Some, None, refl, sym, ap, ◌∙◌, arith, set, map, length-set}
-use Rattle.std.specs.List.{list_any, find}
+use Rattle.rpm_pkgdb.proofs.Vocabulary.{AreSound, find, free, freed, freed_slot, has_number, list_any, Slot, slot_at, slot_with}
 use Rattle.std.proofs.lemmas.List.{get_or_default, same_lists}
 use Rattle.std.proofs.lemmas.Bool.{cases_eq}
-use Rattle.rpm_pkgdb.specs.declared.slot.Slot.{Slot}
-use Rattle.rpm_pkgdb.specs.Slots.{slot_at, slot_with, has_number, free}
 use Rattle.rpm_pkgdb.proofs.Facts.{cases_Bool, number_facts, none_at}
-use Rattle.rpm_pkgdb.specs.Undamaged.{AreSound}
 use Rattle.rpm_pkgdb.proofs.Pairwise.{used_below}
 use Rattle.rpm_pkgdb.proofs.ClearLaws.{set_here, set_other}
-use Rattle.rpm_pkgdb.specs.Written.{freed_slot, freed}
 
 find_none : {X : Type 0} (p : X → Bool) (xs : List X) → list_any p xs ≡ false → find p xs ≡ None
 find_none p [] none = refl

@@ -1,16 +1,8 @@
 -- Plans with and without a slot page.
 use Rattle.std.proofs.Common.{◌≡◌, ℕ, ◌+◌, ◌*◌, ◌/◌, ◌<◌, ◌≤◌, List, length, true, false, Bool, Some, None, refl, sym, ap, ◌∙◌, subst, arith}
-use Rattle.rpm_pkgdb.specs.declared.slot.Slot.{Slot}
-use Rattle.rpm_pkgdb.specs.declared.page_plan.Page.{Page}
-use Rattle.rpm_pkgdb.specs.Slots.{slot_at, is_used, has_number, IsPackageNumber}
-use Rattle.rpm_pkgdb.specs.Pairs.{Pairs}
-use Rattle.rpm_pkgdb.specs.Store.{Store, next_number}
-use Rattle.rpm_pkgdb.specs.Blobs.{blocks_for}
-use Rattle.rpm_pkgdb.specs.Plans.{IsFirstFree, IsLeast, FitsNowhere, AreAllUsed}
-use Rattle.rpm_pkgdb.specs.Growing.{NeedsPage, CanAdd, grown, next_end}
-use Rattle.rpm_pkgdb.specs.Planned.{HoldsPage, IsPlan, IsFull, CantMove}
-use Rattle.rpm_pkgdb.specs.Planned.IsFull.{NoRoom, NoMove}
-use Rattle.rpm_pkgdb.specs.inner.Keeping.{IsKept}
+use Rattle.rpm_pkgdb.proofs.Vocabulary.{AreAllUsed, blocks_for, CanAdd, CantMove, FitsNowhere, grown, has_number, HoldsPage, is_used, IsFirstFree, IsFull}
+use Rattle.rpm_pkgdb.proofs.Vocabulary.{IsKept, IsLeast, IsPackageNumber, IsPlan, NeedsPage, next_end, next_number, NoMove, NoRoom, Page, Pairs, Slot}
+use Rattle.rpm_pkgdb.proofs.Vocabulary.{slot_at, Store}
 use Rattle.rpm_pkgdb.proofs.PlannedLaws.{same_next, first_behind}
 
 -- 43 more than a blob, in blocks

@@ -1,13 +1,8 @@
 -- Places among ranges are places among slots.
 use Rattle.std.proofs.Common.{inl, inr, ℕ, ◌+◌, ◌^◌, ◌≤◌, List, Option, Some, None, MatchOption, sym, subst}
-use Rattle.rpm_blocks.specs.declared.Range.{Range}
-use Rattle.rpm_blocks.specs.Blocks.{range, end_of as range_end, Fits as FitsIn, IsLeastFit}
-use Rattle.rpm_blocks.specs.Laws.{apart_from_free, free_from_apart}
-use Rattle.rpm_pkgdb.specs.declared.slot.Slot.{Slot}
-use Rattle.rpm_pkgdb.specs.Slots.{slot_at}
-use Rattle.rpm_pkgdb.specs.Undamaged.{AreSound}
-use Rattle.rpm_pkgdb.specs.inner.Ranges.{range_of, AreRangesOf}
-use Rattle.rpm_pkgdb.specs.Plans.{Fits, IsLeast, FitsNowhere}
+use Rattle.rpm_pkgdb.proofs.Vocabulary.{apart_from_free, AreRangesOf, AreSound, Fits, FitsNowhere, free_from_apart, IsLeast, IsLeastFit, Range, range}
+use Rattle.rpm_pkgdb.proofs.Vocabulary.{range_of, Slot, slot_at}
+use Rattle.rpm_blocks.specs.Blocks.{end_of as range_end, Fits as FitsIn}
 
 module _ (pages : ℕ) (ranges : List Range) (slots : List Slot) (sound : AreSound pages (2 ^ 28) slots) (are : AreRangesOf ranges slots) (count : ℕ)
     (some : 1 ≤ count) where

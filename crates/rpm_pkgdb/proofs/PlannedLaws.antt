@@ -4,20 +4,9 @@ use Rattle.std.specs.Prelude.{Contains}
 use Rattle.std.proofs.lemmas.Bool.{cases_eq}
 use Rattle.std.proofs.lemmas.Bool.Decides.{nat_tests}
 use Rattle.std.proofs.lemmas.List.{length-replicate}
-use Rattle.rpm_blocks.specs.declared.Range.{Range}
-use Rattle.rpm_pkgdb.specs.declared.slot.Slot.{Slot}
-use Rattle.rpm_pkgdb.specs.declared.moved_blocks.Move.{Move}
-use Rattle.rpm_pkgdb.specs.Slots.{slot_at, is_used, greatest_number, free, IsPackageNumber}
-use Rattle.rpm_pkgdb.specs.Pairs.{Pairs, find_in}
-use Rattle.rpm_pkgdb.specs.Store.{Store, next_number}
-use Rattle.rpm_pkgdb.specs.Undamaged.{AreSound}
-use Rattle.rpm_pkgdb.specs.Plans.{IsFirstFree}
-use Rattle.rpm_pkgdb.specs.Growing.{moved, after_move, after_moves, IsNextMove, AreMoves, CanAdd, NeedsPage, grown, next_end}
-use Rattle.rpm_pkgdb.specs.inner.Keeping.{IsKept}
-use Rattle.rpm_pkgdb.specs.inner.Ranges.{range_of, AreRangesOf}
-use Rattle.rpm_pkgdb.specs.inner.Grows.{CanGrow}
-use Rattle.rpm_pkgdb.specs.inner.Pages.{IsFirstBefore}
-use Rattle.rpm_pkgdb.specs.inner.MoveLists.{with_moves, CanGrowBy}
+use Rattle.rpm_pkgdb.proofs.Vocabulary.{after_move, after_moves, AreMoves, AreRangesOf, AreSound, CanAdd, CanGrow, CanGrowBy, find_in, free, greatest_number}
+use Rattle.rpm_pkgdb.proofs.Vocabulary.{grown, is_used, IsFirstBefore, IsFirstFree, IsKept, IsNextMove, IsPackageNumber, Move, moved, NeedsPage, next_end}
+use Rattle.rpm_pkgdb.proofs.Vocabulary.{next_number, Pairs, Range, range_of, Slot, slot_at, Store, with_moves}
 use Rattle.rpm_pkgdb.proofs.Facts.{number_facts, has_it_from}
 use Rattle.rpm_pkgdb.proofs.Pairwise.{used_below}
 use Rattle.rpm_pkgdb.proofs.ClearLaws.{set_here, set_other}

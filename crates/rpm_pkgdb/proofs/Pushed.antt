@@ -3,8 +3,7 @@ use Rattle.std.proofs.Common.{◌≡◌, ◌≢◌, inl, inr, ℕ, ◌<◌, [], 
 use Rattle.std.proofs.lemmas.List.{get_or_append_left, get_or_push, length_push}
 use Rattle.std.proofs.lemmas.Bool.{cases_lt}
 use Rattle.std.proofs.lemmas.Bool.Decides.{nat_tests}
-use Rattle.rpm_pkgdb.specs.Pairs.{Pairs, find_in, key_at, IsStrictlySorted}
-use Rattle.rpm_pkgdb.specs.inner.Maps.{Adds}
+use Rattle.rpm_pkgdb.proofs.Vocabulary.{Adds, find_in, IsStrictlySorted, key_at, Pairs}
 use Rattle.rpm_pkgdb.proofs.Place.{found_at}
 
 find_other : (l : Pairs) (n p m : ℕ) → m ≢ n → find_in (l ++ (n, p) ∷ []) m ≡ find_in l m

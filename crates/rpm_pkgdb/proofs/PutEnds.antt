@@ -1,18 +1,13 @@
 -- What a put leaves, for its caller.
 use Rattle.std.proofs.Common.{◌≡◌, inl, inr, ℕ, ◌+◌, ◌-◌, ◌<◌, ◌≤◌, length, take, drop, true, false, Option, Some, None, sym, ap, ◌∙◌, subst, arith}
-use Rattle.rpm_outside.specs.Files.{Units, unit_at, blank}
-use Rattle.rpm_pkgdb.specs.declared.slot.Slot.{Slot}
-use Rattle.rpm_pkgdb.specs.declared.plan.Target.{Target}
+use Rattle.rpm_pkgdb.proofs.Vocabulary.{AreZeros, blank, end_of, has_number, Holds, Keeps, next_number, Slot, slot_at, slot_with, Store, Target, unit_at}
+use Rattle.rpm_pkgdb.proofs.Vocabulary.{Units}
 use Rattle.rpm_pkgdb.proofs.Facts.{cases_Bool, number_facts}
-use Rattle.rpm_pkgdb.specs.Slots.{slot_at, slot_with, has_number, end_of}
-use Rattle.rpm_pkgdb.specs.Store.{Store, Keeps, next_number}
 use Rattle.rpm_pkgdb.proofs.Made.{made}
-use Rattle.rpm_pkgdb.specs.inner.Clear.{Holds}
 use Rattle.rpm_pkgdb.proofs.FramingLaws.{held_part}
 use Rattle.rpm_pkgdb.proofs.Places.{Search, search_for, with_at}
 use Rattle.rpm_pkgdb.proofs.Places.Search.{Here, Nowhere}
 use Rattle.rpm_pkgdb.proofs.PutsLaws.{number_le}
-use Rattle.rpm_pkgdb.specs.Written.{AreZeros}
 
 -- units that stand at a place
 pub whole_part : (file : Units) (at n : ℕ) (us : Units) → length us ≡ n → Holds file at us → take n (drop at file) ≡ us

@@ -2,9 +2,7 @@
 use Rattle.std.proofs.Common.{◌≡◌, inl, inr, ℕ, zero, suc, ◌+◌, ◌-◌, ◌*◌, ◌/◌, ◌%◌, ◌≤◌, List, [], ◌∷◌, ◌++◌, length, take, drop, refl, sym, ap, ◌∙◌, arith, length-append, length-drop}
 use Rattle.std.proofs.lemmas.Bool.{cases_lt}
 use Rattle.std.proofs.lemmas.List.{get_or_append_left, get_or-append_right, take-append-le, drop-append-le, nil_from_length}
-use Rattle.rpm_outside.specs.Files.{Units, unit_at, units_of, cut_up, put, blank}
-use Rattle.rpm_outside.specs.inner.Puts.{length-put, put_before, put_inside, put_after}
-use Rattle.rpm_outside.specs.inner.PutLaws.{same_units}
+use Rattle.rpm_pkgdb.proofs.Vocabulary.{blank, cut_up, length-put, put, put_after, put_before, put_inside, same_units, unit_at, Units, units_of}
 
 module _ (at : ℕ) (us vs file : Units) where
   abbrev first : Units

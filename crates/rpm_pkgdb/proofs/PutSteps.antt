@@ -1,23 +1,10 @@
 -- A blob is put after the slot page that its plan asks for.
 use Rattle.std.proofs.Common.{◌≡◌, ◌≢◌, ◌⊎◌, inl, inr, set, ℕ, ◌+◌, ◌*◌, ◌^◌, ◌<◌, ◌≤◌, List, length, true, false, Option, Some, sym, ap, ◌∙◌, subst, arith}
 use Rattle.std.specs.FinMap as finite
-use Rattle.rpm_outside.specs.Files.{Units, unit_at, blank}
-use Rattle.rpm_pkgdb.specs.declared.slot.Slot.{Slot}
-use Rattle.rpm_pkgdb.specs.declared.moved_blocks.Move.{Move}
-use Rattle.rpm_pkgdb.specs.declared.plan.Plan.{Plan}
-use Rattle.rpm_pkgdb.specs.Slots.{slot_at, is_used, end_of, has_number, free}
-use Rattle.rpm_pkgdb.specs.Pairs.{Pairs}
-use Rattle.rpm_pkgdb.specs.Store.{Store}
-use Rattle.rpm_pkgdb.specs.Blobs.{blobs, blocks_for}
-use Rattle.rpm_pkgdb.specs.Growing.{grown}
-use Rattle.rpm_pkgdb.specs.Planned.{moves_of, IsPlan}
-use Rattle.rpm_pkgdb.specs.Quiet.{BlobMap, StandsFor}
-use Rattle.rpm_pkgdb.specs.Written.{next_field, field_after, PutsTo}
-use Rattle.rpm_pkgdb.specs.inner.Keeping.{IsKept}
-use Rattle.rpm_pkgdb.specs.inner.Puts.{CanPut}
+use Rattle.rpm_pkgdb.proofs.Vocabulary.{AreFreed, blank, BlobMap, blobs, blocks_for, CanPut, end_of, field_after, free, grown, has_number, is_used, IsKept}
+use Rattle.rpm_pkgdb.proofs.Vocabulary.{IsPlan, KeepsBlank, Move, moves_of, next_field, Pairs, Plan, PutsTo, Slot, slot_at, slot_for, StandsFor, Store}
+use Rattle.rpm_pkgdb.proofs.Vocabulary.{unit_at, Units}
 use Rattle.std.proofs.lemmas.Bool.Decides.{nat_tests}
-use Rattle.rpm_pkgdb.specs.Plans.{slot_for}
-use Rattle.rpm_pkgdb.specs.Freed.{AreFreed, KeepsBlank}
 use Rattle.rpm_pkgdb.proofs.Facts.{cases_Bool}
 use Rattle.rpm_pkgdb.proofs.FreedLaws.{freed_put, decide_block}
 use Rattle.rpm_pkgdb.proofs.PlannedLaws.{grown_kept, none_for, grown_made, may_grow}

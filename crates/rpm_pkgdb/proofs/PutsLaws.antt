@@ -1,29 +1,15 @@
 -- What a crash leaves while a blob is put.
 use Rattle.std.proofs.Common.{◌≡◌, ◌≢◌, inl, inr, ℕ, zero, suc, ◌+◌, ◌^◌, ◌≤◌, List, [], ◌∷◌, length, true, if◌then◌else◌, Option, None, refl, sym, ap, ◌∙◌, subst, arith, set}
-use Rattle.rpm_outside.specs.Files.{Units, unit_at, units_of, put}
-use Rattle.rpm_outside.specs.Crash.{Torn}
-use Rattle.rpm_outside.specs.inner.Puts.{length-put, put_before, put_inside, put_after}
-use Rattle.rpm_pkgdb.specs.declared.slot.Slot.{Slot}
-use Rattle.rpm_pkgdb.specs.declared.plan.Target.{Target}
-use Rattle.rpm_pkgdb.specs.Slots.{slot_at, is_used, end_of, greatest_number}
+use Rattle.rpm_pkgdb.proofs.Vocabulary.{After, AreSound, Before, BlobPut, BlobTorn, blocks_for, CanPut, CanSet, end_of, framed, greatest_number, Holds}
+use Rattle.rpm_pkgdb.proofs.Vocabulary.{is_used, IsSlotUnit, IsTarget, Keeps, length-put, next_field, Numbered, put, put_after, put_before, put_inside}
+use Rattle.rpm_pkgdb.proofs.Vocabulary.{SameOutside, Slot, slot_at, slot_for, StandsAs, StandsWith, Store, Target, Torn, unit_at, Units, units_of, WhilePut}
+use Rattle.rpm_pkgdb.proofs.Vocabulary.{with_blob, with_next}
 use Rattle.rpm_pkgdb.proofs.Facts.{cases_Bool, number_facts}
-use Rattle.rpm_pkgdb.specs.Store.{Store, Keeps}
-use Rattle.rpm_pkgdb.specs.Blobs.{blocks_for}
-use Rattle.rpm_pkgdb.specs.Undamaged.{AreSound, IsSlotUnit}
 use Rattle.rpm_pkgdb.proofs.Pairwise.{used_below}
 use Rattle.rpm_pkgdb.proofs.Made.{made}
-use Rattle.rpm_pkgdb.specs.Stays.{SameOutside}
-use Rattle.rpm_pkgdb.specs.inner.Clear.{Holds}
-use Rattle.rpm_pkgdb.specs.Framing.{framed}
 use Rattle.rpm_pkgdb.proofs.FramingLaws.{count-framed}
-use Rattle.rpm_pkgdb.specs.Plans.{IsTarget, slot_for}
-use Rattle.rpm_pkgdb.specs.Quiet.{StandsAs}
-use Rattle.rpm_pkgdb.specs.inner.Settings.{CanSet}
 use Rattle.rpm_pkgdb.proofs.SettingLaws.{set_sound, aside_stands, set_stands, while_set, set_aside, old_clear, set_alike}
 use Rattle.rpm_pkgdb.proofs.FieldLaws.{field_torn_stands, field_stands, field_keeps, field_longer}
-use Rattle.rpm_pkgdb.specs.inner.Puts.{BlobTorn, BlobPut, CanPut, StandsWith, WhilePut}
-use Rattle.rpm_pkgdb.specs.Written.{next_field, with_next, with_blob}
-use Rattle.rpm_pkgdb.specs.inner.Puts.WhilePut.{Before, Numbered, After}
 
 pub number_le : (slots : List Slot) (k : ℕ) → is_used (slot_at slots k) ≡ true → (slot_at slots k).number ≤ greatest_number slots
 number_le [] k used = absurd (omega (arith, used_below [] k used))

@@ -2,21 +2,13 @@
 use Rattle.std.proofs.Common.{◌≡◌, ◌≢◌, inl, inr, ℕ, ◌^◌, ◌<◌, ◌≤◌, List, length, true, false, Some, refl, sym, ap, ◌∙◌, arith}
 use Rattle.std.specs.FinMap as finite
 use Rattle.std.proofs.lemmas.Bool.Decides.{nat_tests}
-use Rattle.rpm_outside.specs.Files.{Units}
-use Rattle.rpm_pkgdb.specs.declared.slot.Slot.{Slot}
-use Rattle.rpm_pkgdb.specs.declared.plan.Target.{Target}
-use Rattle.rpm_pkgdb.specs.Slots.{slot_at, is_used, has_number}
+use Rattle.rpm_pkgdb.proofs.Vocabulary.{After, Before, blobs, blocks_for, CanPut, has_number, in_file, is_used, Keeps, next_field, Numbered, PutsTo, Slot}
+use Rattle.rpm_pkgdb.proofs.Vocabulary.{slot_at, slot_for, StandsWith, Store, Target, Units, WhilePut, with_blob, with_next}
 use Rattle.rpm_pkgdb.proofs.Facts.{cases_Bool, number_facts, has_it_from}
-use Rattle.rpm_pkgdb.specs.Store.{Store, Keeps, in_file}
-use Rattle.rpm_pkgdb.specs.Blobs.{blobs, blocks_for}
 use Rattle.rpm_pkgdb.proofs.BlobMaps.{same_blobs, put_blobs}
 use Rattle.rpm_pkgdb.proofs.Made.{made}
 use Rattle.rpm_pkgdb.proofs.FramingLaws.{frame, framed_frame, blob_is}
-use Rattle.rpm_pkgdb.specs.Plans.{slot_for}
 use Rattle.rpm_pkgdb.proofs.ErasesTo.{stands_for, unfolded}
-use Rattle.rpm_pkgdb.specs.inner.Puts.{CanPut, StandsWith, WhilePut}
-use Rattle.rpm_pkgdb.specs.Written.{next_field, with_next, with_blob, PutsTo}
-use Rattle.rpm_pkgdb.specs.inner.Puts.WhilePut.{Before, Numbered, After}
 
 module _ (st : Store) (target : Target) (g : ℕ) (old : Slot) (blob : List ℕ) (can : CanPut st target g old blob) where
   abbrev s : Slot

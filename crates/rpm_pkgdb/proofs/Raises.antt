@@ -1,17 +1,12 @@
 -- What a crash leaves while the generation is raised.
 use Rattle.std.proofs.Common.{◌≡◌, inl, inr, ℕ, ◌≤◌, List, [], ◌∷◌, refl, sym, ◌∙◌, subst, arith}
-use Rattle.rpm_outside.specs.Files.{Units, Files, put}
-use Rattle.rpm_outside.specs.Crash.{Torn}
-use Rattle.rpm_pkgdb.specs.Store.{Store, Keeps, in_file}
-use Rattle.rpm_pkgdb.specs.Blobs.{blobs}
+use Rattle.rpm_pkgdb.proofs.Vocabulary.{BeforeOrAfter, blobs, Files, in_file, IsHeadUnit, IsQuiet, Keeps, put, RaisesTo, StandsAs, Store, Torn, Units}
+use Rattle.rpm_pkgdb.proofs.Vocabulary.{with_generation}
 use Rattle.rpm_pkgdb.proofs.BlobMaps.{same_blobs}
-use Rattle.rpm_pkgdb.specs.Undamaged.{IsHeadUnit}
 use Rattle.rpm_pkgdb.proofs.Made.{made, from_made}
 use Rattle.rpm_pkgdb.proofs.ClearLaws.{torn_one, head_made, page_blocks}
-use Rattle.rpm_pkgdb.specs.Quiet.{StandsAs, IsQuiet, BeforeOrAfter}
 use Rattle.rpm_pkgdb.proofs.Erases.{blocks_then, stands_by}
 use Rattle.rpm_pkgdb.proofs.ErasesTo.{stands_for, unfolded}
-use Rattle.rpm_pkgdb.specs.Written.{with_generation, RaisesTo}
 
 module _ (st : Store) (some : 1 ≤ st.pages) (unit : List ℕ) (generation : ℕ) (is : IsHeadUnit unit generation st.pages) where
   abbrev after : Store

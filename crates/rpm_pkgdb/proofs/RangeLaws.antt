@@ -2,15 +2,10 @@
 use Rattle.std.proofs.Common.{◌≡◌, ◌≢◌, inl, inr, ℕ, ◌^◌, List, true, sym, ap, ◌∙◌, subst, arith, set, Option, Some, None}
 use Rattle.std.specs.Prelude.{Contains}
 use Rattle.std.proofs.lemmas.Bool.{cases_eq}
-use Rattle.rpm_blocks.specs.declared.Range.{Range}
-use Rattle.rpm_blocks.specs.Blocks.{Blocks, without}
-use Rattle.rpm_blocks.specs.Laws.{without_keeps, without_only, begins_in}
-use Rattle.rpm_pkgdb.specs.declared.slot.Slot.{Slot}
-use Rattle.rpm_pkgdb.specs.Slots.{slot_at, is_used, free}
-use Rattle.rpm_pkgdb.specs.Undamaged.{AreSound}
+use Rattle.rpm_pkgdb.proofs.Vocabulary.{AreRangesOf, AreSound, begins_in, Blocks, Forgets, free, HasStart, HasUsed, is_used, Range, range_of, Slot, slot_at}
+use Rattle.rpm_pkgdb.proofs.Vocabulary.{without, without_keeps, without_only}
 use Rattle.rpm_pkgdb.proofs.ClearLaws.{set_here, set_other}
 use Rattle.rpm_pkgdb.proofs.Pairwise.{used_below}
-use Rattle.rpm_pkgdb.specs.inner.Ranges.{range_of, AreRangesOf, HasUsed, HasStart, Forgets}
 
 module _ (pages : ℕ) (slots : List Slot) (sound : AreSound pages (2 ^ 28) slots) where
   -- two used slots begin at different blocks

@@ -3,24 +3,9 @@ use Rattle.std.proofs.Common.{◌≡◌, ◌≢◌, inl, inr, ℕ, zero, suc, �
 use Rattle.std.proofs.lemmas.Bool.{cases_eq, cases_lt}
 use Rattle.std.proofs.lemmas.Bool.Decides.{nat_tests}
 use Rattle.std.proofs.lemmas.List.{take_all}
-use Rattle.rpm_outside.specs.Files.{Units, put}
-use Rattle.rpm_outside.specs.inner.Puts.{length-put}
-use Rattle.rpm_pkgdb.specs.declared.slot.Slot.{Slot}
-use Rattle.rpm_pkgdb.specs.declared.moved_blocks.Move.{Move}
-use Rattle.rpm_pkgdb.specs.declared.plan.Plan.{Plan}
-use Rattle.rpm_pkgdb.specs.Slots.{slot_at, is_used, end_of, free}
-use Rattle.rpm_pkgdb.specs.Pairs.{Pairs}
-use Rattle.rpm_pkgdb.specs.Store.{Store, Keeps}
-use Rattle.rpm_pkgdb.specs.Stays.{SameOutside}
-use Rattle.rpm_pkgdb.specs.Growing.{moved, CanAdd, grown}
-use Rattle.rpm_pkgdb.specs.Planned.{moves_of, IsPlan}
-use Rattle.rpm_pkgdb.specs.Plans.{slot_for}
-use Rattle.rpm_pkgdb.specs.Reaches.{last_end, store_end}
-use Rattle.rpm_pkgdb.specs.Written.{with_plan}
-use Rattle.rpm_pkgdb.specs.inner.Keeping.{IsKept}
-use Rattle.rpm_pkgdb.specs.inner.MoveLists.{AreMovesOf, with_moves, move_at}
-use Rattle.rpm_pkgdb.specs.inner.Puts.{FieldPut, BlobPut}
-use Rattle.rpm_pkgdb.specs.inner.Within.{EndsBy, IsWithin, MovesWithin}
+use Rattle.rpm_pkgdb.proofs.Vocabulary.{AreMovesOf, BlobPut, CanAdd, end_of, EndsBy, FieldPut, free, grown, is_used, IsKept, IsPlan, IsWithin, Keeps}
+use Rattle.rpm_pkgdb.proofs.Vocabulary.{last_end, length-put, Move, move_at, moved, moves_of, MovesWithin, Pairs, Plan, put, SameOutside, Slot, slot_at}
+use Rattle.rpm_pkgdb.proofs.Vocabulary.{slot_for, Store, store_end, Units, with_moves, with_plan}
 use Rattle.rpm_pkgdb.proofs.Facts.{cases_Bool, number_facts}
 use Rattle.rpm_pkgdb.proofs.GrowLaws.{at_front}
 use Rattle.rpm_pkgdb.proofs.GrowSteps.{moved_within}
@@ -128,7 +113,8 @@ module _ (value : Store) (moves : List Move) (k : ℕ) (are : AreMovesOf value m
       let used : is_used (slot_at value.slots m.place) ≡ true = ap is_used (sym (unmoved value moves k are below)) ∙ next.used in
       let here = used_below value.slots m.place used in
       let count = count_moved numbers value kept some moves can in
-      let at : slot_at (grown (Some moves) value).slots m.place ≡ there = at_front (with_moves value moves).slots m.place (omega (arith, here, count)) ∙ landed in
+      let at : slot_at (grown (Some moves) value).slots m.place ≡ there = at_front (with_moves value moves).slots m.place (omega (arith, here, count)) ∙
+      landed in
       let still = far_used there value.pages some (omega (arith, next.least.from_on, (keep_all value moves k are (omega arith)).pages_are)) in
       record {
         place = omega (arith, here, kept.count, some, within.pages);

@@ -1,24 +1,13 @@
 -- A table that is read piece by piece, and what its reading says of it.
 use Rattle.std.proofs.Common.{◌≡◌, ℕ, suc, ◌+◌, ◌-◌, ◌*◌, ◌^◌, ◌<◌, ◌≤◌, List, [], ◌∷◌, ◌++◌, length, take, drop, true, Option, Some, None, is_some, Result, Ok, Err, OnOk, IfOk, IfErr, refl, sym, ap, ◌∙◌, subst, arith, inl, inr, length-append, length-drop, take-append-drop, drop-cons}
-use Rattle.std.specs.Option.{option_map, option_or}
+use Rattle.rpm_pkgdb.proofs.Vocabulary.{AreBounded, AreNumbered, AreOwn, AreRead, AreSound, blank, Damage, damage_at, Damaged, DiskFault, EndsAt, fault_of}
+use Rattle.rpm_pkgdb.proofs.Vocabulary.{is_used, IsAll, IsPlaced, IsRead, meeting, NoMemory, OpenFault, option_map, option_or, own_reason, Reading, Reason}
+use Rattle.rpm_pkgdb.proofs.Vocabulary.{run, run-append, Says, SaysHere, shared_reason, Slot, slot_at, slot_fault, slot_of, slots_in, table, table_fault}
+use Rattle.rpm_pkgdb.proofs.Vocabulary.{table_is_run, unit_at, Units}
 use Rattle.std.proofs.Math.Seq.{take-add}
 use Rattle.std.proofs.lemmas.Bool.{cases_lt}
 use Rattle.std.proofs.lemmas.List.{length-take, get_or_append_left, get_or-append_right, get_or-take, get_or-drop, take-take, take_all, drop-take, drop-drop}
-use Rattle.rpm_outside.specs.Files.{Units, unit_at, blank}
-use Rattle.rpm_pkgdb.specs.declared.slot.Slot.{Slot}
-use Rattle.rpm_pkgdb.specs.declared.slot.Reason.{Reason}
-use Rattle.rpm_pkgdb.specs.declared.slot.Damage.{Damage}
-use Rattle.rpm_pkgdb.specs.declared.slot.OpenFault.{OpenFault}
-use Rattle.rpm_pkgdb.specs.declared.slot.OpenFault.TheVariants.{Damaged, DiskFault, NoMemory}
-use Rattle.rpm_pkgdb.specs.declared.reading.Reading.{Reading}
-use Rattle.rpm_pkgdb.specs.Slots.{slot_of, slots_in, slot_at, is_used}
-use Rattle.rpm_pkgdb.specs.Damages.{damage_at, own_reason, shared_reason, slot_fault, table, table_fault}
-use Rattle.rpm_pkgdb.specs.Store.{Says, SaysHere}
-use Rattle.rpm_pkgdb.specs.Undamaged.{AreSound, IsPlaced}
-use Rattle.rpm_pkgdb.specs.inner.Meetings.{meeting}
-use Rattle.rpm_pkgdb.specs.inner.Reading.{EndsAt, Adds, AreRead, IsAll, IsRead, fault_of}
-use Rattle.rpm_pkgdb.specs.inner.Runs.{run, run-append, table_is_run}
-use Rattle.rpm_pkgdb.specs.inner.Tables.{AreOwn, AreNumbered, AreBounded}
+use Rattle.rpm_pkgdb.specs.inner.Reading.{Adds}
 use Rattle.rpm_pkgdb.proofs.MeetingLaws.{run_meeting}
 use Rattle.rpm_pkgdb.proofs.Pairwise.{slot_in, used_below}
 use Rattle.rpm_pkgdb.proofs.Sound.{placed}

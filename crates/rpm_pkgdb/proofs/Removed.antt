@@ -1,10 +1,9 @@
 -- Sorted pairs without one of them.
 use Rattle.std.proofs.Common.{◌≡◌, ◌≢◌, ℕ, zero, suc, ◌+◌, ◌<◌, ◌≤◌, ◌⊎◌, inl, inr, [], ◌∷◌, length, sym, ap, ◌∙◌, arith}
-use Rattle.std.specs.List.{remove}
+use Rattle.rpm_pkgdb.proofs.Vocabulary.{Drops, find_in, IsStrictlySorted, key_at, Pairs, remove}
 use Rattle.std.proofs.lemmas.List.Edits.{get_or-remove_below, get_or-remove_above}
 use Rattle.std.proofs.lemmas.Bool.{cases_lt}
 use Rattle.std.proofs.lemmas.Bool.Decides.{nat_tests}
-use Rattle.rpm_pkgdb.specs.Pairs.{Pairs, find_in, key_at, IsStrictlySorted, Drops}
 use Rattle.rpm_pkgdb.proofs.Place.{absent}
 
 length_removed : (l : Pairs) (i : ℕ) → i < length l → length (remove l i) + 1 ≡ length l
@@ -23,20 +22,6 @@ module _ (l : Pairs) (i : ℕ) (below : i < length l) (sorted : IsStrictlySorted
     | inl lt ↦ inl (lt, ap (λ (p : ℕ × ℕ). p.0) (get_or-remove_below l i (0, 0) j lt below))
     | inr ge ↦ inr (ge, ap (λ (p : ℕ × ℕ). p.0) (get_or-remove_above l i (0, 0) j ge below))
   ]
-
-  pub removed_sorted : IsStrictlySorted (remove l i)
-  removed_sorted j k lt in_range =
-      let long = length_removed l i below in
-      elim (removed_at j) [
-        | inl one ↦ elim (removed_at k) [
-          | inl two ↦ omega (arith, one.1, two.1, sorted j k lt (omega arith))
-          | inr two ↦ omega (arith, one.1, two.1, sorted j (k + 1) (omega arith) (omega arith))
-        ]
-        | inr one ↦ elim (removed_at k) [
-          | inl two ↦ absurd (omega (arith, one.0, two.0))
-          | inr two ↦ omega (arith, one.1, two.1, sorted (j + 1) (k + 1) (omega arith) (omega arith))
-        ]
-      ]
 
   pub removed_drops : (n : ℕ) → key_at l i ≡ n → Drops (find_in l) (find_in (remove l i)) n
   removed_drops n is =

@@ -2,19 +2,11 @@
 use Rattle.std.proofs.Common.{◌≡◌, ◌≢◌, ◌⊎◌, inl, inr, ℕ, ◌+◌, ◌-◌, ◌*◌, ◌<◌, ◌≤◌, List, [], ◌∷◌, length, true, sym, ap, ◌∙◌, subst, arith, set, get_or-set_same, get_or-set_other}
 use Rattle.std.proofs.lemmas.Bool.{cases_eq}
 use Rattle.std.proofs.lemmas.Bool.Decides.{nat_tests}
-use Rattle.rpm_outside.specs.Files.{Units, unit_at, put}
-use Rattle.rpm_outside.specs.Crash.{Torn}
-use Rattle.rpm_pkgdb.specs.declared.slot.Slot.{Slot}
-use Rattle.rpm_pkgdb.specs.Slots.{slot_at, is_used, end_of, free}
-use Rattle.rpm_pkgdb.specs.Store.{Store}
-use Rattle.rpm_pkgdb.specs.Undamaged.{AreSound, IsSlotUnit, IsPlaced}
+use Rattle.rpm_pkgdb.proofs.Vocabulary.{AreSound, CanSet, end_of, free, Holds, is_used, IsClear, IsPlaced, IsSlotUnit, put, SameOutside, Slot, slot_at}
+use Rattle.rpm_pkgdb.proofs.Vocabulary.{StandsAs, StandsSet, Store, Torn, unit_at, Units, with_slot}
 use Rattle.rpm_pkgdb.proofs.Made.{made, from_made}
-use Rattle.rpm_pkgdb.specs.Stays.{SameOutside}
-use Rattle.rpm_pkgdb.specs.inner.Clear.{IsClear, Holds}
 use Rattle.rpm_pkgdb.proofs.ClearLaws.{torn_one, put_elsewhere, put_length, put_sound, set_made, outside_made, outside_blocks}
-use Rattle.rpm_pkgdb.specs.Quiet.{StandsAs}
 use Rattle.rpm_pkgdb.proofs.Erases.{blocks_then}
-use Rattle.rpm_pkgdb.specs.inner.Settings.{CanSet, with_slot, StandsSet}
 
 module _ (st : Store) (place : ℕ) (s : Slot) (can : CanSet st place s) where
   abbrev after : Store

@@ -1,22 +1,11 @@
 -- Slots that were read without a fault are sound.
 use Rattle.std.proofs.Common.{◌≡◌, inl, inr, ℕ, ◌^◌, ◌<◌, List, [], ◌∷◌, ◌++◌, length, true, Option, Some, None, refl, sym, ap, ◌∙◌, subst, arith, append_assoc}
-use Rattle.std.specs.Option.{option_or}
+use Rattle.rpm_pkgdb.proofs.Vocabulary.{AreApart, AreSound, free, is_used, IsPlaced, option_or, run, shared_reason, Slot, slot_at, slot_fault, slot_of}
+use Rattle.rpm_pkgdb.proofs.Vocabulary.{slots_in, Units}
 use Rattle.std.proofs.lemmas.List.{get_or_append_left, get_or_push, length_push, append-nil}
 use Rattle.std.proofs.lemmas.Bool.{cases_lt}
-use Rattle.rpm_outside.specs.Files.{Units}
-use Rattle.rpm_pkgdb.specs.declared.slot.Slot.{Slot}
-use Rattle.rpm_pkgdb.specs.Slots.{slot_of, slots_in, slot_at, is_used, free}
-use Rattle.rpm_pkgdb.specs.Damages.{slot_fault, shared_reason}
-use Rattle.rpm_pkgdb.specs.inner.Runs.{run}
 use Rattle.rpm_pkgdb.proofs.Sound.{placed, no_own, no_shared}
-use Rattle.rpm_pkgdb.specs.Undamaged.{AreApart, AreSound, IsPlaced}
 use Rattle.rpm_pkgdb.proofs.Pairwise.{used_below, apart_from, apart_swapped}
-
-pub none_sound : (pages units : ℕ) → AreSound pages units []
-none_sound pages units = record {
-  placed = λ k used. absurd (omega (arith, used_below [] k used));
-  apart = λ j k differ used_j used_k. absurd (omega (arith, used_below [] k used_k));
-}
 
 module _ (pages units : ℕ) (slots : List Slot) (s : Slot) (sound : AreSound pages units slots) (placed_s : is_used s ≡ true → IsPlaced pages units s)
     (fresh : shared_reason slots s ≡ None) where

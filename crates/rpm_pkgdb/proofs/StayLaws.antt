@@ -1,23 +1,10 @@
 -- The blocks of the packages that a write leaves.
 use Rattle.std.proofs.Common.{◌≡◌, ◌≢◌, inl, inr, ℕ, ◌-◌, ◌<◌, ◌≤◌, List, length, take, drop, true, false, Some, refl, sym, ap, ◌∙◌, subst, arith, set}
-use Rattle.std.specs.Option.{option_map}
+use Rattle.rpm_pkgdb.proofs.Vocabulary.{AllStay, AreSound, blocks_of, blocks_with, CanGrow, CanMove, CanPut, end_of, free, has_number, HasSlot, Holds}
+use Rattle.rpm_pkgdb.proofs.Vocabulary.{is_used, IsPlaced, Keeps, moved, option_map, OthersStay, SameBlocks, Slot, slot_at, slot_for, slot_with, StandsAs}
+use Rattle.rpm_pkgdb.proofs.Vocabulary.{StandsSet, StandsWith, Store, Target, unit_at, Units, with_blob, with_free, with_generation, with_page, with_slot}
 use Rattle.std.proofs.lemmas.Bool.{cases_eq}
 use Rattle.std.proofs.lemmas.Bool.Decides.{nat_tests}
-use Rattle.rpm_outside.specs.Files.{Units, unit_at}
-use Rattle.rpm_pkgdb.specs.declared.slot.Slot.{Slot}
-use Rattle.rpm_pkgdb.specs.Slots.{slot_at, slot_with, is_used, end_of, has_number, free}
-use Rattle.rpm_pkgdb.specs.Store.{Store, Keeps}
-use Rattle.rpm_pkgdb.specs.Stays.{blocks_with, AllStay, OthersStay}
-use Rattle.rpm_pkgdb.specs.Undamaged.{AreSound, IsPlaced}
-use Rattle.rpm_pkgdb.specs.Quiet.{SameBlocks, StandsAs, HasSlot, with_free}
-use Rattle.rpm_pkgdb.specs.inner.Clear.{Holds}
-use Rattle.rpm_pkgdb.specs.inner.Grows.{with_page, CanGrow}
-use Rattle.rpm_pkgdb.specs.inner.Settings.{with_slot, StandsSet, CanMove, blocks_of}
-use Rattle.rpm_pkgdb.specs.inner.Puts.{CanPut, StandsWith}
-use Rattle.rpm_pkgdb.specs.declared.plan.Target.{Target}
-use Rattle.rpm_pkgdb.specs.Plans.{slot_for}
-use Rattle.rpm_pkgdb.specs.Growing.{moved}
-use Rattle.rpm_pkgdb.specs.Written.{with_generation, with_blob}
 use Rattle.rpm_pkgdb.proofs.BlobMaps.{same_part, other_number}
 use Rattle.rpm_pkgdb.proofs.ClearLaws.{set_other, set_here}
 use Rattle.rpm_pkgdb.proofs.Facts.{number_facts, has_it_from}

@@ -1,10 +1,7 @@
 -- The slots of one unit more.
 use Rattle.std.proofs.Common.{◌≡◌, ℕ, suc, ◌+◌, ◌<◌, List, [], ◌∷◌, ◌++◌, length, take, Option, Some, None, refl, sym, ap, ◌∙◌, append_assoc}
-use Rattle.std.specs.Option.{option_or}
+use Rattle.rpm_pkgdb.proofs.Vocabulary.{blank, option_or, Slot, slot_of, slots_in, unit_at, Units}
 use Rattle.std.proofs.lemmas.List.{take_more}
-use Rattle.rpm_outside.specs.Files.{Units, unit_at, blank}
-use Rattle.rpm_pkgdb.specs.declared.slot.Slot.{Slot}
-use Rattle.rpm_pkgdb.specs.Slots.{slot_of, slots_in}
 
 pub length-slots_in : (us : Units) → length (slots_in us) ≡ length us
 unfolding slots_in

@@ -1,14 +1,9 @@
 -- Slots that are right by themselves.
 use Rattle.std.proofs.Common.{◌≡◌, ℕ, ◌+◌, ◌^◌, List, Bool, false, Option, Some, None, is_some, sym, ap, ◌∙◌, subst, arith, inl, inr}
 use Rattle.std.proofs.lemmas.Bool.{cases_eq}
-use Rattle.rpm_outside.specs.Files.{Units, unit_at}
-use Rattle.rpm_pkgdb.specs.declared.slot.Slot.{Slot}
-use Rattle.rpm_pkgdb.specs.Slots.{slots_in, slot_at}
-use Rattle.rpm_pkgdb.specs.Damages.{own_reason, table_fault}
-use Rattle.rpm_pkgdb.specs.Undamaged.{AreSound}
+use Rattle.rpm_pkgdb.proofs.Vocabulary.{AreOwn, AreSound, own_reason, Slot, slot_at, slots_in, table_fault, unit_at, Units}
 use Rattle.rpm_pkgdb.proofs.Pairwise.{sound_from}
 use Rattle.rpm_pkgdb.proofs.SoundRuns.{limit_placed}
-use Rattle.rpm_pkgdb.specs.inner.Tables.{AreOwn}
 
 pub own_more : (pages units : ℕ) (us : Units) (k : ℕ) (unit : List ℕ) → AreOwn pages units us k → unit ≡ unit_at us k → own_reason pages units unit ≡ None
     → AreOwn pages units us (k + 1)

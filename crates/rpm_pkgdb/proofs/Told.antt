@@ -1,14 +1,8 @@
 -- What the blobs say of a number, by the frame that its blocks hold.
 use Rattle.std.proofs.Common.{◌≡◌, ℕ, List, Option, Some, None, Err, ap, ◌∙◌}
-use Rattle.std.specs.Option.{option_map}
+use Rattle.rpm_pkgdb.proofs.Vocabulary.{AnswerIs, Bad, blob_in, blobs, Frame, frame_in, frames, get-blobs-frames, GetFault, NoSuch, option_map, Store, Units}
 use Rattle.std.specs.FinMap as finite
-use Rattle.rpm_outside.specs.Files.{Units}
-use Rattle.rpm_pkgdb.specs.declared.blob.GetFault.{GetFault}
-use Rattle.rpm_pkgdb.specs.declared.blob.GetFault.TheVariants.{NoSuch, Bad, DiskFault, NoMemory}
-use Rattle.rpm_pkgdb.specs.Store.{Store}
-use Rattle.rpm_pkgdb.specs.Blobs.{Frame, frames, blobs, blob_in}
-use Rattle.rpm_pkgdb.specs.BlobLaws.{get-blobs-frames}
-use Rattle.rpm_pkgdb.specs.Answers.{AnswerIs, frame_in}
+use Rattle.rpm_pkgdb.specs.declared.blob.GetFault.TheVariants.{DiskFault, NoMemory}
 
 module _ (file : Units) (store : Store) (n : ℕ) where
   pub at_frames : (o : Option (Option Frame)) → frames file store n ≡ o → finite.get (blobs file store) n ≡ option_map (option_map blob_in) o

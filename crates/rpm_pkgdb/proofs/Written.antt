@@ -1,13 +1,7 @@
 -- A value that is written on a disk.
 use Rattle.std.proofs.Common.{◌≡◌, ℕ, ◌≤◌, List}
 use Rattle.rpm_outside.specs.declared.disk.Disk as disk
-use Rattle.rpm_pkgdb.specs.declared.plan.Target.{Target}
-use Rattle.rpm_pkgdb.specs.Blobs.{blobs}
-use Rattle.rpm_pkgdb.specs.Frame.{pkg, Quiet, IsWritten}
-use Rattle.rpm_pkgdb.specs.Puts.{IsPut}
-use Rattle.rpm_pkgdb.specs.Quiet.{BlobMap}
-use Rattle.rpm_pkgdb.specs.Store.{Store, Keeps}
-use Rattle.rpm_pkgdb.specs.Written.{with_spare}
+use Rattle.rpm_pkgdb.proofs.Vocabulary.{BlobMap, blobs, IsPut, IsWritten, Keeps, pkg, Quiet, Store, Target, with_spare}
 use Rattle.rpm_pkgdb.proofs.ErasesTo.{stands_for}
 
 module _ {D : Type 0} (d : disk.Ghosts D) where

@@ -2,9 +2,7 @@
 use Rattle.std.proofs.Common.{◌≡◌, ℕ, ◌+◌, ◌-◌, ◌*◌, ◌/◌, ◌<◌, ◌≤◌, inl, inr, List, length, take, drop, replicate, sym, ap, ◌∙◌, arith, length-drop}
 use Rattle.std.proofs.lemmas.List.{same_lists, get_or-take, get_or-drop, get_or-replicate, length-take, length-replicate}
 use Rattle.std.proofs.lemmas.Bool.{cases_lt}
-use Rattle.rpm_outside.specs.Files.{Units, units_of, unit_at, put, blank}
-use Rattle.rpm_outside.specs.inner.Cuts.{unit_at-cut_up, length-cut_up}
-use Rattle.rpm_outside.specs.inner.Puts.{put_before, put_inside}
+use Rattle.rpm_pkgdb.proofs.Vocabulary.{blank, length-cut_up, put, put_before, put_inside, unit_at, unit_at-cut_up, Units, units_of}
 
 abbrev pub zeros : ℕ → List ℕ
 zeros n = replicate n 0

@@ -5,7 +5,7 @@ pub use Rattle.std.specs.Ordering.{nat_cmp}
 pub use Rattle.rpm_blocks.specs.Blocks.{block_limit}
 pub use Rattle.rpm_outside.specs.Changes.{IsSame}
 pub use Rattle.rpm_outside.specs.Crash.{Torn}
-pub use Rattle.rpm_outside.specs.Files.{Files, Units, blank, bytes_of, put, unit_at, units_of}
+pub use Rattle.rpm_outside.specs.Files.{Files, FitsAt, Units, blank, bytes_of, put, unit_at, units_of}
 pub use Rattle.rpm_outside.specs.Frame.{IsSettled, Reads, ReadsOr, Writes}
 pub use Rattle.rpm_outside.specs.declared.disk.File.TheVariants.{Pkg}
 pub use Rattle.rpm_pkgdb.specs.Answers.{AnswerIs, AreParts, IsFrame, IsOutside, frame_in, given, given_blob, given_check}
@@ -37,7 +37,7 @@ pub use Rattle.rpm_pkgdb.specs.declared.slot.Slot.{Slot}
 pub use Rattle.rpm_pkgdb.specs.inner.Grows.{HasFreePage, with_page}
 pub use Rattle.rpm_pkgdb.specs.inner.Keeping.{AreUsedTo}
 pub use Rattle.rpm_pkgdb.specs.inner.Keys.{AllApart, ArePairs, AreRising, AreRisingTo, BlocksApart, key_end, key_of}
-pub use Rattle.rpm_pkgdb.specs.inner.Maps.{Adds, HasPlaces, IsKnown, IsLast}
+pub use Rattle.rpm_pkgdb.specs.inner.Maps.{Adds, CanKeep, HasPlaces, IsKnown, IsLast}
 pub use Rattle.rpm_pkgdb.specs.inner.Meetings.{meeting, shared_fault}
 pub use Rattle.rpm_pkgdb.specs.inner.MoveLists.{CanGrowBy, IsMovable, move_at}
 pub use Rattle.rpm_pkgdb.specs.inner.Moving.{AreBlocksMoved, AreMoved, CanGrowFrom, CanMoveAll, IsGrown, IsPageAdded}
@@ -51,5 +51,5 @@ pub use Rattle.rpm_pkgdb.specs.inner.Reading.{AreRead, IsRead, added, fault_of}
 pub use Rattle.rpm_pkgdb.specs.inner.Rising.{ArePages, Awaits, IsInOrder}
 pub use Rattle.rpm_pkgdb.specs.inner.Settings.{CanMove, NoShorter, WhileMoved}
 pub use Rattle.rpm_pkgdb.specs.inner.Still.{StandsStill}
-pub use Rattle.rpm_pkgdb.specs.inner.Tables.{AreBounded, AreNumbered, IsIndexed}
+pub use Rattle.rpm_pkgdb.specs.inner.Tables.{AreNumbered, AreRight, IsIndexed}
 pub use Rattle.rpm_pkgdb.specs.inner.Weights.{weights}

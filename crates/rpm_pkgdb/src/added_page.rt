@@ -1,25 +1,102 @@
-//! One slot page more.
+//! One slot page more: blocks are moved out of its way, and it is written.
 
-ghost use Rattle.std.specs.Prelude.{◌+◌, ◌*◌, ◌^◌, ◌≤◌, IsTrue, OnOk, Some};
-ghost use Rattle.rpm_pkgdb.specs.Prelude.{Anything, BeforeOrAfter, CanAdd, CanGrowBy, CanGrowFrom, HasFreePage, IsGrown, IsPageAdded, IsSettled, Keeps, moves_of, moving_cost, Pkg, pkg, Quiet, SameOutside, StandsStill, StopsIn, Store, with_page, Writes};
+ghost use Rattle.std.specs.Prelude.{◌≡◌, ℕ, ◌+◌, ◌*◌, ◌^◌, ◌≤◌, ◌<◌, ◌⊎◌, IsTrue, length, OnOk, Some};
+ghost use Rattle.rpm_pkgdb.specs.Prelude.{Anything, AreBlocksMoved, AreMoved, BeforeOrAfter, CanAdd, CanGrowBy, CanGrowFrom, CanMove, CanMoveAll, end_of, Files, IsGrown, IsMovable, IsPageAdded, IsSettled, Keeps, move_at, moves_of, moving_cost, NoShorter, Pkg, pkg, Quiet, SameOutside, slot_at, StandsStill, StopsIn, Store, unit_at, WhileMoved, with_page, Writes};
 
 use crate::free_slots::write_free_slots;
-use crate::moved_blocks::{Move, move_all};
 use crate::page_plan::Page;
+use crate::slot::Slot;
 use crate::store::PkgDb;
-use crate::units::head_unit;
-use crate::writes::{settle, write_one};
+use crate::units::{head_unit, read_units, settle, slot_unit, write_one, write_units, write_zeros};
 use rpm_outside::{Disk, Failed};
 
-/// Writes a page of free slots after so many, and settles it.
-fn write_free_page<D: Disk>(disk: &mut D, pages: u32) -> Result<(), Failed>
-    requires { 256 * (pages + 1) ≤ 2 ^ 28 }
-    ensures page { OnOk result (IsTrue D.tells → HasFreePage pages (pkg D.Disk disk.new)) }
+/// Copies units to a range that is apart, a page at a time.
+pub fn copy_blocks<D: Disk>(disk: &mut D, from: u32, to: u32, count: u32) -> Result<(), Failed>
+    requires ends { to + count ≤ 2 ^ 28 }
+    requires room { from + count ≤ 2 ^ 28 }
+    requires apart { (to + count ≤ from) ⊎ (from + count ≤ to) }
+    requires within { IsTrue D.tells → from + count ≤ length (D.files disk.old).pkg }
+    ensures copied { OnOk result (IsTrue D.tells → (i : ℕ) → i < count
+        → unit_at (D.files disk.new).pkg (to + i) ≡ unit_at (D.files disk.old).pkg (from + i)) }
+    ensures long { OnOk result (IsTrue D.tells → 0 < count → to + count ≤ length (D.files disk.new).pkg) }
     ensures settled { OnOk result (IsTrue D.tells → IsSettled D.Disk Pkg disk.new) }
-    ensures writes { Writes D.Disk Pkg (SameOutside (256 * pages) 256) 0 result disk.old disk.new }
+    ensures writes { Writes D.Disk Pkg (SameOutside to count) (16 * count) result disk.old disk.new }
 {
-    write_free_slots(disk, 256 * pages, 256)?;
+    let mut page = [0u8; 4096];
+    let mut done = 0;
+    while done < count {
+        let some = (count - done).min(256);
+        let part = &mut page[..16 * some as usize];
+        read_units(disk, from as u64 + done as u64, part)?;
+        write_units(disk, to as u64 + done as u64, part)?;
+        done += some;
+    }
     settle(disk)
+}
+
+/// Moves the blocks of a slot, and makes the old ones zeros from a block on: those before it become a slot page.
+pub fn move_blocks<D: Disk>(
+    disk: &mut D,
+    place: u32,
+    old: Slot,
+    to: u32,
+    zeros_from: u32,
+) -> Result<(), Failed>
+    requires place { place + 3 ≤ 2 ^ 28 }
+    requires end { end_of old ≤ 2 ^ 28 }
+    requires room { to + old.count ≤ 2 ^ 28 }
+    requires apart { (to + old.count ≤ old.offset) ⊎ (end_of old ≤ to) }
+    requires within { IsTrue D.tells → end_of old ≤ length (pkg D.Disk disk.old) }
+    ensures moved { OnOk result (IsTrue D.tells → AreBlocksMoved D.Disk disk.old disk.new place old to zeros_from) }
+    ensures images { IsTrue D.tells → (value : Store) → CanMove value place old to → Quiet D.Disk disk.old value
+        → StopsIn D.Disk disk.old disk.new (WhileMoved value place old to (pkg D.Disk disk.old)) }
+    ensures writes { Writes D.Disk Pkg NoShorter (16 * old.count) result disk.old disk.new }
+{
+    let end = old.offset + old.count;
+    let at = old.offset.max(zeros_from).min(end);
+    let slot = Slot {
+        number: old.number,
+        offset: to,
+        count: old.count,
+    };
+    copy_blocks(disk, old.offset, to, old.count)?;
+    write_one(disk, 2 + place as u64, &slot_unit(slot))?;
+    // Only now: until the slot is durable they are the package.
+    write_zeros(disk, at, end - at)
+}
+
+/// A move of a slot's blocks.
+#[derive(Clone, Copy)]
+pub struct Move {
+    /// Of the slot.
+    pub place: u32,
+    /// The new first block.
+    pub to: u32,
+}
+
+/// Moves the blocks of several slots, each once the one before is durable.
+pub fn move_all<D: Disk>(
+    disk: &mut D,
+    slots: &[Slot],
+    moves: &[Move],
+    zeros_from: u32,
+) -> Result<(), Failed>
+    requires movable { (i : ℕ) → i < length moves.now → IsMovable slots.now (move_at moves.now i) }
+    requires within { IsTrue D.tells → (i : ℕ) → i < length moves.now
+        → end_of (slot_at slots.now (move_at moves.now i).place) ≤ length (pkg D.Disk disk.old) }
+    ensures moved { OnOk result (IsTrue D.tells
+        → AreMoved D.Disk disk.old disk.new slots.now moves.now moves.now zeros_from) }
+    ensures images { IsTrue D.tells → (value : Store) → CanMoveAll slots.now moves.now value
+        → Quiet D.Disk disk.old value
+        → StopsIn D.Disk disk.old disk.new (StandsStill value (pkg D.Disk disk.old)) }
+    ensures writes { Writes D.Disk Pkg NoShorter (moving_cost slots.now (Some moves.now)) result disk.old disk.new }
+{
+    for k in 0..moves.len() {
+        let next = moves[k];
+        let old = slots[next.place as usize];
+        move_blocks(disk, next.place, old, next.to, zeros_from)?;
+    }
+    Ok(())
 }
 
 /// Adds a slot page, in which no blob has blocks.
@@ -31,7 +108,7 @@ pub fn add_page<D: Disk>(disk: &mut D, generation: u32, pages: u32) -> Result<()
         (BeforeOrAfter value (with_page value) (pkg D.Disk disk.old)) }
     ensures writes { Writes D.Disk Pkg Anything 0 result disk.old disk.new }
 {
-    write_free_page(disk, pages)?;
+    write_free_slots(disk, 256 * pages, 256)?;
     write_one(disk, 0, &head_unit(generation, pages + 1))
 }
 

@@ -5,8 +5,8 @@ ghost use Rattle.rpm_pkgdb.specs.Prelude.{AreParts, blob_in, bytes_of, checksum_
 ghost use Rattle.rpm_pkgdb.specs.declared.blob.GetFault.TheVariants as faults;
 
 use crate::checksum::sums;
-use crate::reads::{read_unit, read_units};
 use crate::slot::Slot;
+use crate::units::{read_unit, read_units};
 use rpm_outside::{Disk, Failed, word};
 use std::alloc::AllocError;
 
@@ -165,29 +165,6 @@ fn parted(bytes: Vec<u8>) -> Blocks
     Blocks { head, rest }
 }
 
-/// Reads the blocks of a number's slot by one call, and looks at the head then.
-fn read_together<D: Disk>(
-    disk: &mut D,
-    n: u32,
-    slot: Slot,
-    room: Vec<u8>,
-) -> Result<Blocks, GetFault>
-    requires within { IsTrue D.tells → end_of slot ≤ length (D.files disk.old).pkg }
-    requires some { 0 < slot.count }
-    ensures head { IfOk result (λ b. is_head n slot.count b.head ≡ true) }
-    ensures long { IfOk result (λ b. length b.rest.items ≡ 16 * (slot.count - 1)) }
-    ensures present { result ≢ Err GetFault.NoSuch }
-    ensures parts { IsTrue D.tells → AreParts n slot (D.files disk.old).pkg result }
-    ensures reads { ReadsOr D.Disk Pkg (16 * slot.count) (result ≡ Err GetFault.DiskFault) disk.old disk.new }
-{
-    let bytes = read_into(disk, slot.offset as u64, slot.count, room)?;
-    let blocks = parted(bytes);
-    if !is_head(n, slot.count, &blocks.head) {
-        return Err(GetFault::Bad);
-    }
-    Ok(blocks)
-}
-
 // So many blocks at most, 8 KiB, come with their head by one call.
 const FEW: u32 = 512;
 
@@ -202,7 +179,12 @@ fn read_parts<D: Disk>(disk: &mut D, n: u32, slot: Slot, room: Vec<u8>) -> Resul
     ensures reads { ReadsOr D.Disk Pkg (16 * slot.count) (result ≡ Err GetFault.DiskFault) disk.old disk.new }
 {
     if slot.count <= FEW {
-        return read_together(disk, n, slot, room);
+        let bytes = read_into(disk, slot.offset as u64, slot.count, room)?;
+        let blocks = parted(bytes);
+        if !is_head(n, slot.count, &blocks.head) {
+            return Err(GetFault::Bad);
+        }
+        return Ok(blocks);
     }
     let head = read_unit(disk, slot.offset as u64)?;
     if !is_head(n, slot.count, &head) {

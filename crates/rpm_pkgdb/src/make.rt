@@ -3,12 +3,10 @@
 ghost use Rattle.std.specs.Prelude.{◌≡◌, ◌+◌, ◌≤◌, IsTrue, false, vec_len, vec_capacity, ◌++◌, replicate, OnOk, OnErr};
 ghost use Rattle.rpm_pkgdb.specs.Prelude.{free, IsFirstPage, IsMadeNew, IsSettled, Keeps, made_new, MakesTo, next_unit, Pkg, pkg, Quiet, SameOutside, stopped, StopsIn, Store, unit_at, Writes};
 
-use crate::free_slots::write_free_slots;
-use crate::freed_slot::FREE;
+use crate::free_slots::{FREE, write_free_slots};
 use crate::slot::Slot;
 use crate::store::{DiskFault, PkgDb};
-use crate::units::{head_unit, next_unit};
-use crate::writes::{settle, write_one, write_units};
+use crate::units::{head_unit, next_unit, write_one, write_units};
 use rpm_outside::{Disk, Failed};
 
 /// Writes the next number 1 and free slots, and settles them.
@@ -18,8 +16,7 @@ fn write_first_page<D: Disk>(disk: &mut D) -> Result<(), Failed>
     ensures writes { Writes D.Disk Pkg (SameOutside 1 255) 0 result disk.old disk.new }
 {
     write_units(disk, 1, &next_unit(1))?;
-    write_free_slots(disk, 2, 254)?;
-    settle(disk)
+    write_free_slots(disk, 2, 254)
 }
 
 /// Writes a database of one page.

@@ -1,14 +1,93 @@
-//! A blob that is put: written beside the others, named by a slot, and then what it replaces becomes zeros.
+//! A blob that is put: its blocks, written beside the others, named by a slot, and then what it replaces becomes zeros.
 
-ghost use Rattle.std.specs.Prelude.{◌≡◌, ◌+◌, ◌^◌, ◌≤◌, ◌<◌, IsTrue, length, OnOk, IfSome};
-ghost use Rattle.rpm_pkgdb.specs.Prelude.{Anything, BlobPut, BlobTorn, blocks_for, CanPut, FieldPut, FieldTorn, framed, HasRoomFor, IsBlobPut, IsSettled, next_field, next_unit, Pkg, pkg, Quiet, StopsIn, Store, unit_at, units_of, WhilePut, Writes};
+ghost use Rattle.std.specs.Prelude.{◌≡◌, ℕ, ◌+◌, ◌-◌, ◌*◌, ◌/◌, ◌%◌, ◌^◌, ◌≤◌, ◌<◌, ◌++◌, IsTrue, length, take, drop, replicate, OnOk, IfSome};
+ghost use Rattle.rpm_pkgdb.specs.Prelude.{adler, Anything, BlobPut, BlobTorn, blocks_for, CanPut, FieldPut, FieldTorn, Files, framed, HasRoomFor, head_of, IsBlobPut, IsSettled, next_field, next_unit, padding, Pkg, pkg, put, Quiet, SameOutside, StopsIn, Store, summed, tail_of, unit_at, units_of, WhilePut, Writes};
 
-use crate::frame::write_blob;
+use crate::checksum::sums;
 use crate::plan::Target;
 use crate::slot::Slot;
-use crate::units::{next_unit, slot_unit};
-use crate::writes::{settle, write_one, write_units, write_zeros};
+use crate::units::{
+    blob_head, blob_tail, next_unit, settle, slot_unit, write_one, write_units, write_zeros,
+};
 use rpm_outside::{Disk, Failed};
+
+/// The Adler-32 of a head, the bytes and zeros.
+fn adler(head: &[u8], blob: &[u8], zeros: &[u8]) -> u32
+    ensures { result ≡ adler (head.now ++ (blob.now ++ zeros.now)) }
+{
+    let (a, b) = sums(1, 0, head);
+    let (c, d) = sums(a, b, blob);
+    let (low, high) = sums(c, d, zeros);
+    high * 65_536 + low
+}
+
+/// The last bytes of a blob, zeros, and the tail, up to an end.
+fn last_bytes(rest: &[u8], tail: &[u8; 12], end: usize) -> [u8; 32]
+    requires room { length rest.now + 12 ≤ end }
+    requires end { end ≤ 32 }
+    ensures { take end result ≡ (rest.now ++ replicate (end - 12 - length rest.now) 0) ++ tail.now }
+{
+    let mut last = [0u8; 32];
+    last[..rest.len()].copy_from_slice(rest);
+    last[end - 12..end].copy_from_slice(tail);
+    last
+}
+
+/// What follows the last whole unit of a blob: its last bytes, zeros and the tail, in one unit or two; and how many
+/// bytes they are.
+fn last_units(head: &[u8; 16], blob: &[u8]) -> ([u8; 32], usize)
+    requires { length blob.now ≤ 68157432 }
+    ensures bytes { take result.1 result.0 ≡ (drop (16 * (length blob.now / 16)) blob.now ++ padding (length blob.now))
+        ++ tail_of (adler (head.now ++ (blob.now ++ padding (length blob.now)))) (length blob.now) }
+    ensures end { result.1 ≡ 16 * (blocks_for (length blob.now) - 1 - length blob.now / 16) }
+    ensures some { 16 ≤ result.1 }
+    ensures room { result.1 ≤ 32 }
+{
+    let rest = &blob[16 * (blob.len() / 16)..];
+    let end = 16 * ((rest.len() + 27) / 16);
+    let zeros = [0u8; 16];
+    let sum = adler(head, blob, &zeros[..end - 12 - rest.len()]);
+    let tail = blob_tail(sum, blob.len() as u32);
+    (last_bytes(rest, &tail, end), end)
+}
+
+/// Writes whole units, or nothing where there are none.
+fn write_some<D: Disk>(disk: &mut D, at: u64, bytes: &[u8]) -> Result<(), Failed>
+    requires whole { length bytes.now % 16 ≡ 0 }
+    requires room { at + length bytes.now / 16 ≤ 2 ^ 28 }
+    requires inside { IsTrue D.tells → at ≤ length (D.files disk.old).pkg }
+    ensures written { OnOk result (IsTrue D.tells
+        → (D.files disk.new).pkg ≡ put at (units_of bytes.now) (D.files disk.old).pkg) }
+    ensures writes { Writes D.Disk Pkg (SameOutside at (length bytes.now / 16)) 0 result disk.old disk.new }
+{
+    if bytes.is_empty() {
+        return Ok(());
+    }
+    write_units(disk, at, bytes)
+}
+
+/// Writes the blocks of a blob, in at most three writes and without a copy of its bytes.
+pub fn write_blob<D: Disk>(
+    disk: &mut D,
+    start: u32,
+    number: u32,
+    generation: u32,
+    blob: &[u8],
+) -> Result<(), Failed>
+    requires few { length blob.now ≤ 68157432 }
+    requires room { start + blocks_for (length blob.now) ≤ 2 ^ 28 }
+    ensures written { OnOk result (IsTrue D.tells
+        → (D.files disk.new).pkg ≡ put start (units_of (framed number generation blob.now)) (D.files disk.old).pkg) }
+    ensures writes { Writes D.Disk Pkg (SameOutside start (blocks_for (length blob.now))) 0 result disk.old disk.new }
+{
+    let head = blob_head(number, generation, blob.len() as u32);
+    let whole = blob.len() / 16;
+    let (last, end) = last_units(&head, blob);
+    let at = start as u64 + 1;
+    write_units(disk, start as u64, &head)?;
+    write_some(disk, at, &blob[..16 * whole])?;
+    write_units(disk, at + whole as u64, &last[..end])
+}
 
 /// Writes the number field, or nothing.
 fn write_field<D: Disk>(disk: &mut D, next: Option<u32>) -> Result<(), Failed>

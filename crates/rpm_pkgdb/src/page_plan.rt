@@ -3,8 +3,8 @@
 ghost use Rattle.std.specs.Prelude.{◌≡◌, ◌≢◌, ℕ, List, ◌+◌, ◌*◌, ◌^◌, ◌≤◌, ◌<◌, ◌++◌, true, Some, Err, length, replicate, vec_len, MatchOption, OnOk, IfOk, slice_set};
 ghost use Rattle.rpm_pkgdb.specs.Prelude.{AllMoved, AreAllUsed, AreBehind, CantMove, FitsNowhere, free, HasPlacesBefore, HoldsPage, IsFirstBefore, IsLeast, IsPlanning, IsRanged, moved, NeedsPage, next_end, Slot, slot_at};
 
-use crate::freed_slot::FREE;
-use crate::moved_blocks::Move;
+use crate::added_page::Move;
+use crate::free_slots::FREE;
 use crate::plan::PlanFault;
 use crate::slot::Slot;
 use crate::store::PkgDb;

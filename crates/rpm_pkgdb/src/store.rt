@@ -1,13 +1,12 @@
 //! The store in Packages.db.
 
-ghost use Rattle.std.specs.Prelude.{◌≡◌, ◌+◌, ◌-◌, ◌*◌, ◌/◌, ◌^◌, ◌≤◌, ◌<◌, ◌==◌, IsTrue, length, max, None, Some, Ok, Err, IfOk, IfErr, IsSome, is_some};
-ghost use Rattle.rpm_pkgdb.specs.Prelude.{blank_store, blobs, end_of, erased, HasSlot, head_reason, in_file, IsNext, IsPackageNumber, Keeps, next_number, opening_cost, OpenIs, Pkg, ReadsOr, slot_with, store, store_of, unit_at, with_free, word};
+ghost use Rattle.std.specs.Prelude.{◌≡◌, ◌+◌, ◌-◌, ◌*◌, ◌/◌, ◌^◌, ◌≤◌, ◌<◌, ◌==◌, IsTrue, length, max, None, Some, Ok, Err, IfOk, IfErr, IsSome, is_some, not};
+ghost use Rattle.rpm_pkgdb.specs.Prelude.{blank_store, is_nonzero, list_any, blobs, end_of, erased, HasSlot, head_reason, in_file, IsNext, IsPackageNumber, Keeps, next_number, opening_cost, OpenIs, Pkg, ReadsOr, slot_with, store, store_of, unit_at, with_free, word};
 
 use crate::numbers::Numbers;
-use crate::reads::read_unit;
 use crate::slot::{BLOCKS, MAGIC, OpenFault, Reason, Slot, damage_at};
 use crate::table::read_table;
-use crate::words::is_zeros;
+use crate::units::read_unit;
 use rpm_blocks::Used;
 use rpm_outside::{Disk, File, word};
 use std::alloc::Global;
@@ -53,6 +52,13 @@ impl Model for PkgDb {
     } };
 
     ghost invariant = { IsSound };
+}
+
+/// Whether all bytes are zero.
+fn is_zeros(unit: &[u8]) -> bool
+    ensures { result ≡ not (list_any is_nonzero unit.now) }
+{
+    !unit.iter().any(|b| *b != 0)
 }
 
 /// What is wrong with unit 0.

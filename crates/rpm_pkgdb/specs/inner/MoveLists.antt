@@ -1,7 +1,7 @@
 -- Several moves, one after the other.
 use Rattle.std.specs.Prelude.{◌⊎◌, ℕ, ◌+◌, ◌^◌, ◌<◌, ◌≤◌, List, length, slice_index_or, Option, Some, None}
 use Rattle.rpm_pkgdb.specs.declared.slot.Slot.{Slot}
-use Rattle.rpm_pkgdb.specs.declared.moved_blocks.Move.{Move}
+use Rattle.rpm_pkgdb.specs.declared.added_page.Move.{Move}
 use Rattle.rpm_pkgdb.specs.Slots.{slot_at, end_of}
 use Rattle.rpm_pkgdb.specs.Store.{Store}
 use Rattle.rpm_pkgdb.specs.Growing.{after_move, after_moves, IsNextMove, AreMoves, CanAdd, next_end}

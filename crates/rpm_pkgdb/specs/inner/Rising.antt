@@ -1,7 +1,7 @@
 -- Slots in the order of the file, with what shows whether two of them meet.
 use Rattle.std.specs.Prelude.{◌≡◌, ℕ, ◌*◌, ◌^◌, ◌≤◌, List, length, Bool, true, Option, Some, None, vec_capacity}
 use Rattle.rpm_pkgdb.specs.declared.keys.Order.TheVariants.{Number}
-use Rattle.rpm_pkgdb.specs.declared.rising.Rising.{Rising}
+use Rattle.rpm_pkgdb.specs.declared.reading.Rising.{Rising}
 use Rattle.rpm_pkgdb.specs.declared.slot.Slot.{Slot}
 use Rattle.rpm_pkgdb.specs.Pairs.{Pairs}
 use Rattle.rpm_pkgdb.specs.inner.Keeping.{AreUsedTo}

@@ -23,6 +23,12 @@ AreNumbered slots = (k : ℕ) → k < length slots → is_used (slot_at slots k)
 abbrev pub AreBounded : List Slot → Type 0
 AreBounded slots = (k : ℕ) → is_used (slot_at slots k) ≡ true → (0 < (slot_at slots k).count) × (end_of (slot_at slots k) ≤ 2 ^ 28)
 
+-- not too many slots, and each is right by itself
+pub record AreRight (slots : List Slot) : Type 0 where
+  pub few : length slots ≤ 2 ^ 28
+  pub bounded : AreBounded slots
+  pub numbered : AreNumbered slots
+
 -- each used slot is found by its number, and the first free one is noted
 pub record IsIndexed (t : Table) : Type 0 where
   pub places : HasPlaces (find_in t.numbers.pairs) t.slots.items

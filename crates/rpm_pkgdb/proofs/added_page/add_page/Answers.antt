@@ -1,18 +1,11 @@
-use Rattle.rpm_outside.specs.declared.disk.File.TheVariants.{Pkg}
+use Rattle.rpm_pkgdb.proofs.Vocabulary.{BeforeOrAfter, CanGrow, CanGrowFrom, HasFreePage, IsHeadUnit, IsSettled, Keeps, Pkg, put, SameOutside, StandsAs}
+use Rattle.rpm_pkgdb.proofs.Vocabulary.{Store, Units, with_page}
 use Rattle.std.proofs.Common.{◌≡◌, ℕ, ◌+◌, ◌*◌, [], ◌∷◌, List, sym, subst, refl, inl, IsTrue, arith}
-use Rattle.rpm_outside.specs.Files.{Units, put}
-use Rattle.rpm_pkgdb.specs.Store.{Store, Keeps}
-use Rattle.rpm_pkgdb.specs.Undamaged.{IsHeadUnit}
-use Rattle.rpm_outside.specs.Changes.{IsSettled}
 use Rattle.rpm_pkgdb.proofs.Changing.{both_ok, writes_then, stops_while, stops_next}
-use Rattle.rpm_pkgdb.specs.Stays.{SameOutside}
-use Rattle.rpm_pkgdb.specs.Quiet.{StandsAs, BeforeOrAfter}
 use Rattle.rpm_pkgdb.proofs.Erases.{stands_by}
-use Rattle.rpm_pkgdb.specs.inner.Grows.{with_page, CanGrow, HasFreePage}
 use Rattle.rpm_pkgdb.proofs.GrowLaws.{while_page, grown_stands, while_grown}
 use Rattle.rpm_pkgdb.proofs.Reaching.{unit_ends, outside_ends}
 use Rattle.rpm_pkgdb.proofs.FreedLaws.{page_blank}
-use Rattle.rpm_pkgdb.specs.inner.Moving.{CanGrowFrom}
 use Rattle.rpm_pkgdb.proofs.added_page.add_page.Goals as goal
 
 head_is : (unit : List ℕ) (generation pages : ℕ) (value : Store) → generation ≡ value.generation → pages ≡ value.pages
@@ -29,13 +22,13 @@ mid_stands : (value : Store) (can : CanGrow value) (pages : ℕ) (file from mid 
 mid_stands value can pages file from mid same stands changed =
     while_page value can file from mid stands (subst (λ (q : ℕ). SameOutside (256 * q) 256 from mid) same changed)
 
-pub returns-in_err-write_free_page-clause-images : goal.returns-in_err-write_free_page-clause-images
-returns-in_err-write_free_page-clause-images g c = λ told value grows quiet.
+pub returns-in_err-write_free_slots-clause-images : goal.returns-in_err-write_free_slots-clause-images
+returns-in_err-write_free_slots-clause-images g c = λ told value grows quiet.
     let can = grows.can in
     let same = grows.pages_are in
     let D = g.D.Disk in
     let F0 = (D.files c.args.disk.now).pkg in
-    stops_while g.D.Disk told (BeforeOrAfter value (with_page value) F0) c.write_free_page.ensures.writes
+    stops_while g.D.Disk told (BeforeOrAfter value (with_page value) F0) c.write_free_slots.ensures.writes
     (λ from image was changed. inl (mid_stands value can c.args.pages F0 from.pkg image.pkg same (quiet from was) changed))
 
 pub returns-clause-images : goal.returns-clause-images
@@ -45,19 +38,21 @@ returns-clause-images g c = λ told value grows quiet.
     let same = grows.pages_are in
     let D = g.D.Disk in
     let F0 = (D.files c.args.disk.now).pkg in
-    let F1 = (D.files c.write_free_page.new.disk).pkg in
+    let F1 = (D.files c.write_free_slots.new.disk).pkg in
     let P = BeforeOrAfter value (with_page value) F0 in
-    let first = c.write_free_page.ensures.writes in
+    let first = c.write_free_slots.ensures.writes in
     let keeps : Keeps F0 value = (quiet (D.files c.args.disk.now) (g.met.D.Disk.as_read c.args.disk.now told)).keeps in
     let mid : StandsAs value F0 F1 = mid_stands value can c.args.pages F0 F0 F1 same (here value F0 keeps) (first.changes.pkg told) in
-    let page : HasFreePage value.pages F1 = subst (λ (q : ℕ). HasFreePage q F1) same (c.in_ok-write_free_page.ensures.page told) in
+    let new : HasFreePage c.args.pages F1 =
+    record { long = c.in_ok-write_free_slots.ensures.long told; slots = c.in_ok-write_free_slots.ensures.slots told } in
+    let page : HasFreePage value.pages F1 = subst (λ (q : ℕ). HasFreePage q F1) same new in
     let is = head_is c.head_unit.result c.args.generation c.args.pages value gen same c.head_unit.ensures in
     stops_next g.D.Disk told P first
     (stops_while g.D.Disk told P first
     (λ from image was changed. inl (mid_stands value can c.args.pages F0 from.pkg image.pkg same (quiet from was) changed)))
     (stops_while g.D.Disk told P c.write_one.ensures.writes
     (λ from image was torn.
-    let at = c.in_ok-write_free_page.ensures.settled told from was in
+    let at = c.in_ok-write_free_slots.ensures.settled told from was in
     while_grown value can c.head_unit.result is F0 from.pkg image.pkg (subst (StandsAs value F0) (sym at) mid)
     (subst (HasFreePage value.pages) (sym at) page) torn))
 
@@ -72,7 +67,7 @@ grown value can unit generation pages F0 F1 F2 gen same is keeps changed page wr
 
 pub returns-clause-writes : goal.returns-clause-writes
 returns-clause-writes g c =
-    writes_then g.D.Disk g.met.D.Disk.follows_trans c.write_free_page.ensures.writes c.write_one.ensures.writes (omega arith) (λ x y r. tt)
+    writes_then g.D.Disk g.met.D.Disk.follows_trans c.write_free_slots.ensures.writes c.write_one.ensures.writes (omega arith) (λ x y r. tt)
     (λ x y z r s. tt)
 
 pub returns-clause-added : goal.returns-clause-added
@@ -82,15 +77,17 @@ returns-clause-added g c =
     let gen = c.args.generation in
     let pages = c.args.pages in
     let F0 = (D.files c.args.disk.now).pkg in
-    let F1 = (D.files c.write_free_page.new.disk).pkg in
+    let F1 = (D.files c.write_free_slots.new.disk).pkg in
     let next = D.files c.write_one.new.disk in
     let images = D.left_since c.write_one.new.disk (D.moment c.write_one.new.disk) in
     both_ok c.write_one.result (λ (written : IsTrue D.tells → next.pkg ≡ put 0 (unit ∷ []) F1) (settled : IsTrue D.tells → IsSettled Pkg next images) told.
-    let first = c.write_free_page.ensures.writes.changes.pkg told in
+    let first = c.write_free_slots.ensures.writes.changes.pkg told in
+    let new : HasFreePage c.args.pages F1 =
+    record { long = c.in_ok-write_free_slots.ensures.long told; slots = c.in_ok-write_free_slots.ensures.slots told } in
     let last = written told in
     let stands : (value : Store) → CanGrowFrom gen pages value → Keeps F0 value → StandsAs (with_page value) F0 next.pkg =
     λ value from keeps. grown value from.can unit gen pages F0 F1 next.pkg from.generation_is from.pages_are c.head_unit.ensures keeps first
-    (c.in_ok-write_free_page.ensures.page told) last in
+    new last in
     record {
       stands = stands;
       quiet = λ value from keeps image left.

@@ -1,5 +1,5 @@
 use Rattle.std.proofs.Common.{◌≡◌, ◌≤◌, ◌+◌, ◌*◌, ◌%◌, drop}
-use Rattle.rpm_pkgdb.specs.Checksums.{sums}
+use Rattle.rpm_pkgdb.proofs.Vocabulary.{sums}
 use Rattle.rpm_pkgdb.proofs.checksum.byte_sums.Given as goal
 
 abbrev pub invariant-loop-x : goal.invariant-loop-x

@@ -1,8 +1,6 @@
 use Rattle.std.proofs.Common.{◌≡◌, ℕ, ◌+◌, ◌*◌, ◌%◌, List, ◌++◌, length, take, sym, ap, ◌∙◌, arith}
-use Rattle.std.specs.List.{sum}
+use Rattle.rpm_pkgdb.proofs.Vocabulary.{sum, sums, weights}
 use Rattle.std.proofs.lemmas.List.{length-take, take-append-drop}
-use Rattle.rpm_pkgdb.specs.Checksums.{sums}
-use Rattle.rpm_pkgdb.specs.inner.Weights.{weights}
 use Rattle.rpm_pkgdb.proofs.Sums.{sums_block}
 use Rattle.rpm_pkgdb.proofs.checksum.run_sums.Goals as goal
 

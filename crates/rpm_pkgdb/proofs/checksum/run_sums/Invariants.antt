@@ -1,5 +1,5 @@
 use Rattle.std.proofs.Common.{◌≡◌, ◌≤◌, ◌+◌, ◌*◌, ◌%◌, length}
-use Rattle.rpm_pkgdb.specs.Checksums.{sums}
+use Rattle.rpm_pkgdb.proofs.Vocabulary.{sums}
 use Rattle.rpm_pkgdb.proofs.checksum.run_sums.Given as goal
 
 abbrev pub invariant-loop-block : goal.invariant-loop-block

@@ -1,5 +1,5 @@
 use Rattle.std.proofs.Common.{◌≡◌, ◌≤◌, ◌*◌, take}
-use Rattle.std.specs.List.{sum}
+use Rattle.rpm_pkgdb.proofs.Vocabulary.{sum}
 use Rattle.rpm_pkgdb.proofs.checksum.total.Given as goal
 
 abbrev pub invariant-loop-x : goal.invariant-loop-x

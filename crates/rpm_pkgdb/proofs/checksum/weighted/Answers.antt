@@ -1,6 +1,6 @@
 use Rattle.std.proofs.Common.{◌≡◌, ◌≤◌, ◌<◌, ℕ, ◌+◌, ◌-◌, ◌*◌, List, length, get_or, drop, refl, ap, arith}
 use Rattle.std.proofs.lemmas.Nat.{mul-le}
-use Rattle.rpm_pkgdb.specs.inner.Weights.{weights}
+use Rattle.rpm_pkgdb.proofs.Vocabulary.{weights}
 use Rattle.rpm_pkgdb.proofs.Sums.{weights_more, weights_none}
 use Rattle.rpm_pkgdb.proofs.checksum.weighted.Goals as goal
 

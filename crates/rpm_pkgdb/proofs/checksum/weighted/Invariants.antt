@@ -1,5 +1,5 @@
 use Rattle.std.proofs.Common.{◌≡◌, ◌≤◌, ◌+◌, ◌*◌, drop}
-use Rattle.rpm_pkgdb.specs.inner.Weights.{weights}
+use Rattle.rpm_pkgdb.proofs.Vocabulary.{weights}
 use Rattle.rpm_pkgdb.proofs.checksum.weighted.Given as goal
 
 abbrev pub invariant-loop-x : goal.invariant-loop-x

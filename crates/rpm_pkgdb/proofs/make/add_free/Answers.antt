@@ -1,7 +1,6 @@
 use Rattle.std.proofs.Common.{◌++◌, ◌∷◌, [], replicate, List, ap, ◌∙◌, append_assoc, arith}
 use Rattle.std.proofs.lemmas.List.{replicate_more}
-use Rattle.rpm_pkgdb.specs.declared.slot.Slot.{Slot}
-use Rattle.rpm_pkgdb.specs.Slots.{free}
+use Rattle.rpm_pkgdb.proofs.Vocabulary.{free, Slot}
 use Rattle.rpm_pkgdb.proofs.make.add_free.Goals as goal
 
 pub loop-preserved : goal.loop-preserved

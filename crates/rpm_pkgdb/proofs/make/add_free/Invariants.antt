@@ -1,6 +1,5 @@
 use Rattle.std.proofs.Common.{◌≡◌, ◌≤◌, ◌++◌, ◌+◌, replicate}
-use Rattle.std.specs.Vec.{vec_len, vec_capacity}
-use Rattle.rpm_pkgdb.specs.Slots.{free}
+use Rattle.rpm_pkgdb.proofs.Vocabulary.{free, vec_capacity, vec_len}
 use Rattle.rpm_pkgdb.proofs.make.add_free.Given as goal
 
 abbrev pub invariant-loop : goal.invariant-loop

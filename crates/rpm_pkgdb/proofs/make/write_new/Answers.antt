@@ -1,13 +1,6 @@
-use Rattle.rpm_outside.specs.declared.disk.File.TheVariants.{Pkg}
+use Rattle.rpm_pkgdb.proofs.Vocabulary.{is_blank, IsFirstPage, IsSettled, MakesTo, Pkg, put, SameOutside, Torn, unit_at, Units}
 use Rattle.std.proofs.Common.{◌≡◌, ℕ, List, [], ◌∷◌, sym, ap, ◌∙◌, subst, true, arith, IsTrue}
-use Rattle.rpm_outside.specs.Files.{Units, unit_at, put}
-use Rattle.rpm_outside.specs.Crash.{Torn}
-use Rattle.rpm_pkgdb.specs.Store.{is_blank}
-use Rattle.rpm_outside.specs.Changes.{IsSettled}
 use Rattle.rpm_pkgdb.proofs.Changing.{map_ok, both_ok, writes_weaker, writes_then, writes_failed, stops_while, stops_next}
-use Rattle.rpm_pkgdb.specs.Stays.{SameOutside}
-use Rattle.rpm_pkgdb.specs.Quiet.{IsFirstPage}
-use Rattle.rpm_pkgdb.specs.Written.{MakesTo}
 use Rattle.rpm_pkgdb.proofs.ClearLaws.{put_elsewhere, torn_outside, outside_then, outside_wider}
 use Rattle.rpm_pkgdb.proofs.Makes.{says_blank, blank_after, while_first, while_headed, new_keeps, new_quiet}
 use Rattle.rpm_pkgdb.proofs.make.write_new.Goals as goal

@@ -1,22 +1,10 @@
 use Rattle.std.proofs.Common.{◌≡◌, ℕ, IsTrue, IfSome, ◌<◌, ◌≤◌, ◌+◌, [], ◌∷◌, List, length, refl, sym, ap, ◌∙◌, subst, arith}
-use Rattle.rpm_outside.specs.Crash.{Torn}
-use Rattle.rpm_pkgdb.specs.declared.slot.Slot.{Slot}
-use Rattle.rpm_pkgdb.specs.declared.plan.Target.{Target}
-use Rattle.rpm_pkgdb.specs.Store.{Keeps}
-use Rattle.rpm_pkgdb.specs.Blobs.{blocks_for}
-use Rattle.rpm_pkgdb.specs.Undamaged.{IsSlotUnit}
-use Rattle.rpm_outside.specs.Files.{Units, units_of, unit_at, blank}
-use Rattle.rpm_pkgdb.specs.Slots.{end_of}
-use Rattle.rpm_pkgdb.specs.Framing.{framed, next_unit}
+use Rattle.rpm_pkgdb.proofs.Vocabulary.{After, Anything, blank, blocks_for, end_of, framed, IsSlotUnit, Keeps, next_field, next_unit, Slot, slot_for, Target}
+use Rattle.rpm_pkgdb.proofs.Vocabulary.{Torn, unit_at, Units, units_of, WhilePut}
 use Rattle.rpm_pkgdb.proofs.ClearLaws.{put_elsewhere}
 use Rattle.rpm_pkgdb.proofs.FramingLaws.{count-framed}
 use Rattle.rpm_pkgdb.proofs.FreedLaws.{put_blank_all}
 use Rattle.rpm_pkgdb.proofs.Changing.{map_ok, writes_then, writes_failed, stops_while, stops_next}
-use Rattle.rpm_pkgdb.specs.Quiet.{Anything}
-use Rattle.rpm_pkgdb.specs.Plans.{slot_for}
-use Rattle.rpm_pkgdb.specs.inner.Puts.{WhilePut}
-use Rattle.rpm_pkgdb.specs.Written.{next_field}
-use Rattle.rpm_pkgdb.specs.inner.Puts.WhilePut.{After}
 use Rattle.rpm_pkgdb.proofs.Reaching.{unit_ends, outside_ends, blob_ends}
 use Rattle.rpm_pkgdb.proofs.PutsLaws.{while_blob, second_phase, third_phase, stand_alike}
 use Rattle.rpm_pkgdb.proofs.new_blob.put_blob.Goals as goal
@@ -86,7 +74,8 @@ returns-clause-writes g c =
 
 pub returns-in_err-write_one-clause-writes : goal.returns-in_err-write_one-clause-writes
 returns-in_err-write_one-clause-writes g c =
-    writes_failed g.D.Disk (writes_then g.D.Disk g.met.D.Disk.follows_trans c.write_first.ensures.writes c.in_err-write_one.ensures.writes (omega arith) (λ x y r. tt)
+    writes_failed g.D.Disk (writes_then g.D.Disk g.met.D.Disk.follows_trans c.write_first.ensures.writes c.in_err-write_one.ensures.writes (omega arith) (λ x
+    y r. tt)
     (λ x y z r s. tt))
 
 pub returns-clause-put : goal.returns-clause-put

@@ -1,10 +1,6 @@
 use Rattle.std.proofs.Common.{◌≡◌, ℕ, [], ◌∷◌, Option, IfSome, IsTrue, inr, sym, ap, ◌∙◌, subst, arith}
-use Rattle.rpm_outside.specs.Files.{Units, units_of, unit_at, put}
-use Rattle.rpm_outside.specs.Crash.{Torn}
-use Rattle.rpm_outside.specs.inner.Cuts.{cut_up_one}
+use Rattle.rpm_pkgdb.proofs.Vocabulary.{cut_up_one, FieldTorn, next_unit, put, Torn, unit_at, Units, units_of}
 use Rattle.rpm_pkgdb.proofs.Changing.{map_ok, writes_weaker}
-use Rattle.rpm_pkgdb.specs.Framing.{next_unit}
-use Rattle.rpm_pkgdb.specs.inner.Puts.{FieldTorn}
 use Rattle.rpm_pkgdb.proofs.ClearLaws.{put_here}
 use Rattle.rpm_pkgdb.proofs.new_blob.write_field.Goals as goal
 

@@ -1,24 +1,22 @@
 use Rattle.std.proofs.Common.{◌≡◌, ℕ, Option, IfSome, length, sym, subst, arith}
-use Rattle.rpm_outside.specs.Files.{Units, unit_at}
-use Rattle.rpm_pkgdb.specs.Blobs.{blocks_for}
+use Rattle.rpm_pkgdb.proofs.Vocabulary.{BlobTorn, blocks_for, FieldTorn, next_field, next_unit, unit_at, Units}
 use Rattle.rpm_pkgdb.proofs.Changing.{on_ok, writes_weaker, writes_then, writes_failed}
-use Rattle.rpm_pkgdb.specs.inner.Puts.{FieldTorn, BlobTorn}
-use Rattle.rpm_pkgdb.specs.Framing.{next_unit}
-use Rattle.rpm_pkgdb.specs.Written.{next_field}
 use Rattle.rpm_pkgdb.proofs.FieldLaws.{blocks_torn, then_field}
 use Rattle.rpm_pkgdb.proofs.new_blob.write_first.Goals as goal
 
 pub returns-in_err-write_blob-clause-writes : goal.returns-in_err-write_blob-clause-writes
 returns-in_err-write_blob-clause-writes g c =
     let f = next_field c.args.target.now in
-    writes_failed g.D.Disk (writes_weaker g.D.Disk c.in_err-write_blob.ensures.writes (omega arith) (blocks_torn c.args.target.now.start (blocks_for (length c.args.blob.now)) f))
+    writes_failed g.D.Disk (writes_weaker g.D.Disk c.in_err-write_blob.ensures.writes (omega arith) (blocks_torn c.args.target.now.start (blocks_for
+    (length c.args.blob.now)) f))
 
 pub returns-in_err-write_field-clause-writes : goal.returns-in_err-write_field-clause-writes
 returns-in_err-write_field-clause-writes g c =
     let at = c.args.target.now.start in
     let n = blocks_for (length c.args.blob.now) in
     let f = next_field c.args.target.now in
-    writes_failed g.D.Disk (writes_then g.D.Disk g.met.D.Disk.follows_trans c.write_blob.ensures.writes c.in_err-write_field.ensures.writes (omega arith) (blocks_torn at n f)
+    writes_failed g.D.Disk (writes_then g.D.Disk g.met.D.Disk.follows_trans c.write_blob.ensures.writes c.in_err-write_field.ensures.writes (omega arith)
+    (blocks_torn at n f)
     (λ x y z same torn. then_field at n f x y z same (subst (λ (o : Option ℕ). FieldTorn o y z) c.next_field.ensures torn)))
 
 pub returns-clause-writes : goal.returns-clause-writes

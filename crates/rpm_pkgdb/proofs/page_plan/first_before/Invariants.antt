@@ -1,4 +1,4 @@
-use Rattle.rpm_pkgdb.specs.inner.Pages.{IsFirstSoFar}
+use Rattle.rpm_pkgdb.proofs.Vocabulary.{IsFirstSoFar}
 use Rattle.rpm_pkgdb.proofs.page_plan.first_before.Given as goal
 
 abbrev pub invariant-loop-i : goal.invariant-loop-i

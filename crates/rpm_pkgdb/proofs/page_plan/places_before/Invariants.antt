@@ -1,4 +1,4 @@
-use Rattle.rpm_pkgdb.specs.inner.Pages.{HasPlacesSoFar}
+use Rattle.rpm_pkgdb.proofs.Vocabulary.{HasPlacesSoFar}
 use Rattle.rpm_pkgdb.proofs.page_plan.places_before.Given as goal
 
 abbrev pub invariant-loop-k : goal.invariant-loop-k

@@ -1,5 +1,5 @@
 use Rattle.std.proofs.Common.{◌≡◌, ℕ, ◌<◌, true}
-use Rattle.rpm_pkgdb.specs.Slots.{slot_at, is_used}
+use Rattle.rpm_pkgdb.proofs.Vocabulary.{is_used, slot_at}
 use Rattle.rpm_pkgdb.proofs.plan.first_free.Given as goal
 
 abbrev pub invariant-loop-k : goal.invariant-loop-k

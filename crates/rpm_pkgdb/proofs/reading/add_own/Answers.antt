@@ -1,12 +1,6 @@
 use Rattle.std.proofs.Common.{◌≡◌, ℕ, ◌+◌, ◌/◌, ◌<◌, List, [], ◌∷◌, ◌++◌, length, take, true, Option, None, Some, is_some, refl, sym, ap, ◌∙◌, arith, length-append}
 use Rattle.std.proofs.lemmas.List.{append-nil, length-take}
-use Rattle.rpm_outside.specs.Files.{units_of}
-use Rattle.rpm_outside.specs.inner.Cuts.{length-cut_up}
-use Rattle.rpm_pkgdb.specs.declared.slot.Slot.{Slot}
-use Rattle.rpm_pkgdb.specs.declared.slot.Reason.{Reason}
-use Rattle.rpm_pkgdb.specs.Slots.{slot_of, slots_in}
-use Rattle.rpm_pkgdb.specs.Damages.{own_reason}
-use Rattle.rpm_pkgdb.specs.inner.Reading.{added}
+use Rattle.rpm_pkgdb.proofs.Vocabulary.{added, length-cut_up, own_reason, Reason, Slot, slot_of, slots_in, units_of}
 use Rattle.rpm_pkgdb.proofs.OrderLaws.{awaits_less}
 use Rattle.rpm_pkgdb.proofs.Steps.{length-slots_in, slots_in-none, slots_more}
 use Rattle.rpm_pkgdb.proofs.TableLaws.{own_more, none_of}

@@ -1,8 +1,5 @@
 use Rattle.std.proofs.Common.{◌≡◌, ℕ, ◌++◌, take}
-use Rattle.rpm_outside.specs.Files.{units_of}
-use Rattle.rpm_pkgdb.specs.Slots.{slots_in}
-use Rattle.rpm_pkgdb.specs.inner.Rising.{IsInOrder, Awaits}
-use Rattle.rpm_pkgdb.specs.inner.Tables.{AreOwn, AreNumbered}
+use Rattle.rpm_pkgdb.proofs.Vocabulary.{AreNumbered, AreOwn, Awaits, IsInOrder, slots_in, units_of}
 use Rattle.rpm_pkgdb.proofs.reading.add_own.Given as goal
 
 abbrev pub invariant-loop-k : goal.invariant-loop-k

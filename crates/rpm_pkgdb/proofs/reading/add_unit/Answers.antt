@@ -1,7 +1,5 @@
 use Rattle.std.proofs.Common.{◌≡◌, Bool, true, false, not, Option, None, Some, is_some, sym, ap, ◌∙◌, subst, arith}
-use Rattle.rpm_pkgdb.specs.Slots.{is_used}
-use Rattle.rpm_pkgdb.specs.Damages.{own_reason}
-use Rattle.rpm_pkgdb.specs.inner.Tables.{AreNumbered}
+use Rattle.rpm_pkgdb.proofs.Vocabulary.{AreNumbered, is_used, own_reason}
 use Rattle.rpm_pkgdb.proofs.Known.{numbered_push}
 use Rattle.rpm_pkgdb.proofs.Sound.{placed_slot}
 use Rattle.rpm_pkgdb.proofs.reading.add_unit.Goals as goal

@@ -1,7 +1,5 @@
 use Rattle.std.proofs.Common.{◌≡◌, ℕ, ◌/◌, IsTrue, length, take, drop, ap, ◌∙◌, arith}
-use Rattle.rpm_outside.specs.Files.{units_of}
-use Rattle.rpm_outside.specs.inner.Cuts.{length-cut_up}
-use Rattle.rpm_pkgdb.specs.Damages.{table}
+use Rattle.rpm_pkgdb.proofs.Vocabulary.{length-cut_up, table, units_of}
 use Rattle.rpm_pkgdb.proofs.OrderLaws.{awaits_less}
 use Rattle.rpm_pkgdb.proofs.ReadingLaws.{piece_of_table, reading_more}
 use Rattle.rpm_pkgdb.proofs.reading.read_piece.Goals as goal

@@ -1,10 +1,7 @@
 use Rattle.std.proofs.Common.{◌≡◌, ◌*◌, ◌-◌, IsTrue, length, take, None, refl, ap, arith}
 use Rattle.std.proofs.lemmas.List.{length-take}
-use Rattle.rpm_outside.specs.declared.disk.File.TheVariants.{Pkg}
-use Rattle.rpm_outside.specs.Files.{Files}
-use Rattle.rpm_outside.specs.inner.Looking.{looks_more, looks_none}
+use Rattle.rpm_pkgdb.proofs.Vocabulary.{Files, looks_more, looks_none, Pkg, table}
 use Rattle.rpm_pkgdb.proofs.Changing.{reads_on, reads_then}
-use Rattle.rpm_pkgdb.specs.Damages.{table}
 use Rattle.rpm_pkgdb.proofs.ReadingLaws.{nothing_read, read_of, read_count}
 use Rattle.rpm_pkgdb.proofs.TableLaws.{none_of}
 use Rattle.rpm_pkgdb.proofs.reading.read_pieces.Goals as goal

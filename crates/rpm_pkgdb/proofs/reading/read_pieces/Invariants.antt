@@ -1,10 +1,6 @@
 use Rattle.std.proofs.Common.{◌≡◌, ◌-◌, ◌*◌, IsTrue, length, min}
-use Rattle.rpm_outside.specs.Frame.{Reads}
+use Rattle.rpm_pkgdb.proofs.Vocabulary.{AreRead, Awaits, IsInOrder, Pkg, Reads, table}
 use Rattle.rpm_pkgdb.proofs.Changing.{done}
-use Rattle.rpm_outside.specs.declared.disk.File.TheVariants.{Pkg}
-use Rattle.rpm_pkgdb.specs.Damages.{table}
-use Rattle.rpm_pkgdb.specs.inner.Reading.{AreRead}
-use Rattle.rpm_pkgdb.specs.inner.Rising.{IsInOrder, Awaits}
 use Rattle.rpm_pkgdb.proofs.reading.read_pieces.Given as goal
 
 abbrev pub invariant-loop-k : goal.invariant-loop-k

@@ -1,11 +1,6 @@
 use Rattle.std.proofs.Common.{IfErr, List, [], ◌∷◌, ◌++◌, length, refl, sym, ap, ◌∙◌, subst, arith}
 use Rattle.std.proofs.lemmas.List.{length-take, take_all, take_more}
-use Rattle.rpm_pkgdb.specs.declared.slot.Slot.{Slot}
-use Rattle.rpm_pkgdb.specs.Slots.{slot_at, free}
-use Rattle.rpm_pkgdb.specs.Pairs.{find_in}
-use Rattle.rpm_pkgdb.specs.inner.Maps.{HasPlaces}
-use Rattle.rpm_pkgdb.specs.inner.Meetings.{meeting}
-use Rattle.rpm_pkgdb.specs.Store.{SaysHere}
+use Rattle.rpm_pkgdb.proofs.Vocabulary.{find_in, free, HasPlaces, meeting, SaysHere, Slot, slot_at}
 use Rattle.rpm_pkgdb.proofs.Changing.{err_given}
 use Rattle.rpm_pkgdb.proofs.MeetingLaws.{meeting_more, meeting_says}
 use Rattle.rpm_pkgdb.proofs.table.exact_numbers.Goals as goal
@@ -13,18 +8,14 @@ use Rattle.rpm_pkgdb.proofs.table.exact_numbers.Goals as goal
 pub loop-k-init : goal.loop-k-init
 loop-k-init c = record { known = c.new-opening.ensures.known; slots = c.new-opening.ensures.slots; none = refl }
 
-pub add-requires-clause-room : goal.add-requires-clause-room
-add-requires-clause-room c =
-    omega (arith, ap length c.loop-k.invariant.slots, length-take c.loop-k.k c.args.slots.now, c.requires.few, c.loop-k-test.true)
-
-pub add-requires-clause-end : goal.add-requires-clause-end
-add-requires-clause-end c = λ used. (c.requires.bounded c.loop-k.k used).1
-
-pub add-requires-clause-some : goal.add-requires-clause-some
-add-requires-clause-some c = λ used. (c.requires.bounded c.loop-k.k used).0
-
-pub add-requires-clause-number : goal.add-requires-clause-number
-add-requires-clause-number c = λ used. c.requires.numbered c.loop-k.k c.loop-k-test.true used
+pub add-requires : goal.add-requires
+add-requires c = record {
+  known = c.loop-k.invariant.known;
+  room = omega (arith, ap length c.loop-k.invariant.slots, length-take c.loop-k.k c.args.slots.now, c.requires.few, c.loop-k-test.true);
+  end = λ used. (c.requires.bounded c.loop-k.k used).1;
+  some = λ used. (c.requires.bounded c.loop-k.k used).0;
+  number = λ used. c.requires.numbered c.loop-k.k c.loop-k-test.true used;
+}
 
 pub returns-in_err-add-clause-says : goal.returns-in_err-add-clause-says
 returns-in_err-add-clause-says c =

@@ -1,6 +1,5 @@
 use Rattle.std.proofs.Common.{◌≡◌, [], take, None}
-use Rattle.rpm_pkgdb.specs.inner.Maps.{IsKnown}
-use Rattle.rpm_pkgdb.specs.inner.Meetings.{meeting}
+use Rattle.rpm_pkgdb.proofs.Vocabulary.{IsKnown, meeting}
 use Rattle.rpm_pkgdb.proofs.table.exact_numbers.Given as goal
 
 abbrev pub invariant-loop-k : goal.invariant-loop-k

@@ -1,35 +1,32 @@
 use Rattle.std.proofs.Common.{◌≡◌, ℕ, ◌-◌, ◌*◌, ◌^◌, IsTrue, length, None, sym, ap, ◌∙◌, subst, arith}
-use Rattle.rpm_pkgdb.specs.declared.slot.OpenFault.{OpenFault}
-use Rattle.rpm_pkgdb.specs.declared.table.Table.{Table}
-use Rattle.rpm_pkgdb.specs.Slots.{slots_in}
-use Rattle.rpm_pkgdb.specs.Damages.{table, table_fault}
-use Rattle.rpm_pkgdb.specs.Store.{Says, SaysHere}
-use Rattle.rpm_pkgdb.specs.Undamaged.{AreSound}
-use Rattle.rpm_pkgdb.specs.inner.Reading.{IsRead, fault_of}
+use Rattle.rpm_pkgdb.proofs.Vocabulary.{AreSound, fault_of, IsRead, OpenFault, Says, SaysHere, slots_in, Table, table, table_fault}
 use Rattle.rpm_pkgdb.proofs.ReadingLaws.{table_count, read_bounded, read_count, read_few, read_fault, read_placed, read_whole, no_meeting, says_whole, ok_with, on_ok, err_gives}
 use Rattle.rpm_pkgdb.proofs.table.read_table.Goals as goal
 
-pub table_read-requires-clause-bounded : goal.table_read-requires-clause-bounded
-table_read-requires-clause-bounded g c = read_bounded _ _ _ _ _ c.in_ok-reading.ensures.read.slots
-
-pub table_read-requires-clause-numbered : goal.table_read-requires-clause-numbered
-table_read-requires-clause-numbered g c = c.in_ok-reading.ensures.read.slots.numbered
-
-pub table_read-requires-clause-few : goal.table_read-requires-clause-few
-table_read-requires-clause-few g c = omega (arith, read_few _ _ _ _ _ c.in_ok-reading.reading c.in_ok-reading.ensures.read, c.requires.pages.below)
+pub table_read-requires-clause-right : goal.table_read-requires-clause-right
+table_read-requires-clause-right g c =
+    let read = c.in_ok-reading.ensures.read in
+    record {
+      few = omega (arith, read_few _ _ _ _ _ c.in_ok-reading.reading read, c.requires.pages.below);
+      bounded = read_bounded _ _ _ _ _ read.slots;
+      numbered = read.slots.numbered;
+    }
 
 pub returns-clause-count : goal.returns-clause-count
 returns-clause-count g c =
     let r = c.in_ok-reading.reading in
-    ok_with (λ (t : Table). t.slots.items ≡ r.rising.slots.items) (λ (t : Table). length t.slots.items ≡ 256 * c.args.pages - 2) (r.reason ≡ None) c.table_read.result
+    ok_with (λ (t : Table). t.slots.items ≡ r.rising.slots.items) (λ (t : Table). length t.slots.items ≡ 256 * c.args.pages - 2) (r.reason ≡ None)
+    c.table_read.result
     (λ t same none. ap length same ∙ read_count _ _ _ _ _ r c.in_ok-reading.ensures.read none) c.table_read.ensures.slots c.table_read.ensures.all
 
 pub returns-clause-placed : goal.returns-clause-placed
 returns-clause-placed g c =
     let r = c.in_ok-reading.reading in
-    ok_with (λ (t : Table). t.slots.items ≡ r.rising.slots.items) (λ (t : Table). AreSound c.args.pages (2 ^ 28) t.slots.items) (fault_of r ≡ None) c.table_read.result
+    ok_with (λ (t : Table). t.slots.items ≡ r.rising.slots.items) (λ (t : Table). AreSound c.args.pages (2 ^ 28) t.slots.items) (fault_of r ≡ None)
+    c.table_read.result
     (λ t same none. subst (AreSound c.args.pages (2 ^ 28)) (sym same)
-    (read_placed _ c.args.pages _ _ r.rising.slots.items c.in_ok-reading.ensures.read.slots (no_meeting r none))) c.table_read.ensures.slots c.table_read.ensures.sound
+    (read_placed _ c.args.pages _ _ r.rising.slots.items c.in_ok-reading.ensures.read.slots (no_meeting r none))) c.table_read.ensures.slots
+    c.table_read.ensures.sound
 
 pub returns-clause-slots : goal.returns-clause-slots
 returns-clause-slots g c =
@@ -37,7 +34,8 @@ returns-clause-slots g c =
     let pages = c.args.pages in
     let file = (g.D.Disk.files c.args.disk.now).pkg in
     let is = c.in_ok-reading.ensures.read in
-    ok_with (λ (t : Table). t.slots.items ≡ r.rising.slots.items) (λ (t : Table). IsTrue g.D.Disk.tells → t.slots.items ≡ slots_in (table pages file)) (r.reason ≡ None)
+    ok_with (λ (t : Table). t.slots.items ≡ r.rising.slots.items) (λ (t : Table). IsTrue g.D.Disk.tells → t.slots.items ≡ slots_in (table pages file))
+    (r.reason ≡ None)
     c.table_read.result (λ t same none told.
     let long : length r.rising.slots.items ≡ length (table pages file) =
     read_count _ _ _ _ _ r is none ∙ sym (table_count pages file (c.requires.within told)) in

@@ -1,6 +1,5 @@
 use Rattle.std.proofs.Common.{◌≡◌, ℕ, ◌<◌, IsSome, ap, sym, subst}
-use Rattle.rpm_pkgdb.specs.Pairs.{Index, Pairs, find_in, IsStrictlySorted}
-use Rattle.rpm_pkgdb.specs.inner.Maps.{Adds}
+use Rattle.rpm_pkgdb.proofs.Vocabulary.{Adds, find_in, Index, IsStrictlySorted, Pairs}
 use Rattle.rpm_pkgdb.proofs.Pushed.{pushed_sorted, pushed_adds}
 use Rattle.rpm_pkgdb.proofs.numbers.Numbers.push.Goals as goal
 

@@ -1,7 +1,7 @@
 use Rattle.std.proofs.Common.{◌≡◌, ℕ, Option, None, IsSome, ap, subst}
 use Rattle.rpm_pkgdb.proofs.Place.{in_gap}
 use Rattle.rpm_pkgdb.proofs.Removed.{removed_drops}
-use Rattle.rpm_pkgdb.specs.Pairs.{Index, find_in, IsStrictlySorted}
+use Rattle.rpm_pkgdb.proofs.Vocabulary.{find_in, Index, IsStrictlySorted}
 use Rattle.rpm_pkgdb.proofs.numbers.Numbers.remove.Goals as goal
 
 not_none : (o : Option ℕ) → IsSome o → o ≡ None → ⊥

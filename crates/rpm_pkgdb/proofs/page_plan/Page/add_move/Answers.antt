@@ -1,16 +1,7 @@
 use Rattle.std.proofs.Common.{◌≡◌, ℕ, ◌^◌, List, Some, None, sym, ap, ◌∙◌, subst, set}
 use Rattle.std.specs.Prelude.{Contains, SomeIndex, true}
-use Rattle.rpm_blocks.specs.declared.Range.{Range}
-use Rattle.rpm_blocks.specs.Blocks.{IsFree, IsLeastFit, range, range_at, with_range, without}
-use Rattle.rpm_blocks.specs.Laws.{with_range_keeps, begins_in}
-use Rattle.rpm_pkgdb.specs.declared.slot.Slot.{Slot}
-use Rattle.rpm_pkgdb.specs.declared.page_plan.Page.{Page}
-use Rattle.rpm_pkgdb.specs.Slots.{slot_at, is_used}
-use Rattle.rpm_pkgdb.specs.Undamaged.{AreSound}
-use Rattle.rpm_pkgdb.specs.Growing.{moved, after_moves, AreMoves}
-use Rattle.rpm_pkgdb.specs.inner.Pages.{IsRanged}
-use Rattle.rpm_pkgdb.specs.Plans.{IsLeast}
-use Rattle.rpm_pkgdb.specs.inner.Ranges.{range_of, AreRangesOf}
+use Rattle.rpm_pkgdb.proofs.Vocabulary.{after_moves, AreMoves, AreRangesOf, AreSound, begins_in, is_used, IsFree, IsLeast, IsLeastFit, IsRanged, moved, Page}
+use Rattle.rpm_pkgdb.proofs.Vocabulary.{Range, range, range_at, range_of, Slot, slot_at, with_range, with_range_keeps, without}
 use Rattle.rpm_pkgdb.proofs.PlanLaws.{least_from}
 use Rattle.rpm_pkgdb.proofs.PageLaws.{moved_sound, moved_ranges, planning_more}
 use Rattle.rpm_pkgdb.proofs.page_plan.Page.add_move.Goals as goal

@@ -1,24 +1,13 @@
 use Rattle.std.proofs.Common.{◌≡◌, ℕ, length, Option, None, Some, sym, ap, subst, ◌∙◌, arith}
 use Rattle.std.specs.FinMap as finite
 use Rattle.rpm_outside.specs.declared.disk.Disk as disk
-use Rattle.rpm_pkgdb.specs.declared.slot.Slot.{Slot}
-use Rattle.rpm_pkgdb.specs.Slots.{is_used}
-use Rattle.rpm_pkgdb.specs.Pairs.{find_in}
-use Rattle.rpm_pkgdb.specs.Store.{Store, Keeps}
-use Rattle.rpm_pkgdb.specs.Blobs.{blobs}
-use Rattle.rpm_pkgdb.specs.Frame.{pkg, StopsIn}
-use Rattle.rpm_pkgdb.specs.Rewritten.{IsErased, EraseStops}
+use Rattle.rpm_pkgdb.proofs.Vocabulary.{AreZeros, BeforeOrAfter, blobs, ErasesTo, EraseStops, find_in, Forgets, HasSlot, is_used, IsErased, IsKept, IsPlaced}
+use Rattle.rpm_pkgdb.proofs.Vocabulary.{Keeps, pkg, Slot, StaysBut, StopsIn, Store, with_free}
 use Rattle.rpm_pkgdb.proofs.Changing.{stops_weaker}
-use Rattle.rpm_pkgdb.specs.inner.Keeping.{IsKept}
 use Rattle.rpm_pkgdb.proofs.RangeLaws.{freed_used}
-use Rattle.rpm_pkgdb.specs.inner.Ranges.{Forgets}
-use Rattle.rpm_pkgdb.specs.Quiet.{HasSlot, BeforeOrAfter, with_free}
 use Rattle.rpm_pkgdb.proofs.ErasesTo.{erases_to, freed_map}
-use Rattle.rpm_pkgdb.specs.Stays.{StaysBut}
-use Rattle.rpm_pkgdb.specs.Written.{AreZeros, ErasesTo}
 use Rattle.rpm_pkgdb.proofs.StayLaws.{freed_stay}
 use Rattle.rpm_pkgdb.proofs.LeftLaws.{erases_but}
-use Rattle.rpm_pkgdb.specs.Undamaged.{IsPlaced}
 use Rattle.rpm_pkgdb.proofs.Made.{made}
 use Rattle.rpm_pkgdb.proofs.Held.{found_at_slot, freed_kept, freed_taken}
 use Rattle.rpm_pkgdb.proofs.Written.{written}

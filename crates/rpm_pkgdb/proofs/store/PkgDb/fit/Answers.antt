@@ -1,8 +1,5 @@
 use Rattle.std.proofs.Common.{Option, Some, MatchOption, subst}
-use Rattle.rpm_blocks.specs.Blocks.{Blocks}
-use Rattle.rpm_pkgdb.specs.Store.{Store}
-use Rattle.rpm_pkgdb.specs.inner.Ranges.{HasUsed}
-use Rattle.rpm_pkgdb.specs.Plans.{FitsNowhere, IsLeast}
+use Rattle.rpm_pkgdb.proofs.Vocabulary.{Blocks, FitsNowhere, HasUsed, IsLeast, Store}
 use Rattle.rpm_pkgdb.proofs.PlanLaws.{least_from}
 use Rattle.rpm_pkgdb.proofs.store.PkgDb.fit.Goals as goal
 

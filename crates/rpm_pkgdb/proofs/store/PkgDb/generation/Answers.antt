@@ -1,6 +1,5 @@
 use Rattle.std.proofs.Common.{◌≡◌, None, subst}
-use Rattle.rpm_pkgdb.specs.Slots.{slot_with}
-use Rattle.rpm_pkgdb.specs.Store.{Store}
+use Rattle.rpm_pkgdb.proofs.Vocabulary.{slot_with, Store}
 use Rattle.rpm_pkgdb.proofs.Kept.{zero_absent}
 use Rattle.rpm_pkgdb.proofs.store.PkgDb.generation.Goals as goal
 

@@ -1,18 +1,7 @@
-use Rattle.rpm_outside.specs.declared.disk.File.TheVariants.{Pkg}
+use Rattle.rpm_pkgdb.proofs.Vocabulary.{Anything, CanGrowBy, IsGrown, Move, moves_of, moving_cost, Page, Pkg, StandsStill, started, Stops, Writes}
 use Rattle.std.proofs.Common.{◌≡◌, List, Option, Some, OnOk, refl, sym, ap, ◌∙◌, subst, IsTrue}
-use Rattle.rpm_outside.specs.Changes.{Stops}
-use Rattle.rpm_outside.specs.Frame.{Writes}
-use Rattle.rpm_outside.specs.inner.Moments.{started}
-use Rattle.rpm_pkgdb.specs.declared.moved_blocks.Move.{Move}
-use Rattle.rpm_pkgdb.specs.Growing.{moving_cost}
-use Rattle.rpm_pkgdb.specs.Planned.{moves_of}
-use Rattle.rpm_pkgdb.specs.inner.MoveLists.{CanGrowBy}
-use Rattle.rpm_pkgdb.specs.declared.page_plan.Page.{Page}
-use Rattle.rpm_pkgdb.specs.Quiet.{Anything}
-use Rattle.rpm_pkgdb.specs.inner.Still.{StandsStill}
 use Rattle.rpm_pkgdb.proofs.Changing.{done, writes_none}
 use Rattle.rpm_pkgdb.proofs.LeftLaws.{stands_still}
-use Rattle.rpm_pkgdb.specs.inner.Moving.{IsGrown}
 use Rattle.rpm_pkgdb.proofs.store.PkgDb.grow.Goals as goal
 
 pub returns-in-None-clause-images : goal.returns-in-None-clause-images

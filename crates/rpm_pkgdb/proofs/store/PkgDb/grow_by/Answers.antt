@@ -1,24 +1,14 @@
 use Rattle.std.proofs.Common.{◌≡◌, ℕ, ◌+◌, ◌*◌, ◌≤◌, List, length, Some, refl, sym, ap, ◌∙◌, subst, arith, IsTrue}
-use Rattle.rpm_pkgdb.specs.declared.slot.Slot.{Slot}
-use Rattle.rpm_pkgdb.specs.Slots.{slot_at, end_of}
-use Rattle.rpm_pkgdb.specs.Store.{Store}
-use Rattle.rpm_pkgdb.specs.Growing.{moving_cost, next_end}
-use Rattle.rpm_pkgdb.specs.Freed.{KeepsBlank}
+use Rattle.rpm_pkgdb.proofs.Vocabulary.{BeforeOrAfter, CanGrow, CanGrowFrom, CanMoveAll, end_of, IsKept, IsMovable, IsPageAdded, KeepsBlank, move_at}
+use Rattle.rpm_pkgdb.proofs.Vocabulary.{MovesWithin, moving_cost, next_end, Slot, slot_at, StandsStill, Store, with_moves, with_page}
 use Rattle.rpm_pkgdb.proofs.FreedLaws.{freed_page}
-use Rattle.rpm_pkgdb.specs.Quiet.{BeforeOrAfter}
-use Rattle.rpm_pkgdb.specs.inner.Still.{StandsStill}
-use Rattle.rpm_pkgdb.specs.inner.Keeping.{IsKept}
-use Rattle.rpm_pkgdb.specs.inner.Grows.{CanGrow, with_page}
-use Rattle.rpm_pkgdb.specs.inner.MoveLists.{IsMovable, move_at, with_moves}
 use Rattle.rpm_pkgdb.proofs.Changing.{map_ok, stops_weaker, writes_then, writes_weaker, writes_failed, stops_next}
 use Rattle.rpm_pkgdb.proofs.GrowLaws.{grown_map}
 use Rattle.rpm_pkgdb.proofs.GrowSteps.{movable, moved_within}
 use Rattle.rpm_pkgdb.proofs.LeftLaws.{still_then, grows_to}
 use Rattle.rpm_pkgdb.proofs.PlannedLaws.{can_grow}
-use Rattle.rpm_pkgdb.specs.inner.Within.{MovesWithin}
 use Rattle.rpm_pkgdb.proofs.Reaching.{moves_within}
 use Rattle.rpm_pkgdb.proofs.StayLaws.{grown_stay}
-use Rattle.rpm_pkgdb.specs.inner.Moving.{CanGrowFrom, CanMoveAll, IsPageAdded}
 use Rattle.rpm_pkgdb.proofs.store.PkgDb.grow_by.Goals as goal
 
 pub move_all-requires-clause-movable : goal.move_all-requires-clause-movable
@@ -47,7 +37,8 @@ pub returns-in_err-move_all-clause-writes : goal.returns-in_err-move_all-clause-
 returns-in_err-move_all-clause-writes g c =
     let moves = c.args.moves.now in
     let same : c.deref.result.now ≡ c.args.self.now.slots = c.deref.ensures.value ∙ ap (λ (x : Store). x.slots) c.self.view_is in
-    writes_failed g.D.Disk (writes_weaker g.D.Disk c.in_err-move_all.ensures.writes (omega (arith, ap (λ (l : List Slot). moving_cost l (Some moves)) same)) (λ x y r. tt))
+    writes_failed g.D.Disk (writes_weaker g.D.Disk c.in_err-move_all.ensures.writes (omega (arith, ap (λ (l : List Slot). moving_cost l (Some moves)) same))
+    (λ x y r. tt))
 
 pub returns-clause-writes : goal.returns-clause-writes
 returns-clause-writes g c =

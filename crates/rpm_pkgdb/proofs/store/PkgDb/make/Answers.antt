@@ -1,13 +1,8 @@
 use Rattle.std.proofs.Common.{◌≡◌, List, replicate, refl, sym, ap, subst, ◌∙◌, arith}
-use Rattle.rpm_pkgdb.specs.declared.slot.Slot.{Slot}
-use Rattle.rpm_pkgdb.specs.Slots.{free}
-use Rattle.rpm_pkgdb.specs.Store.{Store}
-use Rattle.rpm_pkgdb.specs.inner.Keeping.{IsKept}
-use Rattle.rpm_pkgdb.specs.inner.Ranges.{HasUsed}
+use Rattle.rpm_pkgdb.proofs.Vocabulary.{free, HasUsed, IsKept, IsWritten, Slot, Store}
 use Rattle.rpm_pkgdb.proofs.Makes.{new_map}
 use Rattle.rpm_pkgdb.proofs.News.{new_kept, new_used, new_slots, none_taken}
 use Rattle.std.specs.FinMap as finite
-use Rattle.rpm_pkgdb.specs.Frame.{IsWritten}
 use Rattle.rpm_pkgdb.proofs.Written.{written}
 use Rattle.rpm_pkgdb.proofs.store.PkgDb.make.Goals as goal
 

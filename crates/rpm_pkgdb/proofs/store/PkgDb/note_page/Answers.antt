@@ -1,10 +1,5 @@
 use Rattle.std.proofs.Common.{◌≡◌, ◌+◌, ◌≤◌, Option, Some, sym, subst, arith}
-use Rattle.rpm_pkgdb.specs.declared.page_plan.Page.{Page}
-use Rattle.rpm_pkgdb.specs.Store.{Store}
-use Rattle.rpm_pkgdb.specs.Growing.{CanAdd}
-use Rattle.rpm_pkgdb.specs.Planned.{moves_of, HoldsPage}
-use Rattle.rpm_pkgdb.specs.inner.Keeping.{IsKept}
-use Rattle.rpm_pkgdb.specs.inner.MoveLists.{CanGrowBy}
+use Rattle.rpm_pkgdb.proofs.Vocabulary.{CanAdd, CanGrowBy, HoldsPage, IsKept, moves_of, Page, Store}
 use Rattle.rpm_pkgdb.proofs.PlannedLaws.{all_kept}
 use Rattle.rpm_pkgdb.proofs.store.PkgDb.note_page.Goals as goal
 
@@ -18,7 +13,7 @@ module _ (v : Store) (o : Option Page) (p : Page) (is : o ≡ Some p) (can : Can
 pub invariant_of-self : goal.invariant_of-self
 invariant_of-self c =
     let i = c.self.inside in
-    let p = c.in-Some.field-0 in
+    let p = c.in-Some.page in
     let can = subst (λ (v : Store). CanGrowBy v (moves_of c.args.page)) (sym c.self.view_is) c.requires.can in
     let held = subst (λ (v : Store). HoldsPage v c.args.page) (sym c.self.view_is) c.requires.held in
     let made = subst (λ (v : Store). 1 ≤ v.pages) (sym c.self.view_is) c.requires.made in

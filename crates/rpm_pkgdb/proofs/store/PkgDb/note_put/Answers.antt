@@ -1,10 +1,5 @@
 use Rattle.std.proofs.Common.{◌≡◌, ◌-◌, ◌≤◌, List, false, sym, ap, subst, arith, set}
-use Rattle.rpm_pkgdb.specs.declared.slot.Slot.{Slot}
-use Rattle.rpm_pkgdb.specs.Slots.{slot_at}
-use Rattle.rpm_pkgdb.specs.Store.{Store}
-use Rattle.rpm_pkgdb.specs.inner.Keeping.{IsKept, AreUsedTo}
-use Rattle.rpm_pkgdb.specs.Plans.{IsTarget, slot_for}
-use Rattle.rpm_pkgdb.specs.inner.Ranges.{HasUsed, Remembers, IsFreeIn}
+use Rattle.rpm_pkgdb.proofs.Vocabulary.{AreUsedTo, HasUsed, IsFreeIn, IsKept, IsTarget, Remembers, Slot, slot_at, slot_for, Store}
 use Rattle.rpm_pkgdb.proofs.Noted.{above_all, fits_free, has_old_start, says, noted_kept, noted_used, noted_taken}
 use Rattle.rpm_pkgdb.proofs.store.PkgDb.note_put.Goals as goal
 
@@ -52,7 +47,8 @@ invariant_of-self c =
           (noted_kept i.numbers.pairs _ target is made c.self.invariant.kept c.note_number.new.numbers.pairs now);
       blank = λ none. absurd (omega (arith, made));
       used = subst (HasUsed c.forget_slot.new.used (i.spare - 1)) (sym after)
-          (noted_used i.numbers.pairs _ target is made c.self.invariant.kept c.args.old c.requires.old.new held i.used c.remember.new.used c.forget_slot.new.used
+          (noted_used i.numbers.pairs _ target is made c.self.invariant.kept c.args.old c.requires.old.new held i.used c.remember.new.used
+          c.forget_slot.new.used
           i.spare c.self.invariant.used (subst (λ (t : Slot). Remembers t i.used c.remember.new.used) c.slot-slot.ensures c.remember.ensures)
           c.forget_slot.ensures);
       room = omega (arith, c.self.invariant.room, c.note_number.ensures.room);

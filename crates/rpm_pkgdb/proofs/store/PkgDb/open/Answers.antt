@@ -1,14 +1,8 @@
 use Rattle.std.proofs.Common.{◌≡◌, Result, Err, sym, ap, subst, ◌∙◌, arith, IsTrue}
-use Rattle.rpm_outside.specs.declared.disk.File.TheVariants.{Pkg}
-use Rattle.rpm_outside.specs.Files.{Files, unit_at}
-use Rattle.rpm_outside.specs.Frame.{Reads}
-use Rattle.rpm_outside.specs.inner.Looking.{read_same}
+use Rattle.rpm_pkgdb.proofs.Vocabulary.{Damage, Files, OpenIs, Pkg, read_same, Reads, Store, store, store_of, unit_at, word}
 use Rattle.rpm_pkgdb.proofs.Changing.{reads_then, reads_or_then}
-use Rattle.rpm_pkgdb.specs.declared.slot.Damage.{Damage}
 use Rattle.rpm_pkgdb.proofs.Kept.{lawful}
 use Rattle.rpm_pkgdb.proofs.Opens.{store_empty, store_blank, store_damaged, store_made, ok_keeps, blank_opens, blank_keeps, opening_cost_least, opening_cost_made}
-use Rattle.rpm_pkgdb.specs.Words.{word}
-use Rattle.rpm_pkgdb.specs.Store.{Store, store, OpenIs, store_of}
 use Rattle.rpm_pkgdb.proofs.store.PkgDb.open.Goals as goal
 
 pub returns-then-units-eq0-clause-store : goal.returns-then-units-eq0-clause-store
@@ -63,7 +57,8 @@ returns-clause-reads g c =
 pub returns-then-units-eq0-clause-kept : goal.returns-then-units-eq0-clause-kept
 returns-then-units-eq0-clause-kept g c = blank_keeps (IsTrue g.D.Disk.tells) (g.D.Disk.files c.len.new.self).pkg c.blank.result c.blank.ensures.blank (λ told.
     let file = (g.D.Disk.files c.args.disk.now).pkg in
-    ap (λ (f : Files). store f.pkg) (c.in_ok-units.ensures.untouched told).same ∙ store_empty file (sym (c.in_ok-units.ensures.length told) ∙ c.if-units-eq0.true))
+    ap (λ (f : Files). store f.pkg) (c.in_ok-units.ensures.untouched told).same ∙ store_empty file (sym (c.in_ok-units.ensures.length told) ∙
+    c.if-units-eq0.true))
 
 pub returns-then-is_zeros-clause-kept : goal.returns-then-is_zeros-clause-kept
 returns-then-is_zeros-clause-kept g c =

@@ -1,9 +1,5 @@
 use Rattle.std.proofs.Common.{◌≡◌, ℕ, ◌≤◌, Option, ap, sym, ◌∙◌, subst, arith, Err, is_none}
-use Rattle.rpm_pkgdb.specs.declared.plan.PlanFault.TheVariants.{StoreFull}
-use Rattle.rpm_pkgdb.specs.Store.{Store}
-use Rattle.rpm_pkgdb.specs.Placing.{placed, placed_spare}
-use Rattle.rpm_pkgdb.specs.Written.{with_spare}
-use Rattle.rpm_pkgdb.specs.inner.Keeping.{IsKept}
+use Rattle.rpm_pkgdb.proofs.Vocabulary.{IsKept, placed, placed_spare, Store, StoreFull, with_spare}
 use Rattle.rpm_pkgdb.proofs.PlacedRules.{plan_placed, full_placed}
 use Rattle.rpm_pkgdb.proofs.FullLaws.{not_full, same_full}
 use Rattle.rpm_pkgdb.proofs.store.PkgDb.plan.Goals as goal
@@ -26,7 +22,8 @@ returns-in-Ok-clause-planned c =
       asked = is.asked;
       fits = λ full.
           not_full mid c.args.n c.args.length plan is.plan is.asked
-          (same_full c.args.self.now mid (is_none c.args.n) c.args.length (sym (ap (λ (v : Store). v.slots) same)) (sym (ap (λ (v : Store). v.pages) same)) full);
+          (same_full c.args.self.now mid (is_none c.args.n) c.args.length (sym (ap (λ (v : Store). v.slots) same)) (sym (ap (λ (v : Store). v.pages) same))
+          full);
       placed_is =
           no_other c.args.self.now mid same c.args.n c.args.length ∙ plan_placed _ mid kept some c.args.n c.args.length plan is.plan is.asked;
     }

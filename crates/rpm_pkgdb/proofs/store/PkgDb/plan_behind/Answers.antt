@@ -1,8 +1,5 @@
 use Rattle.std.proofs.Common.{◌≡◌, ap, subst, Err, ◌∙◌, length, true}
-use Rattle.rpm_pkgdb.specs.declared.plan.PlanFault.TheVariants.{StoreFull}
-use Rattle.rpm_pkgdb.specs.Store.{Store}
-use Rattle.rpm_pkgdb.specs.inner.Keeping.{IsKept}
-use Rattle.rpm_pkgdb.specs.Planned.{IsFull}
+use Rattle.rpm_pkgdb.proofs.Vocabulary.{IsFull, IsKept, Store, StoreFull}
 use Rattle.rpm_pkgdb.proofs.Changing.{err_given}
 use Rattle.rpm_pkgdb.proofs.PlanEnds.{behind_plan, behind_full, stuck_full}
 use Rattle.rpm_pkgdb.proofs.store.PkgDb.plan_behind.Goals as goal

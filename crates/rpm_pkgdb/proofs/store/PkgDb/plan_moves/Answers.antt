@@ -1,11 +1,5 @@
 use Rattle.std.proofs.Common.{◌≡◌, ℕ, ◌+◌, ◌*◌, ◌<◌, List, ap, sym, subst, Err}
-use Rattle.rpm_pkgdb.specs.declared.slot.Slot.{Slot}
-use Rattle.rpm_pkgdb.specs.declared.plan.PlanFault.TheVariants.{StoreFull}
-use Rattle.rpm_pkgdb.specs.Store.{Store}
-use Rattle.rpm_pkgdb.specs.Growing.{next_end, AreBehind}
-use Rattle.rpm_pkgdb.specs.Planned.{CantMove}
-use Rattle.rpm_pkgdb.specs.inner.Pages.{IsFirstBefore, AllMoved}
-use Rattle.rpm_pkgdb.specs.Placing.{count_before}
+use Rattle.rpm_pkgdb.proofs.Vocabulary.{AllMoved, AreBehind, CantMove, count_before, IsFirstBefore, next_end, Slot, Store, StoreFull}
 use Rattle.rpm_pkgdb.proofs.Changing.{err_given}
 use Rattle.rpm_pkgdb.proofs.PageLaws.{cant_move, all_moved, fewer_before}
 use Rattle.rpm_pkgdb.proofs.store.PkgDb.plan_moves.Goals as goal

@@ -1,5 +1,4 @@
-use Rattle.rpm_pkgdb.specs.inner.Pages.{IsRanged, IsPlanning, HasPlacesBefore}
-use Rattle.rpm_pkgdb.specs.Placing.{count_before}
+use Rattle.rpm_pkgdb.proofs.Vocabulary.{count_before, HasPlacesBefore, IsPlanning, IsRanged}
 use Rattle.rpm_pkgdb.proofs.store.PkgDb.plan_moves.Given as goal
 
 abbrev pub invariant-loop-place : goal.invariant-loop-place

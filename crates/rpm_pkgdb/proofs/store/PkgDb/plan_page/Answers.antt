@@ -1,16 +1,6 @@
 use Rattle.std.proofs.Common.{◌≡◌, ◌+◌, ◌^◌, ◌≤◌, ◌++◌, List, arith, Some, refl, sym, ap, ◌∙◌, subst, replicate}
-use Rattle.rpm_pkgdb.specs.declared.slot.Slot.{Slot}
-use Rattle.rpm_pkgdb.specs.declared.moved_blocks.Move.{Move}
-use Rattle.rpm_pkgdb.specs.declared.page_plan.Page.{Page}
-use Rattle.rpm_pkgdb.specs.Slots.{free}
-use Rattle.rpm_pkgdb.specs.Pairs.{Pairs}
-use Rattle.rpm_pkgdb.specs.Store.{Store}
-use Rattle.rpm_pkgdb.specs.Undamaged.{AreSound}
-use Rattle.rpm_pkgdb.specs.Plans.{AreAllUsed}
-use Rattle.rpm_pkgdb.specs.Growing.{CanAdd, grown, next_end}
-use Rattle.rpm_pkgdb.specs.inner.Keeping.{IsKept}
-use Rattle.rpm_pkgdb.specs.inner.Ranges.{AreRangesOf}
-use Rattle.rpm_pkgdb.specs.inner.Pages.{IsRanged, AllMoved}
+use Rattle.rpm_pkgdb.proofs.Vocabulary.{AllMoved, AreAllUsed, AreRangesOf, AreSound, CanAdd, free, grown, IsKept, IsRanged, Move, next_end, Page, Pairs, Slot}
+use Rattle.rpm_pkgdb.proofs.Vocabulary.{Store}
 use Rattle.rpm_pkgdb.proofs.PlannedLaws.{ranges_behind, all_sound}
 use Rattle.rpm_pkgdb.proofs.store.PkgDb.plan_page.Goals as goal
 
@@ -62,4 +52,5 @@ returns-clause-ranged c =
     let v = c.args.self.now in
     let kept = subst (λ (x : Store). IsKept c.self.inside.numbers.pairs x.pages x.slots) c.self.view_is c.self.invariant.kept in
     let e = c.in_ok-add_slots.ensures in
-    now_ranged v c.requires.all _ kept c.requires.made c.in_ok-page.page c.add_slots.new.self c.in_ok-page.ensures.page c.in_ok-page.ensures.ranged e.moves e.slots e.ranges
+    now_ranged v c.requires.all _ kept c.requires.made c.in_ok-page.page c.add_slots.new.self c.in_ok-page.ensures.page c.in_ok-page.ensures.ranged e.moves
+    e.slots e.ranges

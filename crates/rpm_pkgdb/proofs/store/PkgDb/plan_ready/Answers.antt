@@ -1,5 +1,5 @@
 use Rattle.std.proofs.Common.{◌≡◌, ℕ, Option, None, is_none, sym, subst}
-use Rattle.rpm_pkgdb.specs.Planned.{IsFull}
+use Rattle.rpm_pkgdb.proofs.Vocabulary.{IsFull}
 use Rattle.rpm_pkgdb.proofs.store.PkgDb.plan_ready.Goals as goal
 
 pub returns-in-Some-clause-full : goal.returns-in-Some-clause-full

@@ -1,5 +1,5 @@
 use Rattle.std.proofs.Common.{ap}
-use Rattle.rpm_pkgdb.specs.Store.{Store}
+use Rattle.rpm_pkgdb.proofs.Vocabulary.{Store}
 use Rattle.rpm_pkgdb.proofs.PlanEnds.{there_plan, there_full}
 use Rattle.rpm_pkgdb.proofs.store.PkgDb.plan_there.Goals as goal
 

@@ -1,10 +1,5 @@
 use Rattle.std.proofs.Common.{◌≡◌, ℕ, Some, sym, ap, subst, ◌∙◌}
-use Rattle.std.specs.Option.{option_map}
-use Rattle.rpm_pkgdb.specs.Placing.{Placement, put_in, replaced_by, with_placed}
-use Rattle.rpm_pkgdb.specs.Puts.{IsPut}
-use Rattle.rpm_pkgdb.specs.Store.{Store}
-use Rattle.rpm_pkgdb.specs.Written.{with_blob, with_plan, with_spare}
-use Rattle.rpm_pkgdb.specs.inner.Keeping.{IsKept}
+use Rattle.rpm_pkgdb.proofs.Vocabulary.{IsKept, IsPut, option_map, Placement, put_in, replaced_by, Store, with_blob, with_placed, with_plan, with_spare}
 use Rattle.rpm_pkgdb.proofs.PlacedRules.{own_placed}
 use Rattle.rpm_pkgdb.proofs.Written.{put_spare}
 use Rattle.rpm_pkgdb.proofs.store.PkgDb.put.Goals as goal

@@ -1,16 +1,11 @@
 use Rattle.std.proofs.Common.{ℕ, List, ◌+◌, [], ◌∷◌, length, sym, ap, subst, arith, rules}
-use Rattle.rpm_pkgdb.specs.Stays.{SameOutside}
+use Rattle.rpm_pkgdb.proofs.Vocabulary.{blobs, IsHeadUnit, IsRaised, RaisesTo, SameOutside, Store, with_generation}
 use Rattle.rpm_pkgdb.proofs.ClearLaws.{torn_outside}
 use Rattle.rpm_pkgdb.proofs.StayLaws.{raised_stay}
-use Rattle.rpm_pkgdb.specs.Store.{Store}
-use Rattle.rpm_pkgdb.specs.Blobs.{blobs}
 use Rattle.rpm_pkgdb.proofs.Changing.{writes_weaker, stops_while}
 use Rattle.rpm_pkgdb.proofs.Made.{made}
 use Rattle.rpm_pkgdb.proofs.Reaching.{unit_ends}
 use Rattle.rpm_pkgdb.proofs.Raises.{while_raised, raised, raised_map, raises_to, raised_quiet}
-use Rattle.rpm_pkgdb.specs.Undamaged.{IsHeadUnit}
-use Rattle.rpm_pkgdb.specs.Written.{with_generation, RaisesTo}
-use Rattle.rpm_pkgdb.specs.Rewritten.{IsRaised}
 use Rattle.rpm_pkgdb.proofs.Written.{written}
 use Rattle.rpm_pkgdb.proofs.store.PkgDb.raise.Goals as goal
 
@@ -45,14 +40,16 @@ returns-clause-images g c = λ told quiet.
 pub returns-in_default-clause-writes : goal.returns-in_default-clause-writes
 returns-in_default-clause-writes g c =
     record {
-      changes = (writes_weaker g.D.Disk {S = SameOutside 0 1} {n = 0} c.write_one.ensures.writes (omega arith) (torn_outside 0 (c.head_unit.result ∷ []))).changes;
+      changes = (writes_weaker g.D.Disk {S = SameOutside 0 1} {n = 0} c.write_one.ensures.writes (omega arith) (torn_outside 0 (c.head_unit.result ∷
+          []))).changes;
       cause = search rules;
     }
 
 pub returns-clause-writes : goal.returns-clause-writes
 returns-clause-writes g c =
     record {
-      changes = (writes_weaker g.D.Disk {S = SameOutside 0 1} {n = 0} c.write_one.ensures.writes (omega arith) (torn_outside 0 (c.head_unit.result ∷ []))).changes;
+      changes = (writes_weaker g.D.Disk {S = SameOutside 0 1} {n = 0} c.write_one.ensures.writes (omega arith) (torn_outside 0 (c.head_unit.result ∷
+          []))).changes;
       cause = search rules;
     }
 

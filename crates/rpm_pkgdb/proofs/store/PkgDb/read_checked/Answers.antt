@@ -1,7 +1,6 @@
 use Rattle.std.proofs.Common.{ℕ, List, Some, sym, ap, ◌∙◌}
-use Rattle.rpm_pkgdb.specs.Answers.{AnswerIs, frame_in, given_blob}
+use Rattle.rpm_pkgdb.proofs.Vocabulary.{AnswerIs, blobs, frame_in, given_blob}
 use Rattle.std.specs.FinMap as finite
-use Rattle.rpm_pkgdb.specs.Blobs.{blobs}
 use Rattle.rpm_pkgdb.proofs.Changing.{err_given}
 use Rattle.rpm_pkgdb.proofs.Told.{at_frames, fault_told}
 use Rattle.rpm_pkgdb.proofs.store.PkgDb.read_checked.Goals as goal

@@ -1,7 +1,6 @@
 use Rattle.std.proofs.Common.{length, ap, arith, refl, ◌≡◌, Err}
-use Rattle.rpm_outside.specs.Files.{Files}
+use Rattle.rpm_pkgdb.proofs.Vocabulary.{DiskFault, Files}
 use Rattle.rpm_pkgdb.proofs.Changing.{err_given, reads_failed, reads_or_then}
-use Rattle.rpm_pkgdb.specs.declared.slot.OpenFault.TheVariants.{DiskFault}
 use Rattle.rpm_pkgdb.proofs.Kept.{lawful, zero_absent}
 use Rattle.rpm_pkgdb.proofs.store.PkgDb.read_made.Goals as goal
 

@@ -1,9 +1,6 @@
 use Rattle.std.proofs.Common.{◌≡◌, ◌^◌, ◌≤◌, Some, IsSome, sym, ap, subst, ◌∙◌, arith}
 use Rattle.std.proofs.lemmas.List.{get_or_default}
-use Rattle.rpm_pkgdb.specs.declared.slot.Slot.{Slot}
-use Rattle.rpm_pkgdb.specs.Slots.{slot_at, slot_with, free, end_of}
-use Rattle.rpm_pkgdb.specs.Pairs.{find_in}
-use Rattle.rpm_pkgdb.specs.Store.{Store}
+use Rattle.rpm_pkgdb.proofs.Vocabulary.{end_of, find_in, free, Slot, slot_at, slot_with, Store}
 use Rattle.rpm_pkgdb.proofs.Held.{not_held, held_below, held_room, held_end, held_slot, held_number, held_package, held_with, held_erased}
 use Rattle.rpm_pkgdb.proofs.store.PkgDb.slot_place.Goals as goal
 

@@ -1,29 +1,16 @@
 use Rattle.std.proofs.Common.{◌≡◌, true, inl, ℕ, ◌≤◌, ◌+◌, length, max, Bool, if◌then◌else◌, Option, Some, None, IfSome, IsTrue, sym, ap, ◌∙◌, subst, arith}
 use Rattle.std.specs.FinMap as finite
-use Rattle.rpm_outside.specs.Files.{Units, units_of, unit_at}
-use Rattle.rpm_pkgdb.specs.Store.{Store}
-use Rattle.rpm_pkgdb.specs.Blobs.{blocks_for}
-use Rattle.rpm_pkgdb.specs.Framing.{framed, next_unit}
-use Rattle.rpm_pkgdb.specs.Planned.{moves_of}
-use Rattle.rpm_pkgdb.specs.Quiet.{BlobMap}
-use Rattle.rpm_pkgdb.specs.Stays.{StaysBut}
-use Rattle.rpm_pkgdb.specs.inner.Still.{StandsStill}
-use Rattle.rpm_pkgdb.specs.Written.{PutsTo, next_field, with_plan}
-use Rattle.rpm_pkgdb.specs.Reaches.{store_end}
-use Rattle.rpm_pkgdb.specs.inner.Keeping.{IsKept}
-use Rattle.rpm_pkgdb.specs.inner.Puts.{WhilePut}
+use Rattle.rpm_pkgdb.proofs.Vocabulary.{BlobMap, blobs, blocks_for, framed, IsBlobPut, IsKept, KeepsBlank, moves_of, next_field, next_unit, PutsTo}
+use Rattle.rpm_pkgdb.proofs.Vocabulary.{StandsStill, StaysBut, Store, store_end, unit_at, Units, units_of, WhilePut, with_plan}
 use Rattle.rpm_pkgdb.proofs.Changing.{map_ok, stops_weaker, writes_then, stops_next}
 use Rattle.rpm_pkgdb.proofs.FramingLaws.{count-framed}
 use Rattle.rpm_pkgdb.proofs.PlannedLaws.{may_grow}
 use Rattle.rpm_pkgdb.proofs.PutEnds.{whole_part, replaced_zeros}
 use Rattle.rpm_pkgdb.proofs.PutSteps.{after, was_held, place_fits, few_bytes, room, can_put, puts_from, put_freed}
-use Rattle.rpm_pkgdb.specs.Freed.{KeepsBlank}
 use Rattle.rpm_pkgdb.proofs.Reaching.{end_within, old_ends, place_ends, grown_within, target_ends}
 use Rattle.rpm_pkgdb.proofs.PutsTo.{puts_to, put_map}
 use Rattle.rpm_pkgdb.proofs.StayLaws.{put_stay}
 use Rattle.rpm_pkgdb.proofs.LeftLaws.{still_but, puts_but}
-use Rattle.rpm_pkgdb.specs.Blobs.{blobs}
-use Rattle.rpm_pkgdb.specs.inner.Putting.{IsBlobPut}
 use Rattle.rpm_pkgdb.proofs.Written.{written}
 use Rattle.rpm_pkgdb.proofs.store.PkgDb.write_plan.Goals as goal
 

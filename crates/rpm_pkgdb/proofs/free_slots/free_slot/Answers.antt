@@ -1,0 +1,58 @@
+use Rattle.std.proofs.Common.{◌≡◌, ℕ, ◌+◌, ◌<◌, ◌≤◌, IsTrue, refl, inr, arith}
+use Rattle.rpm_pkgdb.proofs.Vocabulary.{BeforeOrAfter, blank, end_of, Keeps, unit_at, with_free}
+use Rattle.rpm_pkgdb.proofs.Changing.{map_ok, writes_then, stops_while, stops_next}
+use Rattle.rpm_pkgdb.proofs.Reaching.{unit_ends, outside_ends}
+use Rattle.rpm_pkgdb.proofs.Erases.{while_freed, freed, zeroed, stands_by}
+use Rattle.rpm_pkgdb.proofs.free_slots.free_slot.Goals as goal
+
+pub returns-in_err-write_one-clause-images : goal.returns-in_err-write_one-clause-images
+returns-in_err-write_one-clause-images g c = λ told value has quiet.
+    let D = g.D.Disk in
+    let k = c.args.place in
+    let F0 = (D.files c.args.disk.now).pkg in
+    stops_while g.D.Disk told (BeforeOrAfter value (with_free k value) F0) c.write_one.ensures.writes
+    (λ from image was torn. while_freed value k c.args.slot has c.slot_unit.result c.slot_unit.ensures F0 from.pkg image.pkg (quiet from was) torn)
+
+pub returns-clause-images : goal.returns-clause-images
+returns-clause-images g c = λ told value has quiet.
+    let D = g.D.Disk in
+    let k = c.args.place in
+    let F0 = (D.files c.args.disk.now).pkg in
+    let mid = (D.files c.write_one.new.disk).pkg in
+    let P = BeforeOrAfter value (with_free k value) F0 in
+    let keeps : Keeps F0 value = (quiet (D.files c.args.disk.now) (g.met.D.Disk.as_read c.args.disk.now told)).keeps in
+    let was = freed value k c.args.slot has c.slot_unit.result c.slot_unit.ensures F0 mid keeps (c.in_ok-write_one.ensures.written told) in
+    stops_next g.D.Disk told P c.write_one.ensures.writes
+    (stops_while g.D.Disk told P c.write_one.ensures.writes
+    (λ from image here torn. while_freed value k c.args.slot has c.slot_unit.result c.slot_unit.ensures F0 from.pkg image.pkg (quiet from here) torn))
+    (stops_while g.D.Disk told P c.write_zeros.ensures.writes
+    (λ from image here same. inr (zeroed value k c.args.slot has F0 mid from.pkg image.pkg was (c.in_ok-write_one.ensures.settled told from here) same)))
+
+pub returns-clause-writes : goal.returns-clause-writes
+returns-clause-writes g c =
+    writes_then g.D.Disk g.met.D.Disk.follows_trans c.write_one.ensures.writes c.write_zeros.ensures.writes (omega arith) (λ x y r. tt)
+    (λ x y z r s. tt)
+
+pub returns-clause-freed : goal.returns-clause-freed
+returns-clause-freed g c =
+    let D = g.D.Disk in
+    let k = c.args.place in
+    let s = c.args.slot in
+    let unit = c.slot_unit.result in
+    let F0 = (D.files c.args.disk.now).pkg in
+    let F1 = (D.files c.write_one.new.disk).pkg in
+    let F2 = (D.files c.write_zeros.new.disk).pkg in
+    map_ok c.write_zeros.result (λ (zeros : IsTrue D.tells → (i : ℕ) → s.offset ≤ i → i < end_of s → unit_at F2 i ≡ blank) told.
+    let first = c.in_ok-write_one.ensures.written told in
+    let same = c.write_zeros.ensures.writes.changes.pkg told in
+    record {
+      stands = λ value has keeps. zeroed value k s has F0 F1 F1 F2 (freed value k s has unit c.slot_unit.ensures F0 F1 keeps first) refl same;
+      quiet = λ value has keeps image here.
+          let was = freed value k s has unit c.slot_unit.ensures F0 F1 keeps first in
+          let r = c.write_zeros.ensures.writes.changes.now told image here in
+          stands_by (with_free k value) F0 F2 image.pkg (zeroed value k s has F0 F1 F1 F2 was refl same)
+          (zeroed value k s has F0 F1 r.from.pkg image.pkg was (c.in_ok-write_one.ensures.settled told r.from r.was) r.pkg);
+      zeros = zeros told;
+      reach = λ limit place_ends slot_ends short.
+          outside_ends limit s.offset s.count F1 F2 slot_ends same (unit_ends limit (2 + k) unit F0 F1 (omega arith) first short);
+    }) c.write_zeros.ensures.zeros
