@@ -3,26 +3,12 @@ use Rattle.std.proofs.Common.{◌≡◌, ℕ, ◌+◌, ◌-◌, ◌*◌, ◌/◌
 use Rattle.std.specs.Prelude.{Option, unwrap_or}
 use Rattle.std.proofs.lemmas.List.{get_or_append_left, get_or-append_right}
 use Rattle.std.proofs.lemmas.Bool.{cases_Bool, cases_eq, cond-true, cond-false, ltb-false, le-ltb}
-use Rattle.rpm_outside.specs.Files.{Units, units_of, unit_at, bytes_of, blank}
-use Rattle.rpm_outside.specs.inner.Cuts.{length-cut_up}
-use Rattle.rpm_outside.specs.Words.{word}
-use Rattle.rpm_hindex.specs.Rows.{hash_of}
-use Rattle.rpm_hindex.specs.Sizes.{first_record, record_units}
-use Rattle.rpm_hindex.specs.inner.Making.{record_of}
-use Rattle.rpm_hindex.specs.Index.{Index, bucket_unit}
-use Rattle.std.specs.Ordering.{nat_cmp}
-use Rattle.std.specs.BTreeMap.{get}
-use Rattle.rpm_hindex.specs.declared.change.Change.{Change}
-use Rattle.rpm_hindex.specs.declared.chain.Extent.{Extent}
-use Rattle.rpm_hindex.specs.Rows.{Row, times}
-use Rattle.rpm_hindex.specs.Index.{places_of, rows_of}
-use Rattle.rpm_hindex.specs.Whole.{IsWhole}
-use Rattle.rpm_hindex.specs.inner.Changes.{HasWord, Puts, CanGo, AddsRows, unit_after, index_with, changing}
-use Rattle.rpm_hindex.proofs.Counts.{times-append, times_none}
+use Rattle.rpm_hindex.proofs.Vocabulary.{AddsPadded, AddsRows, blank, bucket_unit, bytes_of, CanGo, Change, changing, Extent, first_record, get, hash_of}
+use Rattle.rpm_hindex.proofs.Vocabulary.{HasWord, Index, index_with, IsWhole, length-cut_up, nat_cmp, places_of, Puts, record_of, record_units, Row, rows_of}
+use Rattle.rpm_hindex.proofs.Vocabulary.{times, times-append, times_none, unit_after, unit_at, Units, units_of, word}
 use Rattle.rpm_hindex.proofs.Wholes.{has_chains}
 use Rattle.rpm_hindex.proofs.Made.{length-bytes, units-made}
 use Rattle.rpm_hindex.proofs.Adds.{AddsRecord, AddsWithin, whole_more, times_more, padded_more}
-use Rattle.rpm_hindex.specs.Padding.{AddsPadded}
 use Rattle.rpm_hindex.proofs.Padding.{adds_none, adds_then}
 
 module _ (buckets used : ℕ) (units later : ℕ → Option (List ℕ)) (tail more : List ℕ) (file : Units) (kind : ℕ) (key : List ℕ) (number place : ℕ) where

@@ -1,16 +1,11 @@
 -- A record more.
 use Rattle.std.proofs.Common.{◌≡◌, ℕ, zero, suc, ◌+◌, ◌%◌, ◌^◌, ◌<◌, ◌≤◌, List, [], ◌∷◌, length, true, cond, eqb, refl, sym, ap, ◌∙◌, arith, subst, inl, inr}
 use Rattle.std.specs.Prelude.{◌⊎◌}
-use Rattle.std.specs.List.{Contains, sum_by, flat_map, range_with_len}
+use Rattle.rpm_hindex.proofs.Vocabulary.{AddsPadded, all_places, bucket_of, Contains, first_record, flat_map, hash_of, Index, is_link, IsPadded, IsWhole}
+use Rattle.rpm_hindex.proofs.Vocabulary.{next_at, range_with_len, record_of, record_units, Row, row_at, rows_of, sum_by, times, times_one, unit_at, units_at}
 use Rattle.std.proofs.lemmas.List.Sums.{sum_by-cons}
 use Rattle.std.proofs.lemmas.Bool.{cases_eq, cond-true, cond-false, eq-eqb, ne_eqb}
-use Rattle.rpm_outside.specs.Files.{unit_at}
-use Rattle.rpm_hindex.specs.Rows.{Row, times, same_row as same_rows, hash_of}
-use Rattle.rpm_hindex.specs.Sizes.{first_record, record_units}
-use Rattle.rpm_hindex.specs.inner.Making.{record_of}
-use Rattle.rpm_hindex.specs.Index.{Index, is_link, next_at, units_at, row_at, bucket_of, all_places, rows_of}
-use Rattle.rpm_hindex.specs.Whole.{IsWhole}
-use Rattle.rpm_hindex.specs.Padding.{IsPadded, AddsPadded}
+use Rattle.rpm_hindex.specs.Rows.{same_row as same_rows}
 use Rattle.rpm_hindex.proofs.Made.{made_next, made_size, row-made, made_padded}
 use Rattle.rpm_hindex.proofs.Chains.{Sound}
 use Rattle.rpm_hindex.proofs.FollowedLinks.{IsChain, within, link_at}
@@ -18,7 +13,6 @@ use Rattle.rpm_hindex.proofs.Wholes.{HasChains, chains_ok, all_are, in_all, all_
 use Rattle.rpm_hindex.proofs.Extends.{Extends, Stands, stands_in, sound_whole, units_same, same_units, same_row, chain_extends, heads_extend}
 use Rattle.rpm_hindex.proofs.Padding.{remains}
 use Rattle.rpm_hindex.proofs.Tallies.{tally, times_rows, sum_flat, sum_at, sum_each, length_sum}
-use Rattle.rpm_hindex.proofs.Counts.{times_one}
 
 -- y is x with a record of this row after all others, in front of its bucket's chain
 pub record AddsRecord (x y : Index) (kind : ℕ) (key : List ℕ) (number place : ℕ) : Type 0 where

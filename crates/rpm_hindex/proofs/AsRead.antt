@@ -1,9 +1,6 @@
 -- A record as it was read.
 use Rattle.std.proofs.Common.{◌≡◌, ℕ, ◌+◌, ◌/◌, ◌%◌, ◌^◌, List, take, ap, sym, ◌∙◌}
-use Rattle.rpm_outside.specs.Files.{Files, unit_at, bytes_of}
-use Rattle.rpm_outside.specs.Words.{word}
-use Rattle.rpm_hindex.specs.Rows.{Row}
-use Rattle.rpm_hindex.specs.Index.{Index, key_at, row_at, run}
+use Rattle.rpm_hindex.proofs.Vocabulary.{bytes_of, Files, Index, key_at, Row, row_at, run, unit_at, word}
 
 -- the key as it was read is that of the file
 pub key_read : (file later : Files) (at size : ℕ) (key : List ℕ) → later ≡ file → size ≡ word 1 (unit_at file.idx at) → key ≡ take (size % 2 ^ 28)

@@ -1,9 +1,8 @@
 -- Chains, link by link.
 use Rattle.std.proofs.Common.{◌≡◌, ℕ, zero, suc, ◌+◌, ◌/◌, ◌%◌, ◌^◌, ◌<◌, ◌≤◌, List, [], ◌∷◌, ◌++◌, true, false, cond, eqb, ltb, leb, Result, Ok, Err, refl, sym, ap, ◌∙◌, arith, inl, inr}
 use Rattle.std.proofs.lemmas.Bool.{cases_Bool, cond-true, cond-false, and_parts, eq-eqb, ne_eqb, eqb-true, eqb-false, ltb-true, leb-true, and_from, and_left, and_right}
-use Rattle.rpm_outside.specs.Words.{word}
-use Rattle.rpm_hindex.specs.Rows.{hash_of}
-use Rattle.rpm_hindex.specs.Index.{Index, key_at, is_link, is_placed, is_sound, follow, behind, chain, next_at, units_at, row_at, bucket_of}
+use Rattle.rpm_hindex.proofs.Vocabulary.{behind, bucket_of, chain, follow, hash_of, Index, is_link, is_placed, is_sound, key_at, next_at, row_at, units_at}
+use Rattle.rpm_hindex.proofs.Vocabulary.{word}
 
 -- what a sound record is
 pub record Sound (x : Index) (b at : ℕ) : Type 0 where

@@ -1,12 +1,9 @@
 -- A chain that is gone along.
 use Rattle.std.proofs.Common.{◌≡◌, ℕ, ◌+◌, ◌<◌, ◌≤◌, List, [], ◌∷◌, ◌++◌, true, Result, Ok, sym, ap, ◌∙◌, arith, subst}
-use Rattle.std.specs.List.{sum_by}
+use Rattle.rpm_hindex.proofs.Vocabulary.{behind, FindFault, follow, HitsAre, Index, is_sound, IsFaultOf, next_at, sum_by}
 use Rattle.std.proofs.lemmas.List.{append-nil}
 use Rattle.std.proofs.lemmas.List.Sums.{sum_by-append, sum_by-cons}
-use Rattle.rpm_hindex.specs.declared.faults.FindFault.{FindFault}
 use Rattle.rpm_hindex.specs.declared.faults.FindFault.TheVariants.{BadIndex, DiskFault, NoMemory}
-use Rattle.rpm_hindex.specs.Index.{Index, follow, behind, is_sound, next_at}
-use Rattle.rpm_hindex.specs.Answers.{HitsAre, IsFaultOf}
 use Rattle.rpm_hindex.proofs.Chains.{behind_all, behind_more, behind_ok, behind_err, behind_all_is_ok, follow_is_ok, follow_step}
 
 module _ (x : Index) (b from : ℕ) (done : List ℕ) (at : ℕ) (so_far : follow x b from from ≡ behind_all done (follow x b at at)) where

@@ -1,12 +1,8 @@
 -- What rows cost whose chains are read.
 use Rattle.std.proofs.Common.{◌≡◌, ℕ, ◌+◌, ◌%◌, ◌<◌, ◌≤◌, List, length, drop, Ok, IsOk, ap, arith}
 use Rattle.std.proofs.lemmas.List.Sums.{sum_by-drop_more, sum_by-take-drop}
-use Rattle.rpm_outside.specs.Files.{Units, unit_at}
-use Rattle.rpm_hindex.specs.Rows.{Row, hash_of, row_nth, no_row}
-use Rattle.rpm_hindex.specs.Index.{Index, index_in, chain, places_of, units_at, bucket_of}
-use Rattle.rpm_hindex.specs.Whole.{IsWellFormed}
-use Rattle.rpm_hindex.specs.Answers.{ChainCosts}
-use Rattle.rpm_hindex.specs.Costs.{chain_bytes, chains_bytes}
+use Rattle.rpm_hindex.proofs.Vocabulary.{bucket_of, chain, chain_bytes, ChainCosts, chains_bytes, hash_of, Index, index_in, IsWellFormed, no_row, places_of}
+use Rattle.rpm_hindex.proofs.Vocabulary.{Row, row_nth, unit_at, Units, units_at}
 use Rattle.rpm_hindex.proofs.Wholes.{ok_places}
 
 pub chain_are : (x : Index) (b : ℕ) → IsOk (chain x b) → chain x b ≡ Ok (places_of x b)

@@ -1,19 +1,9 @@
 -- How often a row is in a list.
 use Rattle.std.proofs.Common.{◌≡◌, ℕ, ◌+◌, List, [], ◌∷◌, ◌++◌, Bool, true, false, cond, eqb, ◌&&◌, refl, sym, ap, ◌∙◌, arith, zero-add}
-use Rattle.std.specs.Str.{bytes_eq}
+use Rattle.rpm_hindex.proofs.Vocabulary.{AddsHit, AsOften, bytes_eq, has_key, Hit, Row, row_of_hit, same_hit, same_row, times, times-append, times_hit}
+use Rattle.rpm_hindex.proofs.Vocabulary.{times_none, times_one}
 use Rattle.std.proofs.lemmas.List.Sums.{sum_by-append}
 use Rattle.std.proofs.lemmas.Bool.{and_left}
-use Rattle.rpm_hindex.specs.declared.hits.Hit.{Hit}
-use Rattle.rpm_hindex.specs.Rows.{Row, times, same_row}
-use Rattle.rpm_hindex.specs.Answers.{times_hit, same_hit, row_of_hit, has_key, AddsHit, AsOften}
-
-pub times-append : (r : Row) (xs ys : List Row) → times r (xs ++ ys) ≡ times r xs + times r ys
-unfolding times
-times-append r xs ys = sum_by-append (λ (x : Row). cond (same_row r x) 1 0) xs ys
-
-pub times_none : (r : Row) → times r [] ≡ 0
-unfolding times
-times_none r = refl
 
 pub times_hit_none : (h : Hit) → times_hit h [] ≡ 0
 unfolding times_hit
@@ -23,10 +13,6 @@ pub times_hit_push : (h : Hit) (hits : List Hit) (new : Hit) → times_hit h (hi
 unfolding times_hit
 times_hit_push h hits new = sum_by-append (λ (x : Hit). cond (same_hit h x) 1 0) hits (new ∷ []) ∙ ap (λ (n : ℕ). times_hit h hits + n)
     (zero-add (cond (same_hit h new) 1 0))
-
-pub times_one : (r s : Row) → times r (s ∷ []) ≡ cond (same_row r s) 1 0
-unfolding times
-times_one r s = zero-add (cond (same_row r s) 1 0)
 
 module _ (kind : ℕ) (key : List ℕ) (row : Row) where
   abbrev hit_of : Hit

@@ -1,25 +1,13 @@
 -- A change that cuts a record out of its chain.
 use Rattle.std.proofs.Common.{◌≡◌, ℕ, suc, ◌-◌, ◌%◌, ◌<◌, ◌≤◌, List, [], ◌∷◌, ◌++◌, length, Bool, true, false, not, ◌&&◌, cond, ltb, BTreeMap, refl, sym, ap, ◌∙◌, arith, subst, inl, inr}
 use Rattle.std.specs.Prelude.{Option, Some, None, unwrap_or}
-use Rattle.std.specs.Ordering.{nat_cmp}
-use Rattle.std.specs.BTreeMap.{get}
-use Rattle.std.specs.BTreeSet.{BTreeSet, contains}
-use Rattle.std.specs.List.{Contains, filter}
+use Rattle.rpm_hindex.proofs.Vocabulary.{all_places, BTreeSet, bucket_of, bucket_unit, CanGo, Change, changing, Contains, contains, Drops, filter}
+use Rattle.rpm_hindex.proofs.Vocabulary.{first_record, get, Head, Index, index_in, is_kept, is_link, IsCut, IsHead, IsLast, IsOpen, IsSpot, IsWellFormed}
+use Rattle.rpm_hindex.proofs.Vocabulary.{IsWhole, kept_of, nat_cmp, next_at, places_of, Puts, Row, row_at, rows_of, SetsBucket, SetsNext, Spot, Stays, times}
+use Rattle.rpm_hindex.proofs.Vocabulary.{unit_after, unit_at, Units, units_at, units_of, Unlinks, word}
 use Rattle.std.proofs.lemmas.List.{append_assoc}
 use Rattle.std.proofs.lemmas.List.Elements.{Contains-append_right}
 use Rattle.std.proofs.lemmas.Bool.{cases_eq, cases_Bool, cond-true, lt-ltb, ltb-true, ltb-false, eq-eqb, ne_eqb, and_right}
-use Rattle.rpm_outside.specs.Files.{Units, units_of, unit_at}
-use Rattle.rpm_hindex.specs.declared.heads.Head.{Head}
-use Rattle.rpm_hindex.specs.declared.spots.Spot.{Spot}
-use Rattle.rpm_hindex.specs.declared.change.Change.{Change}
-use Rattle.rpm_outside.specs.Words.{word}
-use Rattle.rpm_hindex.specs.Sizes.{first_record}
-use Rattle.rpm_hindex.specs.Rows.{Row, times}
-use Rattle.rpm_hindex.specs.inner.Records.{IsOpen}
-use Rattle.rpm_hindex.specs.Index.{Index, index_in, is_link, next_at, units_at, row_at, bucket_of, bucket_unit, places_of, all_places, rows_of}
-use Rattle.rpm_hindex.specs.Whole.{IsWhole, IsWellFormed}
-use Rattle.rpm_hindex.specs.inner.Changes.{CanGo, Puts, Drops, SetsBucket, SetsNext, Unlinks, Stays, IsCut, changing, unit_after, is_kept, kept_of}
-use Rattle.rpm_hindex.specs.inner.Spots.{IsHead, IsLast, IsSpot}
 use Rattle.rpm_hindex.proofs.Chains.{sound_parts}
 use Rattle.rpm_hindex.proofs.FollowedLinks.{IsChain}
 use Rattle.rpm_hindex.proofs.Wholes.{HasChains, has_chains, places_are, sound_of, in_all, all_in}
@@ -212,7 +200,8 @@ module _ (c : Change) (file : Units) (go : CanGo c) (none : length c.tail.items 
       let t = splits x b kept row s link (chain_are x b (well.chains b below)) is in
       by_before s.before t.before s.at s.behind t.after t.are t.next t.last sets size put where
         by_before : (o : Option Head) (front : List ℕ) (at to : ℕ) (after : List ℕ) → ks b ≡ front ++ at ∷ after → first_of after ≡ to → IsLast x.unit front o
-            → Unlinks file old new b o to → n ≡ units_at x.unit at → Drops (λ q. contains nat_cmp c.dropped q) (λ q. contains nat_cmp dropped q) at → IsCut d file
+            → Unlinks file old new b o to → n ≡ units_at x.unit at → Drops (λ q. contains nat_cmp c.dropped q) (λ q. contains nat_cmp dropped q) at → IsCut d
+            file
         by_before None front at to after are next none sets size put =
             first_cut at to after (are ∙ ap (λ (ps : List ℕ). ps ++ at ∷ after) none) next sets size put
         by_before (Some h) front at to after are next (head, (pre, is)) sets size put =

@@ -1,13 +1,8 @@
 -- A record is cut out of its chain.
 use Rattle.std.proofs.Common.{◌≡◌, ℕ, ◌+◌, ◌-◌, ◌/◌, ◌%◌, ◌^◌, ◌<◌, ◌≤◌, List, [], ◌∷◌, ◌++◌, take, map, Bool, true, ◌&&◌, cond, refl, sym, ap, ◌∙◌, arith, subst}
-use Rattle.std.specs.List.{Contains, filter, sum_by, flat_map, range_with_len}
-use Rattle.rpm_outside.specs.Files.{Units, bytes_of}
-use Rattle.rpm_outside.specs.Words.{word}
-use Rattle.rpm_hindex.specs.Rows.{Row, times, same_row as same_rows}
-use Rattle.rpm_hindex.specs.Sizes.{key_units}
-use Rattle.rpm_hindex.specs.Index.{Index, is_link, next_at, units_at, row_at, key_at, length_at, run, places_of, all_places, rows_of}
-use Rattle.rpm_hindex.specs.Whole.{IsWhole}
-use Rattle.rpm_hindex.specs.inner.Changes.{Stays, kept_of}
+use Rattle.rpm_hindex.proofs.Vocabulary.{all_places, bytes_of, Contains, filter, flat_map, Index, is_link, IsWhole, kept_of, key_at, key_units, length_at}
+use Rattle.rpm_hindex.proofs.Vocabulary.{next_at, places_of, range_with_len, Row, row_at, rows_of, run, Stays, sum_by, times, Units, units_at, word}
+use Rattle.rpm_hindex.specs.Rows.{same_row as same_rows}
 use Rattle.rpm_hindex.proofs.Runs.{run_same}
 use Rattle.rpm_hindex.proofs.FollowedLinks.{IsChain}
 use Rattle.rpm_hindex.proofs.Wholes.{HasChains, chains_ok, all_are, in_all, all_in}

@@ -1,18 +1,11 @@
 -- A draft, record by record.
 use Rattle.std.proofs.Common.{◌≡◌, ℕ, zero, suc, ◌+◌, ◌-◌, ◌*◌, ◌/◌, ◌%◌, ◌^◌, ◌<◌, ◌≤◌, List, [], ◌∷◌, ◌++◌, length, set, get_or, map, replicate, true, refl, sym, ap, ◌∙◌, arith, subst}
-use Rattle.std.specs.List.{Contains, sum_by, flat_map, range_with_len}
+use Rattle.rpm_hindex.proofs.Vocabulary.{all_places, blank, bytes_of, Contains, draft_index, flat_map, hash_of, Index, is_bucket_count, is_link, IsDraft}
+use Rattle.rpm_hindex.proofs.Vocabulary.{IsWhole, length-cut_up, live_of, places_of, range_with_len, record_of, record_units, Row, row_at, rows_of, sum_by}
+use Rattle.rpm_hindex.proofs.Vocabulary.{times, times-append, unit_at, Units, units_of}
 use Rattle.std.proofs.lemmas.List.{get_or_append_left, get_or-append_right, get_or-set_same, get_or-set_other, length-set, get_or-replicate, length-replicate, length_push}
 use Rattle.std.proofs.lemmas.List.Sums.{sum_by_push, sum_by-cons}
-use Rattle.rpm_outside.specs.Files.{Units, units_of, unit_at, bytes_of, blank}
-use Rattle.rpm_outside.specs.inner.Cuts.{length-cut_up}
-use Rattle.rpm_hindex.specs.Rows.{Row, times, hash_of}
-use Rattle.rpm_hindex.specs.Sizes.{record_units, live_of, is_bucket_count}
-use Rattle.rpm_hindex.specs.inner.Making.{record_of}
-use Rattle.rpm_hindex.specs.Index.{Index, is_link, all_places, rows_of, places_of, row_at}
-use Rattle.rpm_hindex.specs.Whole.{IsWhole}
-use Rattle.rpm_hindex.specs.inner.Drafts.{draft_index, IsDraft}
 use Rattle.rpm_hindex.proofs.Made.{units-made}
-use Rattle.rpm_hindex.proofs.Counts.{times-append}
 use Rattle.rpm_hindex.proofs.Wholes.{HasChains, has_chains, chains_ok, all_are}
 use Rattle.rpm_hindex.proofs.Adds.{AddsRecord, AddsWithin, whole_more, times_more, padded_more}
 use Rattle.rpm_hindex.proofs.Padding.{padded_then}

@@ -1,19 +1,12 @@
 -- A row is dropped.
 use Rattle.std.proofs.Common.{◌≡◌, ℕ, zero, suc, ◌<◌, List, [], ◌∷◌, length, Bool, true, false, not, Result, Ok, Err, refl, sym, ap, ◌∙◌, arith, subst, inl, inr}
-use Rattle.std.specs.List.{Contains, filter}
+use Rattle.rpm_hindex.proofs.Vocabulary.{bucket_of, chain, Contains, Drops, filter, HasLess, HasNone, HitsAre, Index, is_kept, is_link, IsSpot, IsWhole}
+use Rattle.rpm_hindex.proofs.Vocabulary.{kept_of, places_in, places_of, record_units, Row, row_at, same_is, Spot, units_at}
 use Rattle.std.proofs.lemmas.List.Elements.{Contains-append_right}
 use Rattle.std.proofs.lemmas.Bool.{cases_Bool, cond-true, cond-false}
-use Rattle.rpm_hindex.specs.declared.spots.Spot.{Spot}
-use Rattle.rpm_hindex.specs.Rows.{Row}
-use Rattle.rpm_hindex.specs.Index.{Index, is_link, row_at, units_at, chain, bucket_of, places_of, places_in}
-use Rattle.rpm_hindex.specs.Sizes.{record_units}
-use Rattle.rpm_hindex.specs.Whole.{IsWhole}
-use Rattle.rpm_hindex.specs.inner.Changes.{HasLess, kept_of, is_kept, Drops}
-use Rattle.rpm_hindex.specs.inner.Spots.{IsSpot, HasNone}
-use Rattle.rpm_hindex.specs.Answers.{HitsAre}
 use Rattle.rpm_hindex.proofs.Costing.{chain_are}
 use Rattle.rpm_hindex.proofs.Wholes.{HasChains, has_chains}
-use Rattle.rpm_hindex.proofs.Keeping.{less_none, less_one, kept_none, same_is}
+use Rattle.rpm_hindex.proofs.Keeping.{less_none, less_one, kept_none}
 use Rattle.rpm_hindex.proofs.Ways.{splits}
 
 pub filter_in : (kept : ℕ → Bool) (ps : List ℕ) (q : ℕ) → Contains (filter kept ps) q → Contains ps q × (kept q ≡ true)

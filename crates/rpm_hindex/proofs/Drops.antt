@@ -1,11 +1,10 @@
 -- A record less.
 use Rattle.std.proofs.Common.{◌≡◌, ℕ, zero, suc, ◌+◌, ◌<◌, ◌≤◌, List, [], ◌∷◌, ◌++◌, true, cond, eqb, refl, sym, ap, ◌∙◌, arith, subst, inl, inr}
-use Rattle.std.specs.List.{Contains, sum_by, flat_map, range_with_len}
+use Rattle.rpm_hindex.proofs.Vocabulary.{all_places, bucket_of, Contains, flat_map, Index, is_link, is_sound, next_at, range_with_len, Row, row_at, sum_by}
+use Rattle.rpm_hindex.proofs.Vocabulary.{units_at}
 use Rattle.std.proofs.lemmas.List.Sums.{sum_by-cons, sum_by-append}
 use Rattle.std.proofs.lemmas.List.Elements.{Contains-append_right}
 use Rattle.std.proofs.lemmas.Bool.{cases_eq, cond-true, cond-false, eq-eqb, ne_eqb}
-use Rattle.rpm_hindex.specs.Rows.{Row}
-use Rattle.rpm_hindex.specs.Index.{Index, is_link, is_sound, next_at, units_at, row_at, bucket_of, all_places}
 use Rattle.rpm_hindex.proofs.Chains.{Sound, sound_parts}
 use Rattle.rpm_hindex.proofs.FollowedLinks.{IsChain}
 use Rattle.rpm_hindex.proofs.Wholes.{HasChains, all_are}

@@ -1,13 +1,9 @@
 -- An index that has another's records, where they stand, and maybe more after them.
 use Rattle.std.proofs.Common.{◌≡◌, ℕ, zero, suc, ◌+◌, ◌/◌, ◌%◌, ◌^◌, ◌<◌, ◌≤◌, List, [], ◌∷◌, length, map, take, true, ltb, leb, refl, sym, ap, ◌∙◌, arith, subst, inl, inr}
-use Rattle.std.specs.List.{Contains, sum_by, flat_map, range_with_len}
+use Rattle.rpm_hindex.proofs.Vocabulary.{all_places, bucket_of, bytes_of, Contains, first_record, flat_map, Index, is_link, is_placed, is_sound, IsWhole}
+use Rattle.rpm_hindex.proofs.Vocabulary.{key_at, key_units, length_at, next_at, places_of, range_with_len, Row, row_at, rows_of, run, sum_by, Units, units_at}
+use Rattle.rpm_hindex.proofs.Vocabulary.{word}
 use Rattle.std.proofs.lemmas.Bool.{and_from, eq-eqb, lt-ltb, le-leb, cases_eq}
-use Rattle.rpm_outside.specs.Files.{Units, bytes_of}
-use Rattle.rpm_outside.specs.Words.{word}
-use Rattle.rpm_hindex.specs.Rows.{Row}
-use Rattle.rpm_hindex.specs.Sizes.{first_record, key_units}
-use Rattle.rpm_hindex.specs.Index.{Index, is_link, is_sound, is_placed, next_at, units_at, row_at, key_at, length_at, run, bucket_of, all_places, places_of, rows_of}
-use Rattle.rpm_hindex.specs.Whole.{IsWhole}
 use Rattle.rpm_hindex.proofs.Runs.{run_same}
 use Rattle.rpm_hindex.proofs.Chains.{Sound, sound_parts}
 use Rattle.rpm_hindex.proofs.FollowedLinks.{IsChain, within, behind_front, link_at}

@@ -1,24 +1,14 @@
 -- The rows of an index that is in order have room in one made from scratch.
 use Rattle.std.proofs.Common.{◌≡◌, ℕ, zero, suc, ◌+◌, ◌*◌, ◌/◌, ◌^◌, ◌≤◌, List, [], ◌∷◌, ◌++◌, length, length-append, map, leb, true, sym, ap, ◌∙◌, arith, inl, inr}
-use Rattle.std.specs.List.{sum_by}
+use Rattle.rpm_hindex.proofs.Vocabulary.{after, after_tail, after_units, all_places, bucket_count, buckets_after, bytes_of, CanWrite, doubled, HasChanged}
+use Rattle.rpm_hindex.proofs.Vocabulary.{HasLess, HasRoomFor, Index, index_in, index_units, InPlace, is_bucket_count, IsPlanFor, IsWhole, key_units}
+use Rattle.rpm_hindex.proofs.Vocabulary.{LeavesOrder, length-cut_up, length_at, live-append, live_of, put_inside, record_units, records, Row, row_at, rows_of}
+use Rattle.rpm_hindex.proofs.Vocabulary.{run, SameRows, Scratch, second_after, sum_by, times, times-append, times_none, unit_at, unit_at-cut_up, Units}
+use Rattle.rpm_hindex.proofs.Vocabulary.{units_after, units_at, units_for, units_of, word, Work}
 use Rattle.std.proofs.lemmas.Bool.{cases_lt, cond-true, cond-false, le-leb, lt-leb}
 use Rattle.std.proofs.lemmas.List.{length-map, length-take}
 use Rattle.std.proofs.lemmas.List.Sums.{sum_by-cons, sum_by-append}
 use Rattle.std.proofs.Math.Nat.{pow-le-pow_right, pow-succ'}
-use Rattle.rpm_outside.specs.Files.{Units, unit_at, units_of, bytes_of}
-use Rattle.rpm_outside.specs.inner.Cuts.{length-cut_up, unit_at-cut_up}
-use Rattle.rpm_outside.specs.inner.Puts.{put_inside}
-use Rattle.rpm_hindex.specs.declared.plan.Work.{Work}
-use Rattle.rpm_hindex.specs.declared.plan.Work.TheVariants.{InPlace, Scratch}
-use Rattle.rpm_outside.specs.Words.{word}
-use Rattle.rpm_hindex.specs.Rows.{Row, times, SameRows}
-use Rattle.rpm_hindex.specs.Sizes.{doubled, bucket_count, is_bucket_count, index_units, units_for, live_of, record_units, key_units}
-use Rattle.rpm_hindex.specs.Index.{Index, index_in, records, rows_of, row_at, all_places, units_at, length_at, run}
-use Rattle.rpm_hindex.specs.Whole.{IsWhole}
-use Rattle.rpm_hindex.specs.Plans.{CanWrite, LeavesOrder, IsPlanFor, HasChanged, after, buckets_after, second_after, units_after, after_tail, after_units}
-use Rattle.rpm_hindex.specs.inner.Changes.{HasLess}
-use Rattle.rpm_hindex.specs.Refusals.{HasRoomFor}
-use Rattle.rpm_hindex.proofs.Counts.{times-append, times_none}
 use Rattle.rpm_hindex.proofs.Orders.{count_parts, ordered_parts}
 use Rattle.rpm_hindex.proofs.Same.{units_same_rows, length_same_rows, live_same_rows}
 
@@ -71,10 +61,6 @@ live_least unit (p ∷ ps) =
 rows_least : (x : Index) → (length (rows_of x) ≡ length (all_places x)) × (live_of (rows_of x) ≤ sum_by (units_at x.unit) (all_places x))
 unfolding rows_of
 rows_least x = (length-map (all_places x) (row_at x.unit), live_least x.unit (all_places x))
-
-pub live-append : (xs ys : List Row) → live_of (xs ++ ys) ≡ live_of xs + live_of ys
-unfolding live_of
-live-append xs ys = sum_by-append (λ (r : Row). record_units (length r.key)) xs ys
 
 -- how many rows there are after drops and adds, and their units at most
 pub changed_least : (x : Index) (count live : ℕ) (drops adds old new : List Row) → IsWhole count live x → HasLess drops old (rows_of x) → HasChanged

@@ -1,18 +1,13 @@
 -- The definitions of the index, computed on the units of one key: what they say doesn't come from the code.
 use Rattle.std.specs.Prelude.{◌≡◌, ℕ, ◌+◌, ◌≤◌, ◌<◌, List, [], ◌∷◌, ◌++◌, length, refl, replicate, Bool, ◌||◌, nat_le, true, false, Ok, Err, IsOk, is_ok}
-use Rattle.std.specs.List.{Contains, list_all, sum_by, range_with_len}
+use Rattle.rpm_hindex.proofs.Vocabulary.{all_places, blank, bucket_count, chain, Contains, hash_of, Index, index_in, index_units, is_bucket_count, is_current}
+use Rattle.rpm_hindex.proofs.Vocabulary.{is_in_order, is_ordered, is_sound, IsWellFormed, list_all, places_of, range_with_len, records, Row, row_at, rows_of}
+use Rattle.rpm_hindex.proofs.Vocabulary.{sealed, state_of, sum_by, unit_at, Units, units_at, word}
 use Rattle.std.proofs.Common.{inl, inr, sym, ap, ◌∙◌, arith}
 use Rattle.std.proofs.lemmas.Bool.{cases_Bool, false≢true, leb-true, or_cases}
 use Rattle.std.proofs.lemmas.List.Elements.{at_from_Contains}
 use Rattle.std.proofs.lemmas.List.Folds.{list_all_at}
 use Rattle.std.proofs.lemmas.List.FromFn.{get_or-range_with_len, length-range_with_len}
-use Rattle.rpm_outside.specs.Files.{Units, unit_at, blank}
-use Rattle.rpm_outside.specs.Words.{word}
-use Rattle.rpm_hindex.specs.Rows.{Row, hash_of}
-use Rattle.rpm_hindex.specs.Sizes.{index_units, bucket_count, is_bucket_count}
-use Rattle.rpm_hindex.specs.Index.{Index, index_in, chain, is_sound, row_at, units_at, places_of, all_places, rows_of, records}
-use Rattle.rpm_hindex.specs.Whole.{IsWellFormed}
-use Rattle.rpm_hindex.specs.State.{sealed, state_of, is_ordered, is_in_order, is_current}
 
 -- ---- sizes
 

@@ -1,9 +1,7 @@
 -- A chain as a relation: its places, each naming the next.
 use Rattle.std.proofs.Common.{◌≡◌, ℕ, zero, suc, ◌+◌, ◌/◌, ◌<◌, ◌≤◌, List, [], ◌∷◌, true, eqb, ltb, leb, Ok, Err, refl, sym, ap, ◌∙◌, arith, subst, inl, inr}
-use Rattle.std.specs.List.{Contains}
+use Rattle.rpm_hindex.proofs.Vocabulary.{behind, chain, Contains, first_record, follow, Index, is_link, is_sound, next_at}
 use Rattle.std.proofs.lemmas.Bool.{cases_Bool, and_parts, eqb-true, ltb-true, leb-true, or_cases, cases_eq, and_from, or_right, lt-ltb, le-leb}
-use Rattle.rpm_hindex.specs.Sizes.{first_record}
-use Rattle.rpm_hindex.specs.Index.{Index, is_link, is_sound, follow, behind, chain, next_at}
 use Rattle.rpm_hindex.proofs.Chains.{sound_parts, follow_step, follow_is_ok, fuel, chain_from, chain_bad}
 
 pub within : (x : Index) (at : ℕ) → is_link x at ≡ true → 0 < at → at < x.used

@@ -1,14 +1,9 @@
 -- The hits of one chain are those of the whole index.
 use Rattle.std.proofs.Common.{◌≡◌, ℕ, ◌+◌, ◌%◌, ◌<◌, List, [], ◌∷◌, map, Bool, true, cond, eqb, Ok, refl, sym, ap, ◌∙◌, arith, zero-add}
-use Rattle.std.specs.List.{Contains, sum_by}
-use Rattle.std.specs.Str.{bytes_eq}
+use Rattle.rpm_hindex.proofs.Vocabulary.{AsOften, bucket_of, bytes_eq, chain, Contains, hash_of, Hit, Index, IsWhole, places_in, places_of, Row, row_at}
+use Rattle.rpm_hindex.proofs.Vocabulary.{row_of_hit, rows_of, same_row, sum_by, times}
 use Rattle.std.proofs.lemmas.Bool.{and_parts, eqb-true, false_from_ne_true}
 use Rattle.std.proofs.lemmas.Slice.Eq.{bytes_eq-Decides}
-use Rattle.rpm_hindex.specs.declared.hits.Hit.{Hit}
-use Rattle.rpm_hindex.specs.Rows.{Row, times, same_row, hash_of}
-use Rattle.rpm_hindex.specs.Index.{Index, chain, places_of, row_at, rows_of, bucket_of, places_in}
-use Rattle.rpm_hindex.specs.Whole.{IsWhole}
-use Rattle.rpm_hindex.specs.Answers.{AsOften, row_of_hit}
 use Rattle.rpm_hindex.proofs.Chains.{sound_parts}
 use Rattle.rpm_hindex.proofs.Wholes.{HasChains, has_chains, sound_of, all_are}
 use Rattle.rpm_hindex.proofs.Tallies.{tally, times_map, times_rows, sum_flat, sum_at, sum_zeros, sum_each}

@@ -1,33 +1,16 @@
 -- The rows that are kept, and what is written of them from scratch.
 use Rattle.std.proofs.Common.{◌≡◌, ℕ, zero, suc, ◌+◌, ◌/◌, length, List, [], ◌∷◌, ◌++◌, map, Bool, cond, refl, sym, ap, ◌∙◌, arith, subst, inl, inr}
 use Rattle.std.specs.Prelude.{Vec}
-use Rattle.std.specs.declared.alloc.Global.{Global}
-use Rattle.rpm_hindex.specs.declared.change.Change.{Change}
-use Rattle.rpm_outside.specs.Words.{word}
-use Rattle.rpm_hindex.specs.Sizes.{units_for, bucket_count}
-use Rattle.rpm_hindex.specs.State.{EndsInZero}
-use Rattle.std.specs.List.{filter, flat_map, range_with_len}
+use Rattle.rpm_hindex.proofs.Vocabulary.{ArePadded, BadIndex, blank, bucket_count, chain, Change, DiskFault, EndsInZero, filter, flat_map, Global, HasLess}
+use Rattle.rpm_hindex.proofs.Vocabulary.{HitsAre, Holds, Index, index_in, IndexFull, InPlace, IsMade, IsOther, IsPaddedPlan, IsPlanFor, IsScratchOf}
+use Rattle.rpm_hindex.proofs.Vocabulary.{IsSizedFor, IsTooLarge, IsTooLargeFor, IsWorkOf, kept_below, NoMemory, places_of, PrepareFault, put, range_with_len}
+use Rattle.rpm_hindex.proofs.Vocabulary.{ReachesFor, records, Row, row_at, SameRows, Scratch, second_after, times, times-append, Units, units_after}
+use Rattle.rpm_hindex.proofs.Vocabulary.{units_for, units_of, word, word_3, Work}
 use Rattle.std.proofs.lemmas.Bool.{cases_Bool, cond-true, cond-false}
 use Rattle.std.proofs.lemmas.List.{append-nil, append_assoc, map-append}
-use Rattle.rpm_hindex.specs.Rows.{Row, times, SameRows}
-use Rattle.rpm_hindex.specs.Index.{Index, chain, row_at, places_of}
-use Rattle.rpm_hindex.specs.Answers.{HitsAre}
-use Rattle.rpm_outside.specs.Files.{Units, units_of, put, blank}
-use Rattle.rpm_hindex.specs.declared.plan.Work.{Work}
-use Rattle.rpm_hindex.specs.declared.plan.Work.TheVariants.{InPlace, Scratch}
-use Rattle.rpm_hindex.specs.Index.{index_in, records}
-use Rattle.rpm_hindex.specs.inner.Drafts.{Holds, IsMade}
-use Rattle.rpm_hindex.specs.Padding.{ArePadded}
-use Rattle.rpm_hindex.specs.Plans.{IsPlanFor, IsPaddedPlan, IsSizedFor, ReachesFor, units_after, second_after}
 use Rattle.rpm_hindex.proofs.Seals.{image_held}
-use Rattle.rpm_hindex.proofs.Counts.{times-append}
 use Rattle.rpm_hindex.proofs.Same.{units_same_rows, length_same_rows}
 use Rattle.rpm_hindex.proofs.Scratch.{image_size}
-use Rattle.rpm_outside.specs.inner.UnitLaws.{word_3}
-use Rattle.rpm_hindex.specs.inner.Changes.{kept_below, IsScratchOf, IsWorkOf, HasLess, IsOther, IsTooLarge}
-use Rattle.rpm_hindex.specs.Refusals.{IsTooLargeFor}
-use Rattle.rpm_hindex.specs.declared.faults.PrepareFault.{PrepareFault}
-use Rattle.rpm_hindex.specs.declared.faults.PrepareFault.TheVariants.{IndexFull, BadIndex, DiskFault, NoMemory}
 use Rattle.rpm_hindex.proofs.Dropping.{of_places}
 use Rattle.rpm_hindex.proofs.Ways.{filter_last, filter_same}
 

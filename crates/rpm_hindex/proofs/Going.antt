@@ -1,21 +1,13 @@
 -- A change that can go on.
 use Rattle.std.proofs.Common.{◌≡◌, ℕ, ◌+◌, ◌*◌, ◌/◌, ◌%◌, ◌^◌, ◌<◌, ◌≤◌, List, [], ◌∷◌, map, zero, suc, length, BTreeMap, refl, sym, ap, ◌∙◌, arith, subst, inl, inr}
 use Rattle.std.specs.Prelude.{Option}
-use Rattle.std.specs.Ordering.{nat_cmp}
-use Rattle.std.specs.BTreeMap.{get, keys}
-use Rattle.std.specs.List.{Contains}
-use Rattle.std.specs.List.Sorted.{IsStrictlySortedBy}
+use Rattle.rpm_hindex.proofs.Vocabulary.{bucket_unit, CanGo, Change, Contains, first_record, get, IsBehind, IsStrictlySortedBy, keys, nat_cmp, Patch}
+use Rattle.rpm_hindex.proofs.Vocabulary.{patch_at, patch_of, Puts, PutsWithin}
 use Rattle.std.proofs.lemmas.Cmp.{nat_cmp_total}
 use Rattle.std.proofs.lemmas.Map.Lookups.{CmpEqualImpliesEq}
 use Rattle.std.proofs.lemmas.Map.Views.{btree_map_get_iff}
 use Rattle.std.proofs.lemmas.Bool.Decides.{nat_tests}
-use Rattle.rpm_hindex.specs.declared.plan.Patch.{Patch}
-use Rattle.rpm_hindex.specs.Plans.{patch_at}
 use Rattle.std.proofs.lemmas.Bool.{cases_eq}
-use Rattle.rpm_hindex.specs.declared.change.Change.{Change}
-use Rattle.rpm_hindex.specs.Sizes.{first_record}
-use Rattle.rpm_hindex.specs.Index.{bucket_unit}
-use Rattle.rpm_hindex.specs.inner.Changes.{patch_of, CanGo, IsBehind, Puts, PutsWithin}
 
 pub still_behind : {X : Type 0} (used : ℕ) (old new : ℕ → Option X) → IsBehind used old → PutsWithin used old new → IsBehind used new
 still_behind used old new behind (key, some, lt, (value, put)) k v is = elim (cases_eq k key) [

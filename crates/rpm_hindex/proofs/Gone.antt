@@ -1,26 +1,15 @@
 -- The rows that a change has dropped, and what unit 1 counts of them.
 use Rattle.std.proofs.Common.{◌≡◌, ℕ, ◌+◌, ◌<◌, ◌≤◌, List, [], ◌∷◌, ◌++◌, length, drop, Bool, true, false, not, cond, refl, sym, ap, ◌∙◌, arith, subst, inl, inr, length-append}
 use Rattle.std.specs.Prelude.{is_ok, IsOk, ◌⊎◌}
-use Rattle.std.specs.Ordering.{nat_cmp}
-use Rattle.std.specs.BTreeSet.{contains}
-use Rattle.std.specs.List.{Contains, sum_by}
+use Rattle.rpm_hindex.proofs.Vocabulary.{all_places, BadIndex, chain, Change, Contains, contains, CountsLess, DiskFault, Drops, DropsMore, HasGone, if_kept}
+use Rattle.rpm_hindex.proofs.Vocabulary.{Index, index_in, IndexFull, is_kept, IsBadFor, IsChainFault, IsDropFault, IsFresh, IsShort, kept_in, live-append}
+use Rattle.rpm_hindex.proofs.Vocabulary.{live_of, nat_cmp, NoMemory, places_of, PrepareFault, record_units, Row, row_at, same_row, sum_by, times}
+use Rattle.rpm_hindex.proofs.Vocabulary.{times-append, times_none, times_one, Units}
 use Rattle.std.proofs.lemmas.Bool.{false≢true}
 use Rattle.std.proofs.lemmas.List.Sums.{sum_by-take-drop}
-use Rattle.rpm_outside.specs.Files.{Units}
-use Rattle.rpm_hindex.specs.declared.change.Change.{Change}
-use Rattle.rpm_hindex.specs.declared.faults.PrepareFault.{PrepareFault}
-use Rattle.rpm_hindex.specs.declared.faults.PrepareFault.TheVariants.{IndexFull, BadIndex, DiskFault, NoMemory}
-use Rattle.rpm_hindex.specs.Rows.{Row, times, same_row}
-use Rattle.rpm_hindex.specs.Sizes.{live_of, record_units}
-use Rattle.rpm_hindex.specs.Index.{Index, index_in, chain, row_at, places_of, all_places}
-use Rattle.rpm_hindex.specs.Refusals.{DropsMore, IsBadFor}
-use Rattle.rpm_hindex.specs.inner.Changes.{Drops, is_kept, if_kept, kept_in, IsChainFault, HasGone, CountsLess, IsShort, IsFresh}
-use Rattle.rpm_hindex.specs.inner.Ongoing.{IsDropFault}
-use Rattle.rpm_hindex.proofs.Counts.{times-append, times_one, times_none}
 use Rattle.rpm_hindex.proofs.Tallies.{tally}
 use Rattle.rpm_hindex.proofs.Drafting.{live_push}
 use Rattle.rpm_hindex.proofs.Takes.{live_none}
-use Rattle.rpm_hindex.proofs.Fitting.{live-append}
 use Rattle.rpm_hindex.proofs.Keeping.{times_kept, kept_less_one, kept_all}
 use Rattle.rpm_hindex.proofs.Honest.{kept_least}
 use Rattle.rpm_hindex.proofs.Wholes.{HasChains, all_in}

@@ -1,28 +1,13 @@
 -- What a fault of a change says of the index.
 use Rattle.std.proofs.Common.{◌≡◌, ℕ, zero, suc, ◌+◌, ◌-◌, ◌/◌, ◌%◌, ◌<◌, ◌≤◌, List, [], ◌∷◌, length, Bool, true, false, not, cond, BTreeMap, Vec, Global, Result, Ok, Err, refl, sym, ap, ◌∙◌, arith, subst, inl, inr}
 use Rattle.std.specs.Prelude.{Option, None, Some, unwrap_or, is_ok, IsOk, ◌⊎◌}
-use Rattle.std.specs.Ordering.{nat_cmp}
-use Rattle.std.specs.BTreeMap.{get}
-use Rattle.std.specs.BTreeSet.{BTreeSet, contains}
-use Rattle.std.specs.List.{Contains, sum_by}
+use Rattle.rpm_hindex.proofs.Vocabulary.{all_places, BadIndex, BTreeSet, bucket_unit, CanGo, chain, Change, changing, Contains, contains, DiskFault, Drops}
+use Rattle.rpm_hindex.proofs.Vocabulary.{first_record, get, HasNoFault, HasWord, Head, HitsAre, HoldsMore, if_kept, Index, index_in, IndexFull, is_kept}
+use Rattle.rpm_hindex.proofs.Vocabulary.{is_link, IsBad, IsBadFor, IsBadSoFar, IsChainFault, IsFaulty, IsFront, IsHonest, IsLinked, IsOpen, IsSpot}
+use Rattle.rpm_hindex.proofs.Vocabulary.{IsWellFormed, IsWithout, nat_cmp, NoMemory, places_of, PrepareFault, Puts, record_units, Row, SetsBucket, Spot}
+use Rattle.rpm_hindex.proofs.Vocabulary.{sum_by, unit_after, unit_at, Units, units_at, Unlinks, word}
 use Rattle.std.proofs.lemmas.List.Sums.{sum_by-cons}
 use Rattle.std.proofs.lemmas.Bool.{cases_eq, cases_Bool, cond-true, cond-false, false≢true}
-use Rattle.rpm_outside.specs.Files.{Units, unit_at}
-use Rattle.rpm_hindex.specs.declared.faults.PrepareFault.{PrepareFault}
-use Rattle.rpm_hindex.specs.declared.faults.PrepareFault.TheVariants.{IndexFull, BadIndex, DiskFault, NoMemory}
-use Rattle.rpm_hindex.specs.declared.change.Change.{Change}
-use Rattle.rpm_hindex.specs.declared.heads.Head.{Head}
-use Rattle.rpm_hindex.specs.declared.spots.Spot.{Spot}
-use Rattle.rpm_outside.specs.Words.{word}
-use Rattle.rpm_hindex.specs.Rows.{Row}
-use Rattle.rpm_hindex.specs.Answers.{HitsAre}
-use Rattle.rpm_hindex.specs.Sizes.{first_record, record_units}
-use Rattle.rpm_hindex.specs.inner.Records.{IsOpen}
-use Rattle.rpm_hindex.specs.Index.{Index, index_in, is_link, chain, units_at, bucket_unit, places_of, all_places}
-use Rattle.rpm_hindex.specs.Whole.{IsWellFormed}
-use Rattle.rpm_hindex.specs.inner.Changes.{CanGo, Puts, Drops, HasWord, SetsBucket, Unlinks, changing, unit_after, is_kept, IsWithout, IsChainFault, HasNoFault, IsHonest, IsBadSoFar, if_kept}
-use Rattle.rpm_hindex.specs.inner.Spots.{IsSpot, IsFront, IsLinked}
-use Rattle.rpm_hindex.specs.Refusals.{HoldsMore, IsBad, IsFaulty, IsBadFor}
 use Rattle.rpm_hindex.proofs.Chains.{chain_bad}
 use Rattle.rpm_hindex.proofs.Costing.{chain_are}
 use Rattle.rpm_hindex.proofs.FollowedLinks.{link_at, within, behind_front}

@@ -1,20 +1,12 @@
 -- A draft whose bucket words are put in front, as it is read from a file.
 use Rattle.std.proofs.Common.{◌≡◌, ℕ, zero, suc, ◌+◌, ◌-◌, ◌*◌, ◌/◌, ◌%◌, ◌^◌, ◌<◌, ◌≤◌, List, [], ◌∷◌, ◌++◌, length, take, drop, get_or, true, refl, sym, ap, ◌∙◌, arith, subst, inl, inr, length-append, length-drop}
-use Rattle.std.specs.List.{flat_map}
-use Rattle.std.specs.Int.{w32, from_le_bytes}
+use Rattle.rpm_hindex.proofs.Vocabulary.{bytes_of_word, draft_index, first_record, flat_map, from_le_bytes, Holds, Index, index_in, is_bucket_count, IsDraft}
+use Rattle.rpm_hindex.proofs.Vocabulary.{IsImage, IsMade, IsWhole, length-cut_up, length-unit, live_of, places_of, Row, times, unit_at, unit_at-cut_up}
+use Rattle.rpm_hindex.proofs.Vocabulary.{unit_of_words, Units, units_of, w32, word, word_0, word_1, word_2, word_3}
 use Rattle.std.proofs.lemmas.List.{get_or_append_left, get_or-append_right, get_or-take, get_or-drop, drop-drop, drop_at, take_at, take-append-le}
 use Rattle.std.proofs.lemmas.Nat.{from_le_bytes-to_le_bytes_4}
 use Rattle.std.proofs.lemmas.Bool.{cases_eq}
-use Rattle.rpm_outside.specs.Files.{Units, units_of, unit_at}
-use Rattle.rpm_outside.specs.inner.Cuts.{length-cut_up, unit_at-cut_up}
-use Rattle.rpm_outside.specs.Words.{word, bytes_of_word, unit_of_words}
-use Rattle.rpm_hindex.specs.Rows.{Row, times}
-use Rattle.rpm_hindex.specs.Sizes.{first_record, live_of, is_bucket_count}
-use Rattle.rpm_hindex.specs.Index.{Index, index_in, places_of}
-use Rattle.rpm_hindex.specs.Whole.{IsWhole}
-use Rattle.rpm_hindex.specs.inner.Drafts.{draft_index, IsDraft, IsImage, IsMade, Holds}
 use Rattle.rpm_hindex.proofs.Padding.{padded_then, adds_same}
-use Rattle.rpm_outside.specs.inner.UnitLaws.{length-unit, word_0, word_1, word_2, word_3}
 use Rattle.rpm_hindex.proofs.FollowedLinks.{within}
 use Rattle.rpm_hindex.proofs.Wholes.{has_chains}
 use Rattle.rpm_hindex.proofs.Extends.{Extends, rows_same, whole_same}

@@ -1,20 +1,17 @@
 -- The rows of the places that are kept.
 use Rattle.std.proofs.Common.{◌≡◌, ℕ, zero, suc, ◌+◌, ◌<◌, ◌≤◌, List, [], ◌∷◌, ◌++◌, map, reverse, Bool, true, false, cond, eqb, sym, ap, ◌∙◌, arith, subst, inl, inr}
-use Rattle.std.specs.List.{Contains, filter, sum_by, flat_map, range_with_len}
-use Rattle.std.specs.Str.{bytes_eq}
+use Rattle.rpm_hindex.proofs.Vocabulary.{all_places, bucket_of, bytes_eq, Contains, filter, flat_map, HasLess, Index, kept_of, next_at, places_of}
+use Rattle.rpm_hindex.proofs.Vocabulary.{range_with_len, Row, row_at, rows_of, same_is, sum_by, times, times-append, times_none, times_one}
 use Rattle.std.proofs.lemmas.List.Sums.{sum_by-cons}
 use Rattle.std.proofs.lemmas.List.Sorted.{sum_by-IsPermutation, IsPermutation-reverse}
 use Rattle.std.proofs.lemmas.Bool.{cases_Bool, cond-true, cond-false, and_parts, eqb-true}
 use Rattle.std.proofs.lemmas.Slice.Eq.{bytes_eq-Decides}
-use Rattle.rpm_hindex.specs.Rows.{Row, times, same_row as same_rows}
-use Rattle.rpm_hindex.specs.Index.{Index, next_at, row_at, bucket_of, places_of, all_places, rows_of}
-use Rattle.rpm_hindex.specs.inner.Changes.{kept_of, HasLess}
+use Rattle.rpm_hindex.specs.Rows.{same_row as same_rows}
 use Rattle.rpm_hindex.proofs.Chains.{sound_parts}
 use Rattle.rpm_hindex.proofs.FollowedLinks.{IsChain}
 use Rattle.rpm_hindex.proofs.Wholes.{HasChains, in_all, sound_of}
 use Rattle.rpm_hindex.proofs.Drops.{chain_falls}
 use Rattle.rpm_hindex.proofs.Founds.{same_bucket, zeros_of}
-use Rattle.rpm_hindex.proofs.Counts.{times-append, times_one, times_none}
 use Rattle.rpm_hindex.proofs.Tallies.{tally, times_map, times_rows, sum_flat, sum_same, sum_at, sum_each}
 
 -- what a place adds to the count of a row, where it is kept
@@ -122,19 +119,6 @@ module _ (x : Index) (has : HasChains x (places_of x)) where
                   cond-false (same_rows row (row_at x.unit q)) 1 0 no'
             ]
       ])
-
--- ---- rows that count as the same are the same
-
-pub same_is : (a b : Row) → same_rows a b ≡ true → a ≡ b
-same_is a b e =
-    let p = and_parts (eqb a.kind b.kind) _ e in
-    let q = and_parts (bytes_eq a.key b.key) _ p.1 in
-    let s = and_parts (eqb a.number b.number) _ q.1 in
-    let row : ℕ → List ℕ → ℕ → ℕ → Row = λ kind key number place. record { kind = kind; key = key; number = number; place = place } in
-    ap (λ (k : ℕ). row k a.key a.number a.place) (eqb-true a.kind b.kind p.0)
-    ∙ ap (λ (k : List ℕ). row b.kind k a.number a.place) ((bytes_eq-Decides a.key b.key).0 q.0)
-    ∙ ap (λ (n : ℕ). row b.kind b.key n a.place) (eqb-true a.number b.number s.0)
-    ∙ ap (λ (n : ℕ). row b.kind b.key b.number n) (eqb-true a.place b.place s.1)
 
 -- ---- what a drop leaves
 

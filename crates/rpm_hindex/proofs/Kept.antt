@@ -1,9 +1,8 @@
 -- The places that are not dropped.
 use Rattle.std.proofs.Common.{◌≡◌, ℕ, zero, suc, ◌<◌, List, [], ◌∷◌, ◌++◌, Bool, true, false, cond, eqb, not, ◌&&◌, refl, sym, ap, ◌∙◌, arith, subst, inl, inr}
-use Rattle.std.specs.List.{Contains, filter}
+use Rattle.rpm_hindex.proofs.Vocabulary.{bucket_of, Contains, filter, Index, next_at, row_at}
 use Rattle.std.proofs.lemmas.List.Elements.{Contains-append_right}
 use Rattle.std.proofs.lemmas.Bool.{cases_eq, cases_Bool, eq-eqb, ne_eqb, cond-true, cond-false}
-use Rattle.rpm_hindex.specs.Index.{Index, next_at, bucket_of, row_at}
 use Rattle.rpm_hindex.proofs.Chains.{sound_parts}
 use Rattle.rpm_hindex.proofs.FollowedLinks.{IsChain, sound_in}
 use Rattle.rpm_hindex.proofs.Wholes.{HasChains, sound_of}

@@ -48,3 +48,4 @@ pub mod Paths
 pub mod Starts
 pub mod RowsLeft
 pub mod Gone
+pub mod Vocabulary

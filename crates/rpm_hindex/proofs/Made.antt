@@ -1,18 +1,11 @@
 -- A record that was made, as it is read.
 use Rattle.std.proofs.Common.{◌≡◌, ℕ, zero, suc, ◌+◌, ◌-◌, ◌*◌, ◌/◌, ◌%◌, ◌^◌, ◌<◌, ◌≤◌, List, [], ◌∷◌, ◌++◌, length, take, drop, refl, sym, ap, ◌∙◌, arith, subst, length-append, length-drop, zero-add}
-use Rattle.std.specs.List.{All}
+use Rattle.rpm_hindex.proofs.Vocabulary.{All, bytes_of, bytes_of-cut_up, cut_up, IsPadded, key_at, key_units, length-cut_up, length-unit, length_at, next_at}
+use Rattle.rpm_hindex.proofs.Vocabulary.{padding, past_key, record_of, record_units, Row, row_at, run, unit_at, unit_of_words, Units, units_of, word, word_0}
+use Rattle.rpm_hindex.proofs.Vocabulary.{word_1, word_2, word_3}
 use Rattle.std.proofs.lemmas.List.{nil_from_length, length-replicate, take-append-le, take_all, take_at, drop_at, drop-append-le}
 use Rattle.std.proofs.lemmas.List.Elements.{All-replicate}
 use Rattle.std.proofs.lemmas.Nat.{div-mul-add, mod-mul-add}
-use Rattle.rpm_outside.specs.Files.{Units, cut_up, units_of, bytes_of, unit_at}
-use Rattle.rpm_outside.specs.inner.Cuts.{length-cut_up, bytes_of-cut_up}
-use Rattle.rpm_outside.specs.Words.{word, unit_of_words}
-use Rattle.rpm_hindex.specs.Rows.{Row}
-use Rattle.rpm_hindex.specs.Sizes.{key_units, record_units}
-use Rattle.rpm_hindex.specs.inner.Making.{record_of, padding}
-use Rattle.rpm_hindex.specs.Index.{next_at, length_at, row_at, key_at, run}
-use Rattle.rpm_hindex.specs.Padding.{IsPadded, past_key}
-use Rattle.rpm_outside.specs.inner.UnitLaws.{length-unit, word_0, word_1, word_2, word_3}
 
 -- bytes after whole units
 pub cut_up-append : (n m : ℕ) (a b : List ℕ) → length a ≡ 16 * n → cut_up (n + m) (a ++ b) ≡ cut_up n a ++ cut_up m b

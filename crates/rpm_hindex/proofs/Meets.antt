@@ -1,11 +1,6 @@
 -- The key of a record whose first unit was read before.
 use Rattle.std.proofs.Common.{◌≡◌, ℕ, ◌+◌, ◌*◌, ◌/◌, ◌%◌, ◌^◌, ◌≤◌, true, sym, ap, ◌∙◌, arith, subst}
-use Rattle.rpm_outside.specs.Files.{Files, unit_at}
-use Rattle.rpm_hindex.specs.declared.faults.FindFault.{FindFault}
-use Rattle.rpm_hindex.specs.declared.heads.Ahead.{Ahead}
-use Rattle.rpm_hindex.specs.Index.{index_in, follow, is_placed, units_at}
-use Rattle.rpm_hindex.specs.Answers.{IsFaultOf}
-use Rattle.rpm_hindex.specs.inner.Spots.{IsHead, IsAhead}
+use Rattle.rpm_hindex.proofs.Vocabulary.{Ahead, Files, FindFault, follow, index_in, is_placed, IsAhead, IsFaultOf, IsHead, unit_at, units_at}
 use Rattle.rpm_hindex.proofs.Steps.{moved, units_read}
 
 module _ (B at : ℕ) (file later : Files) (a : Ahead) (same : later ≡ file) (here : a.head.at ≡ at) where

@@ -1,17 +1,12 @@
 -- What it says that the first two units are in order.
 use Rattle.std.proofs.Common.{◌≡◌, ℕ, ◌+◌, ◌-◌, ◌*◌, ◌%◌, ◌^◌, ◌<◌, ◌≤◌, List, min, true, eqb, leb, sym, ap, ◌∙◌, arith, subst}
-use Rattle.std.specs.List.{range_with_len}
+use Rattle.rpm_hindex.proofs.Vocabulary.{buckets_of, Extent, first_record, is_bucket_count, is_headed, is_in_order, is_ordered, IsOpen, Keeps, range_with_len}
+use Rattle.rpm_hindex.proofs.Vocabulary.{State, Units, word}
 use Rattle.std.proofs.lemmas.Bool.{and_parts, eqb-true, leb-true}
 use Rattle.std.proofs.lemmas.List.Folds.{Any-from_list_any}
 use Rattle.std.proofs.lemmas.List.FromFn.{get_or-range_with_len, length-range_with_len}
 use Rattle.std.proofs.Math.Nat.{pow-le-pow_right}
 use Rattle.std.proofs.lemmas.Nat.{pow_pos}
-use Rattle.rpm_outside.specs.Files.{Units}
-use Rattle.rpm_outside.specs.Words.{word}
-use Rattle.rpm_hindex.specs.Sizes.{first_record, is_bucket_count}
-use Rattle.rpm_hindex.specs.State.{State, Keeps, is_in_order, is_ordered, is_headed, buckets_of}
-use Rattle.rpm_hindex.specs.declared.chain.Extent.{Extent}
-use Rattle.rpm_hindex.specs.inner.Records.{IsOpen}
 
 -- 64, doubled k times
 pub record BucketCount (buckets : ℕ) : Type 0 where

@@ -2,11 +2,7 @@
 use Rattle.std.proofs.Common.{◌≡◌, ℕ, zero, suc, ◌^◌, ◌<◌, List, cond, eqb, refl, ◌∙◌, arith}
 use Rattle.std.specs.Prelude.{Option}
 use Rattle.std.proofs.lemmas.Bool.{cond-true, cond-false, eq-eqb, ne_eqb}
-use Rattle.rpm_hindex.specs.Index.{bucket_unit}
-use Rattle.rpm_hindex.specs.declared.heads.Head.{Head}
-use Rattle.rpm_outside.specs.Words.{word, unit_of_words}
-use Rattle.rpm_hindex.specs.inner.Changes.{HasWord, Puts, PutsOne, PutsWithin, SetsNext}
-use Rattle.rpm_outside.specs.inner.UnitLaws.{word_0, word_1, word_2, word_3}
+use Rattle.rpm_hindex.proofs.Vocabulary.{bucket_unit, HasWord, Head, Puts, PutsOne, PutsWithin, SetsNext, unit_of_words, word, word_0, word_1, word_2, word_3}
 
 -- a number of a unit, or another in place of number k
 abbrev pub number_or : List ℕ → ℕ → ℕ → ℕ → ℕ

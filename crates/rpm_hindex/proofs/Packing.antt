@@ -5,10 +5,7 @@ use Rattle.std.proofs.lemmas.Grind.{reverse_onto}
 use Rattle.std.proofs.lemmas.List.Sorted.{sum_by-IsPermutation, IsPermutation-reverse}
 use Rattle.std.proofs.lemmas.List.Sums.{sum_by_push}
 use Rattle.std.proofs.lemmas.Bool.{cases_lt}
-use Rattle.rpm_hindex.specs.declared.rows.RowHead.{RowHead}
-use Rattle.rpm_hindex.specs.Rows.{Row}
-use Rattle.rpm_hindex.specs.Sizes.{live_of, record_units}
-use Rattle.rpm_hindex.specs.inner.Packed.{IsPacked, rows_in, row_in, no_head}
+use Rattle.rpm_hindex.proofs.Vocabulary.{IsPacked, live_of, no_head, record_units, Row, row_in, RowHead, rows_in}
 
 pub packed_none : IsPacked [] [] 0
 unfolding live_of

@@ -1,10 +1,7 @@
 -- The bytes after keys, where records stay.
 use Rattle.std.proofs.Common.{◌≡◌, ℕ, ◌+◌, ◌<◌, List, drop, refl, sym, ap, ◌∙◌, arith, subst, inl, inr}
-use Rattle.std.specs.List.{All, Contains}
-use Rattle.rpm_outside.specs.Files.{Units, bytes_of}
-use Rattle.rpm_hindex.specs.Sizes.{key_units}
-use Rattle.rpm_hindex.specs.Index.{Index, all_places, length_at, units_at, run}
-use Rattle.rpm_hindex.specs.Padding.{past_key, ArePadded, Remains, AddsPadded}
+use Rattle.rpm_hindex.proofs.Vocabulary.{AddsPadded, All, all_places, ArePadded, bytes_of, Contains, Index, key_units, length_at, past_key, Remains, run}
+use Rattle.rpm_hindex.proofs.Vocabulary.{Units, units_at}
 use Rattle.rpm_hindex.proofs.Runs.{run_same}
 use Rattle.rpm_hindex.proofs.Wholes.{HasChains}
 use Rattle.rpm_hindex.proofs.Extends.{Extends, Stands, length_same, all_same, stands_all, same_units, same_row}

@@ -1,18 +1,11 @@
 -- One record on the way to a row's.
 use Rattle.std.proofs.Common.{◌≡◌, ℕ, ◌+◌, ◌*◌, ◌<◌, ◌≤◌, List, [], ◌∷◌, ◌++◌, Bool, true, false, ◌&&◌, sym, ap, ◌∙◌, arith, subst}
 use Rattle.std.specs.Prelude.{Option}
-use Rattle.std.specs.List.{filter, sum_by}
+use Rattle.rpm_hindex.proofs.Vocabulary.{Files, filter, FindFault, follow, HasNone, Head, Index, index_in, is_sound, IsFaultOf, IsLast, IsMet, IsOutside}
+use Rattle.rpm_hindex.proofs.Vocabulary.{IsPath, IsSpot, Met, next_at, PathCosts, Row, row_at, same_row, SkipsTo, sum_by, unit_at, units_at}
 use Rattle.std.proofs.lemmas.Bool.{and_parts}
 use Rattle.std.proofs.lemmas.List.{append_assoc}
 use Rattle.std.proofs.lemmas.List.Sums.{sum_by_push, sum_by-append, sum_by-cons}
-use Rattle.rpm_outside.specs.Files.{Files, unit_at}
-use Rattle.rpm_hindex.specs.declared.faults.FindFault.{FindFault}
-use Rattle.rpm_hindex.specs.declared.heads.Head.{Head}
-use Rattle.rpm_hindex.specs.declared.heads.Met.{Met}
-use Rattle.rpm_hindex.specs.Rows.{Row, same_row}
-use Rattle.rpm_hindex.specs.Index.{Index, index_in, follow, is_sound, next_at, row_at, units_at}
-use Rattle.rpm_hindex.specs.Answers.{IsFaultOf, IsOutside}
-use Rattle.rpm_hindex.specs.inner.Spots.{IsMet, IsPath, PathCosts, IsLast, HasNone, IsSpot, SkipsTo}
 use Rattle.rpm_hindex.proofs.Steps.{outside}
 use Rattle.rpm_hindex.proofs.Paths.{path_next, path_follow}
 use Rattle.rpm_hindex.proofs.Ways.{path_more, path_then, none_more, no_hit, cost_here}

@@ -2,13 +2,8 @@
 use Rattle.std.proofs.Common.{◌≡◌, ℕ, suc, ◌+◌, ◌/◌, ◌<◌, ◌≤◌, max, List, [], ◌∷◌, ◌++◌, length, take, eqb, refl, sym, ap, ◌∙◌, arith, inl, inr}
 use Rattle.std.proofs.lemmas.List.{take_more}
 use Rattle.std.proofs.lemmas.Bool.{cases_Bool, eqb-true, cond-true, cond-false}
-use Rattle.rpm_outside.specs.Files.{Units, units_of, unit_at, put}
-use Rattle.rpm_outside.specs.inner.Cuts.{length-cut_up}
-use Rattle.rpm_outside.specs.inner.Puts.{length-put, put_before, put_inside}
-use Rattle.rpm_hindex.specs.declared.plan.Patch.{Patch}
-use Rattle.rpm_hindex.specs.declared.plan.Patches.{Patches}
-use Rattle.rpm_hindex.specs.State.{State, Keeps}
-use Rattle.rpm_hindex.specs.Plans.{after_units, after_tail, patch_at, ArePatches}
+use Rattle.rpm_hindex.proofs.Vocabulary.{after_tail, after_units, ArePatches, Keeps, length-cut_up, length-put, Patch, patch_at, Patches, put, put_before}
+use Rattle.rpm_hindex.proofs.Vocabulary.{put_inside, State, unit_at, Units, units_of}
 
 pub after_push : (ps : List Patch) (p : Patch) (file : Units) → after_units (ps ++ p ∷ []) file ≡ put p.unit (p.words ∷ []) (after_units ps file)
 after_push [] p file = refl

@@ -1,11 +1,7 @@
 -- Ways over the records of a chain.
 use Rattle.std.proofs.Common.{◌≡◌, ℕ, zero, suc, ◌+◌, ◌<◌, ◌≤◌, List, [], ◌∷◌, Ok, true, refl, sym, ap, ◌∙◌, arith, subst}
-use Rattle.std.specs.List.{Contains}
+use Rattle.rpm_hindex.proofs.Vocabulary.{chain, ChainCosts, Contains, Files, follow, Index, index_in, is_sound, IsPath, next_at, PathCosts, unit_at, units_at}
 use Rattle.std.proofs.lemmas.List.{append-nil}
-use Rattle.rpm_hindex.specs.Index.{Index, index_in, is_sound, follow, chain, next_at, units_at}
-use Rattle.rpm_hindex.specs.Answers.{ChainCosts}
-use Rattle.rpm_outside.specs.Files.{Files, unit_at}
-use Rattle.rpm_hindex.specs.inner.Spots.{IsPath, PathCosts}
 use Rattle.rpm_hindex.proofs.Chains.{sound_parts, behind_ok}
 use Rattle.rpm_hindex.proofs.FollowedLinks.{IsChain, chain_of_follow}
 use Rattle.rpm_hindex.proofs.Ways.{path_follows}

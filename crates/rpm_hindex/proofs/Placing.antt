@@ -1,36 +1,18 @@
 -- A change that was written in place is the index that it was worked out to be.
 use Rattle.std.proofs.Common.{true, ◌*◌, ◌≡◌, ℕ, zero, suc, ◌+◌, ◌-◌, ◌/◌, ◌%◌, ◌^◌, ◌<◌, ◌≤◌, List, [], ◌∷◌, map, length, min, Bool, eqb, ltb, BTreeMap, Vec, Global, refl, sym, ap, ◌∙◌, arith, subst, inl, inr}
 use Rattle.std.specs.Prelude.{Option, Some, None, unwrap_or}
-use Rattle.std.specs.Ordering.{nat_cmp}
-use Rattle.std.specs.BTreeMap.{get, keys}
-use Rattle.std.specs.BTreeSet.{contains}
-use Rattle.std.specs.List.{Contains, filter}
-use Rattle.std.specs.List.Sorted.{IsStrictlySortedBy}
+use Rattle.rpm_hindex.proofs.Vocabulary.{AddsPadded, AddsRows, after, after_tail, after_units, bucket_unit, CanGo, Change, changing, Contains, contains}
+use Rattle.rpm_hindex.proofs.Vocabulary.{filter, first_record, get, HasLess, Index, index_in, InPlace, is_bucket_count, is_kept, is_ordered, IsChanged}
+use Rattle.rpm_hindex.proofs.Vocabulary.{IsPaddedPlan, IsPlanFor, IsStarted, IsStrictlySortedBy, IsWellFormed, IsWhole, IsWorkOf, keys, LeavesOrder}
+use Rattle.rpm_hindex.proofs.Vocabulary.{length-cut_up, nat_cmp, Patch, patch_of, Patches, places_of, put, put_after, put_before, put_inside, records, Row}
+use Rattle.rpm_hindex.proofs.Vocabulary.{rows_of, Scratch, times, unit_after, unit_at, unit_of_words, Units, units_of, word, word_0, word_1, word_2, Work}
 use Rattle.std.proofs.lemmas.Cmp.{nat_cmp_total}
 use Rattle.std.proofs.lemmas.Map.Views.{btree_map_get_iff}
 use Rattle.std.proofs.lemmas.Bool.{cases_Bool, cases_eq, cond-true, cond-false, eqb-true, ltb-true, ltb-false, lt-ltb, and_from, le-leb}
-use Rattle.rpm_outside.specs.Files.{Units, units_of, unit_at, put}
-use Rattle.rpm_outside.specs.inner.Cuts.{length-cut_up}
-use Rattle.rpm_outside.specs.inner.Puts.{put_before, put_inside, put_after}
-use Rattle.rpm_hindex.specs.declared.plan.Patch.{Patch}
-use Rattle.rpm_hindex.specs.declared.plan.Patches.{Patches}
-use Rattle.rpm_hindex.specs.declared.plan.Work.{Work}
-use Rattle.rpm_hindex.specs.declared.plan.Work.TheVariants.{InPlace, Scratch}
-use Rattle.rpm_hindex.specs.Rows.{Row, times}
-use Rattle.rpm_hindex.specs.Whole.{IsWhole, IsWellFormed}
-use Rattle.rpm_hindex.specs.Padding.{AddsPadded}
-use Rattle.rpm_hindex.specs.Plans.{after, after_units, after_tail, IsPlanFor, IsChanged, IsPaddedPlan, LeavesOrder}
-use Rattle.rpm_hindex.specs.Sizes.{first_record, is_bucket_count}
-use Rattle.rpm_hindex.specs.State.{is_ordered}
-use Rattle.rpm_hindex.specs.declared.change.Change.{Change}
-use Rattle.rpm_outside.specs.Words.{word, unit_of_words}
-use Rattle.rpm_hindex.specs.Index.{Index, index_in, bucket_unit, records, rows_of, places_of}
-use Rattle.rpm_hindex.specs.inner.Changes.{patch_of, unit_after, changing, CanGo, IsWorkOf, AddsRows, HasLess, IsStarted, is_kept}
 use Rattle.rpm_hindex.proofs.Extends.{Extends, whole_same, rows_same, has_same, stands_in}
 use Rattle.rpm_hindex.proofs.Padding.{adds_then, adds_same}
 use Rattle.rpm_hindex.proofs.Cutting.{stays_then, stays_same}
 use Rattle.rpm_hindex.proofs.Wholes.{has_chains, places_are, in_all}
-use Rattle.rpm_outside.specs.inner.UnitLaws.{word_0, word_1, word_2}
 use Rattle.rpm_hindex.proofs.Going.{nat_exact}
 
 abbrev Entries : Type 0

@@ -1,21 +1,8 @@
 -- What is left when a change has dropped its rows, and what that cost.
 use Rattle.std.proofs.Common.{◌≡◌, ℕ, ◌+◌, ◌-◌, ◌%◌, ◌^◌, ◌≤◌, List, length, true, sym, ap, ◌∙◌, subst, inr, Vec, Global}
-use Rattle.std.specs.List.{Contains}
-use Rattle.std.specs.Ordering.{nat_cmp}
-use Rattle.std.specs.BTreeSet.{contains}
-use Rattle.rpm_outside.specs.Files.{Units}
-use Rattle.rpm_hindex.specs.declared.chain.Extent.{Extent}
-use Rattle.rpm_hindex.specs.declared.change.Change.{Change}
-use Rattle.rpm_hindex.specs.declared.faults.PrepareFault.{PrepareFault}
-use Rattle.rpm_hindex.specs.declared.faults.PrepareFault.TheVariants.{IndexFull, BadIndex, DiskFault, NoMemory}
-use Rattle.rpm_hindex.specs.Rows.{Row, times}
-use Rattle.rpm_hindex.specs.Index.{Index, index_in, records, rows_of, places_of}
-use Rattle.rpm_hindex.specs.Padding.{AddsPadded}
-use Rattle.rpm_hindex.specs.Whole.{IsWellFormed}
-use Rattle.rpm_hindex.specs.Costs.{chains_bytes}
-use Rattle.rpm_hindex.specs.Refusals.{IsTooLargeFor}
-use Rattle.rpm_hindex.specs.inner.Changes.{IsCut, IsOther, changing, HasLess, kept_of, is_kept}
-use Rattle.rpm_hindex.specs.inner.Records.{IsOpen}
+use Rattle.rpm_hindex.proofs.Vocabulary.{AddsPadded, BadIndex, chains_bytes, Change, changing, Contains, contains, DiskFault, Extent, HasLess, Index}
+use Rattle.rpm_hindex.proofs.Vocabulary.{index_in, IndexFull, is_kept, IsCut, IsOpen, IsOther, IsTooLargeFor, IsWellFormed, kept_of, nat_cmp, NoMemory}
+use Rattle.rpm_hindex.proofs.Vocabulary.{places_of, PrepareFault, records, Row, rows_of, times, Units}
 use Rattle.rpm_hindex.proofs.Cuts.{rows_cut}
 use Rattle.rpm_hindex.proofs.Cutting.{but}
 use Rattle.rpm_hindex.proofs.Dropping.{filter_in}

@@ -1,7 +1,6 @@
 -- Units after each other.
 use Rattle.std.proofs.Common.{◌≡◌, ℕ, zero, suc, ◌+◌, ◌<◌, ◌≤◌, List, [], ◌∷◌, take, drop, length, refl, sym, ap, ◌∙◌, arith, drop-cons, add-one}
-use Rattle.rpm_outside.specs.Files.{Units, unit_at, blank}
-use Rattle.rpm_hindex.specs.Index.{run}
+use Rattle.rpm_hindex.proofs.Vocabulary.{blank, run, unit_at, Units}
 
 pub take_one : (file : Units) (at : ℕ) → at < length file → take 1 (drop at file) ≡ unit_at file at ∷ []
 take_one file at below = ap (λ (us : Units). take 1 us) (drop-cons file at blank below)

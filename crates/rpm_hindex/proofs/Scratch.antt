@@ -1,17 +1,11 @@
 -- How many buckets an index from scratch has.
 use Rattle.std.proofs.Common.{◌≡◌, ℕ, zero, suc, ◌+◌, ◌-◌, ◌*◌, ◌/◌, ◌^◌, ◌<◌, ◌≤◌, min, List, length, take, get_or, true, eqb, leb, refl, sym, ap, ◌∙◌, arith, inl, inr}
-use Rattle.std.specs.List.{range_with_len}
+use Rattle.rpm_hindex.proofs.Vocabulary.{bucket_count, doubled, EndsInZero, first_record, is_bucket_count, is_ordered, IsImage, live_of, range_with_len, Row}
+use Rattle.rpm_hindex.proofs.Vocabulary.{unit_at, unit_at-cut_up, units_for, units_of, word}
 use Rattle.std.proofs.lemmas.Bool.{cases_lt, cond-true, cond-false, le-leb, lt-leb, eq-eqb, and_from}
 use Rattle.std.proofs.lemmas.List.FromFn.{get_or-range_with_len, length-range_with_len}
 use Rattle.std.proofs.lemmas.List.Folds.{list_any_at}
 use Rattle.std.proofs.Math.Nat.{pow-le-pow_right, pow-succ'}
-use Rattle.rpm_outside.specs.Files.{units_of, unit_at}
-use Rattle.rpm_outside.specs.inner.Cuts.{unit_at-cut_up}
-use Rattle.rpm_outside.specs.Words.{word}
-use Rattle.rpm_hindex.specs.Rows.{Row}
-use Rattle.rpm_hindex.specs.Sizes.{doubled, bucket_count, is_bucket_count, first_record, live_of, units_for}
-use Rattle.rpm_hindex.specs.State.{is_ordered, EndsInZero}
-use Rattle.rpm_hindex.specs.inner.Drafts.{IsImage}
 
 enough : (n b r : ℕ) → 0 < b → r ≤ 2 * b + n → r ≤ 2 * doubled n b r
 enough zero b r some le = omega arith

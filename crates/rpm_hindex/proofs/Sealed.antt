@@ -1,13 +1,8 @@
 -- An index that is sealed.
 use Rattle.std.proofs.Common.{◌≡◌, ℕ, ◌<◌, ◌^◌, ◌∷◌, [], refl, ap, ◌∙◌, arith}
 use Rattle.std.proofs.lemmas.Bool.{cond-true}
-use Rattle.rpm_outside.specs.Files.{Units, unit_at, put}
-use Rattle.rpm_outside.specs.inner.Puts.{put_inside}
-use Rattle.rpm_outside.specs.Words.{word}
-use Rattle.rpm_hindex.specs.State.{sealed, is_headed, buckets_of, seal_unit, magic}
-use Rattle.rpm_hindex.specs.Whole.{IsWellFormed}
-use Rattle.rpm_hindex.specs.Images.{IsSealed}
-use Rattle.rpm_outside.specs.inner.UnitLaws.{word_2, word_3}
+use Rattle.rpm_hindex.proofs.Vocabulary.{buckets_of, is_headed, IsSealed, IsWellFormed, magic, put, put_inside, seal_unit, sealed, unit_at, Units, word}
+use Rattle.rpm_hindex.proofs.Vocabulary.{word_2, word_3}
 use Rattle.rpm_hindex.proofs.UnitWords.{headed}
 use Rattle.rpm_hindex.proofs.Seals.{front_behind, whole_behind, records_behind}
 

@@ -1,13 +1,7 @@
 -- A file whose units after unit 0 stay.
 use Rattle.std.proofs.Common.{◌≡◌, ℕ, ◌+◌, ◌/◌, ◌%◌, ◌<◌, ◌≤◌, max, List, [], ◌∷◌, length, take, refl, sym, ap, ◌∙◌, arith, subst}
-use Rattle.rpm_outside.specs.Files.{Units, unit_at, put, units_of}
-use Rattle.rpm_outside.specs.inner.Cuts.{length-cut_up, unit_at-cut_up}
-use Rattle.rpm_outside.specs.inner.Puts.{length-put, put_before, put_inside, put_after}
-use Rattle.rpm_outside.specs.Words.{word}
-use Rattle.rpm_hindex.specs.Index.{index_in, records, places_of}
-use Rattle.rpm_hindex.specs.Padding.{AddsPadded}
-use Rattle.rpm_hindex.specs.Whole.{IsWhole, IsWellFormed}
-use Rattle.rpm_hindex.specs.State.{State, Keeps}
+use Rattle.rpm_hindex.proofs.Vocabulary.{AddsPadded, index_in, IsWellFormed, IsWhole, Keeps, length-cut_up, length-put, places_of, put, put_after, put_before}
+use Rattle.rpm_hindex.proofs.Vocabulary.{put_inside, records, State, unit_at, unit_at-cut_up, Units, units_of, word}
 use Rattle.rpm_hindex.proofs.Wholes.{has_chains}
 use Rattle.rpm_hindex.proofs.Extends.{Extends, rows_same, whole_same}
 use Rattle.rpm_hindex.proofs.Padding.{adds_same}

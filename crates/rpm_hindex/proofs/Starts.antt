@@ -1,19 +1,11 @@
 -- Where the next row of a bucket is looked for first.
 use Rattle.std.proofs.Common.{◌≡◌, ℕ, suc, List, [], ◌∷◌, ◌++◌, Bool, true, false, cond, not, Ok, refl, sym, ap, ◌∙◌, arith, subst, inl, inr}
 use Rattle.std.specs.Prelude.{Option, Some, None, ◌⊎◌}
-use Rattle.std.specs.Option.{option_or}
-use Rattle.std.specs.List.{Contains, filter}
+use Rattle.rpm_hindex.proofs.Vocabulary.{AreStarts, bucket_of, chain, Contains, Drops, filter, follow, Head, Index, is_kept, is_sound, IsFoundFrom, IsLast}
+use Rattle.rpm_hindex.proofs.Vocabulary.{IsMissing, IsPath, IsSpot, IsStart, next_at, option_or, Puts, Row, row_at, Spot, Start}
 use Rattle.std.proofs.lemmas.List.{append_assoc, append-nil}
 use Rattle.std.proofs.lemmas.List.Elements.{filter-append, Contains-append_cases}
 use Rattle.std.proofs.lemmas.Bool.{cases_eq, cond-false}
-use Rattle.rpm_hindex.specs.declared.row_search.Start.{Start}
-use Rattle.rpm_hindex.specs.declared.heads.Head.{Head}
-use Rattle.rpm_hindex.specs.declared.spots.Spot.{Spot}
-use Rattle.rpm_hindex.specs.Rows.{Row}
-use Rattle.rpm_hindex.specs.Index.{Index, is_sound, follow, chain, next_at, bucket_of, row_at}
-use Rattle.rpm_hindex.specs.inner.Changes.{Puts, Drops, is_kept}
-use Rattle.rpm_hindex.specs.inner.Spots.{IsPath, IsLast, IsSpot, IsMissing, IsFoundFrom}
-use Rattle.rpm_hindex.specs.inner.Starts.{IsStart, AreStarts}
 use Rattle.rpm_hindex.proofs.Chains.{sound_parts, follow_is_ok, chain_from}
 use Rattle.rpm_hindex.proofs.FollowedLinks.{chain_ok}
 use Rattle.rpm_hindex.proofs.Paths.{path_falls, path_above, path_follow, follow_path}
@@ -77,7 +69,8 @@ module _ (x : Index) (b from : ℕ) (kept : ℕ → Bool) (row : Row) (start : S
   }
 
   -- or nowhere
-  pub found_or_missing : IsMissing x b start.at 0 kept row → (found : Option Spot) → IsFoundFrom x b from start.at kept row found → IsFoundFrom x b from 0 kept row found
+  pub found_or_missing : IsMissing x b start.at 0 kept row → (found : Option Spot) → IsFoundFrom x b from start.at kept row found → IsFoundFrom x b from 0
+      kept row found
   found_or_missing behind (Some s) is = found_before s is
   found_or_missing behind None is = missing behind is
 

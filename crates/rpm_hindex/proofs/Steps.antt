@@ -1,19 +1,10 @@
 -- One record of a chain, as it was read.
 use Rattle.std.proofs.Common.{◌≡◌, ℕ, ◌+◌, ◌*◌, ◌/◌, ◌%◌, ◌^◌, ◌≤◌, List, Bool, true, false, ◌&&◌, cond, eqb, Result, Ok, Err, refl, sym, ap, ◌∙◌, arith, subst, inl, inr}
 use Rattle.std.specs.Prelude.{Option, Some, None}
-use Rattle.std.specs.Str.{bytes_eq}
+use Rattle.rpm_hindex.proofs.Vocabulary.{bytes_eq, Files, FindFault, first_record, has_key, Head, Hit, is_wanted, IsFaultOf, IsFront, IsOutside, Row, row_at}
+use Rattle.rpm_hindex.proofs.Vocabulary.{row_of_hit, same_row, units_at, word}
 use Rattle.std.proofs.lemmas.Bool.{cases_Bool, and_parts, eqb-true, eq-eqb, and_from}
-use Rattle.rpm_outside.specs.Files.{Files}
-use Rattle.rpm_hindex.specs.declared.faults.FindFault.{FindFault}
 use Rattle.rpm_hindex.specs.declared.faults.FindFault.TheVariants.{BadIndex, DiskFault, NoMemory}
-use Rattle.rpm_hindex.specs.declared.heads.Head.{Head}
-use Rattle.rpm_hindex.specs.declared.hits.Hit.{Hit}
-use Rattle.rpm_outside.specs.Words.{word}
-use Rattle.rpm_hindex.specs.Sizes.{first_record}
-use Rattle.rpm_hindex.specs.Rows.{Row, same_row}
-use Rattle.rpm_hindex.specs.Index.{row_at, units_at}
-use Rattle.rpm_hindex.specs.Answers.{IsFaultOf, IsOutside, has_key, is_wanted, row_of_hit}
-use Rattle.rpm_hindex.specs.inner.Spots.{IsFront}
 
 pub number_at : (unit : ℕ → List ℕ) (at : ℕ) → (row_at unit at).number ≡ word 2 (unit at)
 unfolding row_at

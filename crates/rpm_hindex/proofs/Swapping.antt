@@ -2,10 +2,7 @@
 use Rattle.std.proofs.Common.{◌≡◌, ℕ, suc, ◌+◌, ◌-◌, ◌<◌, ◌≤◌, List, [], ◌∷◌, length, eqb, refl, sym, ap, ◌∙◌, arith, inl, inr}
 use Rattle.std.proofs.lemmas.List.{ext_get_or}
 use Rattle.std.proofs.lemmas.Bool.{cases_Bool, cases_lt, cond-true, cond-false}
-use Rattle.rpm_outside.specs.Files.{Units, units_of, unit_at, blank, put}
-use Rattle.rpm_outside.specs.inner.Puts.{length-put, put_before, put_inside, put_after}
-use Rattle.rpm_hindex.specs.declared.plan.Patch.{Patch}
-use Rattle.rpm_hindex.specs.Plans.{after_units, after_tail}
+use Rattle.rpm_hindex.proofs.Vocabulary.{after_tail, after_units, blank, length-put, Patch, put, put_after, put_before, put_inside, unit_at, Units, units_of}
 use Rattle.rpm_hindex.proofs.Patched.{Within}
 
 module _ (at used : ℕ) (w : List ℕ) (vs file : Units) (below : at < used) (le : used ≤ length file) where

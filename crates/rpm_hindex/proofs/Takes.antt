@@ -2,8 +2,7 @@
 use Rattle.std.proofs.Common.{◌≡◌, ℕ, suc, ◌+◌, ◌<◌, ◌≤◌, ◌++◌, ◌∷◌, [], List, length, take, drop, drop-cons, ap, ◌∙◌, refl, arith}
 use Rattle.std.proofs.lemmas.List.{take_more}
 use Rattle.std.proofs.lemmas.List.Sums.{sum_by-take-le}
-use Rattle.rpm_hindex.specs.Rows.{Row, row_nth, no_row}
-use Rattle.rpm_hindex.specs.Sizes.{live_of, record_units}
+use Rattle.rpm_hindex.proofs.Vocabulary.{live_of, no_row, record_units, Row, row_nth}
 use Rattle.rpm_hindex.proofs.Drafting.{live_push}
 
 pub live_take : (rows : List Row) (i : ℕ) → live_of (take i rows) ≤ live_of rows

@@ -1,10 +1,8 @@
 -- Sums over the records of all buckets.
 use Rattle.std.proofs.Common.{◌≡◌, ℕ, zero, suc, ◌+◌, ◌<◌, ◌≤◌, List, [], ◌∷◌, map, length, cond, refl, sym, ap, ◌∙◌, arith, inl, inr, zero-add}
-use Rattle.std.specs.List.{sum_by, flat_map, range_with_len, Contains}
+use Rattle.rpm_hindex.proofs.Vocabulary.{all_places, Contains, flat_map, Index, range_with_len, Row, row_at, rows_of, same_row, sum_by, times}
 use Rattle.std.proofs.lemmas.List.Sums.{sum_by-append, sum_by-cons}
 use Rattle.std.proofs.lemmas.Bool.{cases_eq}
-use Rattle.rpm_hindex.specs.Rows.{Row, times, same_row}
-use Rattle.rpm_hindex.specs.Index.{Index, row_at, rows_of, all_places}
 
 -- what a record adds to the count of a row
 abbrev pub tally : (ℕ → List ℕ) → Row → ℕ → ℕ

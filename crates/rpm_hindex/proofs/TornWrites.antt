@@ -1,16 +1,10 @@
 -- What a torn write of Hindex.db leaves.
-use Rattle.std.proofs.Common.{◌≡◌, ℕ, ◌≤◌, List, [], ◌∷◌, length, Bool, sym, ap, ◌∙◌, arith, inl, inr}
+use Rattle.std.proofs.Common.{◌≡◌, ℕ, ◌≤◌, List, [], ◌∷◌, length, sym, ap, ◌∙◌, arith, inl, inr}
 use Rattle.std.proofs.lemmas.List.{get_or_past}
 use Rattle.std.proofs.lemmas.Bool.{cases_lt, cases_eq}
-use Rattle.rpm_outside.specs.declared.disk.File.{File}
-use Rattle.rpm_outside.specs.declared.disk.File.TheVariants.{Idx}
-use Rattle.rpm_outside.specs.Files.{Units, Files, unit_at, blank, put}
-use Rattle.rpm_outside.specs.Crash.{Torn}
-use Rattle.rpm_outside.specs.inner.Puts.{length-put, put_before, put_inside, put_after}
-use Rattle.rpm_outside.specs.inner.PutLaws.{same_units}
-use Rattle.rpm_outside.specs.Changes.{Changes, IsSame}
-use Rattle.rpm_outside.specs.inner.Changing.{changes_then}
-use Rattle.rpm_hindex.specs.Images.{SameSeal, VoidOrSame, SealedOrSame}
+use Rattle.rpm_outside.specs.declared.disk.Disk as disk
+use Rattle.rpm_hindex.proofs.Vocabulary.{blank, Changes, changes_then, changes_weaker, Idx, length-put, put, put_after, put_before, put_inside, same_units}
+use Rattle.rpm_hindex.proofs.Vocabulary.{SameSeal, SealedOrSame, Torn, unit_at, Units, VoidOrSame}
 
 -- a write after unit 0 leaves it
 pub torn_behind : (at : ℕ) (us a b : Units) → 1 ≤ at → Torn at us a b → SameSeal a b
@@ -59,18 +53,11 @@ module _ (unit : List ℕ) (a b : Units) (torn : Torn 0 (unit ∷ []) a b) where
     ]
   ]
 
--- runs that leave unit 0, one after the other
-module _ {D : Type 0} (tells : Bool) (files : D → Files) (left_since : D → ℕ → Files → Type 0) (moment : D → ℕ)
-    (bytes_read : D → File → ℕ) (follows : D → D → Type 0) (trans : (a b c : D) → follows a b → follows b c → follows a c) (a b c : D) where
-  abbrev Run : (Units → Units → Type 0) → D → D → Type 0
-  Run P = Changes tells files left_since moment bytes_read follows Idx P 0
+-- what leaves unit 0, and then one more write
+module _ {D : Type 0} (d : disk.Ghosts D) (trans : (a b c : D) → d.follows a b → d.follows b c → d.follows a c) (a b c : D) where
+  pub seal_then : Changes d Idx SameSeal 0 a b → Changes d Idx SameSeal 0 b c → Changes d Idx SameSeal 0 a c
+  seal_then = changes_then _ _ _ _ _ _ Idx trans SameSeal SameSeal SameSeal 0 0 0 a b c (omega arith) (λ x y p. p) (λ x y z p q. q ∙ p)
 
-  pub seal_then : Run SameSeal a b → Run SameSeal b c → Run SameSeal a c
-  seal_then first second =
-      changes_then tells files left_since moment bytes_read follows Idx trans SameSeal SameSeal SameSeal 0 0 0 a b c (omega arith) (λ x y p. p)
-      (λ x y z p q. q ∙ p) first second
-
-  pub seal_sync : Run SameSeal a b → Run IsSame b c → Run SameSeal a c
-  seal_sync first second =
-      changes_then tells files left_since moment bytes_read follows Idx trans SameSeal IsSame SameSeal 0 0 0 a b c (omega arith) (λ x y p. p)
-      (λ x y z p q. ap (λ (u : Units). unit_at u 0) q ∙ p) first second
+  pub seal_torn : (at : ℕ) (us : Units) → 1 ≤ at → Changes d Idx SameSeal 0 a b → Changes d Idx (Torn at us) 0 b c → Changes d Idx SameSeal 0 a c
+  seal_torn at us behind first torn = seal_then first (changes_weaker _ _ _ _ _ _ Idx (Torn at us) SameSeal 0 0 b c (omega arith) (λ x y. torn_behind at us x y
+      behind) torn)

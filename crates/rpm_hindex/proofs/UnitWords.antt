@@ -1,9 +1,7 @@
 -- The unit that seals an index.
 use Rattle.std.proofs.Common.{◌≡◌, ℕ, ◌^◌, ◌<◌, List, true, ap, ◌∙◌, arith}
 use Rattle.std.proofs.lemmas.Bool.{and_from, eq-eqb, cond-true}
-use Rattle.rpm_outside.specs.Words.{word}
-use Rattle.rpm_outside.specs.inner.UnitLaws.{word_0, word_1, word_2, word_3}
-use Rattle.rpm_hindex.specs.State.{is_current, is_in_order, is_headed, is_ordered, sealed, seal_unit, magic}
+use Rattle.rpm_hindex.proofs.Vocabulary.{is_current, is_headed, is_in_order, is_ordered, magic, seal_unit, sealed, word, word_0, word_1, word_2, word_3}
 
 pub headed : (g buckets : ℕ) → is_headed (seal_unit g buckets) ≡ true
 headed g buckets = and_from _ _ (eq-eqb _ magic (word_0 magic 2 g buckets (omega arith))) (eq-eqb _ 2 (word_1 magic 2 g buckets (omega arith)))

@@ -1,17 +1,12 @@
 -- The way to a row's record.
 use Rattle.std.proofs.Common.{◌≡◌, ℕ, zero, suc, ◌+◌, ◌*◌, ◌<◌, ◌≤◌, List, [], ◌∷◌, ◌++◌, Bool, true, false, ◌&&◌, cond, Ok, refl, sym, ap, ◌∙◌, arith, subst, inl, inr}
 use Rattle.std.specs.Prelude.{Option, Some, ◌⊎◌}
-use Rattle.std.specs.List.{Contains, filter, sum_by}
+use Rattle.rpm_hindex.proofs.Vocabulary.{behind, chain, Contains, Files, filter, follow, HasNone, Head, Index, index_in, is_link, is_sound, IsHead}
+use Rattle.rpm_hindex.proofs.Vocabulary.{IsHeadWithin, IsLast, IsPath, IsSpot, next_at, places_of, Row, row_at, same_row, Spot, sum_by, unit_at, units_at}
 use Rattle.std.proofs.lemmas.List.{append_assoc, append-nil}
 use Rattle.std.proofs.lemmas.List.Elements.{filter-append, Contains-append_cases}
 use Rattle.std.proofs.lemmas.List.Sums.{sum_by-append}
 use Rattle.std.proofs.lemmas.Bool.{cases_Bool, cond-true, cond-false, false≢true}
-use Rattle.rpm_hindex.specs.declared.heads.Head.{Head}
-use Rattle.rpm_hindex.specs.declared.spots.Spot.{Spot}
-use Rattle.rpm_hindex.specs.Rows.{Row, same_row}
-use Rattle.rpm_outside.specs.Files.{Files, unit_at}
-use Rattle.rpm_hindex.specs.Index.{Index, index_in, is_link, is_sound, follow, behind, next_at, units_at, row_at, chain, places_of}
-use Rattle.rpm_hindex.specs.inner.Spots.{IsHead, IsPath, IsLast, HasNone, IsHeadWithin, IsSpot}
 use Rattle.rpm_hindex.proofs.Chains.{behind_all, behind_all_is_ok, follow_step, chain_from}
 use Rattle.rpm_hindex.proofs.FollowedLinks.{IsChain, chain_of_follow}
 

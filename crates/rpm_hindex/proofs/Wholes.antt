@@ -1,10 +1,9 @@
 -- The chains of all buckets.
 use Rattle.std.proofs.Common.{◌≡◌, ℕ, zero, suc, ◌+◌, ◌<◌, ◌≤◌, List, ◌++◌, true, Result, Ok, Err, refl, sym, ap, ◌∙◌, arith, subst, inl, inr}
 use Rattle.std.specs.Prelude.{IsOk}
-use Rattle.std.specs.List.{Contains, flat_map, range_with_len}
+use Rattle.rpm_hindex.proofs.Vocabulary.{all_places, chain, Contains, flat_map, Index, is_link, is_sound, places_in, places_of, range_with_len}
 use Rattle.std.proofs.lemmas.List.Elements.{Contains-append_left, Contains-append_right, Contains-append_cases}
 use Rattle.std.proofs.lemmas.Bool.{cases_eq, false≢true}
-use Rattle.rpm_hindex.specs.Index.{Index, is_link, is_sound, chain, places_of, places_in, all_places}
 use Rattle.rpm_hindex.proofs.FollowedLinks.{IsChain, chain_ok, ok_chain, sound_in}
 
 -- the chain of each bucket has these places

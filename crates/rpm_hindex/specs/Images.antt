@@ -1,8 +1,11 @@
--- What a crash may leave of Hindex.db, beside what it was.
-use Rattle.std.specs.Prelude.{◌≡◌, ◌⊎◌, ◌≤◌, ℕ, List, [], ◌∷◌, length}
+-- What a write leaves of Hindex.db, and what a crash may leave beside it.
+use Rattle.std.specs.Prelude.{◌≡◌, ◌⊎◌, ◌≤◌, ℕ, List, [], ◌∷◌, length, IsTrue}
+use Rattle.rpm_outside.specs.declared.disk.Disk as disk
+use Rattle.rpm_outside.specs.declared.disk.File.TheVariants.{Idx}
 use Rattle.rpm_outside.specs.Files.{Units, unit_at, blank, put}
+use Rattle.rpm_outside.specs.Frame.{IsSettled}
 use Rattle.rpm_hindex.specs.Index.{records}
-use Rattle.rpm_hindex.specs.State.{sealed, buckets_of}
+use Rattle.rpm_hindex.specs.State.{State, Keeps, sealed, buckets_of}
 use Rattle.rpm_hindex.specs.Whole.{IsWellFormed}
 
 -- unit 0 is that of the file before
@@ -27,3 +30,10 @@ pub record IsSealed (generation buckets : ℕ) (from image : Units) : Type 0 whe
   pub buckets_are : buckets_of (unit_at image 0) ≡ buckets
   pub whole : IsWellFormed buckets image
   pub records_are : records buckets image ≡ records buckets from
+
+module _ {D : Type 0} (d : disk.Ghosts D) where
+  -- the file is this one and durable, and the value keeps what it says
+  pub record Leaves (at : D) (state : State) (file : Units) : Type 0 where
+    pub kept : IsTrue d.tells → Keeps (d.files at).idx state
+    pub written : IsTrue d.tells → (d.files at).idx ≡ file
+    pub settled : IsTrue d.tells → IsSettled d Idx at

@@ -7,7 +7,6 @@ pub mod Rewrites
 pub mod Plans
 pub mod Costs
 pub mod State
-pub mod Frame
 pub mod Images
 pub mod Answers
 pub mod Refusals

@@ -11,7 +11,7 @@ use Rattle.rpm_hindex.specs.Padding.{ArePadded, AddsPadded}
 use Rattle.rpm_outside.specs.Words.{word}
 use Rattle.rpm_hindex.specs.Sizes.{live_of, units_for, bucket_count}
 use Rattle.rpm_hindex.specs.Whole.{IsWellFormed}
-use Rattle.rpm_hindex.specs.State.{is_ordered}
+use Rattle.rpm_hindex.specs.State.{State, is_ordered}
 
 -- the file after these units were written, one after the other
 abbrev pub after_units : List Patch → Units → Units
@@ -41,6 +41,13 @@ second_after (Scratch image) = take 16 image.bytes.items
 abbrev pub units_after : Work → ℕ
 units_after (InPlace p) = p.used + length p.tail.items / 16
 units_after (Scratch image) = 1 + length image.bytes.items / 16
+
+-- the value after this was written: these buckets are to be sealed, and the file is no longer than before or than this reaches
+pub record IsAfter (old new : State) (work : Work) : Type 0 where
+  pub pending : new.pending ≡ buckets_after work
+  pub second : new.second ≡ second_after work
+  pub units : units_after work ≤ new.units
+  pub grows : new.units ≤ max old.units (units_after work)
 
 -- the numbers that it leaves suit each file that is large enough
 abbrev pub LeavesOrder : Work → Type 0

@@ -6,5 +6,6 @@ pub mod Making
 pub mod Ongoing
 pub mod Packed
 pub mod Records
+pub mod RowLaws
 pub mod Spots
 pub mod Starts

@@ -3,13 +3,12 @@
 ghost use Rattle.std.specs.Prelude.{◌≡◌, ℕ, ◌+◌, ◌%◌, ◌^◌, ◌≤◌, ◌<◌, IsTrue, true, length, map, List, IfOk, IfErr, OnOk, Err};
 ghost use Rattle.rpm_hindex.specs.Prelude.{AddsHit, AreHits, AsOften, bucket_unit, buckets_of, CanRead, chain, ChainCosts, File, FindIs, follow, has_key, hash_of, Idx, Index, index_at, index_in, is_in_order, is_link, is_placed, IsFaultOf, IsNext, IsRising, IsWellFormed, Keeps, ReadsAtOr, ReadsChain, ReadsOr, records, Row, row_at, times_hit, unit_at, units_at, word};
 
-use crate::bucket::bucket_of;
 use crate::faults::FindFault;
 use crate::heads::{Met, meet};
 use crate::hits::{Hit, Hits};
 use crate::index::Hindex;
 use crate::reads::read_unit;
-use crate::sizes::record_units;
+use crate::records::{bucket_of, record_units};
 use rpm_outside::{Disk, File, word};
 use std::alloc::Global;
 

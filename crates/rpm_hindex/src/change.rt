@@ -1,16 +1,14 @@
 //! A change that is being worked out.
 
 ghost use Rattle.std.specs.Prelude.{◌≡◌, ℕ, ◌+◌, ◌*◌, ◌/◌, ◌%◌, ◌^◌, ◌≤◌, ◌<◌, IsTrue, length, List, Result, OnOk, IfErr, Err};
-ghost use Rattle.rpm_hindex.specs.Prelude.{Begins, CanBegin, CanGo, CanStart, contains, Drops, DropsRows, get, GoesOn, Grows, HasAdded, hash_of, Idx, is_kept, IsChainFault, IsDropFault, IsFaultOf, IsFaulty, IsHonest, IsOpen, IsOther, nat_cmp, one_row, Puts, ReadsAtOr, ReadsChain, ReadsOr, record_units, row_nth};
+ghost use Rattle.rpm_hindex.specs.Prelude.{Begins, CanBegin, CanGo, CanStart, contains, Drops, DropsRows, get, GoesOn, Grows, HasAdded, hash_of, Idx, is_kept, IsChainFault, IsDropFault, IsFaultOf, IsFaulty, IsHonest, IsOpen, IsOther, nat_cmp, one_row, Puts, ReadsAtOr, ReadsChain, ReadsOr, record_units};
 
-use crate::bucket::bucket_of;
 use crate::chain::{Extent, is_link};
 use crate::faults::{FindFault, PrepareFault};
 use crate::patches::{put_unit, unlink, with_word, words_of};
-use crate::records::push_record;
+use crate::records::{bucket_of, push_record, record_units};
 use crate::row_search::{Start, find_row};
-use crate::rows::{RowRef, Rows};
-use crate::sizes::record_units;
+use crate::rows::RowRef;
 use crate::spots::Spot;
 use rpm_outside::{Disk, word};
 use std::alloc::Global;
@@ -47,9 +45,7 @@ fn put_dropped(dropped: &mut BTreeSet<u32>, at: u32) -> Result<(), PrepareFault>
     ensures put { OnOk result (Drops (λ q. contains nat_cmp dropped.old q) (λ q. contains nat_cmp dropped.new q) at) }
     ensures memory { IfErr result (λ e. e ≡ PrepareFault.NoMemory) }
 {
-    let Ok(_) = dropped.insert(at) else {
-        return Err(PrepareFault::NoMemory);
-    };
+    dropped.insert(at).map_err(|_| PrepareFault::NoMemory)?;
     Ok(())
 }
 
@@ -63,9 +59,9 @@ fn put_start(starts: &mut BTreeMap<u32, Start>, bucket: u32, spot: Spot) -> Resu
         before: spot.before,
         at: spot.behind,
     };
-    let Ok(_) = starts.insert(bucket, start) else {
-        return Err(PrepareFault::NoMemory);
-    };
+    starts
+        .insert(bucket, start)
+        .map_err(|_| PrepareFault::NoMemory)?;
     Ok(())
 }
 
@@ -169,14 +165,7 @@ impl Change {
                 unit: 2 + bucket as u64 / 4,
             });
         }
-        let Ok(()) = push_record(
-            &mut self.tail,
-            next,
-            row.kind,
-            row.key,
-            row.number,
-            row.place,
-        ) else {
+        let Ok(()) = push_record(&mut self.tail, next, row) else {
             return Err(PrepareFault::NoMemory);
         };
         self.records += 1;
@@ -186,22 +175,5 @@ impl Change {
             2 + bucket / 4,
             with_word(&words, bucket % 4, used),
         )
-    }
-}
-
-/// Row i of these.
-pub fn row_ref(rows: &Rows, i: usize) -> RowRef<'_>
-    requires { i < length rows.now }
-    ensures row { (record { kind = result.kind; key = result.key.now; number = result.number; place = result.place })
-        ≡ row_nth rows.now i }
-    ensures kind { result.kind < 16 }
-    ensures short { length result.key.now < 2 ^ 28 }
-{
-    let head = rows.head(i);
-    RowRef {
-        kind: head.kind,
-        key: rows.key(i),
-        number: head.number,
-        place: head.place,
     }
 }

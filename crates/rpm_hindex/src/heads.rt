@@ -3,11 +3,11 @@
 ghost use Rattle.std.specs.Prelude.{◌≡◌, ℕ, ◌+◌, ◌*◌, ◌/◌, ◌%◌, ◌^◌, ◌≤◌, ◌<◌, ◌⊎◌, IsTrue, true, false, length, IfOk, IfErr, Err, Some, None};
 ghost use Rattle.rpm_hindex.specs.Prelude.{CanRead, FallsTo, follow, has_key, hash_of, Idx, index_at, is_placed, is_sound, is_wanted, IsAhead, IsFaultOf, IsHead, IsMet, length_at, ReadsAtOr, ReadsOr, row_at, unit_at, units_at};
 
-use crate::bucket::bucket_of;
 use crate::chain::{Extent, is_placed};
 use crate::faults::FindFault;
 use crate::hits::Hit;
 use crate::reads::{read_key_into, read_unit};
+use crate::records::bucket_of;
 use rpm_outside::{Disk, word};
 
 /// Where a record stands, and the numbers of its first unit but for its next.

@@ -1,12 +1,11 @@
 //! An index made from scratch in memory.
 
-ghost use Rattle.std.specs.Prelude.{◌≡◌, ◌+◌, ◌*◌, ◌/◌, ◌%◌, ◌^◌, ◌≤◌, ◌<◌, ◌++◌, ◌∷◌, [], List, length, drop, true, OnOk, IfOk};
-ghost use Rattle.rpm_hindex.specs.Prelude.{bytes_of_word, first_record, flat_map, is_bucket_count, IsDraft, IsImage, live_of, record_units, Row, unit_of_words};
+ghost use Rattle.std.specs.Prelude.{◌≡◌, ◌≢◌, ◌+◌, ◌*◌, ◌/◌, ◌%◌, ◌^◌, ◌≤◌, ◌<◌, ◌++◌, [], List, length, drop, true, OnOk, IfOk, Err};
+ghost use Rattle.rpm_hindex.specs.Prelude.{bucket_count, bytes_of_word, first_record, flat_map, is_bucket_count, IsDraft, IsFull, IsImage, live_of, one_row, record_units, Row, unit_of_words, units_for};
 
-use crate::bucket::bucket_of;
-use crate::records::push_record;
-use crate::rows::Rows;
-use crate::words::push_word;
+use crate::faults::RewriteFault;
+use crate::records::{UNITS, bucket_count, bucket_of, index_units, push_record, push_word};
+use crate::rows::{RowRef, Rows, row_ref};
 use rpm_outside::unit_of_words;
 use std::alloc::{AllocError, Global};
 
@@ -53,36 +52,23 @@ fn counts_of(buckets: u32, rows: &Rows) -> [u8; 16]
 }
 
 /// Adds a record in front of its bucket's chain.
-fn add_record(
-    draft: &mut Draft,
-    kind: u8,
-    key: &[u8],
-    number: u32,
-    place: u32,
-) -> Result<(), AllocError>
+fn add_record(draft: &mut Draft, row: RowRef<'_>) -> Result<(), AllocError>
     requires some { 0 < length draft.old.heads.items }
     requires few { length draft.old.heads.items ≤ 2 ^ 28 }
     requires whole { length draft.old.bytes.items % 16 ≡ 0 }
-    requires room { 1 + length draft.old.bytes.items / 16 + record_units (length key.now) ≤ 2 ^ 28 }
-    requires kind { kind < 16 }
-    requires key { length key.now < 2 ^ 28 }
+    requires room { 1 + length draft.old.bytes.items / 16 + record_units (length row.key.now) ≤ 2 ^ 28 }
+    requires kind { row.kind < 16 }
+    requires key { length row.key.now < 2 ^ 28 }
     ensures heads { OnOk result (length draft.new.heads.items ≡ length draft.old.heads.items) }
     ensures long { OnOk result (length draft.new.bytes.items ≡ length draft.old.bytes.items + 16 * record_units
-        (length key.now)) }
+        (length row.entry.key.now)) }
     ensures rows { OnOk result ((rows : List Row) → IsDraft rows draft.old.heads.items draft.old.bytes.items
-        → IsDraft (rows ++ record { kind = kind; key = key.now; number = number; place = place } ∷ [])
+        → IsDraft (rows ++ one_row row.entry.kind row.entry.key.now row.entry.number row.entry.place)
         draft.new.heads.items draft.new.bytes.items) }
 {
     let at = 1 + (draft.bytes.len() / 16) as u32;
-    let bucket = bucket_of(kind, key, draft.heads.len() as u32) as usize;
-    push_record(
-        &mut draft.bytes,
-        draft.heads[bucket],
-        kind,
-        key,
-        number,
-        place,
-    )?;
+    let bucket = bucket_of(row.kind, row.key, draft.heads.len() as u32) as usize;
+    push_record(&mut draft.bytes, draft.heads[bucket], row)?;
     draft.heads[bucket] = at;
     Ok(())
 }
@@ -99,8 +85,7 @@ fn add_records(draft: &mut Draft, rows: &Rows) -> Result<(), AllocError>
         → IsDraft rows.now draft.new.heads.items draft.new.bytes.items) }
 {
     for i in 0..rows.len() {
-        let head = rows.head(i);
-        add_record(draft, head.kind, rows.key(i), head.number, head.place)?;
+        add_record(draft, row_ref(rows, i))?;
     }
     Ok(())
 }
@@ -150,4 +135,22 @@ impl Image {
         let bytes = with_front(draft.bytes, &front);
         Ok(Image { buckets, bytes })
     }
+}
+
+/// The image of these rows, where the units that it needs are few enough.
+pub fn image_of(alloc: Global, rows: &Rows) -> Result<Image, RewriteFault>
+    ensures full { IsFull (units_for rows.now) result }
+    ensures buckets { IfOk result (λ image. image.buckets ≡ bucket_count (length rows.now)) }
+    ensures made { IfOk result (λ image. IsImage rows.now (bucket_count (length rows.now)) image.bytes.items) }
+    ensures disk { result ≢ Err RewriteFault.DiskFault }
+{
+    let needed = index_units(rows.len() as u64, rows.live());
+    if needed > UNITS {
+        return Err(RewriteFault::IndexFull { needed });
+    }
+    let buckets = bucket_count(rows.len() as u64) as u32;
+    let Ok(image) = Image::of_rows(alloc, rows, buckets) else {
+        return Err(RewriteFault::NoMemory);
+    };
+    Ok(image)
 }

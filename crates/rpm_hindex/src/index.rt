@@ -5,7 +5,7 @@ ghost use Rattle.rpm_hindex.specs.Prelude.{Idx, is_current, is_headed, is_in_ord
 
 use crate::faults::IndexDiskFault;
 use crate::reads::unit_or_zeros;
-use crate::sizes::{UNITS, is_bucket_count};
+use crate::records::{UNITS, is_bucket_count};
 use rpm_outside::{Disk, File, word};
 use std::marker::Model;
 
@@ -72,15 +72,9 @@ impl Hindex {
         ensures nothing_pending { IfOk result (λ index. index.pending ≡ 0) }
         ensures reads { Reads D.Disk Idx 32 result disk.old disk.new }
     {
-        let Ok(units) = disk.len(File::Idx) else {
-            return Err(IndexDiskFault);
-        };
-        let Ok(first) = unit_or_zeros(disk, units, 0) else {
-            return Err(IndexDiskFault);
-        };
-        let Ok(second) = unit_or_zeros(disk, units, 1) else {
-            return Err(IndexDiskFault);
-        };
+        let units = disk.len(File::Idx).map_err(|_| IndexDiskFault)?;
+        let first = unit_or_zeros(disk, units, 0).map_err(|_| IndexDiskFault)?;
+        let second = unit_or_zeros(disk, units, 1).map_err(|_| IndexDiskFault)?;
         Ok(Hindex {
             first,
             second,

@@ -1,17 +1,18 @@
-//! The rows of a chain that a change keeps.
+//! The rows of chains that a change keeps, and those that it drops.
 
-ghost use Rattle.std.specs.Prelude.{◌≡◌, ◌+◌, ◌*◌, ◌/◌, ◌%◌, ◌^◌, ◌<◌, ◌++◌, ◌∷◌, [], IsTrue, true, map, IsOk, OnOk, IfErr, Err, if◌then◌else◌};
-ghost use Rattle.rpm_hindex.specs.Prelude.{CanRead, chain, contains, filter, FindIs, follow, Idx, index_at, is_kept, is_placed, is_sound, IsFaultOf, IsHead, IsNext, nat_cmp, ReadsAtOr, ReadsOr, row_at, unit_at};
+ghost use Rattle.std.specs.Prelude.{◌≡◌, ◌+◌, ◌*◌, ◌/◌, ◌%◌, ◌^◌, ◌<◌, ◌++◌, ◌∷◌, [], IsTrue, true, map, IsOk, OnOk, IfErr, Err, if◌then◌else◌, ◌≤◌, false, length};
+ghost use Rattle.rpm_hindex.specs.Prelude.{CanGo, CanRead, chain, chains_bytes, contains, DropsRows, filter, FindIs, follow, GoesOn, HasFault, HasNoFault, Idx, index_at, index_in, is_kept, is_placed, is_sound, IsBad, IsBadFor, IsDropFault, IsFaultOf, IsFresh, IsHead, IsHonest, IsNext, IsOpen, IsOther, IsWellFormed, nat_cmp, ReadsAtOr, ReadsOr, row_at, unit_at};
 
-use crate::bucket::bucket_of;
 use crate::chain::{Extent, read_bucket};
-use crate::faults::FindFault;
+use crate::change::{Change, prepare_fault};
+use crate::faults::{FindFault, PrepareFault};
 use crate::heads::{Ahead, Head, read_head};
 use crate::reads::read_key_into;
-use crate::rows::Rows;
+use crate::records::bucket_of;
+use crate::rows::{Rows, row_ref};
 use rpm_outside::Disk;
 use std::alloc::Global;
-use std::collections::BTreeSet;
+use std::collections::{BTreeMap, BTreeSet};
 
 /// Reads the key of a record, whose first unit was read, into a buffer, and adds the record's row, if it is kept.
 fn push_row<D: Disk>(
@@ -110,7 +111,6 @@ pub fn check_chain<D: Disk>(
     disk: &mut D,
     extent: Extent,
     bucket: u32,
-    buffer: &mut Vec<u8>,
 ) -> Result<(), FindFault>
     requires bucket { bucket < extent.buckets }
     requires open { CanRead D.Disk disk.old extent }
@@ -121,5 +121,97 @@ pub fn check_chain<D: Disk>(
 {
     let dropped = BTreeSet::new(alloc);
     let mut rows = Rows::new(alloc);
-    push_chain(disk, extent, bucket, &dropped, &mut rows, buffer)
+    let mut buffer = Vec::new(alloc);
+    push_chain(disk, extent, bucket, &dropped, &mut rows, &mut buffer)
+}
+
+/// Drops a record of each of these rows, where there is one. The last row first: a package's rows stand in their
+/// chains newest first, so that each is met at once after the one that was dropped before it.
+fn drop_each<D: Disk>(
+    alloc: Global,
+    disk: &mut D,
+    change: &mut Change,
+    rows: &Rows,
+) -> Result<(), PrepareFault>
+    requires go { CanGo change.old }
+    requires open { IsTrue D.tells → IsOpen change.old.extent (D.files disk.old).idx }
+    ensures keeps { OnOk result (GoesOn change.old change.new) }
+    ensures other { IfErr result (λ e. IsOther e) }
+    ensures none { OnOk result (length rows.now ≡ 0 → change.new ≡ change.old) }
+    ensures dropped { OnOk result (IsTrue D.tells → DropsRows (D.files disk.old).idx rows.now change.old change.new) }
+    ensures refused { IfErr result (λ e. IsTrue D.tells → IsDropFault (D.files disk.old).idx rows.now change.old e) }
+    ensures cost { IsTrue D.tells → IsWellFormed change.old.extent.buckets (D.files disk.old).idx
+        → D.bytes_read disk.new Idx ≤ D.bytes_read disk.old Idx + chains_bytes
+        (index_in change.old.extent.buckets (D.files disk.old).idx) rows.now }
+    ensures reads { ReadsAtOr D.Disk Idx (result ≡ Err PrepareFault.DiskFault) disk.old disk.new }
+{
+    let mut starts = BTreeMap::new(alloc);
+    let mut left = rows.len();
+    while left > 0 {
+        left -= 1;
+        change.drop_row(alloc, disk, &mut starts, row_ref(rows, left))?;
+    }
+    Ok(())
+}
+
+/// Goes over the chains of all buckets.
+fn check_chains<D: Disk>(alloc: Global, disk: &mut D, extent: Extent) -> Result<(), FindFault>
+    requires open { CanRead D.Disk disk.old extent }
+    ensures none { OnOk result (IsTrue D.tells → HasNoFault (index_at D.Disk disk.old extent)) }
+    ensures fault { IfErr result (λ e. IsTrue D.tells → HasFault (index_at D.Disk disk.old extent) e) }
+    ensures reads { ReadsAtOr D.Disk Idx (result ≡ Err FindFault.DiskFault) disk.old disk.new }
+{
+    for bucket in 0..extent.buckets {
+        check_chain(alloc, disk, extent, bucket)?;
+    }
+    Ok(())
+}
+
+/// Whether a fault says that unit 1 counts too little.
+fn is_count_fault(fault: PrepareFault) -> bool
+    ensures yes { result ≡ true → fault ≡ PrepareFault.BadIndex 1 }
+    ensures no { result ≡ false → fault ≡ PrepareFault.BadIndex 1 → ⊥ }
+{
+    match fault {
+        PrepareFault::BadIndex { unit } => unit == 1,
+        _ => false,
+    }
+}
+
+/// Drops a record of each of these rows, where there is one. That unit 1 counts too little is said only where no
+/// chain has a fault: all are read then.
+pub fn drop_rows<D: Disk>(
+    alloc: Global,
+    disk: &mut D,
+    change: &mut Change,
+    rows: &Rows,
+) -> Result<(), PrepareFault>
+    requires go { CanGo change.old }
+    requires open { IsTrue D.tells → IsOpen change.old.extent (D.files disk.old).idx }
+    ensures keeps { OnOk result (GoesOn change.old change.new) }
+    ensures other { IfErr result (λ e. IsOther e) }
+    ensures none { OnOk result (length rows.now ≡ 0 → change.new ≡ change.old) }
+    ensures dropped { OnOk result (IsTrue D.tells → DropsRows (D.files disk.old).idx rows.now change.old change.new) }
+    ensures bad { IfErr result (λ e. IsTrue D.tells → IsHonest change.old (D.files disk.old).idx
+        → IsBad change.old.extent.buckets (D.files disk.old).idx e) }
+    ensures counts { IfErr result (λ e. IsTrue D.tells → IsFresh change.old (D.files disk.old).idx
+        → IsHonest change.old (D.files disk.old).idx
+        → IsBadFor rows.now change.old.extent.buckets (D.files disk.old).idx e) }
+    ensures cost { IsTrue D.tells → IsWellFormed change.old.extent.buckets (D.files disk.old).idx
+        → IsHonest change.old (D.files disk.old).idx
+        → D.bytes_read disk.new Idx ≤ D.bytes_read disk.old Idx + chains_bytes
+        (index_in change.old.extent.buckets (D.files disk.old).idx) rows.now }
+    ensures reads { ReadsAtOr D.Disk Idx (result ≡ Err PrepareFault.DiskFault) disk.old disk.new }
+{
+    let extent = change.extent;
+    let Err(fault) = drop_each(alloc, disk, change, rows) else {
+        return Ok(());
+    };
+    if !is_count_fault(fault) {
+        return Err(fault);
+    }
+    match check_chains(alloc, disk, extent) {
+        Ok(()) => Err(fault),
+        Err(first) => Err(prepare_fault(first)),
+    }
 }

@@ -9,11 +9,8 @@
 //! the 32-bit FNV-1a hash of its kind's byte and its bytes, modulo the count of buckets.
 #![tactic(auto)]
 
-mod apply;
-mod bucket;
 mod chain;
 mod change;
-mod dropped_rows;
 mod faults;
 mod heads;
 mod hits;
@@ -25,17 +22,14 @@ mod plan;
 mod prepare;
 mod reads;
 mod records;
-mod rewrite;
 mod row_search;
 mod rows;
-mod sizes;
 mod spots;
-mod words;
 mod writes;
 
 pub use faults::{FindFault, IndexDiskFault, PrepareFault, RewriteFault};
 pub use hits::{Hit, Hits};
 pub use index::Hindex;
 pub use plan::IndexPlan;
+pub use records::index_units;
 pub use rows::Rows;
-pub use sizes::index_units;

@@ -1,7 +1,7 @@
 //! Units that a change writes anew.
 
 ghost use Rattle.std.specs.Prelude.{◌≡◌, ◌+◌, ◌*◌, ◌≤◌, ◌<◌, IsTrue, length, unwrap_or, if◌then◌else◌, ◌==◌, OnOk, IfOk, IfErr, Err};
-ghost use Rattle.rpm_hindex.specs.Prelude.{bucket_unit, get, HasWord, Idx, IsHeadWithin, nat_cmp, Puts, PutsOne, PutsWithin, ReadsOr, SetsBucket, SetsNext, unit_after, unit_at, Units, Unlinks, word};
+ghost use Rattle.rpm_hindex.specs.Prelude.{bucket_unit, get, HasWord, Idx, IsHeadWithin, nat_cmp, Puts, PutsWithin, ReadsOr, SetsNext, unit_after, unit_at, Units, Unlinks, word};
 
 use crate::chain::Extent;
 use crate::faults::PrepareFault;
@@ -42,9 +42,7 @@ pub fn put_unit(
     ensures put { OnOk result (Puts (λ q. get nat_cmp units.old q) (λ q. get nat_cmp units.new q) at unit) }
     ensures memory { IfErr result (λ e. e ≡ PrepareFault.NoMemory) }
 {
-    let Ok(_) = units.insert(at, unit) else {
-        return Err(PrepareFault::NoMemory);
-    };
+    units.insert(at, unit).map_err(|_| PrepareFault::NoMemory)?;
     Ok(())
 }
 
@@ -64,10 +62,7 @@ pub fn words_of<D: Disk>(
     if let Some(words) = units.get(&unit) {
         return Ok(*words);
     }
-    let Ok(words) = read_unit(disk, unit as u64) else {
-        return Err(PrepareFault::DiskFault);
-    };
-    Ok(words)
+    read_unit(disk, unit as u64).map_err(|_| PrepareFault::DiskFault)
 }
 
 /// A unit as it is changed so far, where these are its words in the file.
@@ -78,23 +73,6 @@ fn words_or(units: &BTreeMap<u32, [u8; 16]>, unit: u32, words: &[u8; 16]) -> [u8
         Some(changed) => *changed,
         None => *words,
     }
-}
-
-/// Lets a bucket's word, whose unit has these words in the file, name this unit.
-fn set_bucket(
-    units: &mut BTreeMap<u32, [u8; 16]>,
-    words: &[u8; 16],
-    bucket: u32,
-    at: u32,
-) -> Result<(), PrepareFault>
-    ensures puts { OnOk result (PutsOne (λ q. get nat_cmp units.old q) (λ q. get nat_cmp units.new q)
-        (bucket_unit bucket)) }
-    ensures sets { OnOk result ((file : Units) → words.now ≡ unit_at file (bucket_unit bucket)
-        → SetsBucket file (λ q. get nat_cmp units.old q) (λ q. get nat_cmp units.new q) bucket at) }
-    ensures memory { IfErr result (λ e. e ≡ PrepareFault.NoMemory) }
-{
-    let now = words_or(units, 2 + bucket / 4, words);
-    put_unit(units, 2 + bucket / 4, with_word(&now, bucket % 4, at))
 }
 
 /// Lets a record name this unit as its next.
@@ -122,7 +100,14 @@ pub fn unlink(
     ensures memory { IfErr result (λ e. e ≡ PrepareFault.NoMemory) }
 {
     match spot.before {
-        None => set_bucket(units, words, bucket, spot.behind),
+        None => {
+            let now = words_or(units, 2 + bucket / 4, words);
+            put_unit(
+                units,
+                2 + bucket / 4,
+                with_word(&now, bucket % 4, spot.behind),
+            )
+        }
         Some(head) => set_next(units, head, spot.behind),
     }
 }

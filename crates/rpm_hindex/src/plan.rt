@@ -1,15 +1,14 @@
 //! What a change of the index will write.
 
 ghost use Rattle.std.specs.Prelude.{◌≡◌, ℕ, ◌+◌, ◌*◌, ◌^◌, ◌≤◌, IsTrue, true, length, map, reverse, ◌++◌, OnOk, IfOk, IfErr, Err};
-ghost use Rattle.rpm_hindex.specs.Prelude.{CanGo, CanRead, CanWrite, contains, first_record, Grows, HasAdded, Idx, index_at, index_in, is_kept, IsFaulty, IsHonest, IsOpen, IsOther, IsScratchOf, IsStrictlySortedBy, IsTooLarge, IsWorkOf, kept_of, keys, LeavesWhole, live_of, nat_cmp, patch_of, ReadsAtOr, ReadsOr};
+ghost use Rattle.rpm_hindex.specs.Prelude.{CanGo, CanRead, CanWrite, contains, first_record, Grows, HasAdded, Idx, index_at, index_of, is_kept, IsFaulty, IsHonest, IsOpen, IsOther, IsScratchOf, IsStrictlySortedBy, IsTooLarge, IsWorkOf, kept_in, kept_of, keys, LeavesWhole, live_of, nat_cmp, patch_of, ReadsAtOr, ReadsOr};
 
 use crate::chain::Extent;
-use crate::change::{Change, prepare_fault, row_ref};
+use crate::change::{Change, prepare_fault};
 use crate::faults::{PrepareFault, RewriteFault};
-use crate::image::Image;
+use crate::image::{Image, image_of};
 use crate::kept_rows::push_chain;
-use crate::rewrite::image_of;
-use crate::rows::Rows;
+use crate::rows::{Rows, row_ref};
 use rpm_outside::{Disk, unit_of_words};
 use std::alloc::{AllocError, Global};
 use std::collections::{BTreeMap, BTreeSet};
@@ -180,19 +179,16 @@ pub fn from_scratch<D: Disk>(
 ) -> Result<IndexPlan, PrepareFault>
     requires open { CanRead D.Disk disk.old change.now.extent }
     ensures leaves { IfOk result (λ plan. LeavesWhole plan.work) }
-    ensures full { IfErr result (λ e. IsTrue D.tells → IsTooLarge (reverse (kept_of (index_in change.now.extent.buckets
-        (D.files disk.old).idx) (is_kept (λ p. contains nat_cmp change.now.dropped p))) ++ adds.now) e) }
-    ensures made { IfOk result (λ plan. IsTrue D.tells
-        → IsScratchOf (reverse (kept_of (index_in change.now.extent.buckets (D.files disk.old).idx)
-        (is_kept (λ p. contains nat_cmp change.now.dropped p))) ++ adds.now) plan.work) }
+    ensures full { IfErr result (λ e. IsTrue D.tells → IsTooLarge (reverse
+        (kept_in (index_of change.now (D.files disk.old).idx) change.now) ++ adds.now) e) }
+    ensures made { IfOk result (λ plan. IsTrue D.tells → IsScratchOf (reverse
+        (kept_in (index_of change.now (D.files disk.old).idx) change.now) ++ adds.now) plan.work) }
     ensures bad { IfErr result (λ e. IsTrue D.tells → IsFaulty change.now.extent.buckets (D.files disk.old).idx e) }
     ensures reads { ReadsAtOr D.Disk Idx (result ≡ Err PrepareFault.DiskFault) disk.old disk.new }
 {
     let mut rows = kept_rows(alloc, disk, change.extent, &change.dropped)?;
     rows.reverse();
-    let Ok(()) = append_rows(&mut rows, adds) else {
-        return Err(PrepareFault::NoMemory);
-    };
+    append_rows(&mut rows, adds).map_err(|_| PrepareFault::NoMemory)?;
     match image_of(alloc, &rows) {
         Ok(image) => Ok(IndexPlan {
             work: Work::Scratch(image),

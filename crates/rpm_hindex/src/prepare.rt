@@ -4,12 +4,12 @@ ghost use Rattle.std.specs.Prelude.{◌≡◌, ℕ, ◌+◌, ◌*◌, ◌^◌, �
 ghost use Rattle.rpm_hindex.specs.Prelude.{buckets_of, CanGo, CanWrite, chains_bytes, contains, HasRoomFor, Idx, index_in, is_bucket_count, is_in_order, is_kept, IsFresh, IsHonest, IsOpen, IsPrepared, IsStarted, IsUnprepared, IsWellFormed, Keeps, nat_cmp, ReadsAtOr, records, StaysInPlace, StaysWithin, Units};
 
 use crate::change::Change;
-use crate::dropped_rows::drop_rows;
 use crate::faults::PrepareFault;
 use crate::index::Hindex;
+use crate::kept_rows::drop_rows;
 use crate::plan::{IndexPlan, add_rows, from_scratch, has_room, in_place};
+use crate::records::{UNITS, index_units};
 use crate::rows::Rows;
-use crate::sizes::{UNITS, index_units};
 use rpm_outside::{Disk, word};
 use std::alloc::Global;
 

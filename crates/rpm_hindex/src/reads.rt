@@ -62,10 +62,7 @@ fn lengthen(buffer: &mut Vec<u8>, long: usize) -> Result<(), FindFault>
     if buffer.len() >= long {
         return Ok(());
     }
-    if buffer.resize(long, 0).is_err() {
-        return Err(FindFault::NoMemory);
-    }
-    Ok(())
+    buffer.resize(long, 0).map_err(|_| FindFault::NoMemory)
 }
 
 /// Reads a key of so many bytes, which begins with this unit, and the zeros after it to the front of a buffer, which

@@ -118,8 +118,7 @@ fn first_fault<D: Disk>(
     ensures fault { IsTrue D.tells → IsFaultOf (chain (index_at D.Disk disk.old extent) bucket) result }
     ensures reads { ReadsAtOr D.Disk Idx (result ≡ FindFault.DiskFault) disk.old disk.new }
 {
-    let mut buffer = Vec::new(alloc);
-    match check_chain(alloc, disk, extent, bucket, &mut buffer) {
+    match check_chain(alloc, disk, extent, bucket) {
         Ok(()) => FindFault::BadIndex { unit },
         Err(fault) => fault,
     }

@@ -3,7 +3,7 @@
 ghost use Rattle.std.specs.Prelude.{◌≡◌, ◌≤◌, ◌<◌, ◌^◌, ◌++◌, ◌∷◌, [], length, reverse, IfOk, OnOk, OnErr};
 ghost use Rattle.rpm_hindex.specs.Prelude.{live_of, Row, row_nth};
 
-use crate::sizes::record_units;
+use crate::records::record_units;
 use std::alloc::{AllocError, Global};
 use std::marker::Model;
 
@@ -163,5 +163,22 @@ impl Rows {
         let head = self.heads[i];
         let start = head.start as usize;
         &self.keys[start..start + head.length as usize]
+    }
+}
+
+/// Row i of these.
+pub fn row_ref(rows: &Rows, i: usize) -> RowRef<'_>
+    requires { i < length rows.now }
+    ensures row { (record { kind = result.kind; key = result.key.now; number = result.number; place = result.place })
+        ≡ row_nth rows.now i }
+    ensures kind { result.kind < 16 }
+    ensures short { length result.key.now < 2 ^ 28 }
+{
+    let head = rows.head(i);
+    RowRef {
+        kind: head.kind,
+        key: rows.key(i),
+        number: head.number,
+        place: head.place,
     }
 }

@@ -1,14 +1,19 @@
 //! Writing the index.
 
-ghost use Rattle.std.specs.Prelude.{◌≡◌, ◌+◌, ◌/◌, ◌%◌, ◌^◌, ◌≤◌, ◌<◌, ◌∷◌, [], IsTrue, true, length, max, OnOk};
-ghost use Rattle.rpm_hindex.specs.Prelude.{AddsPadded, blank, Idx, index_in, is_current, is_ordered, IsSame, IsSealed, IsSettled, IsWellFormed, Keeps, put, records, seal_unit, SealedOrSame, Torn, units_of, VoidOrSame, Writes};
+ghost use Rattle.std.specs.Prelude.{◌≡◌, ℕ, ◌+◌, ◌/◌, ◌%◌, ◌^◌, ◌≤◌, ◌<◌, ◌∷◌, [], List, IsTrue, true, length, max, OnOk, IfErr, Err};
+ghost use Rattle.rpm_hindex.specs.Prelude.{AddsPadded, after, after_tail, after_units, ArePadded, ArePatches, blank, buckets_after, CanWrite, Idx, index_in, is_current, is_ordered, IsAfter, IsChanged, IsFull, IsPaddedPlan, IsPlanFor, IsRefused, IsRewritten, IsSame, IsSealed, IsSettled, IsWellFormed, Keeps, Leaves, LeavesOrder, patch_at, put, records, Row, SameRows, SameSeal, seal_unit, SealedOrSame, Torn, units_for, units_of, VoidOrSame, VoidOrSameSeal, Writes, WritesOr, WritesPadded};
 
-use crate::faults::IndexDiskFault;
+use crate::faults::{IndexDiskFault, RewriteFault};
+use crate::image::{Image, image_of};
 use crate::index::{Hindex, MAGIC};
+use crate::plan::{IndexPlan, Patch, Patches, Work};
+use crate::records::first_unit;
+use crate::rows::Rows;
 use rpm_outside::{Disk, File, unit_of_words};
+use std::alloc::Global;
 
 /// Writes units of Hindex.db.
-pub fn write_units<D: Disk>(disk: &mut D, unit: u64, bytes: &[u8]) -> Result<(), IndexDiskFault>
+fn write_units<D: Disk>(disk: &mut D, unit: u64, bytes: &[u8]) -> Result<(), IndexDiskFault>
     requires some { 0 < length bytes.now }
     requires whole { length bytes.now % 16 ≡ 0 }
     requires room { unit + length bytes.now / 16 ≤ 2 ^ 28 }
@@ -16,26 +21,21 @@ pub fn write_units<D: Disk>(disk: &mut D, unit: u64, bytes: &[u8]) -> Result<(),
         → (D.files disk.new).idx ≡ put unit (units_of bytes.now) (D.files disk.old).idx) }
     ensures writes { Writes D.Disk Idx (Torn unit (units_of bytes.now)) 0 result disk.old disk.new }
 {
-    let Ok(()) = disk.write_at(File::Idx, unit, bytes) else {
-        return Err(IndexDiskFault);
-    };
-    Ok(())
+    disk.write_at(File::Idx, unit, bytes)
+        .map_err(|_| IndexDiskFault)
 }
 
 /// Settles Hindex.db.
-pub fn sync<D: Disk>(disk: &mut D) -> Result<(), IndexDiskFault>
+fn sync<D: Disk>(disk: &mut D) -> Result<(), IndexDiskFault>
     ensures same { IsTrue D.tells → (D.files disk.new).idx ≡ (D.files disk.old).idx }
     ensures settled { OnOk result (IsTrue D.tells → IsSettled D.Disk Idx disk.new) }
     ensures writes { Writes D.Disk Idx IsSame 0 result disk.old disk.new }
 {
-    let Ok(()) = disk.sync(File::Idx) else {
-        return Err(IndexDiskFault);
-    };
-    Ok(())
+    disk.sync(File::Idx).map_err(|_| IndexDiskFault)
 }
 
 /// Writes units of Hindex.db, and settles it.
-pub fn write_synced<D: Disk>(disk: &mut D, unit: u64, bytes: &[u8]) -> Result<(), IndexDiskFault>
+fn write_synced<D: Disk>(disk: &mut D, unit: u64, bytes: &[u8]) -> Result<(), IndexDiskFault>
     requires some { 0 < length bytes.now }
     requires whole { length bytes.now % 16 ≡ 0 }
     requires room { unit + length bytes.now / 16 ≤ 2 ^ 28 }
@@ -46,6 +46,46 @@ pub fn write_synced<D: Disk>(disk: &mut D, unit: u64, bytes: &[u8]) -> Result<()
 {
     write_units(disk, unit, bytes)?;
     sync(disk)
+}
+
+/// Writes one unit after unit 0.
+fn write_patch<D: Disk>(disk: &mut D, patch: Patch) -> Result<(), IndexDiskFault>
+    requires behind { 1 ≤ patch.unit }
+    requires room { patch.unit < 2 ^ 28 }
+    ensures written { OnOk result (IsTrue D.tells
+        → (D.files disk.new).idx ≡ put patch.unit (patch.words ∷ []) (D.files disk.old).idx) }
+    ensures writes { Writes D.Disk Idx SameSeal 0 result disk.old disk.new }
+{
+    write_units(disk, patch.unit as u64, &patch.words)
+}
+
+/// Writes the units that change.
+fn write_patches<D: Disk>(disk: &mut D, patches: &[Patch]) -> Result<(), IndexDiskFault>
+    requires { (k : ℕ) → k < length patches.now → (1 ≤ (patch_at patches.now k).unit)
+        × ((patch_at patches.now k).unit < 2 ^ 28) }
+    ensures written { OnOk result (IsTrue D.tells
+        → (D.files disk.new).idx ≡ after_units patches.now (D.files disk.old).idx) }
+    ensures writes { Writes D.Disk Idx SameSeal 0 result disk.old disk.new }
+{
+    for k in 0..patches.len() {
+        write_patch(disk, patches[k])?;
+    }
+    Ok(())
+}
+
+/// Writes the records after all others.
+fn write_tail<D: Disk>(disk: &mut D, used: u32, tail: &[u8]) -> Result<(), IndexDiskFault>
+    requires behind { 1 ≤ used }
+    requires whole { length tail.now % 16 ≡ 0 }
+    requires room { used + length tail.now / 16 ≤ 2 ^ 28 }
+    ensures written { OnOk result (IsTrue D.tells
+        → (D.files disk.new).idx ≡ after_tail used tail.now (D.files disk.old).idx) }
+    ensures writes { Writes D.Disk Idx SameSeal 0 result disk.old disk.new }
+{
+    if tail.is_empty() {
+        return Ok(());
+    }
+    write_units(disk, used as u64, tail)
 }
 
 impl Hindex {
@@ -60,10 +100,7 @@ impl Hindex {
         requires keeps { IsTrue D.tells → Keeps (D.files disk.old).idx self.old }
         ensures state { OnOk result (self.new ≡ record
             { first = blank; second = self.old.second; units = max self.old.units 1; pending = 0 }) }
-        ensures kept { OnOk result (IsTrue D.tells → Keeps (D.files disk.new).idx self.new) }
-        ensures voided { OnOk result (IsTrue D.tells
-            → (D.files disk.new).idx ≡ put 0 (blank ∷ []) (D.files disk.old).idx) }
-        ensures settled { OnOk result (IsTrue D.tells → IsSettled D.Disk Idx disk.new) }
+        ensures left { OnOk result (Leaves D.Disk disk.new self.new (put 0 (blank ∷ []) (D.files disk.old).idx)) }
         ensures writes { Writes D.Disk Idx VoidOrSame 0 result disk.old disk.new }
     {
         write_synced(disk, 0, &[0; 16])?;
@@ -88,9 +125,8 @@ impl Hindex {
           units = self.old.units;
           pending = 0;
         }) }
-        ensures kept { OnOk result (IsTrue D.tells → Keeps (D.files disk.new).idx self.new) }
-        ensures sealed { OnOk result (IsTrue D.tells
-            → (D.files disk.new).idx ≡ put 0 (seal_unit generation self.old.pending ∷ []) (D.files disk.old).idx) }
+        ensures left { OnOk result (Leaves D.Disk disk.new self.new
+            (put 0 (seal_unit generation self.old.pending ∷ []) (D.files disk.old).idx)) }
         ensures current { OnOk result (is_ordered self.old.pending self.old.second self.old.units ≡ true
             → is_current generation self.new ≡ true) }
         ensures whole { OnOk result (IsTrue D.tells → IsWellFormed self.old.pending (D.files disk.old).idx
@@ -102,7 +138,6 @@ impl Hindex {
         ensures whichever { IsTrue D.tells → IsWellFormed self.old.pending (D.files disk.old).idx
             → IsSealed generation self.old.pending (D.files disk.old).idx
             (put 0 (seal_unit generation self.old.pending ∷ []) (D.files disk.old).idx) }
-        ensures settled { OnOk result (IsTrue D.tells → IsSettled D.Disk Idx disk.new) }
         ensures writes { Writes D.Disk Idx (SealedOrSame (seal_unit generation self.old.pending)) 0
             result disk.old disk.new }
     {
@@ -111,5 +146,112 @@ impl Hindex {
         self.first = first;
         self.pending = 0;
         Ok(())
+    }
+
+    /// Makes the first unit zeros, writes an index of these rows from scratch, and settles the file. The index isn't
+    /// sealed then. No unit of it is dead: it has as many as `index_units` says.
+    ///
+    /// Reads nothing. All memory is taken before the first write: once that of the rows, and 8 bytes a bucket.
+    /// Records go out in one large write, and the time is linear in the rows.
+    ///
+    /// # Errors
+    ///
+    /// - `IndexFull` exactly where the rows need more than 268435456 units.
+    /// - `DiskFault` only where the disk's count of faults rose. What the value keeps is then no more said of the file.
+    /// - `NoMemory` where the index finds no memory. After this and `IndexFull` nothing was called or changed.
+    pub fn rewrite<D: Disk>(
+        &mut self,
+        alloc: Global,
+        disk: &mut D,
+        rows: &Rows,
+    ) -> Result<(), RewriteFault>
+        requires keeps { IsTrue D.tells → Keeps (D.files disk.old).idx self.old }
+        ensures full { IsFull (units_for rows.now) result }
+        ensures value { OnOk result (IsRewritten rows.now self.new) }
+        ensures grows { OnOk result (self.new.units ≤ max self.old.units (units_for rows.now)) }
+        ensures ordered { OnOk result (is_ordered self.new.pending self.new.second self.new.units ≡ true) }
+        ensures kept { OnOk result (IsTrue D.tells → Keeps (D.files disk.new).idx self.new) }
+        ensures whole { OnOk result (IsTrue D.tells → IsWellFormed self.new.pending (D.files disk.new).idx) }
+        ensures rows { OnOk result (IsTrue D.tells
+            → SameRows rows.now (records self.new.pending (D.files disk.new).idx)) }
+        ensures padded { OnOk result (IsTrue D.tells → ArePadded (index_in self.new.pending (D.files disk.new).idx)) }
+        ensures settled { OnOk result (IsTrue D.tells → IsSettled D.Disk Idx disk.new) }
+        ensures refused { IfErr result (λ e. IsRefused e → (self.new ≡ self.old) × (disk.new ≡ disk.old)) }
+        ensures writes { WritesOr D.Disk Idx VoidOrSame 0 (result ≡ Err RewriteFault.DiskFault) disk.old disk.new }
+    {
+        let image = image_of(alloc, rows)?;
+        let Ok(()) = self.replace(disk, &image) else {
+            return Err(RewriteFault::DiskFault);
+        };
+        Ok(())
+    }
+
+    /// Makes the first unit zeros, writes units 1 to the end, and settles the file.
+    fn replace<D: Disk>(&mut self, disk: &mut D, image: &Image) -> Result<(), IndexDiskFault>
+        requires can { CanWrite self.old.units (Work.Scratch image.now) }
+        requires keeps { IsTrue D.tells → Keeps (D.files disk.old).idx self.old }
+        ensures value { OnOk result (IsAfter self.old self.new (Work.Scratch image.now)) }
+        ensures voided { OnOk result (self.new.first ≡ blank) }
+        ensures left { OnOk result (Leaves D.Disk disk.new self.new
+            (after (Work.Scratch image.now) (D.files disk.old).idx)) }
+        ensures writes { Writes D.Disk Idx VoidOrSame 0 result disk.old disk.new }
+    {
+        self.void(disk)?;
+        write_synced(disk, 1, &image.bytes)?;
+        self.second = first_unit(&image.bytes);
+        self.units = self.units.max(1 + image.bytes.len() as u64 / 16);
+        self.pending = image.buckets;
+        Ok(())
+    }
+
+    /// Writes units that change, records after all others, and unit 1, and settles the file.
+    fn patch<D: Disk>(&mut self, disk: &mut D, patches: &Patches) -> Result<(), IndexDiskFault>
+        requires patches { ArePatches self.old.units patches.now }
+        requires keeps { IsTrue D.tells → Keeps (D.files disk.old).idx self.old }
+        ensures value { OnOk result (IsAfter self.old self.new (Work.InPlace patches.now)) }
+        ensures left { OnOk result (Leaves D.Disk disk.new self.new
+            (after (Work.InPlace patches.now) (D.files disk.old).idx)) }
+        ensures writes { Writes D.Disk Idx SameSeal 0 result disk.old disk.new }
+    {
+        write_tail(disk, patches.used, &patches.tail)?;
+        write_patches(disk, &patches.units)?;
+        write_synced(disk, 1, &patches.second)?;
+        self.second = patches.second;
+        self.units = self
+            .units
+            .max(patches.used as u64 + patches.tail.len() as u64 / 16);
+        self.pending = patches.buckets;
+        Ok(())
+    }
+
+    /// Writes a change, and settles the file. The index isn't sealed then. Takes no memory and reads nothing.
+    ///
+    /// In place, all new records are one write, and then each unit that changes is one.
+    ///
+    /// # Errors
+    ///
+    /// `IndexDiskFault` only where the disk's count of faults rose. What the value keeps is then no more said of the
+    /// file.
+    pub fn apply<D: Disk>(&mut self, disk: &mut D, plan: IndexPlan) -> Result<(), IndexDiskFault>
+        requires plan { CanWrite self.old.units plan.work }
+        requires keeps { IsTrue D.tells → Keeps (D.files disk.old).idx self.old }
+        ensures value { OnOk result (IsAfter self.old self.new plan.work) }
+        ensures ordered { OnOk result (LeavesOrder plan.work
+            → is_ordered self.new.pending self.new.second self.new.units ≡ true) }
+        ensures left { OnOk result (Leaves D.Disk disk.new self.new (after plan.work (D.files disk.old).idx)) }
+        ensures rows { OnOk result (IsTrue D.tells → (drops adds : List Row) (buckets : ℕ)
+            → IsPlanFor drops adds buckets (D.files disk.old).idx plan.work
+            → IsChanged drops adds (records buckets (D.files disk.old).idx) (buckets_after plan.work)
+            (D.files disk.new).idx) }
+        ensures padded { OnOk result (IsTrue D.tells → (buckets : ℕ)
+            → IsPaddedPlan buckets (D.files disk.old).idx plan.work
+            → WritesPadded plan.work (index_in buckets (D.files disk.old).idx)
+            (index_in (buckets_after plan.work) (D.files disk.new).idx)) }
+        ensures writes { Writes D.Disk Idx VoidOrSameSeal 0 result disk.old disk.new }
+    {
+        match &plan.work {
+            Work::InPlace(patches) => self.patch(disk, patches),
+            Work::Scratch(image) => self.replace(disk, image),
+        }
     }
 }

@@ -1,12 +1,11 @@
 -- An index that is being made in memory.
-use Rattle.std.specs.Prelude.{◌≡◌, ℕ, ◌+◌, ◌-◌, ◌/◌, ◌%◌, ◌<◌, ◌≤◌, List, length, max, slice_index, take}
-use Rattle.rpm_outside.specs.Files.{Units, blank, units_of, unit_at}
+use Rattle.std.specs.Prelude.{◌≡◌, ℕ, ◌+◌, ◌-◌, ◌/◌, ◌%◌, ◌<◌, ◌≤◌, List, length, slice_index}
+use Rattle.rpm_outside.specs.Files.{Units, units_of, unit_at}
 use Rattle.rpm_outside.specs.Words.{word}
 use Rattle.rpm_hindex.specs.Rows.{Row, SameRows}
 use Rattle.rpm_hindex.specs.Sizes.{first_record, live_of}
 use Rattle.rpm_hindex.specs.Index.{Index, index_in, rows_of, records}
 use Rattle.rpm_hindex.specs.Padding.{ArePadded}
-use Rattle.rpm_hindex.specs.State.{State}
 use Rattle.rpm_hindex.specs.Whole.{IsWhole, IsWellFormed}
 
 -- the index of these bucket words, whose units begin with unit 1
@@ -35,14 +34,6 @@ pub record IsMade (rows : List Row) (buckets : ℕ) (file : Units) : Type 0 wher
   pub whole : IsWellFormed buckets file
   pub same : SameRows rows (records buckets file)
   pub padded : ArePadded (index_in buckets file)
-
--- the value after these bytes were written as units 1 to the end, with so many buckets; it isn't sealed
-pub record IsReplaced (old new : State) (buckets : ℕ) (bytes : List ℕ) : Type 0 where
-  pub pending : new.pending ≡ buckets
-  pub voided : new.first ≡ blank
-  pub second : new.second ≡ take 16 bytes
-  pub units : 1 + length bytes / 16 ≤ new.units
-  pub grows : new.units ≤ max old.units (1 + length bytes / 16)
 
 -- these bytes are units 1 to the end of an index of these rows
 pub record IsImage (rows : List Row) (buckets : ℕ) (bytes : List ℕ) : Type 0 where

@@ -2,15 +2,8 @@ use Rattle.std.proofs.Common.{◌≡◌, ℕ, ◌+◌, ◌*◌, ◌%◌, ◌≤�
 use Rattle.std.proofs.lemmas.Result.{err_from_is_err_and}
 use Rattle.std.proofs.lemmas.List.{map-append}
 use Rattle.std.proofs.lemmas.List.Sums.{sum_by_push}
-use Rattle.rpm_outside.specs.Files.{Files, unit_at}
-use Rattle.rpm_hindex.specs.declared.hits.Hit.{Hit}
-use Rattle.rpm_outside.specs.Words.{word}
-use Rattle.rpm_hindex.specs.Rows.{Row, hash_of}
-use Rattle.rpm_hindex.specs.Index.{index_in, follow, units_at, row_at, is_sound}
-use Rattle.rpm_hindex.specs.inner.Spots.{IsMet}
-use Rattle.rpm_hindex.specs.Answers.{AsOften, AddsHit, IsFaultOf, has_key}
-use Rattle.rpm_outside.specs.declared.disk.File.TheVariants.{Idx}
-use Rattle.rpm_outside.specs.inner.Looking.{looks_at_none, looks_at_then}
+use Rattle.rpm_hindex.proofs.Vocabulary.{AddsHit, AsOften, Files, follow, has_key, hash_of, Hit, Idx, index_in, is_sound, IsFaultOf, IsMet, looks_at_none}
+use Rattle.rpm_hindex.proofs.Vocabulary.{looks_at_then, Row, row_at, unit_at, units_at, word}
 use Rattle.rpm_hindex.proofs.Counts.{often_none, often_more}
 use Rattle.rpm_hindex.proofs.Steps.{moved, number_at, place_at}
 use Rattle.rpm_hindex.proofs.Collects.{one_more, at_fault, at_end, cost_more, cost_all}

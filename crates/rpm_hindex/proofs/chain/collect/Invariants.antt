@@ -1,12 +1,6 @@
 use Rattle.std.proofs.Common.{◌≡◌, ℕ, ◌+◌, ◌*◌, ◌%◌, ◌<◌, ◌≤◌, List, map}
 use Rattle.std.specs.Prelude.{IsTrue}
-use Rattle.std.specs.List.{sum_by}
-use Rattle.rpm_outside.specs.declared.disk.File.TheVariants.{Idx}
-use Rattle.rpm_outside.specs.Files.{unit_at}
-use Rattle.rpm_hindex.specs.Rows.{hash_of}
-use Rattle.rpm_hindex.specs.Index.{index_in, follow, units_at, row_at}
-use Rattle.rpm_hindex.specs.Answers.{AsOften}
-use Rattle.rpm_outside.specs.Looks.{LooksAt}
+use Rattle.rpm_hindex.proofs.Vocabulary.{AsOften, follow, hash_of, Idx, index_in, LooksAt, row_at, sum_by, unit_at, units_at}
 use Rattle.rpm_hindex.proofs.Chains.{behind_all}
 use Rattle.rpm_hindex.proofs.chain.collect.Given as goal
 

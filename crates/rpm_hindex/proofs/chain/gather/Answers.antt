@@ -1,10 +1,6 @@
 use Rattle.std.proofs.Common.{◌≡◌, ℕ, ◌%◌, List, map, true, Vec, Global, sym, ap, ◌∙◌, arith, subst}
-use Rattle.rpm_outside.specs.declared.disk.File.TheVariants.{Idx}
-use Rattle.rpm_outside.specs.Files.{Files, unit_at}
-use Rattle.rpm_hindex.specs.declared.hits.Hit.{Hit}
-use Rattle.rpm_hindex.specs.Rows.{hash_of}
-use Rattle.rpm_hindex.specs.Index.{Index, index_in, follow, chain, units_at, row_at, is_link}
-use Rattle.rpm_hindex.specs.Answers.{AsOften, FindIs, ChainCosts}
+use Rattle.rpm_hindex.proofs.Vocabulary.{AsOften, chain, ChainCosts, Files, FindIs, follow, hash_of, Hit, Idx, Index, index_in, is_link, row_at, unit_at}
+use Rattle.rpm_hindex.proofs.Vocabulary.{units_at}
 use Rattle.rpm_hindex.proofs.Chains.{chain_from}
 use Rattle.rpm_hindex.proofs.chain.gather.Goals as goal
 

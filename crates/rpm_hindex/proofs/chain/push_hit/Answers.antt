@@ -1,5 +1,5 @@
 use Rattle.std.proofs.Common.{◌≡◌, ℕ, List, ◌∷◌, [], ◌++◌, Bool, true, false, not, refl, ap, sym, ◌∙◌}
-use Rattle.rpm_hindex.specs.declared.hits.Hit.{Hit}
+use Rattle.rpm_hindex.proofs.Vocabulary.{Hit}
 use Rattle.rpm_hindex.proofs.Counts.{adds_none, adds_one}
 use Rattle.rpm_hindex.proofs.chain.push_hit.Goals as goal
 

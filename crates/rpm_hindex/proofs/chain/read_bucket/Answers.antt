@@ -1,6 +1,5 @@
 use Rattle.std.proofs.Common.{◌%◌, ap, sym, ◌∙◌, refl, []}
-use Rattle.rpm_outside.specs.Words.{word}
-use Rattle.rpm_hindex.specs.Index.{index_in, is_link, Index}
+use Rattle.rpm_hindex.proofs.Vocabulary.{Index, index_in, is_link, word}
 use Rattle.rpm_hindex.proofs.Chains.{chain_bad}
 use Rattle.rpm_hindex.proofs.FollowedLinks.{within, behind_front}
 use Rattle.rpm_hindex.proofs.chain.read_bucket.Goals as goal

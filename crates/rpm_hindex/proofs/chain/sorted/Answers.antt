@@ -1,11 +1,7 @@
 use Rattle.std.proofs.Common.{◌≡◌, ℕ, ◌+◌, ◌<◌, cond, ltb, eqb, true, false, arith, sym, ◌∙◌, ap, inl, inr}
-use Rattle.std.specs.declared.cmp.Ordering.{Ordering}
-use Rattle.std.specs.declared.cmp.Ordering.TheVariants.{Less, Equal, Greater}
-use Rattle.std.specs.Ordering.{nat_cmp, is_lt, ordering_then}
+use Rattle.rpm_hindex.proofs.Vocabulary.{Equal, Greater, Hit, hit_at, is_lt, IsBefore, Less, nat_cmp, Ordering, ordering_then, same_hit, times_hit}
 use Rattle.std.proofs.lemmas.Bool.{lt-ltb, le-ltb, eq-eqb, cond-true, cond-false, cases_order, cases_lt, false≢true}
 use Rattle.std.proofs.lemmas.List.Sorted.{sum_by-IsPermutation}
-use Rattle.rpm_hindex.specs.declared.hits.Hit.{Hit}
-use Rattle.rpm_hindex.specs.Answers.{times_hit, same_hit, IsBefore, hit_at}
 use Rattle.rpm_hindex.proofs.chain.sorted.Goals as goal
 
 less : (x y : ℕ) → x < y → nat_cmp x y ≡ Less

@@ -1,10 +1,6 @@
 use Rattle.std.proofs.Common.{◌≡◌, ℕ, true, length, sym, ap, ◌∙◌, inl, inr}
 use Rattle.std.specs.Prelude.{Option, Some, None}
-use Rattle.rpm_outside.specs.Files.{Files, unit_at}
-use Rattle.rpm_outside.specs.Words.{word}
-use Rattle.rpm_hindex.specs.declared.hits.Hit.{Hit}
-use Rattle.rpm_hindex.specs.Index.{index_in, is_sound, row_at, length_at}
-use Rattle.rpm_hindex.specs.Answers.{has_key, is_wanted, row_of_hit}
+use Rattle.rpm_hindex.proofs.Vocabulary.{Files, has_key, Hit, index_in, is_sound, is_wanted, length_at, row_at, row_of_hit, unit_at, word}
 use Rattle.rpm_hindex.proofs.Steps.{moved, other_row, wanted_by_key, number_at, place_at}
 use Rattle.rpm_hindex.proofs.Meets.{placed_still, head_still, fault_from, both_read}
 use Rattle.rpm_hindex.proofs.Results.{handed_on}

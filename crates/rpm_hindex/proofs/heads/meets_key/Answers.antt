@@ -1,10 +1,6 @@
 use Rattle.std.proofs.Common.{◌≡◌, ℕ, ◌/◌, ◌%◌, ◌^◌, ◌≤◌, List, length, take, ap, sym, ◌∙◌, refl, arith}
 use Rattle.std.proofs.lemmas.List.{length-take-le}
-use Rattle.rpm_outside.specs.Files.{Files}
-use Rattle.rpm_outside.specs.Words.{word}
-use Rattle.rpm_hindex.specs.Rows.{hash_of, Row}
-use Rattle.rpm_hindex.specs.Index.{Index, index_in, key_at}
-use Rattle.rpm_hindex.specs.Answers.{has_key}
+use Rattle.rpm_hindex.proofs.Vocabulary.{Files, has_key, hash_of, Index, index_in, key_at, Row, word}
 use Rattle.rpm_hindex.proofs.Chains.{follow_bad, unsound_bucket, sound_from, placed_parts}
 use Rattle.rpm_hindex.proofs.AsRead.{key_read, row_read}
 use Rattle.rpm_hindex.proofs.heads.meets_key.Goals as goal

@@ -1,6 +1,5 @@
 use Rattle.std.proofs.Common.{ℕ, ◌<◌, ap, sym, ◌∙◌, refl, arith}
-use Rattle.rpm_outside.specs.Words.{word}
-use Rattle.rpm_hindex.specs.Index.{Index, index_in}
+use Rattle.rpm_hindex.proofs.Vocabulary.{Index, index_in, word}
 use Rattle.rpm_hindex.proofs.Chains.{follow_bad, unsound_place, placed_parts}
 use Rattle.rpm_hindex.proofs.FollowedLinks.{within, behind_front}
 use Rattle.rpm_hindex.proofs.AsRead.{alone}

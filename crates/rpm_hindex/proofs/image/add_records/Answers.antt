@@ -1,8 +1,6 @@
-use Rattle.std.proofs.Common.{◌≡◌, ℕ, ◌+◌, ◌<◌, ◌++◌, ◌∷◌, [], List, length, take, ap, ◌∙◌, arith, refl, sym, subst}
-use Rattle.rpm_hindex.specs.Rows.{Row, row_nth}
-use Rattle.rpm_hindex.specs.Sizes.{record_units}
-use Rattle.rpm_hindex.specs.inner.Drafts.{IsDraft}
-use Rattle.rpm_hindex.proofs.Takes.{live_take, live_none, next_rows, live_next, row_from, row_of_parts}
+use Rattle.std.proofs.Common.{◌+◌, ◌<◌, ◌++◌, ◌∷◌, [], List, length, take, ap, ◌∙◌, arith, refl, sym, subst}
+use Rattle.rpm_hindex.proofs.Vocabulary.{IsDraft, record_units, Row}
+use Rattle.rpm_hindex.proofs.Takes.{live_take, live_none, next_rows, live_next}
 use Rattle.rpm_hindex.proofs.image.add_records.Goals as goal
 
 pub loop-i-init : goal.loop-i-init
@@ -12,7 +10,7 @@ pub add_record-requires-clause-room : goal.add_record-requires-clause-room
 add_record-requires-clause-room c =
     let i = c.loop-i.i in
     let lt : i < length c.args.rows.now = omega (arith, c.loop-i-test.true, c.len-i-end.ensures) in
-    let size = ap (λ (k : List ℕ). record_units (length k)) c.key.ensures in
+    let size = ap (λ (r : Row). record_units (length r.key)) c.row_ref.ensures.row in
     omega (arith, c.requires.room, c.loop-i.invariant.long, live_next c.args.rows.now i lt, live_take c.args.rows.now (i + 1), size, c.requires.whole)
 
 pub loop-i-preserved : goal.loop-i-preserved
@@ -20,15 +18,12 @@ loop-i-preserved c =
     let i = c.loop-i.i in
     let rows = c.args.rows.now in
     let lt : i < length rows = omega (arith, c.loop-i-test.true, c.len-i-end.ensures) in
-    let size = ap (λ (k : List ℕ). record_units (length k)) c.key.ensures in
+    let size = ap (λ (r : Row). record_units (length r.key)) c.row_ref.ensures.row in
     record {
       heads = c.in_ok-add_record.ensures.heads ∙ c.loop-i.invariant.heads;
       long = omega (arith, c.in_ok-add_record.ensures.long, c.loop-i.invariant.long, live_next rows i lt, size);
       so_far = λ d.
-          let is = row_of_parts (row_nth rows i) c.head-head.result.kind c.key.result.now c.head-head.result.number c.head-head.result.place
-          c.head-head.ensures.kind c.key.ensures c.head-head.ensures.number c.head-head.ensures.place in
-          let all : take i rows ++ row_from c.head-head.result.kind c.key.result.now c.head-head.result.number c.head-head.result.place ∷ []
-          ≡ take (i + 1) rows = ap (λ (r : Row). take i rows ++ r ∷ []) is ∙ sym (next_rows rows i lt) in
+          let all = ap (λ (r : Row). take i rows ++ r ∷ []) c.row_ref.ensures.row ∙ sym (next_rows rows i lt) in
           subst (λ (rs : List Row). IsDraft rs c.add_record.new.draft.heads.items c.add_record.new.draft.bytes.items) all
           (c.in_ok-add_record.ensures.rows (take i rows) (c.loop-i.invariant.so_far d));
     }

@@ -1,6 +1,5 @@
 use Rattle.std.proofs.Common.{◌≡◌, ◌+◌, ◌*◌, length, take, []}
-use Rattle.rpm_hindex.specs.Sizes.{live_of}
-use Rattle.rpm_hindex.specs.inner.Drafts.{IsDraft}
+use Rattle.rpm_hindex.proofs.Vocabulary.{IsDraft, live_of}
 use Rattle.rpm_hindex.proofs.image.add_records.Given as goal
 
 abbrev pub invariant-loop-i : goal.invariant-loop-i

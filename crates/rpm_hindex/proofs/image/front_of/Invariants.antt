@@ -1,6 +1,5 @@
 use Rattle.std.proofs.Common.{◌≡◌, ◌++◌, take}
-use Rattle.std.specs.List.{flat_map}
-use Rattle.rpm_outside.specs.Words.{bytes_of_word}
+use Rattle.rpm_hindex.proofs.Vocabulary.{bytes_of_word, flat_map}
 use Rattle.rpm_hindex.proofs.image.front_of.Given as goal
 
 abbrev pub invariant-loop-at : goal.invariant-loop-at

@@ -1,11 +1,5 @@
 use Rattle.std.proofs.Common.{◌≡◌, ◌++◌, ℕ, List, map, sym, subst}
-use Rattle.std.specs.Ordering.{nat_cmp}
-use Rattle.std.specs.BTreeSet.{contains}
-use Rattle.std.specs.List.{filter}
-use Rattle.rpm_outside.specs.Files.{Files, unit_at}
-use Rattle.rpm_hindex.specs.Index.{index_in, follow, row_at}
-use Rattle.rpm_hindex.specs.Answers.{FindIs}
-use Rattle.rpm_hindex.specs.inner.Changes.{is_kept}
+use Rattle.rpm_hindex.proofs.Vocabulary.{contains, Files, filter, FindIs, follow, index_in, is_kept, nat_cmp, row_at, unit_at}
 use Rattle.rpm_hindex.proofs.Ways.{chain_is}
 use Rattle.rpm_hindex.proofs.kept_rows.push_chain.Goals as goal
 

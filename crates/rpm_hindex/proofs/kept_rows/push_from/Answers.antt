@@ -1,15 +1,7 @@
 use Rattle.std.proofs.Common.{◌≡◌, ◌+◌, ◌*◌, ◌/◌, ◌%◌, ◌^◌, ℕ, List, [], ◌∷◌, ◌++◌, map, cond, not, Bool, true, ap, ◌∙◌, sym, arith, subst, rules}
 use Rattle.std.proofs.lemmas.Result.{err_from_is_err_and}
-use Rattle.std.specs.Ordering.{nat_cmp}
-use Rattle.std.specs.BTreeSet.{contains}
-use Rattle.std.specs.List.{filter}
-use Rattle.rpm_outside.specs.Files.{Files, unit_at}
-use Rattle.rpm_outside.specs.declared.disk.File.TheVariants.{Idx}
-use Rattle.rpm_outside.specs.inner.Looking.{looks_at_then, looks_at_from}
-use Rattle.rpm_hindex.specs.Index.{Index, index_in, follow, is_placed, is_sound, row_at}
-use Rattle.rpm_hindex.specs.Answers.{IsFaultOf}
-use Rattle.rpm_hindex.specs.inner.Changes.{is_kept}
-use Rattle.rpm_hindex.specs.inner.Spots.{IsAhead, IsHead}
+use Rattle.rpm_hindex.proofs.Vocabulary.{contains, Files, filter, follow, Idx, Index, index_in, is_kept, is_placed, is_sound, IsAhead, IsFaultOf, IsHead}
+use Rattle.rpm_hindex.proofs.Vocabulary.{looks_at_from, looks_at_then, nat_cmp, row_at, unit_at}
 use Rattle.rpm_hindex.proofs.Collects.{one_more, at_fault, at_end}
 use Rattle.rpm_hindex.proofs.Gathers.{kept_more}
 use Rattle.rpm_hindex.proofs.kept_rows.push_from.Goals as goal

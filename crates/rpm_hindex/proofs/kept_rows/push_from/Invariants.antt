@@ -1,14 +1,6 @@
 use Rattle.std.proofs.Common.{◌≡◌, ◌≤◌, ◌++◌, ℕ, List, map}
 use Rattle.std.specs.Prelude.{IsTrue}
-use Rattle.std.specs.Ordering.{nat_cmp}
-use Rattle.std.specs.BTreeSet.{contains}
-use Rattle.std.specs.List.{filter}
-use Rattle.rpm_outside.specs.Files.{unit_at}
-use Rattle.rpm_outside.specs.Looks.{LooksAt}
-use Rattle.rpm_outside.specs.declared.disk.File.TheVariants.{Idx}
-use Rattle.rpm_hindex.specs.Index.{index_in, follow, row_at}
-use Rattle.rpm_hindex.specs.inner.Changes.{is_kept}
-use Rattle.rpm_hindex.specs.inner.Spots.{IsNext}
+use Rattle.rpm_hindex.proofs.Vocabulary.{contains, filter, follow, Idx, index_in, is_kept, IsNext, LooksAt, nat_cmp, row_at, unit_at}
 use Rattle.rpm_hindex.proofs.Chains.{behind_all}
 use Rattle.rpm_hindex.proofs.kept_rows.push_from.Given as goal
 

@@ -1,9 +1,6 @@
 use Rattle.std.proofs.Common.{◌≡◌, ℕ, ◌/◌, ◌%◌, ◌^◌, ◌++◌, ◌∷◌, [], List, take, ap, sym, ◌∙◌, refl, arith}
 use Rattle.std.proofs.lemmas.Bool.{cond-true}
-use Rattle.rpm_outside.specs.Files.{Files}
-use Rattle.rpm_outside.specs.Words.{word}
-use Rattle.rpm_hindex.specs.Rows.{Row, hash_of}
-use Rattle.rpm_hindex.specs.Index.{Index, index_in, key_at, row_at}
+use Rattle.rpm_hindex.proofs.Vocabulary.{Files, hash_of, Index, index_in, key_at, Row, row_at, word}
 use Rattle.rpm_hindex.proofs.Chains.{follow_bad, unsound_bucket, sound_from, placed_parts}
 use Rattle.rpm_hindex.proofs.AsRead.{key_read, row_read}
 use Rattle.rpm_hindex.proofs.kept_rows.push_row.Goals as goal

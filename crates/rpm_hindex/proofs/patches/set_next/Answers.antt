@@ -1,8 +1,7 @@
 use Rattle.std.proofs.Common.{ap, ◌∙◌, arith}
-use Rattle.rpm_outside.specs.Words.{word}
+use Rattle.rpm_hindex.proofs.Vocabulary.{word, word_0, word_1, word_2, word_3}
 use Rattle.rpm_hindex.proofs.Overlay.{sets_next}
 use Rattle.rpm_hindex.proofs.Results.{on_ok}
-use Rattle.rpm_outside.specs.inner.UnitLaws.{word_0, word_1, word_2, word_3}
 use Rattle.rpm_hindex.proofs.patches.set_next.Goals as goal
 
 pub returns-clause-sets : goal.returns-clause-sets

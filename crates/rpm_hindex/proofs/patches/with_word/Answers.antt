@@ -1,5 +1,5 @@
 use Rattle.std.proofs.Common.{List, ℕ, sym, subst}
-use Rattle.rpm_hindex.specs.inner.Changes.{HasWord}
+use Rattle.rpm_hindex.proofs.Vocabulary.{HasWord}
 use Rattle.rpm_hindex.proofs.Overlay.{has_word}
 use Rattle.rpm_hindex.proofs.patches.with_word.Goals as goal
 

@@ -1,15 +1,8 @@
 use Rattle.std.proofs.Common.{◌≡◌, ◌+◌, ◌*◌, ◌<◌, List, length, take, ap, ◌∙◌, arith, refl, sym, subst, ◌∷◌, [], rules}
 use Rattle.std.proofs.lemmas.List.{take_all}
-use Rattle.rpm_hindex.specs.Sizes.{record_units, live_of}
-use Rattle.rpm_hindex.specs.Rows.{Row, row_nth}
-use Rattle.rpm_hindex.specs.declared.chain.Extent.{Extent}
-use Rattle.rpm_outside.specs.declared.disk.File.TheVariants.{Idx}
-use Rattle.rpm_outside.specs.inner.Looking.{looks_none, looks_then, looks_more}
+use Rattle.rpm_hindex.proofs.Vocabulary.{AddsRows, changing, Extent, Files, Idx, IsFaulty, IsHonest, IsWhole, live_of, looks_more, looks_none, looks_then}
+use Rattle.rpm_hindex.proofs.Vocabulary.{record_units, Row, row_nth}
 use Rattle.rpm_hindex.proofs.Takes.{live_take, live_none, live_next, next_rows}
-use Rattle.rpm_outside.specs.Files.{Files}
-use Rattle.rpm_hindex.specs.Whole.{IsWhole}
-use Rattle.rpm_hindex.specs.inner.Changes.{AddsRows, IsHonest, changing}
-use Rattle.rpm_hindex.specs.Refusals.{IsFaulty}
 use Rattle.rpm_hindex.proofs.Adding.{rows_none, rows_then}
 use Rattle.rpm_hindex.proofs.Results.{handed_on}
 use Rattle.rpm_hindex.proofs.plan.add_rows.Goals as goal

@@ -1,10 +1,6 @@
 use Rattle.std.proofs.Common.{◌≡◌, ◌+◌, ◌*◌, ◌/◌, ◌≤◌, length, take}
-use Rattle.rpm_hindex.specs.Sizes.{live_of}
-use Rattle.rpm_outside.specs.declared.disk.File.TheVariants.{Idx}
-use Rattle.rpm_outside.specs.Looks.{Looks}
+use Rattle.rpm_hindex.proofs.Vocabulary.{AddsRows, CanGo, changing, Idx, IsHonest, IsWhole, live_of, Looks}
 use Rattle.std.specs.Prelude.{IsTrue}
-use Rattle.rpm_hindex.specs.Whole.{IsWhole}
-use Rattle.rpm_hindex.specs.inner.Changes.{CanGo, AddsRows, IsHonest, changing}
 use Rattle.rpm_hindex.proofs.plan.add_rows.Given as goal
 
 abbrev pub invariant-loop-i : goal.invariant-loop-i

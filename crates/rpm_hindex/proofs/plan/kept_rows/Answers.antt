@@ -1,13 +1,5 @@
 use Rattle.std.proofs.Common.{◌≡◌, ℕ, ◌++◌, List, map, arith, subst}
-use Rattle.std.specs.Ordering.{nat_cmp}
-use Rattle.std.specs.BTreeSet.{contains}
-use Rattle.std.specs.List.{filter}
-use Rattle.rpm_outside.specs.Files.{Files, unit_at}
-use Rattle.rpm_outside.specs.declared.disk.File.TheVariants.{Idx}
-use Rattle.rpm_outside.specs.inner.Looking.{looks_at_then}
-use Rattle.rpm_hindex.specs.Index.{index_in, chain, row_at}
-use Rattle.rpm_hindex.specs.Answers.{HitsAre, IsFaultOf}
-use Rattle.rpm_hindex.specs.inner.Changes.{is_kept}
+use Rattle.rpm_hindex.proofs.Vocabulary.{chain, contains, Files, filter, HitsAre, Idx, index_in, is_kept, IsFaultOf, looks_at_then, nat_cmp, row_at, unit_at}
 use Rattle.rpm_hindex.proofs.Gathers.{kept_next}
 use Rattle.rpm_hindex.proofs.Honest.{bad_chain}
 use Rattle.rpm_hindex.proofs.plan.kept_rows.Goals as goal

@@ -1,11 +1,6 @@
 use Rattle.std.proofs.Common.{◌≡◌, ◌≤◌}
 use Rattle.std.specs.Prelude.{IsTrue}
-use Rattle.std.specs.Ordering.{nat_cmp}
-use Rattle.std.specs.BTreeSet.{contains}
-use Rattle.rpm_outside.specs.declared.disk.File.TheVariants.{Idx}
-use Rattle.rpm_outside.specs.Looks.{LooksAt}
-use Rattle.rpm_hindex.specs.Index.{index_in}
-use Rattle.rpm_hindex.specs.inner.Changes.{kept_below, is_kept}
+use Rattle.rpm_hindex.proofs.Vocabulary.{contains, Idx, index_in, is_kept, kept_below, LooksAt, nat_cmp}
 use Rattle.rpm_hindex.proofs.plan.kept_rows.Given as goal
 
 abbrev pub invariant-loop-bucket : goal.invariant-loop-bucket

@@ -1,5 +1,5 @@
 use Rattle.std.proofs.Common.{◌≡◌, take, map}
-use Rattle.rpm_hindex.specs.inner.Changes.{patch_of}
+use Rattle.rpm_hindex.proofs.Vocabulary.{patch_of}
 use Rattle.rpm_hindex.proofs.plan.patches_of.Given as goal
 
 abbrev pub invariant-loop-k : goal.invariant-loop-k

@@ -1,6 +1,6 @@
 use Rattle.std.proofs.Common.{◌≡◌, ℕ, ◌+◌, ◌*◌, ◌/◌, ◌≤◌, ◌++◌, List, length, take, drop, zero, suc, [], ◌∷◌, refl, sym, ap, ◌∙◌, arith}
 use Rattle.std.proofs.lemmas.List.{take-append-le}
-use Rattle.rpm_outside.specs.Files.{bytes_of, Units}
+use Rattle.rpm_hindex.proofs.Vocabulary.{bytes_of, Units}
 use Rattle.rpm_hindex.proofs.Runs.{run_is}
 use Rattle.rpm_hindex.proofs.reads.read_key_into.Goals as goal
 

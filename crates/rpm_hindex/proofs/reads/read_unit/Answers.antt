@@ -1,6 +1,6 @@
 use Rattle.std.proofs.Common.{ap, ◌∙◌}
 use Rattle.std.proofs.lemmas.List.{append-nil}
-use Rattle.rpm_outside.specs.Files.{bytes_of}
+use Rattle.rpm_hindex.proofs.Vocabulary.{bytes_of}
 use Rattle.rpm_hindex.proofs.Runs.{take_one}
 use Rattle.rpm_hindex.proofs.reads.read_unit.Goals as goal
 

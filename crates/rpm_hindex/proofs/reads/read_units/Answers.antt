@@ -1,6 +1,5 @@
 use Rattle.std.proofs.Common.{◌≡◌, ◌*◌, ◌/◌, length, sym, ap, ◌∙◌, arith}
-use Rattle.rpm_outside.specs.Files.{bytes_of}
-use Rattle.rpm_outside.specs.inner.Cuts.{bytes_of-cut_up}
+use Rattle.rpm_hindex.proofs.Vocabulary.{bytes_of, bytes_of-cut_up}
 use Rattle.rpm_hindex.proofs.reads.read_units.Goals as goal
 
 pub returns-clause-bytes : goal.returns-clause-bytes

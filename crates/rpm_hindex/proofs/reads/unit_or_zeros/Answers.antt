@@ -1,6 +1,6 @@
 use Rattle.std.proofs.Common.{sym, arith}
 use Rattle.std.proofs.lemmas.List.{get_or_past}
-use Rattle.rpm_outside.specs.Files.{blank}
+use Rattle.rpm_hindex.proofs.Vocabulary.{blank}
 use Rattle.rpm_hindex.proofs.reads.unit_or_zeros.Goals as goal
 
 pub returns-then-at-units-clause-unit : goal.returns-then-at-units-clause-unit

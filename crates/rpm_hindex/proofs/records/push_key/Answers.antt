@@ -1,6 +1,6 @@
 use Rattle.std.proofs.Common.{◌≡◌, ℕ, ◌-◌, ◌%◌, ◌<◌, ◌++◌, List, length, take, drop, replicate, ap, ◌∙◌, arith}
 use Rattle.std.proofs.lemmas.List.{take-replicate, drop-replicate}
-use Rattle.rpm_hindex.specs.inner.Making.{padding}
+use Rattle.rpm_hindex.proofs.Vocabulary.{padding}
 use Rattle.rpm_hindex.proofs.records.push_key.Goals as goal
 
 zeros : (n past : ℕ) → past ≡ n % 16 → 0 < past → take (16 - past) (drop past (replicate 16 0)) ≡ padding n

@@ -1,11 +1,7 @@
 use Rattle.std.proofs.Common.{◌≡◌, ℕ, ◌*◌, ◌+◌, ◌-◌, ◌^◌, ◌++◌, List, length, ap, sym, ◌∙◌, arith, append_assoc, length-append}
 use Rattle.std.proofs.lemmas.List.{length-replicate}
 use Rattle.std.specs.Prelude.{OnOk, Result, Ok, Err}
-use Rattle.rpm_outside.specs.Files.{bytes_of}
-use Rattle.rpm_outside.specs.inner.Cuts.{bytes_of-cut_up}
-use Rattle.rpm_outside.specs.Words.{unit_of_words}
-use Rattle.rpm_hindex.specs.Sizes.{key_units}
-use Rattle.rpm_hindex.specs.inner.Making.{padding, record_of}
+use Rattle.rpm_hindex.proofs.Vocabulary.{bytes_of, bytes_of-cut_up, key_units, padding, record_of, unit_of_words}
 use Rattle.rpm_hindex.proofs.records.push_record.Goals as goal
 
 on_ok : {T E : Type 0} (r : Result T E) (P Q : Type 0) → (P → Q) → OnOk r P → OnOk r Q
@@ -26,7 +22,7 @@ laid old new key next kind number place e =
     ∙ ap (λ (bs : List ℕ). old ++ (unit ++ bs)) (sym (bytes_of-cut_up (key_units (length key)) (key ++ padding (length key)) long))
 
 pub returns : goal.returns
-returns c = on_ok c.push_key.result _ _ (λ e. laid c.args.bytes.now.items c.push_key.new.bytes.items c.args.key.now c.args.next c.args.kind
-    c.args.number c.args.place (e ∙ ap (λ (bs : List ℕ). bs ++ c.args.key.now ++ padding (length c.args.key.now))
+returns c = on_ok c.push_key.result _ _ (λ e. laid c.args.bytes.now.items c.push_key.new.bytes.items c.args.row.key.now c.args.next c.args.row.kind
+    c.args.row.number c.args.row.place (e ∙ ap (λ (bs : List ℕ). bs ++ c.args.row.key.now ++ padding (length c.args.row.key.now))
     (c.in_ok-extend_from_slice.ensures.items ∙ ap (λ (bs : List ℕ). bs ++ c.unit_of_words-head.result) c.in_ok-reserve.ensures.items
     ∙ ap (λ (bs : List ℕ). c.args.bytes.now.items ++ bs) c.unit_of_words-head.ensures))) c.push_key.ensures

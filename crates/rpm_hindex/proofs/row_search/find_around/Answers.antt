@@ -1,19 +1,9 @@
 use Rattle.std.proofs.Common.{ℕ, List, [], Bool, refl, sym, ap, arith, subst, rules}
 use Rattle.std.specs.Prelude.{Option}
-use Rattle.std.specs.List.{sum_by}
-use Rattle.std.specs.Ordering.{nat_cmp}
-use Rattle.std.specs.BTreeSet.{contains}
+use Rattle.rpm_hindex.proofs.Vocabulary.{contains, Files, Head, Idx, Index, index_in, is_kept, IsFoundFrom, IsOutside, IsPath, IsSoundSpot, IsSpot, nat_cmp}
+use Rattle.rpm_hindex.proofs.Vocabulary.{OnWay, PathCosts, Row, Spot, sum_by, units_at}
 use Rattle.std.proofs.lemmas.Grind.{common_steps}
 use Rattle.std.proofs.lemmas.List.Sums.{sum_by-append}
-use Rattle.rpm_outside.specs.Files.{Files}
-use Rattle.rpm_outside.specs.declared.disk.File.TheVariants.{Idx}
-use Rattle.rpm_hindex.specs.declared.heads.Head.{Head}
-use Rattle.rpm_hindex.specs.declared.spots.Spot.{Spot}
-use Rattle.rpm_hindex.specs.Rows.{Row}
-use Rattle.rpm_hindex.specs.Index.{Index, index_in, units_at}
-use Rattle.rpm_hindex.specs.Answers.{IsOutside}
-use Rattle.rpm_hindex.specs.inner.Changes.{is_kept}
-use Rattle.rpm_hindex.specs.inner.Spots.{IsSpot, IsFoundFrom, IsPath, IsSoundSpot, OnWay, PathCosts}
 use Rattle.rpm_hindex.proofs.Results.{handed_on, if_ok, if_err}
 use Rattle.rpm_hindex.proofs.Starts.{way_behind, found_behind, found_or_missing}
 use Rattle.rpm_hindex.proofs.row_search.find_around.Goals as goal

@@ -1,20 +1,8 @@
 use Rattle.std.proofs.Common.{◌≡◌, ℕ, List, Bool, true, Ok, refl, sym, ap, ◌∙◌, subst, rules}
 use Rattle.std.specs.Prelude.{Some}
-use Rattle.std.specs.Ordering.{nat_cmp}
-use Rattle.std.specs.BTreeMap.{get}
-use Rattle.std.specs.BTreeSet.{contains}
-use Rattle.rpm_outside.specs.Files.{Files}
-use Rattle.rpm_outside.specs.declared.disk.File.TheVariants.{Idx}
-use Rattle.rpm_outside.specs.inner.Looking.{looks_at_then, looks_at_from}
-use Rattle.rpm_hindex.specs.declared.faults.FindFault.{FindFault}
+use Rattle.rpm_hindex.proofs.Vocabulary.{chain, contains, Files, FindFault, get, Idx, Index, index_in, is_kept, is_link, IsFoundFrom, IsOutside, IsPath}
+use Rattle.rpm_hindex.proofs.Vocabulary.{IsSoundSpot, IsStart, looks_at_from, looks_at_then, nat_cmp, Row, Start}
 use Rattle.rpm_hindex.specs.declared.faults.FindFault.TheVariants.{BadIndex}
-use Rattle.rpm_hindex.specs.Rows.{Row}
-use Rattle.rpm_hindex.specs.Answers.{IsOutside}
-use Rattle.rpm_hindex.specs.Index.{Index, index_in, is_link, chain}
-use Rattle.rpm_hindex.specs.inner.Changes.{is_kept}
-use Rattle.rpm_hindex.specs.inner.Spots.{IsFoundFrom, IsSoundSpot, IsPath}
-use Rattle.rpm_hindex.specs.inner.Starts.{IsStart}
-use Rattle.rpm_hindex.specs.declared.row_search.Start.{Start}
 use Rattle.rpm_hindex.proofs.Paths.{follow_path, path_follow, chain_cost}
 use Rattle.rpm_hindex.proofs.Ways.{chain_is}
 use Rattle.rpm_hindex.proofs.row_search.find_row.Goals as goal

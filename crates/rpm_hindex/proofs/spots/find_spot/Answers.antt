@@ -1,17 +1,8 @@
 use Rattle.std.proofs.Common.{ℕ, ◌<◌, ◌≡◌, ◌∷◌, [], ◌++◌, List, Bool, true, refl, sym, ap, ◌∙◌, arith, subst, inr, rules}
-use Rattle.std.specs.List.{sum_by}
+use Rattle.rpm_hindex.proofs.Vocabulary.{contains, Files, Idx, Index, index_in, is_kept, is_sound, IsOutside, IsPath, looks_at_none, looks_at_then, nat_cmp}
+use Rattle.rpm_hindex.proofs.Vocabulary.{Row, sum_by, unit_at, units_at}
 use Rattle.std.proofs.lemmas.Bool.{and_parts}
 use Rattle.std.proofs.lemmas.List.Sums.{sum_by-append}
-use Rattle.std.specs.Ordering.{nat_cmp}
-use Rattle.std.specs.BTreeSet.{contains}
-use Rattle.rpm_outside.specs.Files.{Files, unit_at}
-use Rattle.rpm_outside.specs.declared.disk.File.TheVariants.{Idx}
-use Rattle.rpm_outside.specs.inner.Looking.{looks_at_none, looks_at_then}
-use Rattle.rpm_hindex.specs.Rows.{Row}
-use Rattle.rpm_hindex.specs.Index.{Index, index_in, is_sound, units_at}
-use Rattle.rpm_hindex.specs.Answers.{IsOutside}
-use Rattle.rpm_hindex.specs.inner.Changes.{is_kept}
-use Rattle.rpm_hindex.specs.inner.Spots.{IsPath}
 use Rattle.rpm_hindex.proofs.Passing.{fault_outside, cost_within, next_left, left_more, met_first, met_path, met_left, behind, cost_behind, cost_passed, none_passed, spot_met}
 use Rattle.rpm_hindex.proofs.Paths.{path_ends}
 use Rattle.rpm_hindex.proofs.Steps.{front_last}

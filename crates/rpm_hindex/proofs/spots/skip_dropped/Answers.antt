@@ -1,14 +1,7 @@
 use Rattle.std.proofs.Common.{ℕ, ◌∷◌, [], ◌++◌, not, refl, sym, ap, ◌∙◌, arith, subst, inl, inr}
-use Rattle.std.specs.List.{sum_by}
+use Rattle.rpm_hindex.proofs.Vocabulary.{contains, Files, Idx, Index, index_in, is_kept, IsAhead, IsPath, looks_at_from, looks_at_none, looks_at_then}
+use Rattle.rpm_hindex.proofs.Vocabulary.{nat_cmp, sum_by, unit_at, units_at}
 use Rattle.std.proofs.lemmas.List.Sums.{sum_by_push, sum_by-append}
-use Rattle.std.specs.Ordering.{nat_cmp}
-use Rattle.std.specs.BTreeSet.{contains}
-use Rattle.rpm_outside.specs.Files.{Files, unit_at}
-use Rattle.rpm_outside.specs.declared.disk.File.TheVariants.{Idx}
-use Rattle.rpm_outside.specs.inner.Looking.{looks_at_none, looks_at_then, looks_at_from}
-use Rattle.rpm_hindex.specs.Index.{Index, index_in, units_at}
-use Rattle.rpm_hindex.specs.inner.Changes.{is_kept}
-use Rattle.rpm_hindex.specs.inner.Spots.{IsAhead, IsPath}
 use Rattle.rpm_hindex.proofs.Passing.{fault_outside, cost_within, next_left, left_more}
 use Rattle.rpm_hindex.proofs.Paths.{path_ends}
 use Rattle.rpm_hindex.proofs.Ways.{path_more, filter_same}

@@ -1,14 +1,6 @@
 use Rattle.std.proofs.Common.{◌≡◌, ℕ, ◌+◌, ◌*◌, ◌≤◌, List, [], ◌++◌}
 use Rattle.std.specs.Prelude.{IsTrue}
-use Rattle.std.specs.Ordering.{nat_cmp}
-use Rattle.std.specs.BTreeSet.{contains}
-use Rattle.std.specs.List.{filter, sum_by}
-use Rattle.rpm_outside.specs.Files.{unit_at}
-use Rattle.rpm_outside.specs.Looks.{LooksAt}
-use Rattle.rpm_outside.specs.declared.disk.File.TheVariants.{Idx}
-use Rattle.rpm_hindex.specs.Index.{index_in, units_at}
-use Rattle.rpm_hindex.specs.inner.Changes.{is_kept}
-use Rattle.rpm_hindex.specs.inner.Spots.{IsPath, IsNext}
+use Rattle.rpm_hindex.proofs.Vocabulary.{contains, filter, Idx, index_in, is_kept, IsNext, IsPath, LooksAt, nat_cmp, sum_by, unit_at, units_at}
 use Rattle.rpm_hindex.proofs.spots.skip_dropped.Given as goal
 
 abbrev pub invariant-loop-at : goal.invariant-loop-at

@@ -1,9 +1,5 @@
 use Rattle.std.proofs.Common.{sym, subst, arith, rules}
-use Rattle.rpm_outside.specs.declared.disk.File.TheVariants.{Idx}
-use Rattle.rpm_outside.specs.Files.{units_of}
-use Rattle.rpm_outside.specs.Crash.{Torn}
-use Rattle.rpm_outside.specs.Changes.{IsSame}
-use Rattle.rpm_outside.specs.inner.Changing.{changes_then}
+use Rattle.rpm_hindex.proofs.Vocabulary.{changes_then, Idx, IsSame, Torn, units_of}
 use Rattle.rpm_hindex.proofs.writes.write_synced.Goals as goal
 
 pub returns-clause-writes : goal.returns-clause-writes

@@ -1,13 +1,9 @@
 use Rattle.std.proofs.Common.{◌≡◌, ℕ, ◌+◌, ◌/◌, ◌%◌, ◌<◌, false, length, length-append, refl, sym, ap, ◌∙◌, arith}
-use Rattle.rpm_hindex.specs.declared.change.Change.{Change}
+use Rattle.rpm_hindex.proofs.Vocabulary.{Change, changing, Files, is_link, word}
 use Rattle.rpm_hindex.proofs.Made.{length-bytes}
 use Rattle.rpm_hindex.proofs.Going.{go_on, bucket_within}
 use Rattle.rpm_hindex.proofs.Adding.{row_added}
 use Rattle.rpm_hindex.proofs.Honest.{bad_head, bad_memory, adds_honest}
-use Rattle.rpm_outside.specs.Files.{Files}
-use Rattle.rpm_outside.specs.Words.{word}
-use Rattle.rpm_hindex.specs.Index.{is_link}
-use Rattle.rpm_hindex.specs.inner.Changes.{changing}
 use Rattle.rpm_hindex.proofs.Results.{on_ok, if_err}
 use Rattle.rpm_hindex.proofs.change.Change.add_row.Goals as goal
 

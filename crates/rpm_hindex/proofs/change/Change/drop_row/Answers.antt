@@ -1,24 +1,13 @@
 use Rattle.std.proofs.Common.{◌≡◌, ℕ, ◌-◌, ◌<◌, ◌∷◌, [], refl, ◌∙◌, arith, subst, inl, inr}
 use Rattle.std.specs.Prelude.{Option, ◌⊎◌}
-use Rattle.std.specs.Ordering.{nat_cmp}
-use Rattle.std.specs.BTreeMap.{get}
-use Rattle.std.specs.BTreeSet.{contains}
-use Rattle.rpm_outside.specs.Files.{Files}
-use Rattle.rpm_hindex.specs.declared.change.Change.{Change}
-use Rattle.rpm_hindex.specs.declared.spots.Spot.{Spot}
-use Rattle.rpm_hindex.specs.Rows.{Row}
-use Rattle.rpm_hindex.specs.Index.{Index, index_in, places_of, row_at}
-use Rattle.rpm_hindex.specs.inner.Changes.{is_kept}
-use Rattle.rpm_hindex.specs.inner.Spots.{IsFound, IsLinked, IsWithin, IsSoundSpot}
-use Rattle.rpm_hindex.specs.inner.Starts.{StandsWithin}
-use Rattle.rpm_hindex.specs.declared.row_search.Start.{Start}
+use Rattle.rpm_hindex.proofs.Vocabulary.{Change, contains, Files, get, Index, index_in, is_kept, IsFound, IsLinked, IsSoundSpot, IsWithin, nat_cmp, places_of}
+use Rattle.rpm_hindex.proofs.Vocabulary.{Row, row_at, same_is, Spot, StandsWithin, Start}
 use Rattle.rpm_hindex.proofs.Paths.{path_follow}
 use Rattle.rpm_hindex.proofs.Starts.{puts_each, loses, starts_next}
 use Rattle.rpm_hindex.proofs.Chains.{chain_from}
 use Rattle.rpm_hindex.proofs.Costing.{chain_are}
 use Rattle.rpm_hindex.proofs.Going.{go_on}
 use Rattle.rpm_hindex.proofs.Dropping.{drops_none, drops_one, spot_in, spot_units}
-use Rattle.rpm_hindex.proofs.Keeping.{same_is}
 use Rattle.rpm_hindex.proofs.Wholes.{has_chains}
 use Rattle.rpm_hindex.proofs.Gone.{gone_none, gone_one, counts_one, short_chain, drop_memory}
 use Rattle.rpm_hindex.proofs.Cuts.{drop_cuts}

@@ -1,11 +1,8 @@
 use Rattle.std.proofs.Common.{◌≡◌, ℕ, ◌+◌, ◌*◌, ◌++◌, List, length, drop, ap, ◌∙◌, arith, length-append}
-use Rattle.std.specs.List.{flat_map}
-use Rattle.rpm_outside.specs.Words.{bytes_of_word}
-use Rattle.rpm_hindex.specs.Sizes.{first_record, live_of}
+use Rattle.rpm_hindex.proofs.Vocabulary.{bytes_of_word, first_record, flat_map, length-unit, live_of}
 use Rattle.rpm_hindex.proofs.Orders.{few, Few}
 use Rattle.rpm_hindex.proofs.Drafting.{length-le-live}
 use Rattle.rpm_hindex.proofs.Imaging.{image_made, length_words}
-use Rattle.rpm_outside.specs.inner.UnitLaws.{length-unit}
 use Rattle.rpm_hindex.proofs.image.Image.of_rows.Goals as goal
 
 pub add_records-requires-clause-some : goal.add_records-requires-clause-some

@@ -1,14 +1,8 @@
 use Rattle.std.proofs.Common.{ℕ, ◌%◌, ◌<◌, List, map, Result, Ok, Err, Vec, Global, sym, ap, ◌∙◌, arith, subst}
 use Rattle.std.specs.Prelude.{IsOk}
-use Rattle.rpm_outside.specs.Files.{Files, unit_at}
-use Rattle.rpm_hindex.specs.declared.hits.Hit.{Hit}
-use Rattle.rpm_hindex.specs.Rows.{hash_of}
-use Rattle.rpm_hindex.specs.Index.{Index, index_in, chain, places_in, row_at}
-use Rattle.rpm_hindex.specs.Answers.{AsOften, HitsAre}
+use Rattle.rpm_hindex.proofs.Vocabulary.{AsOften, buckets_of, chain, Extent, Files, hash_of, Hit, HitsAre, Index, index_in, IsOpen, places_in, row_at}
+use Rattle.rpm_hindex.proofs.Vocabulary.{unit_at}
 use Rattle.rpm_hindex.proofs.Wholes.{ok_places}
-use Rattle.rpm_hindex.specs.State.{buckets_of}
-use Rattle.rpm_hindex.specs.declared.chain.Extent.{Extent}
-use Rattle.rpm_hindex.specs.inner.Records.{IsOpen}
 use Rattle.rpm_hindex.proofs.Orders.{few, open_from, order_parts, ordered_parts, Few}
 use Rattle.rpm_hindex.proofs.Founds.{often_in_all}
 use Rattle.rpm_hindex.proofs.index.Hindex.find.Goals as goal

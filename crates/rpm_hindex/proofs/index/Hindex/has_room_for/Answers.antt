@@ -1,10 +1,6 @@
 use Rattle.std.proofs.Common.{◌≡◌, ℕ, ◌+◌, ◌^◌, List, length, sym, ap, ◌∙◌, arith, subst}
 use Rattle.std.proofs.lemmas.Bool.{leb-true}
-use Rattle.rpm_outside.specs.Words.{word}
-use Rattle.rpm_hindex.specs.Index.{index_in}
-use Rattle.rpm_hindex.specs.Sizes.{index_units, live_of}
-use Rattle.rpm_hindex.specs.State.{State, buckets_of}
-use Rattle.rpm_hindex.specs.Whole.{IsWhole}
+use Rattle.rpm_hindex.proofs.Vocabulary.{buckets_of, index_in, index_units, IsWhole, live_of, State, word}
 use Rattle.rpm_hindex.proofs.Fitting.{room_by_counts}
 use Rattle.rpm_hindex.proofs.index.Hindex.has_room_for.Goals as goal
 

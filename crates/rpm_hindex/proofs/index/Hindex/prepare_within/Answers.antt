@@ -1,18 +1,9 @@
 use Rattle.std.proofs.Common.{◌≡◌, ℕ, Vec, Global, arith, ◌-◌, ◌++◌, sym, ap, ◌∙◌, subst, ◌+◌, ◌*◌, ◌/◌, ◌≤◌, true, false, length, reverse}
 use Rattle.std.specs.Prelude.{IsTrue}
-use Rattle.rpm_outside.specs.Files.{Files}
-use Rattle.rpm_hindex.specs.declared.chain.Extent.{Extent}
-use Rattle.rpm_hindex.specs.declared.change.Change.{Change}
-use Rattle.rpm_hindex.specs.Rows.{times}
-use Rattle.rpm_hindex.specs.Index.{index_in, records, rows_of}
-use Rattle.rpm_hindex.specs.Padding.{AddsPadded}
-use Rattle.rpm_hindex.specs.State.{buckets_of}
-use Rattle.rpm_hindex.specs.Whole.{IsWhole}
-use Rattle.rpm_hindex.specs.inner.Changes.{IsHonest, AddsRows, changing, HasLess, IsTooLarge, IsScratchOf}
-use Rattle.rpm_hindex.specs.Refusals.{IsBad, IsFaulty, IsBadFor, IsTooLargeFor}
+use Rattle.rpm_hindex.proofs.Vocabulary.{AddsPadded, AddsRows, buckets_of, Change, changing, Extent, Files, first_record, HasLess, index_in, is_bucket_count}
+use Rattle.rpm_hindex.proofs.Vocabulary.{IsBad, IsBadFor, IsFaulty, IsHonest, IsPaddedPlan, IsPlanFor, IsScratchOf, IsTooLarge, IsTooLargeFor, IsWhole}
+use Rattle.rpm_hindex.proofs.Vocabulary.{records, rows_of, times}
 use Rattle.rpm_hindex.proofs.Gathers.{scratch_plan, scratch_padded, large_for, scratch_reach, place_reach, scratch_sized, place_sized, place_zero}
-use Rattle.rpm_hindex.specs.Plans.{IsPlanFor, IsPaddedPlan}
-use Rattle.rpm_hindex.specs.Sizes.{first_record, is_bucket_count}
 use Rattle.rpm_hindex.proofs.Placing.{place_order, place_plan, place_padded}
 use Rattle.rpm_hindex.proofs.Honest.{faulty_bad, faulty_for, bad_memory}
 use Rattle.rpm_hindex.proofs.Fitting.{plan_fits, changed_least}

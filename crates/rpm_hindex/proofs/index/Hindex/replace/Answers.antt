@@ -1,50 +1,60 @@
-use Rattle.std.proofs.Common.{◌≡◌, ◌∷◌, [], refl, ap, ◌∙◌, arith, inl, rules}
-use Rattle.rpm_outside.specs.Files.{Units, unit_at, put, blank}
-use Rattle.rpm_outside.specs.inner.Puts.{put_inside}
-use Rattle.rpm_outside.specs.declared.disk.File.TheVariants.{Idx}
-use Rattle.rpm_outside.specs.inner.Changing.{changes_between}
-use Rattle.rpm_hindex.specs.Images.{VoidOrSame, SameSeal}
-use Rattle.rpm_hindex.specs.State.{State}
-use Rattle.rpm_hindex.proofs.Seals.{image_held}
+use Rattle.std.proofs.Common.{◌≡◌, ℕ, ◌+◌, ◌/◌, ◌∷◌, [], List, length, take, max, refl, ap, sym, subst, ◌∙◌, arith, inl, rules}
+use Rattle.std.specs.Prelude.{IsTrue}
+use Rattle.rpm_hindex.proofs.Vocabulary.{blank, changes_between, Idx, Keeps, put, put_inside, State, Torn, unit_at, Units, units_of, VoidOrSame}
+use Rattle.rpm_hindex.proofs.Seals.{image_kept}
+use Rattle.rpm_hindex.proofs.TornWrites.{torn_behind}
 use Rattle.rpm_hindex.proofs.index.Hindex.replace.Goals as goal
 
 -- a file whose unit 0 was made zeros
 zeros : (old new image : Units) → new ≡ put 0 (blank ∷ []) old → image ≡ new → unit_at image 0 ≡ blank
 zeros old new image is same = ap (λ (u : Units). unit_at u 0) (same ∙ is) ∙ put_inside 0 (blank ∷ []) old 0 (omega arith)
 
-pub returns-in_err-write_image-clause-writes : goal.returns-in_err-write_image-clause-writes
-returns-in_err-write_image-clause-writes g c = record {
+pub returns-in_err-write_synced-clause-writes : goal.returns-in_err-write_synced-clause-writes
+returns-in_err-write_synced-clause-writes g c = record {
   changes =
-      changes_between _ _ _ _ _ _ Idx g.met.D.Disk.follows_trans VoidOrSame SameSeal VoidOrSame (λ (u : Units). unit_at u 0 ≡ blank) 0 0 0
-      c.args.disk.now c.void.new.disk c.write_image.new.disk (omega arith) (λ a b p. p) (λ x y z p m q. inl (q ∙ m))
-      (λ told. zeros _ _ _ (c.in_ok-void.ensures.voided told) refl)
-      (λ told image left. zeros _ _ image.idx (c.in_ok-void.ensures.voided told) (c.in_ok-void.ensures.settled told image left))
-      c.in_ok-void.ensures.writes.changes c.in_err-write_image.ensures.writes.changes;
+      let left = c.in_ok-void.ensures.left in
+      changes_between _ _ _ _ _ _ Idx g.met.D.Disk.follows_trans VoidOrSame (Torn 1 _) VoidOrSame (λ (u : Units). unit_at u 0 ≡ blank) 0 0 0
+      _ _ _ (omega arith) (λ a b p. p) (λ x y z p m q. inl (torn_behind 1 _ y z (omega arith) q ∙ m))
+      (λ told. zeros _ _ _ (left.written told) refl) (λ told image lies. zeros _ _ image.idx (left.written told) (left.settled told image lies))
+      c.in_ok-void.ensures.writes.changes c.in_err-write_synced.ensures.writes.changes;
   cause = search rules;
 }
 
 pub returns-clause-writes : goal.returns-clause-writes
 returns-clause-writes g c = record {
   changes =
-      changes_between _ _ _ _ _ _ Idx g.met.D.Disk.follows_trans VoidOrSame SameSeal VoidOrSame (λ (u : Units). unit_at u 0 ≡ blank) 0 0 0
-      c.args.disk.now c.void.new.disk c.write_image.new.disk (omega arith) (λ a b p. p) (λ x y z p m q. inl (q ∙ m))
-      (λ told. zeros _ _ _ (c.in_ok-void.ensures.voided told) refl)
-      (λ told image left. zeros _ _ image.idx (c.in_ok-void.ensures.voided told) (c.in_ok-void.ensures.settled told image left))
-      c.in_ok-void.ensures.writes.changes c.in_ok-write_image.ensures.writes.changes;
+      let left = c.in_ok-void.ensures.left in
+      changes_between _ _ _ _ _ _ Idx g.met.D.Disk.follows_trans VoidOrSame (Torn 1 _) VoidOrSame (λ (u : Units). unit_at u 0 ≡ blank) 0 0 0
+      _ _ _ (omega arith) (λ a b p. p) (λ x y z p m q. inl (torn_behind 1 _ y z (omega arith) q ∙ m))
+      (λ told. zeros _ _ _ (left.written told) refl) (λ told image lies. zeros _ _ image.idx (left.written told) (left.settled told image lies))
+      c.in_ok-void.ensures.writes.changes c.in_ok-write_synced.ensures.writes.changes;
   cause = search rules;
 }
 
-pub returns-clause-held : goal.returns-clause-held
-returns-clause-held g c = λ told k lt. image_held c.args.image.now.bytes.items _ _ (c.in_ok-write_image.ensures.written told) k lt
+abbrev made : List ℕ → List ℕ → ℕ → ℕ → State
+made first second units pending = record { first = first; second = second; units = units; pending = pending }
 
-pub returns-clause-value : goal.returns-clause-value
-returns-clause-value g c =
-    let was = c.in_ok-void.ensures.state in
-    let is = c.in_ok-write_image.ensures.state in
+same : (f g s t : List ℕ) (u v p : ℕ) → f ≡ g → s ≡ t → u ≡ v → made f s u p ≡ made g t v p
+same f g s t u v p a b c = ap (λ (x : List ℕ). made x s u p) a ∙ ap (λ (x : List ℕ). made g x u p) b ∙ ap (λ (x : ℕ). made g t x p) c
+
+pub returns-clause-left : goal.returns-clause-left
+returns-clause-left g c =
+    let bytes = c.args.image.now.bytes.items in
+    let n = 1 + length bytes / 16 in
+    let was = c.void.new.self in
+    let left = c.in_ok-void.ensures.left in
+    let first = ap (λ (t : State). t.first) c.self.view_is in
+    let second = c.first_unit-self-inside.ensures ∙ ap (take 16) c.deref-2.ensures.value in
+    let size : 1 + c.len.result / 16 ≡ n = omega (arith, c.len.ensures, c.args.image.now.bytes.ok.0) in
+    let units = c.max-self-inside.ensures ∙ ap (λ (k : ℕ). max k (1 + c.len.result / 16)) (ap (λ (t : State). t.units) c.self.view_is)
+    ∙ ap (max was.units) size in
+    let wrote = λ (told : IsTrue g.D.Disk.tells). c.in_ok-write_synced.ensures.written told
+    ∙ ap (λ (bs : List ℕ). put 1 (units_of bs) (g.D.Disk.files c.void.new.disk).idx) c.deref.ensures.value in
     record {
-      pending = ap (λ (s : State). s.pending) is;
-      voided = ap (λ (s : State). s.first) is ∙ ap (λ (s : State). s.first) was;
-      second = ap (λ (s : State). s.second) is;
-      units = omega (arith, ap (λ (s : State). s.units) is);
-      grows = omega (arith, ap (λ (s : State). s.units) is, ap (λ (s : State). s.units) was);
+      written = λ told. wrote told ∙ ap (λ (f : Units). put 1 (units_of bytes) f) (left.written told);
+      settled = c.in_ok-write_synced.ensures.settled;
+      kept = λ told. subst (Keeps (g.D.Disk.files c.write_synced.new.disk).idx) (sym (same _ was.first _ (take 16 bytes) _ (max was.units n)
+          c.args.image.now.buckets first second units))
+          (image_kept bytes (g.D.Disk.files c.void.new.disk).idx (g.D.Disk.files c.write_synced.new.disk).idx (wrote told) was
+          (max was.units n) c.args.image.now.buckets c.requires.can.0 (left.kept told) refl);
     }

@@ -1,14 +1,10 @@
 use Rattle.std.proofs.Common.{sym, subst, ap, ◌∙◌, arith, ℕ, List, length, ◌+◌, ◌≤◌, ◌^◌}
-use Rattle.rpm_outside.specs.Words.{word}
-use Rattle.rpm_hindex.specs.Sizes.{bucket_count, first_record, live_of}
-use Rattle.rpm_outside.specs.Files.{Units}
-use Rattle.rpm_hindex.specs.Rows.{SameRows}
-use Rattle.rpm_hindex.specs.Index.{index_in, records}
-use Rattle.rpm_hindex.specs.Whole.{IsWellFormed}
-use Rattle.rpm_hindex.specs.Padding.{ArePadded}
-use Rattle.rpm_hindex.specs.State.{is_ordered, EndsInZero}
+use Rattle.rpm_hindex.proofs.Vocabulary.{ArePadded, bucket_count, EndsInZero, first_record, index_in, is_ordered, IsWellFormed, live_of, records, SameRows}
+use Rattle.rpm_hindex.proofs.Vocabulary.{Units, units_of, word}
+use Rattle.std.specs.Prelude.{IsTrue}
 use Rattle.rpm_hindex.proofs.Drafting.{length-le-live}
 use Rattle.rpm_hindex.proofs.Scratch.{image_ordered, image_size, image_zero}
+use Rattle.rpm_hindex.proofs.Seals.{image_held}
 use Rattle.rpm_hindex.proofs.index.Hindex.rewrite.Goals as goal
 
 pub returns-clause-ordered : goal.returns-clause-ordered
@@ -30,7 +26,7 @@ returns-clause-value g c =
     let value = c.in-Ok.ensures.value in
     record {
       pending = value.pending ∙ c.in_ok-image.ensures.buckets;
-      voided = value.voided;
+      voided = c.in-Ok.ensures.voided;
       size = ap (word 0) value.second ∙ image_size rows bytes made;
       zero = subst EndsInZero (sym value.second) (image_zero rows (bucket_count (length rows)) bytes made);
     }
@@ -39,7 +35,7 @@ pub returns-clause-padded : goal.returns-clause-padded
 returns-clause-padded g c = λ told.
     let file : Units = (g.D.Disk.files c.replace.new.disk).idx in
     let pending = c.in-Ok.ensures.value.pending ∙ c.in_ok-image.ensures.buckets in
-    let made = c.in_ok-image.ensures.made.made file (c.in-Ok.ensures.held told) in
+    let made = c.in_ok-image.ensures.made.made file (image_held c.in_ok-image.image.bytes.items _ _ (c.in-Ok.ensures.left.written told)) in
     subst (λ (n : ℕ). ArePadded (index_in n file)) (sym pending) made.padded
 
 pub returns-clause-grows : goal.returns-clause-grows
@@ -49,11 +45,12 @@ pub returns-clause-whole : goal.returns-clause-whole
 returns-clause-whole g c = λ told.
     let file : Units = (g.D.Disk.files c.replace.new.disk).idx in
     let pending = c.in-Ok.ensures.value.pending ∙ c.in_ok-image.ensures.buckets in
-    subst (λ (n : ℕ). IsWellFormed n file) (sym pending) (c.in_ok-image.ensures.made.made file (c.in-Ok.ensures.held told)).whole
+    subst (λ (n : ℕ). IsWellFormed n file) (sym pending) (c.in_ok-image.ensures.made.made file (image_held c.in_ok-image.image.bytes.items _ _
+    (c.in-Ok.ensures.left.written told))).whole
 
 pub returns-clause-rows : goal.returns-clause-rows
 returns-clause-rows g c = λ told.
     let file : Units = (g.D.Disk.files c.replace.new.disk).idx in
     let pending = c.in-Ok.ensures.value.pending ∙ c.in_ok-image.ensures.buckets in
     subst (λ (n : ℕ). SameRows c.args.rows.now (records n file)) (sym pending)
-    (c.in_ok-image.ensures.made.made file (c.in-Ok.ensures.held told)).same
+    (c.in_ok-image.ensures.made.made file (image_held c.in_ok-image.image.bytes.items _ _ (c.in-Ok.ensures.left.written told))).same

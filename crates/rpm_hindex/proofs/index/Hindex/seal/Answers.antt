@@ -1,13 +1,7 @@
 use Rattle.std.proofs.Common.{◌≡◌, ℕ, ◌≤◌, ◌∷◌, [], List, ap, sym, ◌∙◌, arith, subst, rules}
 use Rattle.std.specs.Prelude.{IsTrue}
-use Rattle.rpm_outside.specs.Files.{Units, units_of, unit_at, put}
-use Rattle.rpm_outside.specs.inner.Cuts.{cut_up_one}
-use Rattle.rpm_outside.specs.Crash.{Torn}
-use Rattle.rpm_outside.specs.declared.disk.File.TheVariants.{Idx}
-use Rattle.rpm_outside.specs.inner.Changing.{changes_weaker}
-use Rattle.rpm_hindex.specs.Images.{SealedOrSame}
-use Rattle.rpm_hindex.specs.State.{State, Keeps, seal_unit, magic, is_current}
-use Rattle.rpm_outside.specs.inner.UnitLaws.{length-unit}
+use Rattle.rpm_hindex.proofs.Vocabulary.{changes_weaker, cut_up_one, Idx, is_current, Keeps, length-unit, magic, put, seal_unit, SealedOrSame, State, Torn}
+use Rattle.rpm_hindex.proofs.Vocabulary.{unit_at, Units, units_of}
 use Rattle.rpm_hindex.proofs.UnitWords.{current}
 use Rattle.rpm_hindex.proofs.TornWrites.{torn_seal}
 use Rattle.rpm_hindex.proofs.Seals.{front_kept, front_behind, whole_behind, records_behind, padded_behind, state, same_state}
@@ -61,14 +55,18 @@ module _ (g : Over) (c : goal.After-self-2-1 g) where
       ≡ unit_at (g.D.Disk.files c.args.disk.now).idx i
   behind told = front_behind unit (g.D.Disk.files c.args.disk.now).idx (g.D.Disk.files c.write_synced.new.disk).idx (file_is told)
 
-pub returns-clause-kept : goal.returns-clause-kept
-returns-clause-kept g c = λ told.
-    let units = ap (λ (s : State). s.units) c.self.view_is in
-    let pending = ap (λ (s : State). s.pending) c.self.view_is in
-    let some = c.self.invariant (omega (arith, pending, c.requires.written)) in
-    subst (Keeps (g.D.Disk.files c.write_synced.new.disk).idx) (sym (state_is g c))
-    (front_kept (unit g c) (g.D.Disk.files c.args.disk.now).idx (g.D.Disk.files c.write_synced.new.disk).idx (file_is g c told) c.args.self.now
-    c.args.self.now.units (c.requires.keeps told) (omega (arith, units, some)))
+pub returns-clause-left : goal.returns-clause-left
+returns-clause-left g c = record {
+  written = file_is g c;
+  settled = c.in_ok-write_synced.ensures.settled;
+  kept = λ told.
+      let units = ap (λ (s : State). s.units) c.self.view_is in
+      let pending = ap (λ (s : State). s.pending) c.self.view_is in
+      let some = c.self.invariant (omega (arith, pending, c.requires.written)) in
+      subst (Keeps (g.D.Disk.files c.write_synced.new.disk).idx) (sym (state_is g c))
+      (front_kept (unit g c) (g.D.Disk.files c.args.disk.now).idx (g.D.Disk.files c.write_synced.new.disk).idx (file_is g c told) c.args.self.now
+      c.args.self.now.units (c.requires.keeps told) (omega (arith, units, some)));
+}
 
 pub returns-clause-current : goal.returns-clause-current
 returns-clause-current g c ordered =

@@ -1,11 +1,6 @@
 use Rattle.std.proofs.Common.{ℕ, length, sym, ap, ◌∙◌, arith, subst}
-use Rattle.rpm_hindex.specs.Sizes.{is_bucket_count}
-use Rattle.rpm_outside.specs.Words.{word}
-use Rattle.rpm_hindex.specs.declared.chain.Extent.{Extent}
-use Rattle.rpm_hindex.specs.State.{State}
-use Rattle.rpm_hindex.specs.inner.Records.{IsOpen}
+use Rattle.rpm_hindex.proofs.Vocabulary.{Extent, is_bucket_count, IsOpen, IsWellFormed, State, word}
 use Rattle.rpm_hindex.proofs.Orders.{started, open_from}
-use Rattle.rpm_hindex.specs.Whole.{IsWellFormed}
 use Rattle.rpm_hindex.proofs.Placing.{started as placed_start}
 use Rattle.rpm_hindex.proofs.Honest.{starts_honest}
 use Rattle.rpm_hindex.proofs.index.Hindex.start.Goals as goal

@@ -1,11 +1,7 @@
 use Rattle.std.proofs.Common.{arith, ap, sym, ◌∙◌, refl, subst, ℕ, max, rules}
-use Rattle.rpm_outside.specs.Files.{blank}
-use Rattle.rpm_outside.specs.declared.disk.File.TheVariants.{Idx}
-use Rattle.rpm_outside.specs.inner.Changing.{changes_weaker}
-use Rattle.rpm_hindex.specs.Images.{VoidOrSame}
+use Rattle.rpm_hindex.proofs.Vocabulary.{blank, changes_weaker, Idx, Keeps, State, VoidOrSame}
 use Rattle.rpm_hindex.proofs.TornWrites.{torn_void}
 use Rattle.rpm_hindex.proofs.Seals.{front_kept, same_state}
-use Rattle.rpm_hindex.specs.State.{State, Keeps}
 use Rattle.rpm_hindex.proofs.index.Hindex.void.Goals as goal
 
 pub returns-in_err-write_synced-clause-writes : goal.returns-in_err-write_synced-clause-writes
@@ -29,17 +25,17 @@ pub returns-clause-state : goal.returns-clause-state
 unfolding blank
 returns-clause-state g c = rw (c.max-self-inside.ensures, ← c.self.view_is) refl
 
-pub returns-clause-kept : goal.returns-clause-kept
+pub returns-clause-left : goal.returns-clause-left
 unfolding blank
-returns-clause-kept g c = λ told.
-    let second = ap (λ (s : State). s.second) c.self.view_is in
-    let units = ap (λ (s : State). s.units) c.self.view_is in
-    subst (Keeps (g.D.Disk.files c.write_synced.new.disk).idx) (sym (same_state _ blank _ c.args.self.now.second _ (max c.args.self.now.units 1) refl
-    second (c.max-self-inside.ensures ∙ ap (λ (n : ℕ). max n 1) units)))
-    (front_kept blank (g.D.Disk.files c.args.disk.now).idx (g.D.Disk.files c.write_synced.new.disk).idx (c.in_ok-write_synced.ensures.written told)
-    c.args.self.now
-    (max c.args.self.now.units 1) (c.requires.keeps told) refl)
-
-pub returns-clause-voided : goal.returns-clause-voided
-unfolding blank
-returns-clause-voided g c = λ told. c.in_ok-write_synced.ensures.written told
+returns-clause-left g c = record {
+  written = c.in_ok-write_synced.ensures.written;
+  settled = c.in_ok-write_synced.ensures.settled;
+  kept = λ told.
+      let second = ap (λ (s : State). s.second) c.self.view_is in
+      let units = ap (λ (s : State). s.units) c.self.view_is in
+      subst (Keeps (g.D.Disk.files c.write_synced.new.disk).idx) (sym (same_state _ blank _ c.args.self.now.second _ (max c.args.self.now.units 1) refl
+      second (c.max-self-inside.ensures ∙ ap (λ (n : ℕ). max n 1) units)))
+      (front_kept blank (g.D.Disk.files c.args.disk.now).idx (g.D.Disk.files c.write_synced.new.disk).idx (c.in_ok-write_synced.ensures.written told)
+      c.args.self.now
+      (max c.args.self.now.units 1) (c.requires.keeps told) refl);
+}

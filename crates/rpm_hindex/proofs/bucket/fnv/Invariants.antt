@@ -1,6 +1,0 @@
-use Rattle.std.proofs.Common.{◌≡◌, drop}
-use Rattle.rpm_hindex.specs.Rows.{fnv}
-use Rattle.rpm_hindex.proofs.bucket.fnv.Given as goal
-
-abbrev pub invariant-loop-b : goal.invariant-loop-b
-invariant-loop-b l = fnv l.hash (drop l.b-index l.bytes) ≡ fnv l.initial.hash l.bytes
