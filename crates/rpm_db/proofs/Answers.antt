@@ -1,23 +1,11 @@
 -- What the store answers is what the state says.
 use Rattle.std.proofs.Common.{◌≡◌, ℕ, List, Bool, false, Option, Some, None, Ok, Err, refl, ap, ◌∙◌, is_some}
 use Rattle.std.specs.Prelude.{Result, Vec}
-use Rattle.std.specs.declared.alloc.Global.{Global}
-use Rattle.std.specs.Option.{option_map}
-use Rattle.rpm_outside.specs.Files.{Units}
-use Rattle.rpm_pkgdb.specs.declared.blob.GetFault.{GetFault}
+use Rattle.rpm_db.proofs.Vocabulary.{AnswerIs, blob_in, checksum_holds, checksums_hold, Database, Frame, frames, get-blobs-frames, GetFault, given, Global}
+use Rattle.rpm_db.proofs.Vocabulary.{IsNext, option_map, package_of, ReadIs, Slot, slot_with, Units, verdict, verdict_of}
 use Rattle.rpm_pkgdb.specs.declared.blob.GetFault.TheVariants.{NoSuch, Bad, DiskFault, NoMemory}
-use Rattle.rpm_pkgdb.specs.Answers.{AnswerIs, given}
-use Rattle.rpm_pkgdb.specs.Blobs.{Frame, frames, blob_in}
-use Rattle.rpm_pkgdb.specs.declared.slot.Slot.{Slot}
-use Rattle.rpm_pkgdb.specs.Slots.{slot_with}
 use Rattle.rpm_pkgdb.specs.Pairs as pairs
-use Rattle.rpm_pkgdb.specs.BlobLaws.{get-blobs-frames}
-use Rattle.rpm_pkgdb.specs.Checksums.{checksums_hold, checksum_holds}
 use Rattle.rpm_db.specs.declared.verify.Verdict.TheVariants.{BadHeader}
-use Rattle.rpm_db.specs.State.{package_of}
-use Rattle.rpm_db.specs.Database.{Database, IsNext}
-use Rattle.rpm_db.specs.Answers.{ReadIs}
-use Rattle.rpm_db.specs.Verdicts.{verdict, verdict_of}
 
 -- ---- a blob
 

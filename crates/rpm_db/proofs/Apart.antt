@@ -3,9 +3,8 @@ use Rattle.std.proofs.Common.{◌≡◌, ◌⊎◌, ℕ, ◌+◌, ◌≤◌, ◌
 use Rattle.std.specs.Prelude.{min}
 use Rattle.std.proofs.lemmas.Bool.{cases_Bool}
 use Rattle.std.proofs.lemmas.List.{drop_all}
-use Rattle.rpm_hindex.specs.Rows.{Row, times, same_row, row_nth}
-use Rattle.rpm_db.specs.inner.Places.{StandsBefore, StandsNotBehind, AreByPlace, AreWithout}
-use Rattle.rpm_db.specs.inner.RowLaws.{times-append, times_none, times_one}
+use Rattle.rpm_db.proofs.Vocabulary.{AreByPlace, AreWithout, Row, row_nth, same_row, StandsBefore, StandsNotBehind, times, times-append, times_none}
+use Rattle.rpm_db.proofs.Vocabulary.{times_one}
 use Rattle.rpm_db.proofs.Places.{same_is, not_same, not_behind, none_from}
 use Rattle.rpm_db.proofs.Shared.{times_from, times_rest}
 

@@ -1,17 +1,10 @@
 -- The state that a change makes, as the blobs of its store say it.
 use Rattle.std.proofs.Common.{◌≡◌, ℕ, ◌+◌, Option, Some, None, Ok, sym, ap, ◌∙◌}
 use Rattle.std.specs.FinMap as finite
-use Rattle.std.specs.Ordering.{nat_cmp}
-use Rattle.rpm_header.specs.Header.{Header, header}
-use Rattle.rpm_outside.specs.Files.{Units}
-use Rattle.rpm_pkgdb.specs.Blobs.{blobs}
-use Rattle.rpm_pkgdb.specs.Quiet.{BlobMap, StandsFor}
-use Rattle.rpm_pkgdb.specs.Store.{Store, next_number}
-use Rattle.rpm_db.specs.Changes.{apply, Erase, Says}
-use Rattle.rpm_db.specs.State.{State, Package, Good, packages, state}
-use Rattle.rpm_db.specs.inner.Writes.{state_with, state_of, number_for, field_for, change_for}
+use Rattle.rpm_db.proofs.Vocabulary.{apply, BlobMap, blobs, change_for, Erase, field_for, Good, Header, header, nat_cmp, next-state, next_number, number_for}
+use Rattle.rpm_db.proofs.Vocabulary.{Package, packages, Says, StandsFor, state, state-blobs, state_of, state_with, Store, Units}
+use Rattle.rpm_db.specs.State.{State}
 use Rattle.rpm_db.proofs.Edited.{put_packages, erased_packages}
-use Rattle.rpm_db.specs.inner.States.{next-state, state-blobs}
 
 -- a header under a number that is there, or a new one
 pub put_state : (file : Units) (value : Store) (n : Option ℕ) (h : Header) → header h.blob ≡ Ok h

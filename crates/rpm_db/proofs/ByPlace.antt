@@ -1,19 +1,10 @@
 -- The rows of a header are by kind and place.
 use Rattle.std.proofs.Common.{◌≡◌, ℕ, ◌+◌, ◌≤◌, ◌<◌, List, [], ◌∷◌, ◌++◌, map, Option, Some, None, Result, Ok, Err, refl, arith}
 use Rattle.std.proofs.Math.Numerals.{lt-add-one}
-use Rattle.std.specs.List.{flat_map}
-use Rattle.std.specs.Ordering.{nat_cmp}
+use Rattle.rpm_db.proofs.Vocabulary.{AreByPlace, Bad, code_of, flat_map, Good, Header, header, header_rows, HeaderFault, key_list, key_row, Kind, kind_rows}
+use Rattle.rpm_db.proofs.Vocabulary.{kinds, nat_cmp, old_rows, Package, package_rows, Row, rows_at, rows_read, StandsBeforeAll}
 use Rattle.std.specs.FinMap as finite
-use Rattle.rpm_header.specs.declared.form.HeaderFault.{HeaderFault}
-use Rattle.rpm_header.specs.Header.{Header, header}
-use Rattle.rpm_tags.specs.declared.kind.Kind.{Kind}
-use Rattle.rpm_tags.specs.Keys.{key_list, placed}
-use Rattle.rpm_tags.specs.Kinds.{code_of}
-use Rattle.rpm_hindex.specs.Rows.{Row}
-use Rattle.rpm_db.specs.Rows.{kinds, key_row, kind_rows, header_rows, rows_read, package_rows, rows_at}
-use Rattle.rpm_db.specs.State.{Package, Good, Bad}
-use Rattle.rpm_db.specs.inner.Places.{StandsBeforeAll, AreByPlace}
-use Rattle.rpm_db.specs.inner.Writes.{old_rows}
+use Rattle.rpm_tags.specs.Keys.{placed}
 
 -- ---- rows of one kind, after another kind's
 

@@ -1,25 +1,13 @@
 -- What crashes leave while a change is made.
-use Rattle.std.proofs.Common.{◌≡◌, inl, inr, ℕ, ◌+◌, ◌<◌, ◌≤◌, List, true, eqb, sym, ap, ◌∙◌, subst, arith}
+use Rattle.std.proofs.Common.{◌≡◌, inl, inr, ℕ, ◌+◌, ◌<◌, ◌≤◌, List, true, eqb, refl, sym, ap, ◌∙◌, subst, arith}
 use Rattle.std.specs.FinMap as finite
-use Rattle.std.specs.Ordering.{nat_cmp}
+use Rattle.rpm_db.proofs.Vocabulary.{Agrees, BlobMap, BlobsTo, buckets_of, Files, HasRows, IndexTo, is_current, is_current_at, is_in_order, IsBetween}
+use Rattle.rpm_db.proofs.Vocabulary.{IsChangedStill, IsLawful, IsOfRows, IsSealedAfter, IsWellFormed, nat_cmp, Package, packages, packages-blobs, packages_of}
+use Rattle.rpm_db.proofs.Vocabulary.{records, Row, rows, SameRows, sealed, StandsFor, state, state_with, Store, unit_at, Units, void_agrees, Work, WritesRows}
 use Rattle.std.proofs.lemmas.Bool.{and_parts}
 use Rattle.std.proofs.lemmas.Bool.Decides.{nat_tests}
-use Rattle.rpm_outside.specs.Files.{Units, Files, unit_at}
-use Rattle.rpm_pkgdb.specs.Quiet.{StandsFor, BlobMap}
-use Rattle.rpm_pkgdb.specs.Store.{Store}
-use Rattle.rpm_hindex.specs.declared.plan.Work.{Work}
-use Rattle.rpm_hindex.specs.Index.{records}
-use Rattle.rpm_hindex.specs.Rows.{Row, SameRows}
-use Rattle.rpm_hindex.specs.State.{buckets_of, sealed, state_of, is_current, is_in_order}
-use Rattle.rpm_hindex.specs.Whole.{IsWellFormed}
-use Rattle.rpm_db.specs.Changes.{IsChangedStill}
-use Rattle.rpm_db.specs.Lawful.{HasRows, Agrees, IsLawful, IsOfRows, is_current_at}
-use Rattle.rpm_db.specs.Rows.{rows}
-use Rattle.rpm_db.specs.State.{Package, packages, state}
-use Rattle.rpm_db.specs.inner.LawfulLaws.{void_agrees}
+use Rattle.rpm_hindex.specs.State.{state_of}
 use Rattle.rpm_db.specs.inner.Writes as writes
-use Rattle.rpm_db.specs.inner.Writes.{BlobsTo, IndexTo, IsSealedAfter, WritesRows, packages_of, state_with}
-use Rattle.rpm_db.specs.inner.States.{packages-blobs}
 
 -- the packages of an image, and its state
 image_packages : (g f : ℕ) (B : BlobMap) (image : Units) (s : StandsFor g f B image) → packages image s.value ≡ packages_of B
@@ -114,35 +102,25 @@ module _ (g f next : ℕ) (B after : BlobMap) (index : Units) (fits : Fits g B i
       early : sealed (unit_at image.idx 0) < g + 1
       early = omega (arith, ap (λ (u : Units). sealed (unit_at u 0)) idx, fits.behind)
 
+      still : {h k : ℕ} {C : BlobMap} → StandsFor h k C image.pkg → IsLawful image.pkg image.idx
+          → IsBetween (writes.state_of B f) (writes.state_of after next) (writes.state_of C k) → Still image
+      still s lawful is = record {
+        from = from;
+        was = was;
+        log = log;
+        lawful = lawful;
+        says = inr (record {
+          value = s.value;
+          undamaged = s.undamaged;
+          is = subst (IsBetween (writes.state_of B f) (writes.state_of after next)) (sym (image_state _ _ _ image.pkg s)) is;
+        });
+      }
+
       either : BlobsTo g f next B after image.pkg → Still image
-      either (inl s) = record {
-        from = from;
-        was = was;
-        log = log;
-        lawful = now_lawful g f B image.pkg image.idx s (subst (Fits g B) (sym idx) fits);
-        says = inr (record { value = s.value; undamaged = s.undamaged; is = inl (image_state g f B image.pkg s) });
-      }
-      either (inr (inl s)) = record {
-        from = from;
-        was = was;
-        log = log;
-        lawful = later_lawful (g + 1) f B image.pkg image.idx s early;
-        says = inr (record { value = s.value; undamaged = s.undamaged; is = inl (image_state (g + 1) f B image.pkg s) });
-      }
-      either (inr (inr (inl s))) = record {
-        from = from;
-        was = was;
-        log = log;
-        lawful = later_lawful (g + 1) next B image.pkg image.idx s early;
-        says = inr (record { value = s.value; undamaged = s.undamaged; is = inr (inl (image_state (g + 1) next B image.pkg s)) });
-      }
-      either (inr (inr (inr s))) = record {
-        from = from;
-        was = was;
-        log = log;
-        lawful = later_lawful (g + 1) next after image.pkg image.idx s early;
-        says = inr (record { value = s.value; undamaged = s.undamaged; is = inr (inr (image_state (g + 1) next after image.pkg s)) });
-      }
+      either (inl s) = still s (now_lawful g f B image.pkg image.idx s (subst (Fits g B) (sym idx) fits)) (inl refl)
+      either (inr (inl s)) = still s (later_lawful (g + 1) f B image.pkg image.idx s early) (inl refl)
+      either (inr (inr (inl s))) = still s (later_lawful (g + 1) next B image.pkg image.idx s early) (inr (inl refl))
+      either (inr (inr (inr s))) = still s (later_lawful (g + 1) next after image.pkg image.idx s early) (inr (inr refl))
 
   -- while the index is: the store says what it will
   module _ (work : Work) (writes_rows : WritesRows (rows (packages_of after)) work index) where

@@ -1,24 +1,11 @@
 -- A change that is planned and then written.
 use Rattle.std.proofs.Common.{◌≡◌, ℕ, ◌+◌, List, [], Option, Some, None, is_none, Ok, refl, sym, ap, ◌∙◌, subst}
 use Rattle.std.specs.FinMap as finite
-use Rattle.std.specs.Ordering.{nat_cmp}
-use Rattle.rpm_header.specs.Header.{Header, header}
-use Rattle.rpm_outside.specs.Files.{Units, Files}
-use Rattle.rpm_pkgdb.specs.declared.plan.Plan.{Plan}
-use Rattle.rpm_pkgdb.specs.declared.plan.Target.{Target}
-use Rattle.rpm_pkgdb.specs.Planned.{IsPlan, IsFor}
-use Rattle.rpm_pkgdb.specs.Blobs.{blobs}
-use Rattle.rpm_pkgdb.specs.Quiet.{IsQuiet}
-use Rattle.rpm_pkgdb.specs.Store.{Store, next_number}
-use Rattle.rpm_pkgdb.specs.Written.{with_spare, next_field, field_after}
-use Rattle.rpm_hindex.specs.Plans.{HasChanged}
-use Rattle.rpm_hindex.specs.Rows.{Row}
-use Rattle.rpm_db.specs.Rows.{header_rows, package_rows, rows_at, rows_read, rows}
-use Rattle.rpm_db.specs.State.{Package, Good, packages}
-use Rattle.rpm_db.specs.inner.RowLaws.{rows-insert, rows-remove}
-use Rattle.rpm_db.specs.inner.Writes.{packages_of, old_rows, number_for, field_for}
+use Rattle.rpm_db.proofs.Vocabulary.{blobs, field_after, field_for, Files, Good, HasChanged, Header, header, header_rows, IsFor, IsPlan, IsQuiet, nat_cmp}
+use Rattle.rpm_db.proofs.Vocabulary.{next_field, next_is_free, next_number, number_for, old_rows, Package, package-own, package_rows, packages}
+use Rattle.rpm_db.proofs.Vocabulary.{packages-blobs, packages-insert, packages-remove, packages_of, Plan, Row, rows, rows-insert, rows-remove, rows_at}
+use Rattle.rpm_db.proofs.Vocabulary.{rows_read, Store, Target, Units, with_spare}
 use Rattle.rpm_db.proofs.Rowing.{none_at}
-use Rattle.rpm_db.specs.inner.States.{packages-blobs, packages-insert, packages-remove, package-own, next_is_free}
 
 -- ---- the rows that change
 
@@ -53,12 +40,12 @@ erased_packages file value n =
     packages-remove (blobs file value) n
     ∙ ap (λ (ps : finite.FinMap nat_cmp Package). finite.remove ps n) (sym (packages-blobs file value))
 
-pub rows_erased : (file : Units) (value : Store) (n : ℕ) → HasChanged (rows_at n (finite.get (packages file value) n)) [] (rows (packages file value))
-    (rows (packages_of (finite.remove (blobs file value) n)))
-rows_erased file value n =
+pub rows_erased : (file : Units) (value : Store) (n : ℕ) (adds : List Row) → adds ≡ [] → HasChanged (rows_at n (finite.get (packages file value) n)) adds
+    (rows (packages file value)) (rows (packages_of (finite.remove (blobs file value) n)))
+rows_erased file value n adds none =
     let was = packages file value in
-    let same = erased_packages file value n in
-    subst (λ (ps : finite.FinMap nat_cmp Package). HasChanged (rows_at n (finite.get was n)) [] (rows was) (rows ps)) (sym same) (rows-remove n was)
+    subst (λ (ps : finite.FinMap nat_cmp Package). HasChanged (rows_at n (finite.get was n)) adds (rows was) (rows ps)) (sym (erased_packages file value n))
+    (subst (λ (rs : List Row). HasChanged (rows_at n (finite.get was n)) rs (rows was) (rows (finite.remove was n))) (sym none) (rows-remove n was))
 
 -- ---- the value
 

@@ -1,32 +1,15 @@
 -- A database without packages, while it is made.
 use Rattle.std.proofs.Common.{◌≡◌, ℕ, zero, suc, List, [], length, replicate, map, not, ◌==◌, Option, Some, None, Ok, Err, refl, sym, ap, ◌∙◌, inl, inr, arith}
-use Rattle.std.specs.List.{filter}
+use Rattle.rpm_db.proofs.Vocabulary.{begins, blank_store, blobs, bucket_count, entry_of, filter, free, get-packages, head_reason, in_file, is_blank, is_used}
+use Rattle.rpm_db.proofs.Vocabulary.{IsEmpty, IsUnsealed, IsWellFormed, live_of, made_new, made_or_damaged, made_store, option_map, package_of, packages}
+use Rattle.rpm_db.proofs.Vocabulary.{Reason, records, RewriteFault, Row, rows, rows_at, SameRows, Store, store, store_of, table, table_fault, times}
+use Rattle.rpm_db.proofs.Vocabulary.{times-rows, unit_at, Units, units_for, unless, word}
 use Rattle.std.specs.Prelude.{codes}
 use Rattle.std.specs.FinMap as finite
-use Rattle.std.specs.Option.{option_map}
 use Rattle.std.proofs.lemmas.Bool.{cases_Bool}
-use Rattle.rpm_outside.specs.Files.{Units, unit_at}
-use Rattle.rpm_pkgdb.specs.declared.slot.Reason.{Reason}
-use Rattle.rpm_pkgdb.specs.Blobs.{blobs, entry_of}
-use Rattle.rpm_pkgdb.specs.Damages.{head_reason, table_fault, table}
-use Rattle.rpm_pkgdb.specs.Slots.{is_used, free}
-use Rattle.rpm_pkgdb.specs.Store.{Store, store, store_of, made_store, made_or_damaged, unless, blank_store, is_blank, in_file}
-use Rattle.rpm_pkgdb.specs.Words.{word, begins}
 use Rattle.rpm_pkgdb.specs.Store as pkgdb
-use Rattle.rpm_pkgdb.specs.Written.{made_new}
-use Rattle.rpm_hindex.specs.declared.faults.RewriteFault.{RewriteFault}
 use Rattle.rpm_hindex.specs.declared.faults.RewriteFault.TheVariants as rewrite
-use Rattle.rpm_hindex.specs.Index.{records}
 use Rattle.rpm_hindex.specs.Rewrites.{IsFull}
-use Rattle.rpm_hindex.specs.Sizes.{units_for, live_of, bucket_count}
-use Rattle.rpm_hindex.specs.Rows.{Row, SameRows, times}
-use Rattle.rpm_hindex.specs.Whole.{IsWellFormed}
-use Rattle.rpm_db.specs.Inits.{IsEmpty}
-use Rattle.rpm_db.specs.Lawful.{IsUnsealed}
-use Rattle.rpm_db.specs.Rows.{rows, rows_at}
-use Rattle.rpm_db.specs.State.{package_of, packages}
-use Rattle.rpm_db.specs.inner.Laws.{get-packages}
-use Rattle.rpm_db.specs.inner.RowLaws.{times-rows}
 
 -- a store of no pages is a blank one
 passed : {X E : Type 0} (o : Option E) (x y : X) → unless o x ≡ Ok y → x ≡ y

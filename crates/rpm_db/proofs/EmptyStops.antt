@@ -1,17 +1,12 @@
 -- What a crash leaves while a database is made.
-use Rattle.std.proofs.Common.{◌≡◌, ℕ, Ok, sym, ap, ◌∙◌, subst, inl, inr}
-use Rattle.rpm_outside.specs.declared.disk.File.TheVariants.{Pkg}
-use Rattle.rpm_outside.specs.Files.{Units, Files, unit_at, blank}
-use Rattle.rpm_outside.specs.Crash.{LeavesOnly}
-use Rattle.rpm_outside.specs.inner.Moments.{leaves_then, leaves_weaker}
-use Rattle.rpm_outside.specs.Changes.{Stops}
-use Rattle.rpm_pkgdb.specs.Store.{store, blank_store}
-use Rattle.rpm_pkgdb.specs.Written.{MakesTo}
-use Rattle.rpm_db.specs.Inits.{IsEmpty, IsEmptyStill}
-use Rattle.rpm_db.specs.Lawful.{Remade}
-use Rattle.rpm_db.specs.Runs.{CameOf}
-use Rattle.rpm_db.specs.inner.LawfulLaws.{void_agrees, remade_lawful}
-use Rattle.rpm_db.proofs.Emptied.{blank_empty}
+use Rattle.std.proofs.Common.{◌≡◌, ◌≤◌, ℕ, Ok, sym, ap, ◌∙◌, subst, inl, inr, arith}
+use Rattle.rpm_db.proofs.Vocabulary.{blank, blank_store, CameOf, CanMake, Files, images, in_file, IsEmpty, IsEmptyIndex, IsEmptyStill, IsQuiet, leaves_then}
+use Rattle.rpm_db.proofs.Vocabulary.{leaves_weaker, LeavesIn, MakesTo, Pkg, Remade, remade_lawful, Runs, Stops, Store, store, unit_at, Units, void_agrees}
+use Rattle.rpm_hindex.specs.State as hindex
+use Rattle.rpm_db.proofs.Opened.{settled_quiet, still_settled}
+use Rattle.std.specs.Prelude.{IsTrue}
+use Rattle.rpm_db.proofs.Emptied.{blank_empty, blank_is}
+use Rattle.rpm_outside.specs.declared.disk.Disk as disk
 
 module _ (first : Files → Type 0) where
   -- while the index is made
@@ -58,28 +53,49 @@ module _ (first : Files → Type 0) where
         empty = subst IsEmpty (sym c.came.pkg) e.empty;
       }
 
-module _ {D : Type 0} (moment : D → ℕ) (left_since : D → ℕ → Files → Type 0) (a : D) where
-  abbrev images : D → Files → Type 0
-  images d = left_since d (moment d)
-
+module _ {D : Type 0} (d : disk.Ghosts D) (a : D) where
   abbrev Leaves : D → D → Type 0
-  Leaves x y = LeavesOnly moment left_since x y (IsEmptyStill (images a))
+  Leaves x y = LeavesIn d x y (IsEmptyStill (images d a))
 
-  pub stops_index : (b : D) (file : Units) → store file ≡ Ok blank_store → ((i : Files) → images a i → i.pkg ≡ file)
-      → LeavesOnly moment left_since a b (CameOf Remade (images a)) → Leaves a b
+  stops_index : (b : D) (file : Units) → store file ≡ Ok blank_store → ((i : Files) → images d a i → i.pkg ≡ file)
+      → LeavesIn d a b (CameOf Remade (images d a)) → Leaves a b
   stops_index b file none settled =
-      leaves_weaker moment left_since a b (CameOf Remade (images a)) (IsEmptyStill (images a)) (index_stop (images a) file none settled)
+      leaves_weaker d.moment d.left_since a b (CameOf Remade (images d a)) (IsEmptyStill (images d a)) (index_stop (images d a) file none settled)
 
-  pub stops_make : (b c : D) (idx : Units) → unit_at idx 0 ≡ blank → ((i : Files) → images b i → CameOf Remade (images a) i)
-      → ((i : Files) → images b i → i.idx ≡ idx) → LeavesOnly moment left_since b c (Stops Pkg MakesTo (images b)) → Leaves b c
+  stops_make : (b c : D) (idx : Units) → unit_at idx 0 ≡ blank → ((i : Files) → images d b i → CameOf Remade (images d a) i)
+      → ((i : Files) → images d b i → i.idx ≡ idx) → LeavesIn d b c (Stops Pkg MakesTo (images d b)) → Leaves b c
   stops_make b c idx void before settled =
-      leaves_weaker moment left_since b c (Stops Pkg MakesTo (images b)) (IsEmptyStill (images a)) (make_stop (images a) (images b) idx void before settled)
+      leaves_weaker d.moment d.left_since b c (Stops Pkg MakesTo (images d b)) (IsEmptyStill (images d a)) (make_stop (images d a) (images d b) idx void
+      before settled)
 
-  pub stops_seal : (b c d : D) → ((i : Files) → images c i → left_since c (moment b) i) → Leaves b c
-      → LeavesOnly moment left_since c d (CameOf Remade (images c)) → Leaves c d
-  stops_seal b c d earlier made =
-      leaves_weaker moment left_since c d (CameOf Remade (images c)) (IsEmptyStill (images a)) (seal_stop (images a) (images c)
+  stops_seal : (b c e : D) → ((i : Files) → images d c i → d.left_since c (d.moment b) i) → Leaves b c
+      → LeavesIn d c e (CameOf Remade (images d c)) → Leaves c e
+  stops_seal b c e earlier made =
+      leaves_weaker d.moment d.left_since c e (CameOf Remade (images d c)) (IsEmptyStill (images d a)) (seal_stop (images d a) (images d c)
       (λ i here. made.each i (earlier i here)))
 
-  pub two : (b c : D) → Leaves a b → Leaves b c → Leaves a c
-  two b c = leaves_then moment left_since a b c (IsEmptyStill (images a))
+  two : (b c : D) → Leaves a b → Leaves b c → Leaves a c
+  two b c = leaves_then d.moment d.left_since a b c (IsEmptyStill (images d a))
+
+  -- the index is made of a blank database
+  pub stops_first : IsTrue d.tells → (value : Store) (b : D) → CanMake d a value → Runs d Remade a b → Leaves a b
+  stops_first told value b can run =
+      stops_index b (d.files a).pkg (blank_is (d.files a).pkg (in_file value) (can.keeps told) can.blank) (can.pkg told) (run.any_moment told)
+
+  -- and then the store
+  module _ (told : IsTrue d.tells) (value : Store) (index : hindex.State) (b c : D) (can : CanMake d a value) (run : Runs d Remade a b)
+      (empty : IsEmptyIndex d a b index) (stops : IsQuiet value (d.files b) (images d b) → LeavesIn d b c (Stops Pkg MakesTo (images d b))) where
+    made : Leaves b c
+    made =
+        let keeps = ap store (run.reads_as told).pkg ∙ can.keeps told in
+        let quiet = settled_quiet value (d.files b) (images d b) keeps (still_settled d a b told run (can.pkg told)) in
+        stops_make b c (d.files b).idx (sym (empty.kept told).first ∙ empty.voided) (run.now told) (empty.settled told) (stops quiet)
+
+    pub stops_both : Leaves a c
+    stops_both = two b c (stops_first told value b can run) made
+
+    -- and then the index is sealed
+    pub stops_all : ((at : D) (s t : ℕ) (i : Files) → IsTrue d.tells → s ≤ t → t ≤ d.moment at → d.left_since at t i → d.left_since at s i) → (e : D)
+        → LeavesIn d c e (CameOf Remade (images d c)) → Leaves a e
+    stops_all earlier e sealing =
+        two c e stops_both (stops_seal b c e (λ i here. earlier c (d.moment b) (d.moment c) i told made.later (omega arith) here) made sealing)

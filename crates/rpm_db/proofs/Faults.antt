@@ -1,13 +1,9 @@
 -- A fault of the store, as one of the database.
 use Rattle.std.proofs.Common.{Err}
 use Rattle.std.specs.Prelude.{Result}
-use Rattle.rpm_pkgdb.specs.Store.{Store}
+use Rattle.rpm_db.proofs.Vocabulary.{Damage, OpenFault, Store, store_fault, StoreIs}
 use Rattle.rpm_pkgdb.specs.Store as pkgdb
-use Rattle.rpm_pkgdb.specs.declared.slot.Damage.{Damage}
-use Rattle.rpm_pkgdb.specs.declared.slot.OpenFault.{OpenFault}
 use Rattle.rpm_pkgdb.specs.declared.slot.OpenFault.TheVariants as of_store
-use Rattle.rpm_db.specs.Openings.{StoreIs}
-use Rattle.rpm_db.specs.inner.Faults.{store_fault}
 
 pub store_told : (said : Result Store Damage) (fault : OpenFault) → pkgdb.OpenIs said (Err fault) → StoreIs said (Err (store_fault fault))
 store_told said (of_store.Damaged damage) is = is

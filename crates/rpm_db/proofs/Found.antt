@@ -2,15 +2,9 @@
 use Rattle.std.proofs.Common.{◌≡◌, ℕ, ◌<◌, ◌%◌, List, Ok, Err, Result, true, ◌∙◌, arith, eqb}
 use Rattle.std.specs.Prelude.{IfOk, IfErr, IsOk}
 use Rattle.std.proofs.lemmas.Bool.{and_parts}
-use Rattle.rpm_outside.specs.Files.{Units}
-use Rattle.rpm_hindex.specs.declared.hits.Hit.{Hit}
-use Rattle.rpm_hindex.specs.declared.faults.FindFault.{FindFault}
+use Rattle.rpm_db.proofs.Vocabulary.{AreHits, buckets_of, chain, FindFault, FindIs, Hit, index_in, is_current, is_headed, is_in_order, is_ordered, IsOutside}
+use Rattle.rpm_db.proofs.Vocabulary.{IsWellFormed, Row, row_of_hit, SameRows, sealed, State, Units}
 use Rattle.rpm_hindex.specs.declared.faults.FindFault.TheVariants.{BadIndex, DiskFault, NoMemory}
-use Rattle.rpm_hindex.specs.Answers.{AreHits, FindIs, IsOutside, row_of_hit}
-use Rattle.rpm_hindex.specs.Index.{index_in, chain}
-use Rattle.rpm_hindex.specs.Rows.{Row, SameRows}
-use Rattle.rpm_hindex.specs.State.{State, sealed, is_in_order, is_headed, is_ordered, is_current, buckets_of}
-use Rattle.rpm_hindex.specs.Whole.{IsWellFormed}
 use Rattle.rpm_db.proofs.Making.{ordered_pending}
 
 -- an index that is current at a generation is in order, and has buckets

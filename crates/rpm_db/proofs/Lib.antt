@@ -33,3 +33,4 @@ pub mod Places
 pub mod Reached
 pub mod Apart
 pub mod ByPlace
+pub mod Vocabulary

@@ -1,19 +1,11 @@
 -- Making the index.
 use Rattle.std.proofs.Common.{◌≡◌, ◌⊎◌, ℕ, zero, suc, ◌<◌, ◌≤◌, ◌∷◌, [], List, length, true, Ok, refl, sym, ap, ◌∙◌, subst, inl, inr, arith}
 use Rattle.std.proofs.lemmas.Bool.Decides.{nat_tests}
-use Rattle.rpm_outside.specs.Files.{Units, Files, unit_at, blank, put}
-use Rattle.rpm_pkgdb.specs.Store.{Store, store, in_file}
-use Rattle.rpm_pkgdb.specs.Blobs.{blobs}
-use Rattle.rpm_hindex.specs.Images.{VoidOrSame, SealedOrSame, IsSealed}
-use Rattle.rpm_hindex.specs.Index.{records}
-use Rattle.rpm_hindex.specs.Rows.{Row, SameRows}
-use Rattle.rpm_hindex.specs.Sizes.{is_bucket_count}
+use Rattle.rpm_db.proofs.Vocabulary.{blank, blobs, buckets_of, Files, HasRows, in_file, is_bucket_count, is_current, is_current_at, is_in_order, is_ordered}
+use Rattle.rpm_db.proofs.Vocabulary.{IsIndexOf, IsLawful, IsOfRows, IsSealed, IsUnsealed, IsWellFormed, packages, put, records, Remade, Row, rows, SameRows}
+use Rattle.rpm_db.proofs.Vocabulary.{seal_unit, sealed, SealedOrSame, State, Store, store, unit_at, Units, VoidOrSame}
 use Rattle.rpm_hindex.specs.State as hindex
-use Rattle.rpm_hindex.specs.State.{State, seal_unit, sealed, is_ordered, is_in_order, is_current, state_of, buckets_of}
-use Rattle.rpm_hindex.specs.Whole.{IsWellFormed}
-use Rattle.rpm_db.specs.State.{packages}
-use Rattle.rpm_db.specs.Rows.{rows}
-use Rattle.rpm_db.specs.Lawful.{HasRows, IsIndexOf, IsUnsealed, IsOfRows, Remade, is_current_at, IsLawful}
+use Rattle.rpm_hindex.specs.State.{state_of}
 
 -- numbers in order are those of a file that has units
 pub ordered_some : (buckets units : ℕ) (second : List ℕ) → is_ordered buckets second units ≡ true → 1 ≤ units

@@ -2,25 +2,13 @@
 use Rattle.std.proofs.Common.{◌≡◌, ℕ, ◌≤◌, ◌^◌, Bool, true, false, not, ◌&&◌, ◌==◌, Some, Ok, refl, sym, ap, ◌∙◌, subst}
 use Rattle.std.specs.Prelude.{IsTrue, Result}
 use Rattle.std.proofs.lemmas.Bool.{and_parts}
-use Rattle.rpm_outside.specs.declared.disk.File.{File}
-use Rattle.rpm_outside.specs.declared.disk.File.TheVariants.{Pkg}
-use Rattle.rpm_outside.specs.Files.{Units, Files, unit_at}
-use Rattle.rpm_outside.specs.Changes.{IsSettled}
-use Rattle.rpm_outside.specs.Looks.{Looks}
-use Rattle.rpm_pkgdb.specs.declared.slot.Damage.{Damage}
-use Rattle.rpm_pkgdb.specs.Quiet.{IsQuiet, StandsAs}
-use Rattle.rpm_pkgdb.specs.Store.{Store, store}
+use Rattle.rpm_db.proofs.Vocabulary.{Damage, Files, HasRows, images, is_current_at, IsLawful, IsOpened, IsQuiet, IsSettled, Looks, must_make, packages, Pkg}
+use Rattle.rpm_db.proofs.Vocabulary.{Remade, remade_none, rows, Runs, runs_looks, StandsAs, StaysLawful, stops_lawful, Store, store, unit_at, Units}
+use Rattle.rpm_db.proofs.Vocabulary.{units_for, units_needed}
 use Rattle.rpm_pkgdb.specs.Store as pkgdb
-use Rattle.rpm_hindex.specs.Sizes.{units_for}
 use Rattle.rpm_hindex.specs.State as hindex
-use Rattle.rpm_db.specs.Lawful.{HasRows, IsLawful, Remade, StaysLawful, is_current_at}
-use Rattle.rpm_db.specs.Openings.{IsOpened, must_make, units_needed}
-use Rattle.rpm_db.specs.Rows.{rows}
-use Rattle.rpm_db.specs.Runs.{Runs}
-use Rattle.rpm_db.specs.State.{packages}
-use Rattle.rpm_db.specs.inner.LawfulLaws.{remade_none, stops_lawful}
-use Rattle.rpm_db.specs.inner.Running.{runs_looks}
 use Rattle.rpm_db.proofs.Making.{current_same}
+use Rattle.rpm_outside.specs.declared.disk.Disk as disk
 
 -- a made database, whose files were read and whose index may have been made since
 pub opened_made : (old mid new : Files) (value : Store) (index : hindex.State) → store old.pkg ≡ Ok value → mid ≡ old → (value.pages == 0) ≡ false
@@ -66,28 +54,26 @@ settled_quiet value files images keeps settled image here = record {
 }
 
 -- Packages.db stays settled where the index is rebuilt
-module _ {D : Type 0} (tells : Bool) (files : D → Files) (left_since : D → ℕ → Files → Type 0) (moment : D → ℕ)
-    (bytes_read : D → File → ℕ) (follows : D → D → Type 0) where
-  pub still_settled : (a b : D) → IsTrue tells → Runs tells files left_since moment bytes_read follows Remade a b
-      → IsSettled Pkg (files a) (left_since a (moment a)) → IsSettled Pkg (files b) (left_since b (moment b))
+module _ {D : Type 0} (d : disk.Ghosts D) where
+  pub still_settled : (a b : D) → IsTrue d.tells → Runs d Remade a b
+      → IsSettled Pkg (d.files a) (images d a) → IsSettled Pkg (d.files b) (images d b)
   still_settled a b told run settled image here =
       let c = run.now told image here in
       c.came.pkg ∙ settled c.from c.was ∙ sym (run.reads_as told).pkg
 
   -- and quiet
-  pub still_quiet : (a b : D) (value : Store) → IsTrue tells → Runs tells files left_since moment bytes_read follows Remade a b
-      → IsQuiet value (files a) (left_since a (moment a)) → IsQuiet value (files b) (left_since b (moment b))
+  pub still_quiet : (a b : D) (value : Store) → IsTrue d.tells → Runs d Remade a b
+      → IsQuiet value (d.files a) (images d a) → IsQuiet value (d.files b) (images d b)
   still_quiet a b value told run quiet image here =
       let c = run.now told image here in
       let s = quiet c.from c.was in
-      subst (λ (u : Units). StandsAs value u image.pkg) (sym (run.reads_as told).pkg)
-      (subst (StandsAs value (files a).pkg) (sym c.came.pkg) s)
+      subst (λ (u : Units). StandsAs value u image.pkg) (sym (run.reads_as told).pkg) (subst (StandsAs value (d.files a).pkg) (sym c.came.pkg) s)
 
   -- reading Packages.db is such a run
-  pub runs_read : (most : ℕ) (a b : D) → Looks tells files left_since moment bytes_read follows Pkg most a b
-      → Runs tells files left_since moment bytes_read follows Remade a b
-  runs_read most a b looks = runs_looks tells files left_since moment bytes_read follows Remade remade_none Pkg most a b refl looks
+  pub runs_read : (most : ℕ) (a b : D) → Looks d Pkg most a b
+      → Runs d Remade a b
+  runs_read most a b looks = runs_looks d Remade remade_none Pkg most a b refl looks
 
   -- and what crashes leave of it is lawful, where the images at the start are
-  pub stays_lawful : (a b : D) → IsTrue tells → Runs tells files left_since moment bytes_read follows Remade a b → StaysLawful moment left_since a b
-  stays_lawful a b told run lawful = stops_lawful moment left_since a b lawful (run.any_moment told)
+  pub stays_lawful : (a b : D) → IsTrue d.tells → Runs d Remade a b → StaysLawful d.moment d.left_since a b
+  stays_lawful a b told run lawful = stops_lawful d a b lawful (run.any_moment told)

@@ -5,41 +5,25 @@ use Rattle.std.proofs.lemmas.List.{length-replicate}
 use Rattle.std.proofs.lemmas.List.Sums.{sum_by-append}
 use Rattle.std.proofs.lemmas.Bool.Decides.{nat_tests}
 use Rattle.std.specs.FinMap as finite
-use Rattle.std.specs.Ordering.{nat_cmp}
-use Rattle.rpm_header.specs.Header.{Header, header}
-use Rattle.rpm_outside.specs.Files.{Units, Files, blank}
-use Rattle.rpm_pkgdb.specs.Store.{Store}
-use Rattle.rpm_pkgdb.specs.Written.{with_spare}
-use Rattle.rpm_hindex.specs.Plans.{HasChanged}
-use Rattle.rpm_hindex.specs.Rows.{Row}
-use Rattle.rpm_hindex.specs.State.{State, sealed, is_current, is_in_order}
-use Rattle.rpm_hindex.specs.Sizes.{live_of, record_units, units_for}
-use Rattle.rpm_db.specs.Database.{Database, IsInOrder}
-use Rattle.rpm_db.specs.Gathering.{IsOrdered, due, due_units, sealed_in}
-use Rattle.rpm_db.specs.Lawful.{HasRows}
-use Rattle.rpm_db.specs.Rows.{rows, header_rows}
-use Rattle.rpm_db.specs.State.{Package, packages}
-use Rattle.rpm_db.specs.inner.RowLaws.{times-append, times_none}
-use Rattle.rpm_db.specs.inner.Writes.{packages_of, put_map, number_for}
+use Rattle.rpm_db.proofs.Vocabulary.{blank, Database, due, due_units, Files, HasChanged, HasRows, Header, header, header_rows, is_current, is_in_order}
+use Rattle.rpm_db.proofs.Vocabulary.{IsInOrder, IsOrdered, live_of, nat_cmp, next_number, Package, packages, packages_of, put_map, record_units, Row, rows}
+use Rattle.rpm_db.proofs.Vocabulary.{sealed, sealed_in, State, Store, times-append, times_none, Units, units_for}
 use Rattle.rpm_db.proofs.Found.{current_in_order}
-use Rattle.rpm_db.proofs.Puts.{packages_same, rows_planned}
+use Rattle.rpm_db.proofs.Edited.{rows_put}
 use Rattle.rpm_db.proofs.Reached.{live_none}
 
 -- rows that come after others
 gather_more : (owed more a b c : List Row) → HasChanged [] owed a b → HasChanged [] more b c → HasChanged [] (owed ++ more) a c
 gather_more owed more a b c p q row = omega (arith, p row, q row, times_none row, times-append row owed more)
 
--- those of a header that is planned under the next number
-pub gathered_rows : (file : Units) (value planned : Store) → planned ≡ with_spare planned.spare value → (number : ℕ)
-    → number ≡ number_for None planned → (h : Header) → header h.blob ≡ Ok h → (owed more : List Row) → more ≡ owed ++ header_rows number h
-    → (from : List Row) → HasChanged [] owed from (rows (packages file value))
+-- those of a header under the next number
+pub gathered_rows : (file : Units) (value : Store) (h : Header) → header h.blob ≡ Ok h → (owed more : List Row)
+    → more ≡ owed ++ header_rows (next_number value) h → (from : List Row) → HasChanged [] owed from (rows (packages file value))
     → HasChanged [] more from (rows (packages_of (put_map file value None h.blob)))
-gathered_rows file value planned same number is h own owed more more_is from changed =
+gathered_rows file value h own owed more more_is from changed =
     let after = rows (packages_of (put_map file value None h.blob)) in
-    let step = subst (λ (ps : finite.FinMap nat_cmp Package). HasChanged [] (header_rows number h) (rows ps) after)
-    (packages_same file value planned same) (rows_planned file value planned same None number is h own) in
     subst (λ (rs : List Row). HasChanged [] rs from after) (sym more_is)
-    (gather_more owed (header_rows number h) from (rows (packages file value)) after changed step)
+    (gather_more owed (header_rows (next_number value) h) from (rows (packages file value)) after changed (rows_put file value None h own))
 
 -- an index that is owed nothing
 pub rows_clear : (from to : finite.FinMap nat_cmp Package) (idx : Units) (owed : List Row) → owed ≡ [] → HasRows from idx

@@ -1,12 +1,10 @@
 -- Rows by kind and place.
 use Rattle.std.proofs.Common.{◌≡◌, ℕ, zero, suc, ◌+◌, ◌≤◌, ◌<◌, ◌==◌, ◌&&◌, Bool, true, false, List, [], ◌∷◌, drop, length, cond, ap, ◌∙◌, inl, inr, arith, add-one}
-use Rattle.std.specs.Str.{bytes_eq}
+use Rattle.rpm_db.proofs.Vocabulary.{AreByPlace, bytes_eq, Row, row_nth, same_row, StandsBefore, StandsBeforeAll, StandsNotBehind, times, times-append}
+use Rattle.rpm_db.proofs.Vocabulary.{times_none, times_one}
 use Rattle.std.proofs.lemmas.Bool.{cases_Bool, and_parts}
 use Rattle.std.proofs.lemmas.Bool.Decides.{nat_tests}
 use Rattle.std.proofs.lemmas.Slice.Eq.{bytes_eq-Decides}
-use Rattle.rpm_hindex.specs.Rows.{Row, times, same_row, row_nth}
-use Rattle.rpm_db.specs.inner.Places.{StandsBefore, StandsNotBehind, StandsBeforeAll, AreByPlace}
-use Rattle.rpm_db.specs.inner.RowLaws.{times-append, times_none, times_one}
 use Rattle.rpm_db.proofs.Shared.{times_from}
 
 abbrev row_with : ℕ → List ℕ → ℕ → ℕ → Row

@@ -1,34 +1,18 @@
 -- A change that is planned while nothing is written, and then is written.
-use Rattle.std.proofs.Common.{◌≡◌, ℕ, ◌+◌, ◌≤◌, Bool, List, Option, Some, length, refl, sym, ap, ◌∙◌, subst}
+use Rattle.std.proofs.Common.{◌≡◌, ℕ, ◌+◌, ◌≤◌, List, Option, Some, length, refl, sym, ap, ◌∙◌, subst}
 use Rattle.std.specs.Prelude.{IsTrue}
 use Rattle.std.specs.FinMap as finite
-use Rattle.std.specs.Ordering.{nat_cmp}
-use Rattle.rpm_outside.specs.declared.disk.File.{File}
-use Rattle.rpm_outside.specs.declared.disk.File.TheVariants.{Idx, Pkg}
-use Rattle.rpm_outside.specs.Changes.{IsSettled, Stops}
-use Rattle.rpm_outside.specs.Crash.{LeavesOnly}
-use Rattle.rpm_outside.specs.Files.{Units, Files}
-use Rattle.rpm_pkgdb.specs.declared.plan.Plan.{Plan}
-use Rattle.rpm_pkgdb.specs.Blobs.{blobs}
-use Rattle.rpm_pkgdb.specs.Growing.{moving_cost}
-use Rattle.rpm_pkgdb.specs.Planned.{IsPlan, IsFor, moves_of}
-use Rattle.rpm_pkgdb.specs.Quiet.{BlobMap}
-use Rattle.rpm_pkgdb.specs.Store.{Keeps, Store}
-use Rattle.rpm_pkgdb.specs.Written.{with_spare, next_field, field_after}
-use Rattle.rpm_hindex.specs.declared.plan.Work.{Work}
-use Rattle.rpm_db.specs.Changes.{IsChangedStill, ReadsAtMost}
-use Rattle.rpm_db.specs.Lawful.{HasRows, AreLawful, IsLawful}
-use Rattle.rpm_db.specs.Rows.{rows}
-use Rattle.rpm_db.specs.Runs.{Runs}
-use Rattle.rpm_db.specs.State.{Package, packages, state}
-use Rattle.rpm_db.specs.inner.Writes.{BlobsTo, SameFiles, WritesRows, IsSealedAfter, packages_of, state_of, number_for, field_for, cost_before, put_map}
+use Rattle.rpm_db.proofs.Vocabulary.{AreLawful, BlobMap, blobs, BlobsTo, cost_before, field_after, field_for, Files, HasRows, Idx, images, IsChangedStill}
+use Rattle.rpm_db.proofs.Vocabulary.{IsFor, IsLawful, IsPlan, IsSealedAfter, IsSettled, Keeps, LeavesIn, moves_of, moving_cost, nat_cmp, next_field}
+use Rattle.rpm_db.proofs.Vocabulary.{number_for, Package, packages, packages-blobs, packages_of, Pkg, Plan, put_map, ReadsAtMost, rows, Runs, SameFiles}
+use Rattle.rpm_db.proofs.Vocabulary.{state, state-blobs, state_of, Stops, Store, Units, with_spare, Work, WritesRows}
 use Rattle.rpm_db.proofs.Both.{store_stops}
 use Rattle.rpm_db.proofs.Changed.{Fits, rows_sealed}
 use Rattle.rpm_db.proofs.Edited.{number_is}
 use Rattle.rpm_db.proofs.Puts.{blobs_planned, map_planned, field_planned, reads_put}
-use Rattle.rpm_db.specs.inner.States.{state-blobs, packages-blobs}
 use Rattle.rpm_db.proofs.Making.{no_later_of_lawful, rows_of_lawful}
 use Rattle.rpm_db.proofs.Unwritten.{settled_same, stops_written, stops_told}
+use Rattle.rpm_outside.specs.declared.disk.Disk as disk
 
 -- the state of these blobs and this number field
 pub state_written : (pkg : Units) (value : Store) (after : BlobMap) (field : ℕ) → blobs pkg value ≡ after → value.field ≡ field
@@ -75,115 +59,109 @@ fits_lawful pkg idx value keeps made lawful = record {
       (rows_of_lawful pkg idx value keeps made lawful current);
 }
 
-module _ {D : Type 0} (tells : Bool) (files : D → Files) (left_since : D → ℕ → Files → Type 0) (moment : D → ℕ)
-    (bytes_read : D → File → ℕ) (follows : D → D → Type 0) where
-  abbrev images : D → Files → Type 0
-  images d = left_since d (moment d)
-
+module _ {D : Type 0} (d : disk.Ghosts D) where
   -- what crashes leave, told by the files from before the plan
-  stops_since : (a b d : D) → IsTrue tells → AreLawful (images a) → Runs tells files left_since moment bytes_read follows SameFiles a b
-      → (value : Store) (was goes after : BlobMap) (field next last : ℕ) → was ≡ blobs (files a).pkg value → field ≡ value.field
-      → goes ≡ after → next ≡ last → LeavesOnly moment left_since b d (IsChangedStill (state_of was field) (state_of goes next) (images b))
-      → LeavesOnly moment left_since a d (IsChangedStill (state (files a).pkg value) (state_of after last) (images a))
-  stops_since a b d told lawful run value was goes after field next last was_is field_same goes_is next_is stops =
-      let file = (files a).pkg in
+  stops_since : (a b e : D) → IsTrue d.tells → AreLawful (images d a) → Runs d SameFiles a b
+      → (value : Store) (was goes after : BlobMap) (field next last : ℕ) → was ≡ blobs (d.files a).pkg value → field ≡ value.field
+      → goes ≡ after → next ≡ last → LeavesIn d b e (IsChangedStill (state_of was field) (state_of goes next) (images d b))
+      → LeavesIn d a e (IsChangedStill (state (d.files a).pkg value) (state_of after last) (images d a))
+  stops_since a b e told lawful run value was goes after field next last was_is field_same goes_is next_is stops =
+      let file = (d.files a).pkg in
       let before : state_of was field ≡ state file value =
       ap (λ (k : BlobMap). state_of k field) was_is ∙ ap (state_of (blobs file value)) field_same ∙ sym (state-blobs file value) in
       let behind : state_of goes next ≡ state_of after last = ap (λ (k : BlobMap). state_of k next) goes_is ∙ ap (state_of after) next_is in
-      stops_written (state file value) (state_of after last) tells files left_since moment bytes_read follows a b d told lawful run
-      (stops_told moment left_since b d (images b) (state_of was field) (state file value) (state_of goes next) (state_of after last) before behind stops)
+      stops_written (state file value) (state_of after last) d a b e told lawful run
+      (stops_told d b e (images d b) (state_of was field) (state file value) (state_of goes next) (state_of after last) before behind stops)
 
   -- whatever the writing answers
-  pub stops_planned : (a b d : D) → IsTrue tells → AreLawful (images a) → Runs tells files left_since moment bytes_read follows SameFiles a b
-      → (value : Store) (work : Work) (was goes after : BlobMap) (field next last : ℕ) → was ≡ blobs (files a).pkg value → field ≡ value.field
-      → goes ≡ after → next ≡ last → HasRows (packages (files a).pkg value) (files a).idx → WritesRows (rows (packages_of after)) work (files a).idx
-      → (HasRows (packages_of was) (files b).idx → WritesRows (rows (packages_of goes)) work (files b).idx
-      → LeavesOnly moment left_since b d (IsChangedStill (state_of was field) (state_of goes next) (images b)))
-      → LeavesOnly moment left_since a d (IsChangedStill (state (files a).pkg value) (state_of after last) (images a))
-  stops_planned a b d told lawful run value work was goes after field next last was_is field_same goes_is next_is has writes stops =
-      let file = (files a).pkg in
+  pub stops_planned : (a b e : D) → IsTrue d.tells → AreLawful (images d a) → Runs d SameFiles a b
+      → (value : Store) (work : Work) (was goes after : BlobMap) (field next last : ℕ) → was ≡ blobs (d.files a).pkg value → field ≡ value.field
+      → goes ≡ after → next ≡ last → HasRows (packages (d.files a).pkg value) (d.files a).idx → WritesRows (rows (packages_of after)) work (d.files a).idx
+      → (HasRows (packages_of was) (d.files b).idx → WritesRows (rows (packages_of goes)) work (d.files b).idx
+      → LeavesIn d b e (IsChangedStill (state_of was field) (state_of goes next) (images d b)))
+      → LeavesIn d a e (IsChangedStill (state (d.files a).pkg value) (state_of after last) (images d a))
+  stops_planned a b e told lawful run value work was goes after field next last was_is field_same goes_is next_is has writes stops =
+      let file = (d.files a).pkg in
       let same = run.reads_as told in
-      let has_now = subst (λ (k : BlobMap). HasRows (packages_of k) (files b).idx) (sym was_is)
+      let has_now = subst (λ (k : BlobMap). HasRows (packages_of k) (d.files b).idx) (sym was_is)
       (subst (λ (f : Files). HasRows (packages_of (blobs file value)) f.idx) (sym same)
-      (subst (λ (ps : finite.FinMap nat_cmp Package). HasRows ps (files a).idx) (packages-blobs file value) has)) in
-      let writes_now = subst (λ (k : BlobMap). WritesRows (rows (packages_of k)) work (files b).idx) (sym goes_is)
+      (subst (λ (ps : finite.FinMap nat_cmp Package). HasRows ps (d.files a).idx) (packages-blobs file value) has)) in
+      let writes_now = subst (λ (k : BlobMap). WritesRows (rows (packages_of k)) work (d.files b).idx) (sym goes_is)
       (subst (λ (f : Files). WritesRows (rows (packages_of after)) work f.idx) (sym same) writes) in
-      stops_since a b d told lawful run value was goes after field next last was_is field_same goes_is next_is (stops has_now writes_now)
+      stops_since a b e told lawful run value was goes after field next last was_is field_same goes_is next_is (stops has_now writes_now)
 
   -- of a header that is put
-  module _ {value planned : Store} {n : Option ℕ} {plan : Plan} {bytes blob : List ℕ} (a b d : D) (told : IsTrue tells)
-      (run : Runs tells files left_since moment bytes_read follows SameFiles a b) (p : IsPutPlan value planned n plan bytes blob) where
-    here : (files b).pkg ≡ (files a).pkg
+  module _ {value planned : Store} {n : Option ℕ} {plan : Plan} {bytes blob : List ℕ} (a b e : D) (told : IsTrue d.tells)
+      (run : Runs d SameFiles a b) (p : IsPutPlan value planned n plan bytes blob) where
+    here : (d.files b).pkg ≡ (d.files a).pkg
     here = ap (λ (f : Files). f.pkg) (run.reads_as told)
 
-    pub state_put : (after : Store) → blobs (files d).pkg after ≡ finite.insert (blobs (files b).pkg planned) plan.target.number (Some bytes)
+    pub state_put : (after : Store) → blobs (d.files e).pkg after ≡ finite.insert (blobs (d.files b).pkg planned) plan.target.number (Some bytes)
         → after.field ≡ field_after (next_field plan.target) planned.field
-        → state (files d).pkg after ≡ state_of (put_map (files a).pkg value n blob) (field_for n value)
+        → state (d.files e).pkg after ≡ state_of (put_map (d.files a).pkg value n blob) (field_for n value)
     state_put after is field =
-        state_written (files d).pkg after (put_map (files a).pkg value n blob) (field_for n value)
-        (is ∙ put_map_is (files a).pkg (files b).pkg here p)
-        (field ∙ field_planned value planned p.room n (length blob) plan p.plan_is p.asked)
+        state_written (d.files e).pkg after (put_map (d.files a).pkg value n blob) (field_for n value)
+        (is ∙ put_map_is (d.files a).pkg (d.files b).pkg here p) (field ∙ field_planned value planned p.room n (length blob) plan p.plan_is p.asked)
 
-    pub rows_put : (after : Store) (work : Work) → blobs (files d).pkg after ≡ finite.insert (blobs (files b).pkg planned) plan.target.number (Some bytes)
-        → WritesRows (rows (packages_of (put_map (files a).pkg value n blob))) work (files a).idx
-        → IsSealedAfter after.generation work (files b).idx (files d).idx → HasRows (packages (files d).pkg after) (files d).idx
+    pub rows_put : (after : Store) (work : Work) → blobs (d.files e).pkg after ≡ finite.insert (blobs (d.files b).pkg planned) plan.target.number (Some bytes)
+        → WritesRows (rows (packages_of (put_map (d.files a).pkg value n blob))) work (d.files a).idx
+        → IsSealedAfter after.generation work (d.files b).idx (d.files e).idx → HasRows (packages (d.files e).pkg after) (d.files e).idx
     rows_put after work is writes sealed =
-        rows_written (files d).pkg (files d).idx (files a).idx (files b).idx after after.generation work (put_map (files a).pkg value n blob)
-        (is ∙ put_map_is (files a).pkg (files b).pkg here p) (ap (λ (f : Files). f.idx) (run.reads_as told)) writes sealed
+        rows_written (d.files e).pkg (d.files e).idx (d.files a).idx (d.files b).idx after after.generation work (put_map (d.files a).pkg value n blob)
+        (is ∙ put_map_is (d.files a).pkg (d.files b).pkg here p) (ap (λ (f : Files). f.idx) (run.reads_as told)) writes sealed
 
-    pub stops_put : (work : Work) → AreLawful (images a) → HasRows (packages (files a).pkg value) (files a).idx
-        → WritesRows (rows (packages_of (put_map (files a).pkg value n blob))) work (files a).idx
-        → (HasRows (packages_of (blobs (files b).pkg planned)) (files b).idx
-        → WritesRows (rows (packages_of (finite.insert (blobs (files b).pkg planned) plan.target.number (Some bytes)))) work (files b).idx
-        → LeavesOnly moment left_since b d (IsChangedStill (state_of (blobs (files b).pkg planned) planned.field)
-        (state_of (finite.insert (blobs (files b).pkg planned) plan.target.number (Some bytes)) (field_after (next_field plan.target) planned.field))
-        (images b)))
-        → LeavesOnly moment left_since a d (IsChangedStill (state (files a).pkg value)
-        (state_of (put_map (files a).pkg value n blob) (field_for n value)) (images a))
+    pub stops_put : (work : Work) → AreLawful (images d a) → HasRows (packages (d.files a).pkg value) (d.files a).idx
+        → WritesRows (rows (packages_of (put_map (d.files a).pkg value n blob))) work (d.files a).idx
+        → (HasRows (packages_of (blobs (d.files b).pkg planned)) (d.files b).idx
+        → WritesRows (rows (packages_of (finite.insert (blobs (d.files b).pkg planned) plan.target.number (Some bytes)))) work (d.files b).idx
+        → LeavesIn d b e (IsChangedStill (state_of (blobs (d.files b).pkg planned) planned.field)
+        (state_of (finite.insert (blobs (d.files b).pkg planned) plan.target.number (Some bytes)) (field_after (next_field plan.target) planned.field))
+        (images d b)))
+        → LeavesIn d a e (IsChangedStill (state (d.files a).pkg value)
+        (state_of (put_map (d.files a).pkg value n blob) (field_for n value)) (images d a))
     stops_put work lawful has writes stops =
-        let file = (files a).pkg in
-        let mid = (files b).pkg in
-        stops_planned a b d told lawful run value work (blobs mid planned) (finite.insert (blobs mid planned) plan.target.number (Some bytes))
+        let file = (d.files a).pkg in
+        let mid = (d.files b).pkg in
+        stops_planned a b e told lawful run value work (blobs mid planned) (finite.insert (blobs mid planned) plan.target.number (Some bytes))
         (put_map file value n blob) planned.field (field_after (next_field plan.target) planned.field) (field_for n value)
         (blobs_planned file mid here value planned p.room) (ap (λ (v : Store). v.field) p.room) (put_map_is file mid here p)
         (field_planned value planned p.room n (length blob) plan p.plan_is p.asked) has writes stops
 
     -- also where its rows are gathered: the index is sealed no later than the store
-    pub stops_aside : AreLawful (images a) → images a (files a) → Keeps (files a).pkg value → 1 ≤ value.pages → IsSettled Idx (files a) (images a)
-        → LeavesOnly moment left_since b d (Stops Pkg (BlobsTo planned.generation planned.field (field_after (next_field plan.target) planned.field)
-        (blobs (files b).pkg planned) (finite.insert (blobs (files b).pkg planned) plan.target.number (Some bytes))) (images b))
-        → LeavesOnly moment left_since a d (IsChangedStill (state (files a).pkg value)
-        (state_of (put_map (files a).pkg value n blob) (field_for n value)) (images a))
+    pub stops_aside : AreLawful (images d a) → images d a (d.files a) → Keeps (d.files a).pkg value → 1 ≤ value.pages → IsSettled Idx (d.files a) (images d a)
+        → LeavesIn d b e (Stops Pkg (BlobsTo planned.generation planned.field (field_after (next_field plan.target) planned.field)
+        (blobs (d.files b).pkg planned) (finite.insert (blobs (d.files b).pkg planned) plan.target.number (Some bytes))) (images d b))
+        → LeavesIn d a e (IsChangedStill (state (d.files a).pkg value)
+        (state_of (put_map (d.files a).pkg value n blob) (field_for n value)) (images d a))
     stops_aside lawful now keeps made settled stops =
-        let file = (files a).pkg in
-        let mid = (files b).pkg in
+        let file = (d.files a).pkg in
+        let mid = (d.files b).pkg in
         let goes = finite.insert (blobs mid planned) plan.target.number (Some bytes) in
         let next = field_after (next_field plan.target) planned.field in
         let is = blobs_planned file mid here value planned p.room in
-        let fits = fits_lawful file (files a).idx value keeps made (lawful (files a) now) in
-        let fits_then : Fits planned.generation (blobs mid planned) (files b).idx =
+        let fits = fits_lawful file (d.files a).idx value keeps made (lawful (d.files a) now) in
+        let fits_then : Fits planned.generation (blobs mid planned) (d.files b).idx =
         subst (λ (f : Files). Fits planned.generation (blobs mid planned) f.idx) (sym (run.reads_as told))
-        (subst (λ (k : BlobMap). Fits planned.generation k (files a).idx) (sym is)
-        (subst (λ (v : Store). Fits v.generation (blobs file value) (files a).idx) (sym p.room) fits)) in
-        stops_since a b d told lawful run value (blobs mid planned) goes (put_map file value n blob) planned.field next (field_for n value) is
-        (ap (λ (v : Store). v.field) p.room) (put_map_is file mid here p)
-        (field_planned value planned p.room n (length blob) plan p.plan_is p.asked)
-        (store_stops tells files left_since moment bytes_read follows told planned.generation planned.field next (blobs mid planned) goes b d d fits_then
-        (settled_same tells files left_since moment bytes_read follows a b told run settled) stops)
+        (subst (λ (k : BlobMap). Fits planned.generation k (d.files a).idx) (sym is)
+        (subst (λ (v : Store). Fits v.generation (blobs file value) (d.files a).idx) (sym p.room) fits)) in
+        stops_since a b e told lawful run value (blobs mid planned) goes (put_map file value n blob) planned.field next (field_for n value) is
+        (ap (λ (v : Store). v.field) p.room) (put_map_is file mid here p) (field_planned value planned p.room n (length blob) plan p.plan_is p.asked)
+        (store_stops d told planned.generation planned.field next (blobs mid planned) goes b e e fits_then
+        (settled_same d a b told run settled) stops)
 
   -- and of a number that is taken out
-  pub stops_erase : (a b d : D) → IsTrue tells → AreLawful (images a) → Runs tells files left_since moment bytes_read follows SameFiles a b
-      → (value : Store) (n : ℕ) (work : Work) → HasRows (packages (files a).pkg value) (files a).idx
-      → WritesRows (rows (packages_of (finite.remove (blobs (files a).pkg value) n))) work (files a).idx
-      → (HasRows (packages_of (blobs (files b).pkg value)) (files b).idx
-      → WritesRows (rows (packages_of (finite.remove (blobs (files b).pkg value) n))) work (files b).idx
-      → LeavesOnly moment left_since b d (IsChangedStill (state_of (blobs (files b).pkg value) value.field)
-      (state_of (finite.remove (blobs (files b).pkg value) n) value.field) (images b)))
-      → LeavesOnly moment left_since a d (IsChangedStill (state (files a).pkg value)
-      (state_of (finite.remove (blobs (files a).pkg value) n) value.field) (images a))
-  stops_erase a b d told lawful run value n work has writes stops =
-      let file = (files a).pkg in
-      let mid = (files b).pkg in
+  pub stops_erase : (a b e : D) → IsTrue d.tells → AreLawful (images d a) → Runs d SameFiles a b
+      → (value : Store) (n : ℕ) (work : Work) → HasRows (packages (d.files a).pkg value) (d.files a).idx
+      → WritesRows (rows (packages_of (finite.remove (blobs (d.files a).pkg value) n))) work (d.files a).idx
+      → (HasRows (packages_of (blobs (d.files b).pkg value)) (d.files b).idx
+      → WritesRows (rows (packages_of (finite.remove (blobs (d.files b).pkg value) n))) work (d.files b).idx
+      → LeavesIn d b e (IsChangedStill (state_of (blobs (d.files b).pkg value) value.field)
+      (state_of (finite.remove (blobs (d.files b).pkg value) n) value.field) (images d b)))
+      → LeavesIn d a e (IsChangedStill (state (d.files a).pkg value)
+      (state_of (finite.remove (blobs (d.files a).pkg value) n) value.field) (images d a))
+  stops_erase a b e told lawful run value n work has writes stops =
+      let file = (d.files a).pkg in
+      let mid = (d.files b).pkg in
       let is : blobs mid value ≡ blobs file value = ap (λ (f : Files). blobs f.pkg value) (run.reads_as told) in
-      stops_planned a b d told lawful run value work (blobs mid value) (finite.remove (blobs mid value) n) (finite.remove (blobs file value) n)
+      stops_planned a b e told lawful run value work (blobs mid value) (finite.remove (blobs mid value) n) (finite.remove (blobs file value) n)
       value.field value.field value.field is refl (ap (λ (k : BlobMap). finite.remove k n) is) refl has writes stops

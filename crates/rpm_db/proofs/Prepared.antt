@@ -2,20 +2,9 @@
 use Rattle.std.proofs.Common.{◌≡◌, ℕ, ◌+◌, ◌-◌, List, inl, inr, sym, ap, ◌∙◌, Ok, Err, Result, arith}
 use Rattle.std.specs.Prelude.{IsOk}
 use Rattle.std.specs.FinMap as finite
-use Rattle.std.specs.Ordering.{nat_cmp}
-use Rattle.rpm_outside.specs.Files.{Units, unit_at}
-use Rattle.rpm_hindex.specs.declared.plan.Work.{Work}
+use Rattle.rpm_db.proofs.Vocabulary.{buckets_of, HasChanged, HasRows, IsBad, IsPlanFor, IsWellFormed, nat_cmp, Package, records, Row, rows, times, unit_at}
+use Rattle.rpm_db.proofs.Vocabulary.{Units, Work, WritesRows}
 use Rattle.rpm_hindex.specs.declared.faults.PrepareFault.TheVariants.{BadIndex}
-use Rattle.rpm_hindex.specs.Index.{records}
-use Rattle.rpm_hindex.specs.Plans.{HasChanged, IsPlanFor}
-use Rattle.rpm_hindex.specs.Refusals.{IsBad}
-use Rattle.rpm_hindex.specs.Rows.{Row, times}
-use Rattle.rpm_hindex.specs.State.{buckets_of}
-use Rattle.rpm_hindex.specs.Whole.{IsWellFormed}
-use Rattle.rpm_db.specs.Lawful.{HasRows}
-use Rattle.rpm_db.specs.Rows.{rows}
-use Rattle.rpm_db.specs.State.{Package}
-use Rattle.rpm_db.specs.inner.Writes.{WritesRows}
 
 module _ (drops adds : List Row) (old new : finite.FinMap nat_cmp Package) (idx : Units) (has : HasRows old idx)
     (changed : HasChanged drops adds (rows old) (rows new)) where

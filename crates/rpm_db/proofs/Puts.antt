@@ -1,23 +1,9 @@
 -- A header that is planned, and what planning and writing it reads.
 use Rattle.std.proofs.Common.{◌≡◌, inl, inr, ℕ, ◌+◌, ◌≤◌, Bool, true, false, List, Option, Some, None, is_none, Ok, refl, sym, ap, ◌∙◌, subst, arith}
 use Rattle.std.specs.FinMap as finite
-use Rattle.std.specs.Ordering.{nat_cmp}
-use Rattle.rpm_header.specs.Header.{Header, header}
-use Rattle.rpm_outside.specs.Files.{Units}
-use Rattle.rpm_pkgdb.specs.declared.moved_blocks.Move.{Move}
-use Rattle.rpm_pkgdb.specs.declared.plan.Plan.{Plan}
-use Rattle.rpm_pkgdb.specs.declared.slot.Slot.{Slot}
-use Rattle.rpm_pkgdb.specs.Blobs.{blobs}
-use Rattle.rpm_pkgdb.specs.Growing.{NeedsPage, moving_cost}
-use Rattle.rpm_pkgdb.specs.Planned.{IsPlan, IsFor, moves_of}
-use Rattle.rpm_pkgdb.specs.Store.{Store}
-use Rattle.rpm_pkgdb.specs.Quiet.{BlobMap}
-use Rattle.rpm_pkgdb.specs.Written.{with_spare, next_field, field_after}
-use Rattle.rpm_hindex.specs.Plans.{HasChanged}
-use Rattle.rpm_db.specs.Changes.{ReadsAtMost}
-use Rattle.rpm_db.specs.Rows.{header_rows, rows}
-use Rattle.rpm_db.specs.State.{Package, packages}
-use Rattle.rpm_db.specs.inner.Writes.{packages_of, old_rows, number_for, field_for, cost_before}
+use Rattle.rpm_db.proofs.Vocabulary.{BlobMap, blobs, cost_before, field_after, field_for, HasChanged, Header, header, header_rows, IsFor, IsPlan, Move}
+use Rattle.rpm_db.proofs.Vocabulary.{moves_of, moving_cost, nat_cmp, NeedsPage, next_field, number_for, old_rows, Package, packages, packages_of, Plan}
+use Rattle.rpm_db.proofs.Vocabulary.{ReadsAtMost, Row, rows, Slot, Store, Units, with_spare}
 use Rattle.rpm_db.proofs.Edited.{rows_put, blobs_room, number_is, field_is}
 
 -- ---- the rows that change, as the planned value says them
@@ -44,16 +30,14 @@ pub number_same : (n : Option ℕ) (value planned : Store) → planned ≡ with_
 number_same n value planned same = ap (number_for n) same ∙ number_room n planned.spare value
 
 pub rows_planned : (file : Units) (value planned : Store) → planned ≡ with_spare planned.spare value → (n : Option ℕ) (number : ℕ)
-    → number ≡ number_for n planned → (h : Header) → header h.blob ≡ Ok h
-    → HasChanged (old_rows n (packages file planned)) (header_rows number h) (rows (packages file planned))
+    → number ≡ number_for n planned → (adds : List Row) {h : Header} → adds ≡ header_rows number h → header h.blob ≡ Ok h
+    → HasChanged (old_rows n (packages file planned)) adds (rows (packages file planned))
     (rows (packages_of (finite.insert (blobs file value) (number_for n value) (Some h.blob))))
-rows_planned file value planned same n number is h own =
+rows_planned file value planned same n number is adds {h} adds_are own =
     let new = rows (packages_of (finite.insert (blobs file value) (number_for n value) (Some h.blob))) in
-    let was = packages file value in
-    let number_is : number ≡ number_for n value = is ∙ number_same n value planned same in
-    subst (λ (ps : finite.FinMap nat_cmp Package). HasChanged (old_rows n ps) (header_rows number h) (rows ps) new)
-    (sym (packages_same file value planned same))
-    (subst (λ (k : ℕ). HasChanged (old_rows n was) (header_rows k h) (rows was) new) (sym number_is) (rows_put file value n h own))
+    let adds_is : adds ≡ header_rows (number_for n value) h = adds_are ∙ ap (λ (k : ℕ). header_rows k h) (is ∙ number_same n value planned same) in
+    subst (λ (ps : finite.FinMap nat_cmp Package). HasChanged (old_rows n ps) adds (rows ps) new) (sym (packages_same file value planned same))
+    (subst (λ (rs : List Row). HasChanged (old_rows n (packages file value)) rs (rows (packages file value)) new) (sym adds_is) (rows_put file value n h own))
 
 -- ---- what is written
 

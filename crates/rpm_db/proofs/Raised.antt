@@ -1,18 +1,8 @@
 -- A store whose generation is raised before its blobs change.
 use Rattle.std.proofs.Common.{◌≡◌, inl, inr, ℕ, ◌+◌, ◌≤◌, Bool, List, Option, Some, None, ap, ◌∙◌, arith}
 use Rattle.std.specs.FinMap as finite
-use Rattle.rpm_outside.specs.Files.{Units}
-use Rattle.rpm_pkgdb.specs.declared.moved_blocks.Move.{Move}
-use Rattle.rpm_pkgdb.specs.declared.page_plan.Page.{Page}
-use Rattle.rpm_pkgdb.specs.declared.plan.Plan.{Plan}
-use Rattle.rpm_pkgdb.specs.declared.plan.Target.{Target}
-use Rattle.rpm_pkgdb.specs.Blobs.{blobs}
-use Rattle.rpm_pkgdb.specs.Growing.{NeedsPage, pages_after}
-use Rattle.rpm_pkgdb.specs.Planned.{IsPlan, HoldsPage, moves_of}
-use Rattle.rpm_pkgdb.specs.Quiet.{StandsFor, BlobMap}
-use Rattle.rpm_pkgdb.specs.Store.{Store}
-use Rattle.rpm_pkgdb.specs.Written.{RaisesTo, PutsTo, ErasesTo, with_generation, next_field, field_after}
-use Rattle.rpm_db.specs.inner.Writes.{BlobsTo}
+use Rattle.rpm_db.proofs.Vocabulary.{BlobMap, blobs, BlobsTo, ErasesTo, field_after, HoldsPage, IsPlan, Move, moves_of, NeedsPage, next_field, Page}
+use Rattle.rpm_db.proofs.Vocabulary.{pages_after, Plan, PutsTo, RaisesTo, StandsFor, Store, Target, Units, with_generation}
 
 needs_raised : (g : ℕ) (value : Store) (is_new : Bool) (moves : Option (List Move)) → NeedsPage value is_new moves
     → NeedsPage (with_generation g value) is_new moves

@@ -1,23 +1,11 @@
 -- How far a change makes the index reach.
 use Rattle.std.proofs.Common.{◌≡◌, ℕ, ◌+◌, ◌<◌, ◌≤◌, List, [], ◌∷◌, length, Option, Some, None, Ok, Result, true, refl, sym, ap, ◌∙◌, inl, inr, arith}
-use Rattle.std.specs.List.{sum_by}
+use Rattle.rpm_db.proofs.Vocabulary.{added, change_for, Header, header, header_rows, HeaderFault, live_of, next, next-state, number_for, record_units, Row}
+use Rattle.rpm_db.proofs.Vocabulary.{rows_read, same_row, state, Store, sum_by, times, times-append, times_none, times_one, Units}
 use Rattle.std.proofs.lemmas.Bool.{cases_Bool, cond-true, cond-false, and_from, eq-eqb}
 use Rattle.std.proofs.lemmas.Slice.Eq.{bytes_eq-Decides}
 use Rattle.std.proofs.lemmas.List.Sums.{sum_by-cons}
-use Rattle.rpm_outside.specs.Files.{Units}
-use Rattle.rpm_header.specs.declared.form.HeaderFault.{HeaderFault}
-use Rattle.rpm_header.specs.Header.{Header, header}
-use Rattle.rpm_pkgdb.specs.Store.{Store}
-use Rattle.rpm_hindex.specs.Rows.{Row, times, same_row}
-use Rattle.rpm_hindex.specs.Sizes.{live_of, record_units}
-use Rattle.rpm_db.specs.Changes.{next}
-use Rattle.rpm_db.specs.Reaches.{added}
-use Rattle.rpm_db.specs.Rows.{header_rows, rows_read}
-use Rattle.rpm_db.specs.State.{state}
 use Rattle.rpm_db.proofs.Places.{same_is}
-use Rattle.rpm_db.specs.inner.RowLaws.{times-append, times_none, times_one}
-use Rattle.rpm_db.specs.inner.States.{next-state}
-use Rattle.rpm_db.specs.inner.Writes.{change_for, number_for}
 
 same_self : (r : Row) → same_row r r ≡ true
 same_self r = and_from _ _ (eq-eqb r.kind r.kind refl) (and_from _ _ ((bytes_eq-Decides r.key r.key).1 refl)
@@ -71,5 +59,6 @@ live_none = refl
 pub added_is : (pkg : Units) (value : Store) (n : Option ℕ) (h : Header) → header h.blob ≡ Ok h
     → added (state pkg value) (change_for n h.blob) ≡ live_of (header_rows (number_for n value) h)
 added_is pkg value None h own =
-    ap (λ (r : Result Header HeaderFault). live_of (rows_read (next (state pkg value)) r)) own ∙ ap (λ (k : ℕ). live_of (header_rows k h)) (next-state pkg value)
+    ap (λ (r : Result Header HeaderFault). live_of (rows_read (next (state pkg value)) r)) own ∙ ap (λ (k : ℕ). live_of (header_rows k h)) (next-state pkg
+    value)
 added_is pkg value (Some n) h own = ap (λ (r : Result Header HeaderFault). live_of (rows_read n r)) own

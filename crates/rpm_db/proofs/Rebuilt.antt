@@ -1,14 +1,9 @@
 -- An index that was rebuilt, as a value keeps it.
 use Rattle.std.proofs.Common.{◌≡◌, ℕ, Bool, true, Option, Some, None, is_some, sym, ap, ◌∙◌}
-use Rattle.rpm_outside.specs.declared.disk.File.TheVariants.{Pkg, Idx}
-use Rattle.rpm_outside.specs.Changes.{IsSettled}
-use Rattle.rpm_outside.specs.Files.{Units, Files}
-use Rattle.rpm_pkgdb.specs.Store.{Store, store}
+use Rattle.rpm_db.proofs.Vocabulary.{Files, Idx, is_current_at, IsIndexed, IsIndexOf, IsInOrder, IsServing, IsSettled, KeepsUnits, Pkg, Remade, Store, store}
+use Rattle.rpm_db.proofs.Vocabulary.{Units}
 use Rattle.rpm_pkgdb.specs.Store as pkgdb
 use Rattle.rpm_hindex.specs.State as hindex
-use Rattle.rpm_db.specs.Changes.{IsServing}
-use Rattle.rpm_db.specs.Database.{KeepsUnits, IsInOrder, IsIndexed}
-use Rattle.rpm_db.specs.Lawful.{Remade, IsIndexOf, is_current_at}
 use Rattle.rpm_db.proofs.Making.{current_same, rows_of_index}
 use Rattle.rpm_db.proofs.Opened.{settled_quiet}
 

@@ -1,64 +1,32 @@
 -- What a fault says.
 use Rattle.std.proofs.Common.{◌≡◌, ℕ, ◌^◌, ◌≤◌, List, length, true, false, Ok, Err, refl, arith}
 use Rattle.std.specs.Prelude.{Result}
-use Rattle.rpm_db.specs.declared.change_fault.ChangeFault.{ChangeFault}
-use Rattle.rpm_db.specs.declared.change_fault.ChangeFault.TheVariants.{BadHeader, NoSuch, NumbersSpent, GenerationSpent, StoreFull, IndexFull, BadIndex, Stopped, DiskFault, NoMemory}
-use Rattle.rpm_outside.specs.Files.{Units}
-use Rattle.rpm_header.specs.Header.{Header, header}
-use Rattle.rpm_pkgdb.specs.Planned.{IsFull}
-use Rattle.rpm_db.specs.Database.{Database, holds, next_number}
-use Rattle.rpm_db.specs.Refusals.{AddIs, LaterCause, LaterIs, EraseCause, IsOfIndex, IsOfReading, IsOfRoom, IsRefusal, FullCause, BadCause, is_stopping}
+use Rattle.rpm_db.proofs.Vocabulary.{AddIs, BadCause, BadHeader, BadIndex, ChangeFault, Database, DiskFault, EraseCause, FullCause, GenerationSpent, Header}
+use Rattle.rpm_db.proofs.Vocabulary.{header, holds, IndexFull, is_stopping, IsFull, IsOfIndex, IsOfReading, IsOfRoom, IsRefusal, LaterCause, LaterIs}
+use Rattle.rpm_db.proofs.Vocabulary.{NoMemory, NoSuch, NumbersSpent, Stopped, StoreFull, Units}
+use Rattle.rpm_db.specs.Database.{next_number}
 
 -- after the generation and the room in the store
 pub later_of_index : (generation : ℕ) (full : Type 0) (fault : ChangeFault) → IsOfIndex fault → (generation ≡ 4294967295 → ⊥) → ¬ full
     → LaterCause generation full fault
-later_of_index generation full (BadHeader f) is left fits = absurd is
-later_of_index generation full NoSuch is left fits = absurd is
-later_of_index generation full NumbersSpent is left fits = absurd is
-later_of_index generation full GenerationSpent is left fits = absurd is
-later_of_index generation full StoreFull is left fits = absurd is
 later_of_index generation full (IndexFull needed) is left fits = (left, fits)
 later_of_index generation full (BadIndex unit) is left fits = (left, fits)
-later_of_index generation full Stopped is left fits = absurd is
 later_of_index generation full DiskFault is left fits = left
 later_of_index generation full NoMemory is left fits = left
+later_of_index generation full others is left fits = absurd is
 
 -- all but a fault of the disk leave the files
 pub is_refusal : (fault : ChangeFault) → (fault ≡ DiskFault → ⊥) → IsRefusal fault
-is_refusal (BadHeader f) other = tt
-is_refusal NoSuch other = tt
-is_refusal NumbersSpent other = tt
-is_refusal GenerationSpent other = tt
-is_refusal StoreFull other = tt
-is_refusal (IndexFull needed) other = tt
-is_refusal (BadIndex unit) other = tt
-is_refusal Stopped other = tt
 is_refusal DiskFault other = other refl
-is_refusal NoMemory other = tt
+is_refusal others other = tt
 
 pub stopping_is : (fault : ChangeFault) → is_stopping fault ≡ true → fault ≡ DiskFault
-stopping_is (BadHeader f) is = absurd cc
-stopping_is NoSuch is = absurd cc
-stopping_is NumbersSpent is = absurd cc
-stopping_is GenerationSpent is = absurd cc
-stopping_is StoreFull is = absurd cc
-stopping_is (IndexFull needed) is = absurd cc
-stopping_is (BadIndex unit) is = absurd cc
-stopping_is Stopped is = absurd cc
 stopping_is DiskFault is = refl
-stopping_is NoMemory is = absurd cc
+stopping_is others is = absurd cc
 
 pub refusal_goes : (fault : ChangeFault) → IsRefusal fault → is_stopping fault ≡ false
-refusal_goes (BadHeader f) is = refl
-refusal_goes NoSuch is = refl
-refusal_goes NumbersSpent is = refl
-refusal_goes GenerationSpent is = refl
-refusal_goes StoreFull is = refl
-refusal_goes (IndexFull needed) is = refl
-refusal_goes (BadIndex unit) is = refl
-refusal_goes Stopped is = refl
 refusal_goes DiskFault is = absurd is
-refusal_goes NoMemory is = refl
+refusal_goes others is = refl
 
 -- a number that is there, of a value that isn't stopped
 pub erase_cause : (db : Database) (n : ℕ) (fault : ChangeFault) → db.stopped ≡ false → holds n db ≡ true → LaterCause db.store.generation ⊥ fault
@@ -66,13 +34,8 @@ pub erase_cause : (db : Database) (n : ℕ) (fault : ChangeFault) → db.stopped
 erase_cause db n (BadHeader f) going here later = absurd later
 erase_cause db n NoSuch going here later = absurd later
 erase_cause db n NumbersSpent going here later = absurd later
-erase_cause db n GenerationSpent going here later = (going, here, later)
-erase_cause db n StoreFull going here later = (going, here, later)
-erase_cause db n (IndexFull needed) going here later = (going, here, later)
-erase_cause db n (BadIndex unit) going here later = (going, here, later)
 erase_cause db n Stopped going here later = absurd later
-erase_cause db n DiskFault going here later = (going, here, later)
-erase_cause db n NoMemory going here later = (going, here, later)
+erase_cause db n others going here later = (going, here, later)
 
 -- a fault of the store says nothing of the index, and of the disk
 pub room_index : (needed : ℕ) (idx : Units) (fault : ChangeFault) → IsOfRoom fault
@@ -80,13 +43,7 @@ pub room_index : (needed : ℕ) (idx : Units) (fault : ChangeFault) → IsOfRoom
 room_index needed idx GenerationSpent is = (tt, (tt, λ e. cc))
 room_index needed idx StoreFull is = (tt, (tt, λ e. cc))
 room_index needed idx NoMemory is = (tt, (tt, λ e. cc))
-room_index needed idx (BadHeader f) is = absurd is
-room_index needed idx NoSuch is = absurd is
-room_index needed idx NumbersSpent is = absurd is
-room_index needed idx (IndexFull told) is = absurd is
-room_index needed idx (BadIndex unit) is = absurd is
-room_index needed idx Stopped is = absurd is
-room_index needed idx DiskFault is = absurd is
+room_index needed idx others is = absurd is
 
 -- where the index has room for so many units, it is a fault of reading
 pub reading_of : (fault : ChangeFault) (needed : ℕ) → IsOfIndex fault → FullCause needed fault → needed ≤ 2 ^ 28 → IsOfReading fault
@@ -94,12 +51,7 @@ reading_of (IndexFull told) needed is full fits = omega (arith, full.0, fits)
 reading_of (BadIndex unit) needed is full fits = full
 reading_of DiskFault needed is full fits = tt
 reading_of NoMemory needed is full fits = tt
-reading_of (BadHeader f) needed is full fits = is
-reading_of NoSuch needed is full fits = is
-reading_of NumbersSpent needed is full fits = is
-reading_of GenerationSpent needed is full fits = is
-reading_of StoreFull needed is full fits = is
-reading_of Stopped needed is full fits = is
+reading_of others needed is full fits = is
 
 -- a header that is added, to a value that isn't stopped and has a number left
 pub add_cause : (db : Database) (bytes : List ℕ) (own : Header) (fault : ChangeFault) → db.stopped ≡ false → header bytes ≡ Ok own
@@ -107,13 +59,8 @@ pub add_cause : (db : Database) (bytes : List ℕ) (own : Header) (fault : Chang
 add_cause db bytes own (BadHeader f) going read left later = absurd later
 add_cause db bytes own NoSuch going read left later = absurd later
 add_cause db bytes own NumbersSpent going read left later = absurd later
-add_cause db bytes own GenerationSpent going read left later = (left, record { going = going; own = own; read = read; later = later })
-add_cause db bytes own StoreFull going read left later = (left, record { going = going; own = own; read = read; later = later })
-add_cause db bytes own (IndexFull needed) going read left later = (left, record { going = going; own = own; read = read; later = later })
-add_cause db bytes own (BadIndex unit) going read left later = (left, record { going = going; own = own; read = read; later = later })
 add_cause db bytes own Stopped going read left later = absurd later
-add_cause db bytes own DiskFault going read left later = (left, record { going = going; own = own; read = read; later = later })
-add_cause db bytes own NoMemory going read left later = (left, record { going = going; own = own; read = read; later = later })
+add_cause db bytes own others going read left later = (left, record { going = going; own = own; read = read; later = later })
 
 pub add_is : (db : Database) (bytes : List ℕ) (own : Header) (result : Result ℕ ChangeFault) → db.stopped ≡ false → header bytes ≡ Ok own
     → (next_number db ≡ 4294967295 → ⊥) → LaterIs db.store.generation (IsFull db.store true (length own.blob)) result → AddIs db bytes result

@@ -14,14 +14,17 @@ pub map_err : {A E P Q : Type 0} (r : Result A E) → (P → Q) → OnErr r P �
 map_err (Ok a) f p = tt
 map_err (Err e) f p = f p
 
-pub five_ok : {A E P Q R S U Z : Type 0} (r : Result A E) → (P → Q → R → S → U → Z) → OnOk r P → OnOk r Q → OnOk r R → OnOk r S → OnOk r U
-    → OnOk r Z
-five_ok (Ok a) f p q x y u = f p q x y u
-five_ok (Err e) f p q x y u = tt
+pub three_ok : {A E P Q R S : Type 0} (r : Result A E) → (P → Q → R → S) → OnOk r P → OnOk r Q → OnOk r R → OnOk r S
+three_ok (Ok a) f p q x = f p q x
+three_ok (Err e) f p q x = tt
 
 pub map_if_err : {A E : Type 0} {P Q : E → Type 0} (r : Result A E) → ((e : E) → P e → Q e) → IfErr r P → IfErr r Q
 map_if_err (Ok a) f p = tt
 map_if_err (Err e) f p = f e p
+
+pub on_ok : {A E P : Type 0} (r : Result A E) → P → OnOk r P
+on_ok (Ok a) p = p
+on_ok (Err e) p = tt
 
 pub on_err : {A E P : Type 0} (r : Result A E) → P → OnErr r P
 on_err (Ok a) p = tt

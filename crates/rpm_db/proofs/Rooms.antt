@@ -1,16 +1,9 @@
 -- Where a change finds room.
 use Rattle.std.proofs.Common.{◌≡◌, ℕ, ◌+◌, List, length, Option, Some, None, refl, sym, ap, ◌∙◌, subst}
 use Rattle.std.specs.Prelude.{IsSome}
-use Rattle.std.specs.Option.{option_map}
-use Rattle.rpm_pkgdb.specs.declared.plan.Plan.{Plan}
-use Rattle.rpm_pkgdb.specs.Placing.{Placement, placed, placed_generation, placement_of, put_in, with_placed}
-use Rattle.rpm_pkgdb.specs.Store.{Store}
-use Rattle.rpm_pkgdb.specs.Written.{erased, with_plan, with_spare}
-use Rattle.rpm_db.specs.declared.change_fault.ChangeFault.{ChangeFault}
-use Rattle.rpm_db.specs.declared.change_fault.ChangeFault.TheVariants.{BadHeader, NoSuch, NumbersSpent, GenerationSpent, StoreFull, IndexFull, BadIndex, Stopped, DiskFault, NoMemory}
-use Rattle.rpm_db.specs.Refusals.{IsOfIndex, LaterCause}
-use Rattle.rpm_db.specs.Room.{RoomCause, next_store, raised}
-use Rattle.rpm_db.specs.inner.Writes.{change_for}
+use Rattle.rpm_db.proofs.Vocabulary.{BadHeader, BadIndex, change_for, ChangeFault, DiskFault, erased, GenerationSpent, IndexFull, IsOfIndex, LaterCause}
+use Rattle.rpm_db.proofs.Vocabulary.{next_store, NoMemory, NoSuch, NumbersSpent, option_map, placed, placed_generation, Placement, placement_of, Plan, put_in}
+use Rattle.rpm_db.proofs.Vocabulary.{raised, RoomCause, Stopped, Store, StoreFull, with_placed, with_plan, with_spare}
 
 some_is : {X : Type 0} (said : Option X) (x : X) → said ≡ Some x → IsSome said
 some_is None x is = absurd cc
@@ -18,32 +11,20 @@ some_is (Some y) x is = refl
 
 -- the index comes after a place
 pub room_of_index : {X : Type 0} (said : Option X) (x : X) (fault : ChangeFault) → IsOfIndex fault → said ≡ Some x → RoomCause said fault
-room_of_index said x (BadHeader f) kind is = tt
-room_of_index said x NoSuch kind is = tt
-room_of_index said x NumbersSpent kind is = tt
-room_of_index said x GenerationSpent kind is = tt
 room_of_index said x StoreFull kind is = absurd kind
 room_of_index said x (IndexFull needed) kind is = some_is said x is
 room_of_index said x (BadIndex unit) kind is = some_is said x is
-room_of_index said x Stopped kind is = tt
-room_of_index said x DiskFault kind is = tt
-room_of_index said x NoMemory kind is = tt
+room_of_index said x others kind is = tt
 
 some_mapped : {X Y : Type 0} (f : X → Y) (o : Option X) → IsSome o → IsSome (option_map f o)
 some_mapped f None is = absurd cc
 some_mapped f (Some x) is = refl
 
 mapped : {X Y : Type 0} (f : X → Y) (o : Option X) (fault : ChangeFault) → RoomCause o fault → RoomCause (option_map f o) fault
-mapped f o (BadHeader why) room = tt
-mapped f o NoSuch room = tt
-mapped f o NumbersSpent room = tt
-mapped f o GenerationSpent room = tt
 mapped f o StoreFull room = ap (option_map f) room
 mapped f o (IndexFull needed) room = some_mapped f o room
 mapped f o (BadIndex unit) room = some_mapped f o room
-mapped f o Stopped room = tt
-mapped f o DiskFault room = tt
-mapped f o NoMemory room = tt
+mapped f o others room = tt
 
 -- what a place says, the store with the blob says
 pub room_put : (n : Option ℕ) (size : ℕ) (value : Store) (fault : ChangeFault) → RoomCause (placed n size value) fault
@@ -68,13 +49,7 @@ put_next (Some n) bytes value = refl
 -- a number that is taken out leaves room
 pub room_erased : (generation n : ℕ) (value : Store) (fault : ChangeFault) → LaterCause generation ⊥ fault
     → RoomCause (Some (erased n value)) fault
-room_erased generation n value (BadHeader f) later = tt
-room_erased generation n value NoSuch later = tt
-room_erased generation n value NumbersSpent later = tt
-room_erased generation n value GenerationSpent later = tt
 room_erased generation n value StoreFull later = absurd later.1
 room_erased generation n value (IndexFull needed) later = refl
 room_erased generation n value (BadIndex unit) later = refl
-room_erased generation n value Stopped later = tt
-room_erased generation n value DiskFault later = tt
-room_erased generation n value NoMemory later = tt
+room_erased generation n value others later = tt

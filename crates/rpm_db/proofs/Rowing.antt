@@ -1,27 +1,12 @@
 -- The rows of packages, one after the other.
 use Rattle.std.proofs.Common.{◌≡◌, ℕ, ◌+◌, ◌<◌, List, [], ◌++◌, take, true, false, Option, Some, None, Ok, Err, Result, is_some, refl, sym, ap, ◌∙◌, append_assoc}
-use Rattle.std.specs.List.{flat_map}
-use Rattle.std.specs.Option.{option_map}
-use Rattle.std.specs.Ordering.{nat_cmp}
+use Rattle.rpm_db.proofs.Vocabulary.{above, all_above_zero, blob_in, blobs, flat_map, frame_of, get-blobs, get-packages, Header, header, header-own}
+use Rattle.rpm_db.proofs.Vocabulary.{HeaderFault, is_there, IsNext, Kind, kinds, nat_cmp, next_above, nothing_above, option_map, Package, package_of}
+use Rattle.rpm_db.proofs.Vocabulary.{package_rows, packages, read_as, Row, rows, rows_at, rows_in, rows_read, slot_with, Store, Units}
 use Rattle.std.specs.FinMap as finite
 use Rattle.std.proofs.lemmas.List.{take_more, flat_map_more, append-nil}
 use Rattle.std.proofs.Math.ListN.{get_or}
-use Rattle.rpm_header.specs.declared.form.HeaderFault.{HeaderFault}
-use Rattle.rpm_header.specs.Header.{Header, header}
-use Rattle.rpm_tags.specs.declared.kind.Kind.{Kind}
-use Rattle.rpm_hindex.specs.Rows.{Row}
-use Rattle.rpm_outside.specs.Files.{Units}
-use Rattle.rpm_pkgdb.specs.Store.{Store}
-use Rattle.rpm_pkgdb.specs.Blobs.{blobs, blob_in, frame_of}
-use Rattle.rpm_pkgdb.specs.BlobLaws.{get-blobs}
 use Rattle.rpm_pkgdb.specs.Pairs as pairs
-use Rattle.rpm_pkgdb.specs.Slots.{slot_with}
-use Rattle.rpm_db.specs.Database.{IsNext}
-use Rattle.rpm_db.specs.State.{Package, read_as, package_of, packages, above}
-use Rattle.rpm_db.specs.Rows.{kinds, package_rows, rows_at, rows_in, rows, rows_read}
-use Rattle.rpm_db.specs.inner.Above.{next_above, nothing_above, all_above_zero}
-use Rattle.rpm_db.specs.inner.Laws.{get-packages, is_there}
-use Rattle.rpm_db.specs.inner.Own.{header-own}
 use Rattle.rpm_db.proofs.Answers.{next_is, next_of_slots}
 
 -- one kind more

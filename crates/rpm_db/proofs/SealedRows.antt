@@ -1,12 +1,7 @@
 -- The index while a change of it is written and sealed.
 use Rattle.std.proofs.Common.{◌≡◌, ◌⊎◌, inl, inr, ℕ, ◌≤◌, List, ◌∷◌, [], length, sym, ap, ◌∙◌, subst}
-use Rattle.rpm_outside.specs.Files.{Units, put}
-use Rattle.rpm_hindex.specs.declared.plan.Work.{Work}
-use Rattle.rpm_hindex.specs.Images.{VoidOrSameSeal, SealedOrSame, IsSealed}
-use Rattle.rpm_hindex.specs.Plans.{after, buckets_after}
-use Rattle.rpm_hindex.specs.State.{seal_unit}
-use Rattle.rpm_hindex.specs.Whole.{IsWellFormed}
-use Rattle.rpm_db.specs.inner.Writes.{sealed_after, IsSealedAfter, IndexTo}
+use Rattle.rpm_db.proofs.Vocabulary.{after, buckets_after, IndexTo, IsSealed, IsSealedAfter, IsWellFormed, put, seal_unit, sealed_after, SealedOrSame, Units}
+use Rattle.rpm_db.proofs.Vocabulary.{VoidOrSameSeal, Work}
 
 module _ (g : ℕ) (work : Work) (file : Units) where
   -- a file to which the change is written, and which can be sealed

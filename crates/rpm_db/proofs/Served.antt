@@ -1,22 +1,14 @@
 -- What a changing call leaves of a value.
 use Rattle.std.proofs.Common.{◌≡◌, ℕ, ◌≤◌, Bool, true, Option, Some, refl, sym, ap, ◌∙◌, subst}
 use Rattle.std.specs.Prelude.{IsTrue}
-use Rattle.rpm_outside.specs.declared.disk.File.{File}
-use Rattle.rpm_outside.specs.Files.{Units, Files}
-use Rattle.rpm_pkgdb.specs.Quiet.{IsQuiet}
-use Rattle.rpm_pkgdb.specs.Store.{Store, store}
+use Rattle.rpm_db.proofs.Vocabulary.{Database, Files, HasRows, images, IsIndexed, IsLawful, IsQuiet, IsServing, packages, Runs, SameFiles, Store, store}
+use Rattle.rpm_db.proofs.Vocabulary.{Units, with_room, with_spare}
 use Rattle.rpm_pkgdb.specs.Store as pkgdb
-use Rattle.rpm_pkgdb.specs.Written.{with_spare}
 use Rattle.rpm_hindex.specs.State as hindex
-use Rattle.rpm_db.specs.Changes.{IsServing, with_room}
-use Rattle.rpm_db.specs.Database.{Database, IsIndexed}
-use Rattle.rpm_db.specs.Lawful.{HasRows, IsLawful}
-use Rattle.rpm_db.specs.Runs.{Runs}
-use Rattle.rpm_db.specs.State.{packages}
-use Rattle.rpm_db.specs.inner.Writes.{SameFiles}
 use Rattle.rpm_db.proofs.Edited.{quiet_room}
 use Rattle.rpm_db.proofs.Unwritten.{quiet_same, settled_same}
 use Rattle.rpm_db.proofs.Making.{current_same, rows_of_lawful}
+use Rattle.rpm_outside.specs.declared.disk.Disk as disk
 
 abbrev pub database_of : Store → Option hindex.State → Bool → Database
 database_of value index stopped = record { store = value; index = index; stopped = stopped }
@@ -60,21 +52,20 @@ refused_same value new index changed was is db view same same_index going =
     ∙ view
 
 -- and it still serves
-module _ {D : Type 0} (tells : Bool) (files : D → Files) (left_since : D → ℕ → Files → Type 0) (moment : D → ℕ)
-    (bytes_read : D → File → ℕ) (follows : D → D → Type 0) where
-  pub serving_same : (a b : D) → IsTrue tells → Runs tells files left_since moment bytes_read follows SameFiles a b
+module _ {D : Type 0} (d : disk.Ghosts D) where
+  pub serving_same : (a b : D) → IsTrue d.tells → Runs d SameFiles a b
       → (value new : Store) (index changed : hindex.State) (was is : Bool) → new ≡ with_spare new.spare value → changed ≡ index
-      → IsServing (files a) (left_since a (moment a)) (database_of value (Some index) was)
-      → IsServing (files b) (left_since b (moment b)) (database_of new (Some changed) is)
+      → IsServing (d.files a) (images d a) (database_of value (Some index) was)
+      → IsServing (d.files b) (images d b) (database_of new (Some changed) is)
   serving_same a b told run value new index changed was is same same_index s =
-      let images = left_since b (moment b) in
-      let quiet = quiet_same tells files left_since moment bytes_read follows a b told run value s.quiet in
+      let images = images d b in
+      let quiet = quiet_same d a b told run value s.quiet in
       record {
-        keeps = subst (pkgdb.Keeps (files b).pkg) (sym same) (ap (λ (f : Files). store f.pkg) (run.reads_as told) ∙ s.keeps);
-        index = subst (hindex.Keeps (files b).idx) (sym same_index)
+        keeps = subst (pkgdb.Keeps (d.files b).pkg) (sym same) (ap (λ (f : Files). store f.pkg) (run.reads_as told) ∙ s.keeps);
+        index = subst (hindex.Keeps (d.files b).idx) (sym same_index)
             (subst (λ (f : Files). hindex.Keeps f.idx index) (sym (run.reads_as told)) s.index);
-        quiet = subst (λ (v : Store). IsQuiet v (files b) images) (sym same) (quiet_room new.spare value (files b) images quiet);
-        settled = settled_same tells files left_since moment bytes_read follows a b told run s.settled;
+        quiet = subst (λ (v : Store). IsQuiet v (d.files b) images) (sym same) (quiet_room new.spare value (d.files b) images quiet);
+        settled = settled_same d a b told run s.settled;
       }
 
 -- what a value keeps, told by its fields

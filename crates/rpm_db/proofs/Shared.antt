@@ -1,17 +1,11 @@
 -- A change of rows without those that are both dropped and added.
 use Rattle.std.proofs.Common.{◌≡◌, ℕ, ◌+◌, ◌≤◌, ◌<◌, ◌==◌, List, [], ◌∷◌, take, drop, length, cond, Option, Some, None, sym, ap, ◌∙◌, inl, inr, arith}
 use Rattle.std.specs.FinMap as finite
-use Rattle.std.specs.Ordering.{nat_cmp}
+use Rattle.rpm_db.proofs.Vocabulary.{AreWithout, HasChanged, nat_cmp, no_row, of_at, old_rows, Package, Row, row_nth, rows, rows_at, same_row, times}
+use Rattle.rpm_db.proofs.Vocabulary.{times-rows, times_none, times_one}
 use Rattle.std.proofs.lemmas.Bool.{cases_Bool}
 use Rattle.std.proofs.lemmas.Bool.Decides.{nat_tests}
 use Rattle.std.proofs.lemmas.List.Sums.{sum_by_more, sum_by-drop_more, sum_by-take-drop}
-use Rattle.rpm_hindex.specs.Plans.{HasChanged}
-use Rattle.rpm_hindex.specs.Rows.{Row, times, same_row, row_nth, no_row}
-use Rattle.rpm_db.specs.Rows.{rows, rows_at}
-use Rattle.rpm_db.specs.State.{Package}
-use Rattle.rpm_db.specs.inner.Places.{AreWithout}
-use Rattle.rpm_db.specs.inner.RowLaws.{times-rows, of_at, times_none, times_one}
-use Rattle.rpm_db.specs.inner.Writes.{old_rows}
 
 -- the next row of a list
 pub times_next : (row : Row) (xs : List Row) (i : ℕ) → i < length xs

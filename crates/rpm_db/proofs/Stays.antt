@@ -1,11 +1,7 @@
 -- A database without packages is made: its state stays.
 use Rattle.std.proofs.Common.{◌≡◌, Ok, sym, ap, ◌∙◌, refl}
 use Rattle.std.specs.FinMap as finite
-use Rattle.rpm_outside.specs.Files.{Units}
-use Rattle.rpm_pkgdb.specs.Blobs.{blobs}
-use Rattle.rpm_pkgdb.specs.Store.{Store, store, blank_store, in_file}
-use Rattle.rpm_pkgdb.specs.Written.{made_new}
-use Rattle.rpm_db.specs.State.{packages, state}
+use Rattle.rpm_db.proofs.Vocabulary.{blank_store, blobs, in_file, made_new, packages, state, Store, store, Units}
 use Rattle.rpm_db.proofs.Emptied.{blank_is, unused}
 
 none_made : (file : Units) (value : Store) → blobs file (made_new value) ≡ finite.empty

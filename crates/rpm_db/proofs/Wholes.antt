@@ -1,17 +1,9 @@
 -- An index that is well formed as a whole, while a change of it is worked out and written.
 use Rattle.std.proofs.Common.{◌≡◌, ℕ, List, Ok, Err, sym, subst}
 use Rattle.std.specs.Prelude.{Result, IfErr}
-use Rattle.rpm_outside.specs.Files.{Units, Files, unit_at}
-use Rattle.rpm_hindex.specs.declared.plan.Work.{Work}
-use Rattle.rpm_hindex.specs.Plans.{IsPlanFor}
-use Rattle.rpm_hindex.specs.Rows.{Row}
-use Rattle.rpm_hindex.specs.State.{buckets_of}
-use Rattle.rpm_hindex.specs.Whole.{IsWellFormed}
-use Rattle.rpm_db.specs.declared.change_fault.ChangeFault.{ChangeFault}
-use Rattle.rpm_db.specs.declared.change_fault.ChangeFault.TheVariants.{BadHeader, NoSuch, NumbersSpent, GenerationSpent, StoreFull, IndexFull, BadIndex, Stopped, DiskFault, NoMemory}
-use Rattle.rpm_db.specs.Lawful.{IsWholeIndex}
-use Rattle.rpm_db.specs.Refusals.{BadCause, BadIndexIs, WholeCause}
-use Rattle.rpm_db.specs.inner.Writes.{WritesWhole, IsSealedAfter}
+use Rattle.rpm_db.proofs.Vocabulary.{BadCause, BadHeader, BadIndex, BadIndexIs, buckets_of, ChangeFault, DiskFault, Files, GenerationSpent, IndexFull}
+use Rattle.rpm_db.proofs.Vocabulary.{IsPlanFor, IsSealedAfter, IsWellFormed, IsWholeIndex, NoMemory, NoSuch, NumbersSpent, Row, Stopped, StoreFull, unit_at}
+use Rattle.rpm_db.proofs.Vocabulary.{Units, WholeCause, Work, WritesWhole}
 use Rattle.rpm_db.proofs.Prepared.{never_bad}
 
 -- a change is worked out, told by the first unit that a value keeps
@@ -35,16 +27,8 @@ whole_sealed generation work from mid idx same writes sealed =
 
 -- or refused, but not for the index
 pub whole_cause : (idx : Units) (fault : ChangeFault) → IsWholeIndex idx → BadCause idx fault → WholeCause fault
-whole_cause idx (BadHeader f) whole bad = tt
-whole_cause idx NoSuch whole bad = tt
-whole_cause idx NumbersSpent whole bad = tt
-whole_cause idx GenerationSpent whole bad = tt
-whole_cause idx StoreFull whole bad = tt
-whole_cause idx (IndexFull needed) whole bad = tt
 whole_cause idx (BadIndex unit) whole bad = never_bad (buckets_of (unit_at idx 0)) unit idx whole bad
-whole_cause idx Stopped whole bad = tt
-whole_cause idx DiskFault whole bad = tt
-whole_cause idx NoMemory whole bad = tt
+whole_cause idx others whole bad = tt
 
 pub whole_err : {A : Type 0} (idx : Units) (result : Result A ChangeFault) → IsWholeIndex idx → BadIndexIs idx result → IfErr result WholeCause
 whole_err idx (Ok done) whole bad = tt

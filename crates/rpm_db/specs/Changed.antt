@@ -5,14 +5,13 @@ use Rattle.rpm_db.specs.declared.change_fault.ChangeFault.{ChangeFault}
 use Rattle.rpm_db.specs.declared.change_fault.ChangeFault.TheVariants.{DiskFault}
 use Rattle.rpm_db.specs.Changes.{AllSay, Change, IsServing, apply}
 use Rattle.rpm_db.specs.Database.{Database, IsIndexed, is_blank, is_indexed}
-use Rattle.rpm_db.specs.Frame.{StaysBetween, state_in}
+use Rattle.rpm_db.specs.Frame.{Runs, StaysBetween, state_in}
 use Rattle.rpm_db.specs.Lawful.{IsWholeIndex}
 use Rattle.rpm_db.specs.Reaches.{Reaches, needed}
 use Rattle.rpm_db.specs.Refusals.{FullIndexIs, IsRefusal, StaysWhole}
 use Rattle.rpm_db.specs.Room.{RoomIs, next_store}
-use Rattle.rpm_db.specs.Runs.{Runs}
+use Rattle.rpm_db.specs.Runs.{SameFiles}
 use Rattle.rpm_db.specs.State.{state}
-use Rattle.rpm_db.specs.inner.Writes.{SameFiles}
 
 module _ {D : Type 0} (d : disk.Ghosts D) where
   -- it can be changed: it has an index, wasn't stopped, and is what the disk's files say
@@ -54,6 +53,6 @@ module _ {D : Type 0} (d : disk.Ghosts D) where
         → IsServing (d.files new) (d.left_since new (d.moment new)) after
     pub refused : IfErr result (λ e. IsRefusal e → after ≡ refused_as)
     pub same : IfErr result (λ e. IsRefusal e
-        → Runs d.tells d.files d.left_since d.moment d.bytes_read d.follows SameFiles old new)
+        → Runs d SameFiles old new)
     pub stopped : (after.stopped ≡ true → (before.stopped ≡ true) ⊎ (result ≡ Err DiskFault))
         × (result ≡ Err DiskFault → after.stopped ≡ true)

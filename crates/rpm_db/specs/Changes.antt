@@ -4,7 +4,7 @@ use Rattle.std.specs.FinMap as finite
 use Rattle.rpm_outside.specs.declared.disk.File.TheVariants.{Idx}
 use Rattle.rpm_outside.specs.Files.{Units, Files}
 use Rattle.rpm_outside.specs.Changes.{IsSettled}
-use Rattle.rpm_pkgdb.specs.declared.moved_blocks.Move.{Move}
+use Rattle.rpm_pkgdb.specs.declared.added_page.Move.{Move}
 use Rattle.rpm_pkgdb.specs.Costs.{cost}
 use Rattle.rpm_pkgdb.specs.Growing.{NeedsPage, moving_cost}
 use Rattle.rpm_pkgdb.specs.Quiet.{IsQuiet}

@@ -40,10 +40,8 @@ abbrev pub IsInOrder : ℕ → Option hindex.State → Type 0
 IsInOrder generation None = Unit {0}
 IsInOrder generation (Some state) = hindex.is_current generation state ≡ true
 
--- what holds of each value: no package has the number 0, a blank store has no index, and until a changing call fails the store goes on and
--- the index is current
+-- what holds of each value: a blank store has no index, and until a changing call fails the store goes on and the index is current
 pub record IsConsistent (store : Store) (index : Option hindex.State) (stopped : Bool) : Type 0 where
-  pub from_one : slot_with 0 store.slots ≡ None
   pub made : is_some index ≡ true → 1 ≤ store.pages
   pub going : stopped ≡ false → store.is_stopped ≡ false
   pub order : stopped ≡ false → IsInOrder store.generation index

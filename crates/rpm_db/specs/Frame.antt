@@ -5,6 +5,7 @@ use Rattle.std.specs.FinMap.{FinMap}
 use Rattle.rpm_outside.specs.declared.disk.Disk as disk
 use Rattle.rpm_outside.specs.Files.{Files}
 use Rattle.rpm_outside.specs.Frame.{DiskFault, LeavesIn, images}
+use Rattle.rpm_pkgdb.specs.Store.{Store}
 use Rattle.rpm_db.specs.Changes as changes
 use Rattle.rpm_db.specs.Changes.{Change, IsChangedStill, apply}
 use Rattle.rpm_db.specs.Database.{Database, Keeps, KeepsIndex}
@@ -12,6 +13,10 @@ use Rattle.rpm_db.specs.Database as database
 use Rattle.rpm_db.specs.Lawful.{AreLawful}
 use Rattle.rpm_db.specs.Runs as runs
 use Rattle.rpm_db.specs.State.{Package, State, packages, state}
+
+-- the room that is left of a database, as one reading
+abbrev pub room : Database → Store
+room db = db.store
 
 module _ {D : Type 0} (d : disk.Ghosts D) where
   -- the files, and what a crash leaves, came of those before as a relation says

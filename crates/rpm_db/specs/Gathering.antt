@@ -18,7 +18,7 @@ use Rattle.rpm_db.specs.Refusals.{FullIndexIs, IsRefusal}
 use Rattle.rpm_db.specs.Room.{RoomIs, next_store}
 use Rattle.rpm_db.specs.Rows.{rows}
 use Rattle.rpm_db.specs.State.{Package, packages, state}
-use Rattle.rpm_db.specs.inner.Writes.{SameFiles}
+use Rattle.rpm_db.specs.Runs.{SameFiles}
 
 -- the generation at which an index is sealed
 abbrev pub sealed_in : Option hindex.State → ℕ

@@ -54,11 +54,12 @@ pub use Rattle.rpm_db.specs.Verdicts.{differs, header_verdict, is_digest_wrong, 
 pub use Rattle.rpm_db.specs.declared.change_fault.ChangeFault.TheVariants.{BadHeader}
 pub use Rattle.rpm_db.specs.declared.open_fault.DbOpenFault.TheVariants.{Damaged}
 pub use Rattle.rpm_db.specs.inner.Both.{ArePlanned, AreRead, AreWritten, CanApply, CanChange, CanPut, CanTake, IndexIs, IsApplied}
-pub use Rattle.rpm_db.specs.inner.Both.{FindsRoom, IsDone, IsMade, IsPlaced, IsStored, LeadsTo, PlacedIs}
+pub use Rattle.rpm_db.specs.inner.Both.{FindsRoom, IsDone, IsPlaced, IsStored, LeadsTo, PlacedIs}
 pub use Rattle.rpm_db.specs.inner.Faults.{store_fault}
 pub use Rattle.rpm_db.specs.inner.Filling.{AreOfRows, CanFill, CanPutAside, IsFilled, IsPutAside, TakesRows}
 pub use Rattle.rpm_db.specs.inner.Making.{CanIndex, CanMake, IsEmptyIndex, IsIndexFor, IsMadeEmpty, IsRemade, IsSealedHere}
-pub use Rattle.rpm_db.specs.inner.Places.{AreByPlace, AreWithout, StandsBefore, StandsNotBehind}
-pub use Rattle.rpm_db.specs.inner.Writes.{BlobsTo, IndexTo, SameFiles, SameLog, WritesRows, WritesWhole, change_for}
+pub use Rattle.rpm_db.specs.inner.Places.{AreByPlace, AreParted, StandsBefore, StandsNotBehind}
+pub use Rattle.rpm_db.specs.Runs.{SameFiles, SameLog}
+pub use Rattle.rpm_db.specs.inner.Writes.{BlobsTo, IndexTo, WritesRows, WritesWhole, change_for}
 pub use Rattle.rpm_db.specs.inner.Writes.{cost_before, field_for, number_for, old_rows, packages_of, put_map}
 pub use Rattle.rpm_db.specs.inner.Writes.{state_of}

@@ -1,9 +1,17 @@
 -- What a run of calls does that may change both files.
-use Rattle.std.specs.Prelude.{IsTrue, ℕ, ◌≤◌, Bool}
+use Rattle.std.specs.Prelude.{◌≡◌, IsTrue, ℕ, ◌≤◌, Bool}
 use Rattle.rpm_outside.specs.declared.disk.File.{File}
 use Rattle.rpm_outside.specs.declared.disk.File.TheVariants.{Log}
 use Rattle.rpm_outside.specs.Files.{Files}
 use Rattle.rpm_outside.specs.Crash.{LeavesOnly}
+
+-- the log stays
+abbrev pub SameLog : Files → Files → Type 0
+SameLog from image = image.log ≡ from.log
+
+-- all three files stay
+abbrev pub SameFiles : Files → Files → Type 0
+SameFiles from image = image ≡ from
 
 -- an image that came so of one of these
 pub record CameOf (P : Files → Files → Type 0) (images : Files → Type 0) (image : Files) : Type 0 where

@@ -5,7 +5,7 @@ ghost use Rattle.rpm_db.specs.Prelude.{Add, AddIs, AreLawful, DiskFault, Gathers
 
 use crate::change_fault::ChangeFault;
 use crate::database::Db;
-use crate::gathering::{fill_index, put_aside};
+use crate::gathering::{fill_index, store_header};
 use rpm_header::View;
 use rpm_hindex::Rows;
 use rpm_outside::Disk;
@@ -84,7 +84,7 @@ impl Additions {
         let Some(index) = &db.index else {
             unreachable!()
         };
-        put_aside(alloc, disk, &mut db.store, index, &mut self.rows, &view)
+        store_header(alloc, disk, &mut db.store, index, &mut self.rows, &view)
     }
 
     /// Ends the additions: all their rows go into the index, which is sealed once. Where there were none nothing is

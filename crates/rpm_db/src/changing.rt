@@ -2,7 +2,7 @@
 
 ghost use Rattle.std.specs.Prelude.{◌≡◌, ℕ, ◌+◌, ◌<◌, ◌≤◌, max, IsTrue, IsSome, true, false, length, Some, None, OnOk, IfOk};
 ghost use Rattle.std.specs.FinMap as finite;
-ghost use Rattle.rpm_db.specs.Prelude.{AreWritten, blobs, CanApply, CanChange, CanPut, DiskCause, erased, field_after, HasRows, images, IsChangedStill, IsMade, LeavesIn, moves_of, moving_cost, next_field, packages_of, Pkg, ReachesTo, ReadAtMost, rows, Runs, SameLog, slot_with, state_of, with_generation, with_plan, with_spare, WritesRows};
+ghost use Rattle.rpm_db.specs.Prelude.{AreWritten, blobs, CanApply, CanChange, CanPut, DiskCause, erased, field_after, HasRows, images, IsChangedStill, LeavesIn, moves_of, moving_cost, next_field, packages_of, Pkg, ReachesTo, ReadAtMost, rows, Runs, SameLog, slot_with, state_of, with_generation, with_plan, with_spare, WritesRows};
 ghost use Rattle.rpm_outside.specs.Changes.{IsSettled};
 ghost use Rattle.rpm_hindex.specs.State as hindex;
 
@@ -22,13 +22,12 @@ pub fn write_put<D: Disk>(
     plan: Plan,
     change: IndexPlan,
     blob: &[u8],
-) -> Result<u32, IndexDiskFault>
+) -> Result<(), IndexDiskFault>
     requires ready { CanChange D.Disk disk.old store.old index.old }
     requires plan { CanPut store.old plan }
     requires length { plan.target.length ≡ length blob.now }
     requires change { CanApply index.old.units change.work }
-    ensures number { IfOk result (λ n. n ≡ plan.target.number) }
-    ensures is_made { IsMade store.new }
+    ensures made { 1 ≤ store.new.pages }
     ensures written { OnOk result (AreWritten D.Disk disk.old disk.new index.old index.new store.new
         (with_spare store.new.spare (with_plan plan (with_generation (store.old.generation + 1) store.old)))
         (finite.insert (blobs (D.files disk.old).pkg store.old) plan.target.number (Some blob.now)) change.work) }
@@ -45,13 +44,10 @@ pub fn write_put<D: Disk>(
     ensures runs { Runs D.Disk SameLog disk.old disk.new }
     ensures cause { DiskCause D.Disk result disk.old disk.new }
 {
-    let Ok(number) = put_raised(disk, store, plan, blob) else {
+    let Ok(_) = put_raised(disk, store, plan, blob) else {
         return Err(IndexDiskFault);
     };
-    match write_rows(disk, index, change, store.generation()) {
-        Ok(()) => Ok(number),
-        Err(IndexDiskFault) => Err(IndexDiskFault),
-    }
+    write_rows(disk, index, change, store.generation())
 }
 
 /// Erases a package under a raised generation, takes its rows out, and seals the index at that generation.
@@ -66,7 +62,7 @@ pub fn write_erase<D: Disk>(
     requires left { store.old.generation < 4294967295 }
     requires held { IsSome (slot_with n store.old.slots) }
     requires change { CanApply index.old.units change.work }
-    ensures is_made { IsMade store.new }
+    ensures made { 1 ≤ store.new.pages }
     ensures written { OnOk result (AreWritten D.Disk disk.old disk.new index.old index.new store.new
         (erased n (with_generation (store.old.generation + 1) store.old))
         (finite.remove (blobs (D.files disk.old).pkg store.old) n) change.work) }
@@ -85,8 +81,5 @@ pub fn write_erase<D: Disk>(
     let Ok(()) = erase_raised(disk, store, n) else {
         return Err(IndexDiskFault);
     };
-    match write_rows(disk, index, change, store.generation()) {
-        Ok(()) => Ok(()),
-        Err(IndexDiskFault) => Err(IndexDiskFault),
-    }
+    write_rows(disk, index, change, store.generation())
 }

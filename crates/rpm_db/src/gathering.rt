@@ -2,13 +2,13 @@
 
 ghost use Rattle.std.specs.Prelude.{◌≡◌, ◌+◌, ◌++◌, ◌≤◌, [], length, IsTrue, true, false, None, Err, OnOk, IfOk, IfErr};
 ghost use Rattle.std.specs.FinMap as finite;
-ghost use Rattle.rpm_db.specs.Prelude.{AreLawful, AreOfRows, CanFill, CanPutAside, CanTake, DiskFault, field_for, FindsRoom, FullCause, HasChanged, HasRows, header_rows, images, IsChangedStill, IsFilled, IsLawfulStill, IsMade, IsOfIndex, IsPutAside, IsRefusal, IsWholeIndex, LeavesIn, nat_cmp, Package, put_map, rows, Runs, RunsOr, SameFiles, SameLog, state, state_of, StaysWhole, TakesRows, units_for, with_spare};
+ghost use Rattle.rpm_db.specs.Prelude.{AreLawful, AreOfRows, CanFill, CanPutAside, CanTake, DiskFault, field_for, FindsRoom, FullCause, HasChanged, HasRows, header_rows, images, IsChangedStill, IsFilled, IsLawfulStill, IsOfIndex, IsPutAside, IsRefusal, IsWholeIndex, LeavesIn, nat_cmp, Package, put_map, rows, Runs, RunsOr, SameFiles, SameLog, state, state_of, StaysWhole, TakesRows, units_for, with_spare};
 ghost use Rattle.rpm_pkgdb.specs.Store.{next_number};
 ghost use Rattle.rpm_hindex.specs.State as hindex;
 
 use crate::change_fault::ChangeFault;
 use crate::preparing::prepare_rows;
-use crate::putting::plan_room;
+use crate::putting::plan_blob;
 use crate::rows::push_header;
 use crate::writing::{put_raised, write_rows};
 use rpm_header::View;
@@ -42,7 +42,7 @@ fn expect_room<D: Disk>(
 }
 
 /// Puts a header into the store alone, under the next number and a raised generation, and gathers its rows.
-pub fn put_aside<D: Disk>(
+pub fn store_header<D: Disk>(
     alloc: Global,
     disk: &mut D,
     store: &mut PkgDb,
@@ -54,7 +54,7 @@ pub fn put_aside<D: Disk>(
     requires takes { CanTake None store.old }
     ensures room { FindsRoom None (length view.now.blob) store.old store.new result }
     ensures number { IfOk result (λ m. m ≡ next_number store.old) }
-    ensures is_made { IsMade store.new }
+    ensures made { 1 ≤ store.new.pages }
     ensures done { OnOk result (IsPutAside D.Disk disk.old disk.new store.old store.new owed.old owed.new view.now) }
     ensures rows { TakesRows D.Disk disk.old [] (owed.old ++ header_rows (next_number store.old) view.now) result }
     ensures index { IsTrue D.tells → (D.files disk.new).idx ≡ (D.files disk.old).idx }
@@ -66,7 +66,7 @@ pub fn put_aside<D: Disk>(
         (images D.Disk disk.old)) }
     ensures runs { RunsOr D.Disk SameLog (result ≡ Err ChangeFault.DiskFault) disk.old disk.new }
 {
-    let plan = match plan_room(alloc, store, None, view) {
+    let plan = match plan_blob(alloc, store, None, view) {
         Ok(plan) => plan,
         Err(fault) => return Err(fault),
     };
@@ -78,10 +78,7 @@ pub fn put_aside<D: Disk>(
         Err(fault) => return Err(fault),
     }
     match put_raised(disk, store, plan, view.blob()) {
-        Ok(number) => {
-            let _ = store.generation();
-            Ok(number)
-        }
+        Ok(number) => Ok(number),
         Err(_) => Err(ChangeFault::DiskFault),
     }
 }

@@ -1,7 +1,7 @@
 //! Making the index from the packages.
 
-ghost use Rattle.std.specs.Prelude.{◌≡◌, ◌≢◌, ℕ, ◌+◌, ◌≤◌, ◌<◌, max, IsTrue, true, not, None, Err, OnOk, IfOk, IfErr, if◌then◌else◌};
-ghost use Rattle.rpm_db.specs.Prelude.{CanIndex, cost_all, Damage, DiskCause, DiskFault, Files, FullIs, FullOpenIs, Idx, images, is_current_at, IsIndexFor, IsOfRows, IsRefused, IsSealedHere, IsSettled, IsUnsealed, Keeps, packages, Pkg, ReachesMade, ReadAtMost, Remade, rows, Runs, slot_with, units_for, WritesNothing};
+ghost use Rattle.std.specs.Prelude.{◌≡◌, ◌≢◌, ℕ, ◌+◌, ◌≤◌, ◌<◌, max, IsTrue, true, not, Err, OnOk, IfOk, IfErr, if◌then◌else◌};
+ghost use Rattle.rpm_db.specs.Prelude.{CanIndex, cost_all, Damage, DiskCause, DiskFault, Files, FullIs, FullOpenIs, Idx, images, is_current_at, IsIndexFor, IsOfRows, IsRefused, IsSealedHere, IsSettled, IsUnsealed, Keeps, packages, Pkg, ReachesMade, ReadAtMost, Remade, rows, Runs, units_for, WritesNothing};
 ghost use Rattle.rpm_hindex.specs.State as hindex;
 
 use crate::open_fault::DbOpenFault;
@@ -83,7 +83,6 @@ pub fn make_index<D: Disk>(
     index: &mut Hindex,
 ) -> Result<(), RewriteFault>
     requires keeps { IsTrue D.tells → Keeps (D.files disk.old).pkg store.now }
-    requires from_one { slot_with 0 store.now.slots ≡ None }
     requires index { IsTrue D.tells → hindex.Keeps (D.files disk.old).idx index.old }
     requires settled { IsTrue D.tells → IsSettled D.Disk Pkg disk.old }
     ensures full { IsTrue D.tells → FullIs (units_for (rows (packages (D.files disk.old).pkg store.now))) result }

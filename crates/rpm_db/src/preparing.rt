@@ -2,14 +2,12 @@
 
 ghost use Rattle.std.specs.Prelude.{◌≡◌, ℕ, ◌+◌, ◌≤◌, [], max, IsTrue, true, Option, None, Err, IfOk, IfErr};
 ghost use Rattle.std.specs.FinMap as finite;
-ghost use Rattle.rpm_db.specs.Prelude.{AreRead, AreWithout, BadIndexIs, CanApply, cost_before, DiskFault, FullIndexIs, HasChanged, HasRows, header_rows, Idx, IsOfIndex, IsOfReading, IsOutside, IsWholeIndex, Keeps, LeadsTo, nat_cmp, old_rows, Package, packages, Pkg, rows, rows_at, Runs, SameFiles, units_for, WritesWhole};
-ghost use Rattle.rpm_outside.specs.Looks.{Looks};
-ghost use Rattle.rpm_pkgdb.specs.Costs.{cost};
+ghost use Rattle.rpm_db.specs.Prelude.{AreByPlace, AreRead, BadIndexIs, CanApply, cost_before, DiskFault, FullIndexIs, HasChanged, HasRows, header_rows, Idx, IsOfIndex, IsOfReading, IsOutside, IsWholeIndex, Keeps, LeadsTo, Looks, LooksAt, nat_cmp, old_rows, Package, packages, Pkg, rows, Runs, SameFiles, units_for, WritesWhole};
 ghost use Rattle.rpm_hindex.specs.State as hindex;
 
 use crate::change_fault::ChangeFault;
 use crate::rows::{push_header, push_package};
-use crate::sharing::{RowChange, without_shared};
+use crate::sharing::without_shared;
 use rpm_header::View;
 use rpm_hindex::{Hindex, IndexPlan, PrepareFault, RewriteFault, Rows};
 use rpm_outside::Disk;
@@ -24,13 +22,10 @@ fn rows_before<D: Disk>(
     n: Option<u32>,
 ) -> Result<Rows, ChangeFault>
     requires keeps { IsTrue D.tells → Keeps (D.files disk.old).pkg store.now }
-    ensures kept { IsTrue D.tells → Keeps (D.files disk.new).pkg store.now }
     ensures rows { IfOk result (λ rows. IsTrue D.tells
         → rows ≡ old_rows n (packages (D.files disk.old).pkg store.now)) }
     ensures kinds { IfErr result IsOfReading }
-    ensures reads { D.bytes_read disk.new Pkg ≤ D.bytes_read disk.old Pkg + cost_before n store.now }
-    ensures unread { D.bytes_read disk.new Idx ≤ D.bytes_read disk.old Idx }
-    ensures runs { Runs D.Disk SameFiles disk.old disk.new }
+    ensures looks { Looks D.Disk Pkg (cost_before n store.now) disk.old disk.new }
     ensures cause { DiskFault D.Disk (result ≡ Err ChangeFault.DiskFault) disk.old disk.new }
 {
     let mut rows = Rows::new(alloc);
@@ -51,46 +46,12 @@ const USUAL_ROWS: usize = 64;
 const USUAL_KEYS: usize = 2048;
 
 /// The rows of a header under a number.
-fn rows_behind(alloc: Global, number: u32, view: &View<'_>) -> Result<Rows, AllocError>
+pub fn rows_behind(alloc: Global, number: u32, view: &View<'_>) -> Result<Rows, AllocError>
     ensures { IfOk result (λ rows. rows ≡ header_rows number view.now) }
 {
     let mut rows = Rows::with_room(alloc, USUAL_ROWS, USUAL_KEYS)?;
     push_header(&mut rows, view, number)?;
     Ok(rows)
-}
-
-/// The rows that a header under a number drops and adds: those that both headers have stay.
-fn rows_apart<D: Disk>(
-    alloc: Global,
-    disk: &mut D,
-    store: &PkgDb,
-    n: Option<u32>,
-    number: u32,
-    view: &View<'_>,
-) -> Result<RowChange, ChangeFault>
-    requires keeps { IsTrue D.tells → Keeps (D.files disk.old).pkg store.now }
-    ensures drops { IfOk result (λ change. IsTrue D.tells → AreWithout (header_rows number view.now)
-        (old_rows n (packages (D.files disk.old).pkg store.now)) change.drops) }
-    ensures adds { IfOk result (λ change. IsTrue D.tells
-        → AreWithout (old_rows n (packages (D.files disk.old).pkg store.now)) (header_rows number view.now)
-        change.adds) }
-    ensures kinds { IfErr result IsOfReading }
-    ensures reads { D.bytes_read disk.new Pkg ≤ D.bytes_read disk.old Pkg + cost_before n store.now }
-    ensures unread { D.bytes_read disk.new Idx ≤ D.bytes_read disk.old Idx }
-    ensures runs { Runs D.Disk SameFiles disk.old disk.new }
-    ensures cause { DiskFault D.Disk (result ≡ Err ChangeFault.DiskFault) disk.old disk.new }
-{
-    let Ok(adds) = rows_behind(alloc, number, view) else {
-        return Err(ChangeFault::NoMemory);
-    };
-    let drops = match rows_before(alloc, disk, store, n) {
-        Ok(drops) => drops,
-        Err(fault) => return Err(fault),
-    };
-    match without_shared(alloc, drops, adds) {
-        Ok(change) => Ok(change),
-        Err(_) => Err(ChangeFault::NoMemory),
-    }
 }
 
 /// Works out the change of the index. Writes nothing, and takes all memory that the change needs.
@@ -114,8 +75,7 @@ pub fn prepare_rows<D: Disk>(
         → WritesWhole plan.work (D.files disk.old).idx) }
     ensures bad { IsTrue D.tells → BadIndexIs (D.files disk.old).idx result }
     ensures kinds { IfErr result IsOfIndex }
-    ensures unread { D.bytes_read disk.new Pkg ≤ D.bytes_read disk.old Pkg }
-    ensures runs { Runs D.Disk SameFiles disk.old disk.new }
+    ensures looks { LooksAt D.Disk Idx disk.old disk.new }
     ensures cause { DiskFault D.Disk (result ≡ Err ChangeFault.DiskFault) disk.old disk.new }
 {
     match index.prepare(alloc, disk, drops, adds) {
@@ -127,26 +87,26 @@ pub fn prepare_rows<D: Disk>(
     }
 }
 
-/// Works out what a header under a number makes of the index. The rows that the old header has too stay as they are.
-pub fn prepare_put<D: Disk>(
+/// Works out what rows make of the index in place of those of the package that a number has, none for a new number.
+/// Rows that both have stay as they are.
+pub fn prepare_change<D: Disk>(
     alloc: Global,
     disk: &mut D,
     store: &PkgDb,
     index: &Hindex,
     n: Option<u32>,
-    number: u32,
-    view: &View<'_>,
+    adds: Rows,
 ) -> Result<IndexPlan, ChangeFault>
     requires read { AreRead D.Disk disk.old store.now index.now }
+    requires order { AreByPlace adds }
     ensures change { IfOk result (λ plan. CanApply index.now.units plan.work) }
     ensures leads { IfOk result (λ plan. (after : finite.FinMap nat_cmp Package)
-        → HasChanged (old_rows n (packages (D.files disk.old).pkg store.now)) (header_rows number view.now)
+        → HasChanged (old_rows n (packages (D.files disk.old).pkg store.now)) adds
         (rows (packages (D.files disk.old).pkg store.now)) (rows after)
-        → LeadsTo D.Disk disk.old index.now.units (packages (D.files disk.old).pkg store.now) after
-        (header_rows number view.now) plan.work) }
+        → LeadsTo D.Disk disk.old index.now.units (packages (D.files disk.old).pkg store.now) after adds plan.work) }
     ensures full { IsTrue D.tells → (after : finite.FinMap nat_cmp Package)
         → HasRows (packages (D.files disk.old).pkg store.now) (D.files disk.old).idx
-        → HasChanged (old_rows n (packages (D.files disk.old).pkg store.now)) (header_rows number view.now)
+        → HasChanged (old_rows n (packages (D.files disk.old).pkg store.now)) adds
         (rows (packages (D.files disk.old).pkg store.now)) (rows after) → FullIndexIs (units_for (rows after)) result }
     ensures whole { IfOk result (λ plan. IsTrue D.tells → IsWholeIndex (D.files disk.old).idx
         → WritesWhole plan.work (D.files disk.old).idx) }
@@ -156,48 +116,14 @@ pub fn prepare_put<D: Disk>(
     ensures runs { Runs D.Disk SameFiles disk.old disk.new }
     ensures cause { DiskFault D.Disk (result ≡ Err ChangeFault.DiskFault) disk.old disk.new }
 {
-    let change = match rows_apart(alloc, disk, store, n, number, view) {
-        Ok(change) => change,
-        Err(fault) => return Err(fault),
-    };
-    match prepare_rows(alloc, disk, index, &change.drops, &change.adds) {
-        Ok(plan) => Ok(plan),
-        Err(fault) => Err(fault),
-    }
-}
-
-/// Works out what taking a number out makes of the index.
-pub fn prepare_erase<D: Disk>(
-    alloc: Global,
-    disk: &mut D,
-    store: &PkgDb,
-    index: &Hindex,
-    n: u32,
-) -> Result<IndexPlan, ChangeFault>
-    requires read { AreRead D.Disk disk.old store.now index.now }
-    ensures change { IfOk result (λ plan. CanApply index.now.units plan.work) }
-    ensures leads { IfOk result (λ plan. (after : finite.FinMap nat_cmp Package)
-        → HasChanged (rows_at n (finite.get (packages (D.files disk.old).pkg store.now) n)) []
-        (rows (packages (D.files disk.old).pkg store.now)) (rows after)
-        → LeadsTo D.Disk disk.old index.now.units (packages (D.files disk.old).pkg store.now) after [] plan.work) }
-    ensures full { IsTrue D.tells → (after : finite.FinMap nat_cmp Package)
-        → HasRows (packages (D.files disk.old).pkg store.now) (D.files disk.old).idx
-        → HasChanged (rows_at n (finite.get (packages (D.files disk.old).pkg store.now) n)) []
-        (rows (packages (D.files disk.old).pkg store.now)) (rows after) → FullIndexIs (units_for (rows after)) result }
-    ensures whole { IfOk result (λ plan. IsTrue D.tells → IsWholeIndex (D.files disk.old).idx
-        → WritesWhole plan.work (D.files disk.old).idx) }
-    ensures bad { IsTrue D.tells → BadIndexIs (D.files disk.old).idx result }
-    ensures kinds { IfErr result IsOfIndex }
-    ensures reads { D.bytes_read disk.new Pkg ≤ D.bytes_read disk.old Pkg + cost n store.now }
-    ensures runs { Runs D.Disk SameFiles disk.old disk.new }
-    ensures cause { DiskFault D.Disk (result ≡ Err ChangeFault.DiskFault) disk.old disk.new }
-{
-    let adds = Rows::new(alloc);
-    let drops = match rows_before(alloc, disk, store, Some(n)) {
+    let drops = match rows_before(alloc, disk, store, n) {
         Ok(drops) => drops,
         Err(fault) => return Err(fault),
     };
-    match prepare_rows(alloc, disk, index, &drops, &adds) {
+    let Ok(change) = without_shared(alloc, drops, adds) else {
+        return Err(ChangeFault::NoMemory);
+    };
+    match prepare_rows(alloc, disk, index, &change.drops, &change.adds) {
         Ok(plan) => Ok(plan),
         Err(fault) => Err(fault),
     }

@@ -5,7 +5,7 @@ ghost use Rattle.rpm_db.specs.Prelude.{BadIndexIs, CanTake, change_for, DiskFaul
 
 use crate::change_fault::ChangeFault;
 use crate::database::Db;
-use crate::putting::put_header;
+use crate::putting::write_header;
 use rpm_header::View;
 use rpm_outside::Disk;
 use std::alloc::Global;
@@ -45,7 +45,7 @@ impl Db {
         let Some(index) = &mut self.index else {
             unreachable!()
         };
-        match put_header(alloc, disk, &mut self.store, index, n, view) {
+        match write_header(alloc, disk, &mut self.store, index, n, view) {
             Ok(number) => Ok(number),
             Err(fault) => {
                 self.is_stopped = is_stopping(fault);

@@ -2,15 +2,15 @@
 
 ghost use Rattle.std.specs.Prelude.{◌≡◌, ℕ, ◌+◌, ◌≤◌, IsTrue, IsSome, true, length, is_none, None, Ok, Err, OnOk, IfOk, IfErr};
 ghost use Rattle.std.specs.FinMap as finite;
-ghost use Rattle.rpm_db.specs.Prelude.{AreLawful, ArePlanned, AreRead, blobs, CanChange, CanPut, CanTake, cost_before, DiskFault, erased, field_for, FindsRoom, HasRows, header, header_rows, images, IndexIs, IsChangedStill, IsDone, IsFull, IsMade, IsOfRoom, IsPlaced, IsRefusal, LaterIs, LeavesIn, live_of, number_for, packages, packages_of, Pkg, PlacedIs, put_map, raised, ReachesTo, ReadsAtMost, rows, Runs, RunsOr, SameFiles, SameLog, slot_with, state, state_of, units_for, with_spare};
+ghost use Rattle.rpm_db.specs.Prelude.{AreLawful, ArePlanned, AreRead, blobs, CanChange, CanPut, CanTake, cost_before, DiskFault, erased, field_for, FindsRoom, HasRows, header, header_rows, images, IndexIs, IsChangedStill, IsDone, IsFull, IsOfRoom, IsPlaced, IsRefusal, LaterIs, LeavesIn, live_of, number_for, packages, packages_of, Pkg, PlacedIs, put_map, raised, ReachesTo, ReadsAtMost, rows, Runs, RunsOr, SameFiles, SameLog, slot_with, state, state_of, units_for, with_spare};
 ghost use Rattle.rpm_pkgdb.specs.Costs.{cost};
 ghost use Rattle.rpm_db.specs.inner.Both.{IsRefused};
 
 use crate::change_fault::ChangeFault;
 use crate::changing::{write_erase, write_put};
-use crate::preparing::{prepare_erase, prepare_put};
+use crate::preparing::{prepare_change, rows_behind};
 use rpm_header::View;
-use rpm_hindex::{Hindex, IndexDiskFault, IndexPlan};
+use rpm_hindex::{Hindex, IndexDiskFault, IndexPlan, Rows};
 use rpm_outside::Disk;
 use rpm_pkgdb::{PkgDb, Plan, PlanFault};
 use std::alloc::Global;
@@ -26,7 +26,7 @@ fn number_of(store: &PkgDb, n: Option<u32>) -> u32
 }
 
 /// Plans a header under a number that is there, or for `None` under a new one, in the store. Takes all memory for it.
-pub fn plan_room(
+pub fn plan_blob(
     alloc: Global,
     store: &mut PkgDb,
     n: Option<u32>,
@@ -75,19 +75,22 @@ fn plan_put<D: Disk>(
     ensures runs { Runs D.Disk SameFiles disk.old disk.new }
     ensures cause { DiskFault D.Disk (result ≡ Err ChangeFault.DiskFault) disk.old disk.new }
 {
-    let plan = match plan_room(alloc, store, n, view) {
+    let plan = match plan_blob(alloc, store, n, view) {
         Ok(plan) => plan,
         Err(fault) => return Err(fault),
     };
     let number = number_of(store, n);
-    match prepare_put(alloc, disk, store, index, n, number, view) {
+    let Ok(rows) = rows_behind(alloc, number, view) else {
+        return Err(ChangeFault::NoMemory);
+    };
+    match prepare_change(alloc, disk, store, index, n, rows) {
         Ok(change) => Ok((plan, change)),
         Err(fault) => Err(fault),
     }
 }
 
 /// Puts a header under a number that is there, or for `None` under a new one: plans both files, and then writes them.
-pub fn put_header<D: Disk>(
+pub fn write_header<D: Disk>(
     alloc: Global,
     disk: &mut D,
     store: &mut PkgDb,
@@ -99,7 +102,7 @@ pub fn put_header<D: Disk>(
     requires takes { CanTake n store.old }
     ensures room { FindsRoom n (length view.now.blob) store.old store.new result }
     ensures number { IfOk result (λ m. m ≡ number_for n store.old) }
-    ensures is_made { IsMade store.new }
+    ensures made { 1 ≤ store.new.pages }
     ensures done { OnOk result (IsDone D.Disk disk.old disk.new store.old store.new index.new
         (put_map (D.files disk.old).pkg store.old n view.now.blob) (field_for n store.old)
         (index.old.units + live_of (header_rows (number_for n store.old) view.now))) }
@@ -116,12 +119,13 @@ pub fn put_header<D: Disk>(
     ensures reads { ReadsAtMost n store.old (D.bytes_read disk.old Pkg) (D.bytes_read disk.new Pkg) }
     ensures runs { RunsOr D.Disk SameLog (result ≡ Err ChangeFault.DiskFault) disk.old disk.new }
 {
+    let number = number_of(store, n);
     let (plan, change) = match plan_put(alloc, disk, store, index, n, view) {
         Ok(planned) => planned,
         Err(fault) => return Err(fault),
     };
     match write_put(disk, store, index, plan, change, view.blob()) {
-        Ok(m) => Ok(m),
+        Ok(()) => Ok(number),
         Err(IndexDiskFault) => Err(ChangeFault::DiskFault),
     }
 }
@@ -138,7 +142,7 @@ pub fn erase_number<D: Disk>(
     requires held { IsSome (slot_with n store.old.slots) }
     ensures later { LaterIs store.old.generation ⊥ result }
     ensures ok { OnOk result (store.new ≡ erased n (raised store.old)) }
-    ensures is_made { IsMade store.new }
+    ensures made { 1 ≤ store.new.pages }
     ensures done { OnOk result (IsDone D.Disk disk.old disk.new store.old store.new index.new
         (finite.remove (blobs (D.files disk.old).pkg store.old) n) store.old.field index.old.units) }
     ensures index { IndexIs D.Disk disk.old (packages (D.files disk.old).pkg store.old)
@@ -157,7 +161,7 @@ pub fn erase_number<D: Disk>(
     if store.generation() == u32::MAX {
         return Err(ChangeFault::GenerationSpent);
     }
-    let change = match prepare_erase(alloc, disk, store, index, n) {
+    let change = match prepare_change(alloc, disk, store, index, Some(n), Rows::new(alloc)) {
         Ok(change) => change,
         Err(fault) => return Err(fault),
     };

@@ -1,7 +1,7 @@
 //! Making the index anew.
 
 ghost use Rattle.std.specs.Prelude.{◌≡◌, ◌⊎◌, ℕ, ◌+◌, ◌≤◌, IsTrue, true, false, is_some, None, Err, OnOk, IfErr};
-ghost use Rattle.rpm_db.specs.Prelude.{DiskFault, FullIs, is_indexed, IsRebuilt, IsRefused, IsRemade, IsRenewed, IsStill, KeepsIndex, KeepsUnits, packages, Pkg, ReachesMade, ReadAtMost, RebuildIs, Remade, rows, Runs, slot_with, StaysLawful, units_for};
+ghost use Rattle.rpm_db.specs.Prelude.{DiskFault, FullIs, is_indexed, IsRebuilt, IsRefused, IsRemade, IsRenewed, IsStill, KeepsIndex, KeepsUnits, packages, Pkg, ReachesMade, ReadAtMost, RebuildIs, Remade, rows, Runs, StaysLawful, units_for};
 ghost use Rattle.rpm_db.specs.Database.{Keeps, cost_all};
 ghost use Rattle.rpm_pkgdb.specs.Costs as costs;
 ghost use Rattle.rpm_pkgdb.specs.Store as pkgdb;
@@ -23,7 +23,6 @@ fn remake<D: Disk>(
 ) -> Result<(), RewriteFault>
     requires some { is_some index.old ≡ true }
     requires keeps { IsTrue D.tells → pkgdb.Keeps (D.files disk.old).pkg store.now }
-    requires from_one { slot_with 0 store.now.slots ≡ None }
     requires index { IsTrue D.tells → KeepsUnits (D.files disk.old).idx index.old }
     ensures full { IsTrue D.tells → FullIs (units_for (rows (packages (D.files disk.old).pkg store.now))) result }
     ensures some { is_some index.new ≡ true }

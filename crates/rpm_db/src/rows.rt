@@ -1,8 +1,8 @@
 //! The rows of packages for the index.
 
-ghost use Rattle.std.specs.Prelude.{◌≡◌, ℕ, ◌++◌, ◌∷◌, [], IsTrue, None, Err, OnOk, IfOk, IfErr};
+ghost use Rattle.std.specs.Prelude.{◌≡◌, ℕ, ◌++◌, ◌∷◌, [], IsTrue, Err, OnOk, IfOk, IfErr};
 ghost use Rattle.std.specs.FinMap as finite;
-ghost use Rattle.rpm_db.specs.Prelude.{code_of, cost_all, DiskFault, header, header_rows, IsOutside, Keeps, kind_rows, Looks, packages, Pkg, rows, rows_at, rows_read, slot_with};
+ghost use Rattle.rpm_db.specs.Prelude.{code_of, cost_all, DiskFault, header, header_rows, IsOutside, Keeps, kind_rows, Looks, packages, Pkg, rows, rows_at, rows_read};
 ghost use Rattle.rpm_pkgdb.specs.Costs.{cost};
 
 use rpm_header::View;
@@ -107,7 +107,6 @@ pub fn push_package<D: Disk>(
 /// The rows of all packages. Reads the blocks of each once.
 pub fn rows_of<D: Disk>(alloc: Global, disk: &mut D, store: &PkgDb) -> Result<Rows, RewriteFault>
     requires keeps { IsTrue D.tells → Keeps (D.files disk.old).pkg store.now }
-    requires from_one { slot_with 0 store.now.slots ≡ None }
     ensures kept { IsTrue D.tells → Keeps (D.files disk.new).pkg store.now }
     ensures rows { IfOk result (λ all. IsTrue D.tells → all ≡ rows (packages (D.files disk.old).pkg store.now)) }
     ensures room { IfErr result IsOutside }

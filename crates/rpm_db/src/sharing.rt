@@ -1,7 +1,7 @@
 //! Rows that a package has before a change and after it: they stay as they are.
 
 ghost use Rattle.std.specs.Prelude.{◌≡◌, ◌<◌, ◌++◌, ◌∷◌, [], true, false, length, drop, OnOk, IfOk};
-ghost use Rattle.rpm_db.specs.Prelude.{AreByPlace, AreWithout, row_nth, same_row, StandsBefore, StandsNotBehind};
+ghost use Rattle.rpm_db.specs.Prelude.{AreParted, row_nth, same_row, StandsBefore, StandsNotBehind};
 
 use rpm_hindex::Rows;
 use std::alloc::{AllocError, Global};
@@ -60,10 +60,7 @@ fn comes_first(rows: &Rows, i: usize, others: &Rows, j: usize) -> bool
 
 /// The rows that go and those that come, without those that both lists have. Goes through both lists once.
 fn parted(alloc: Global, drops: &Rows, adds: &Rows) -> Result<RowChange, AllocError>
-    ensures drops { IfOk result (λ change. AreByPlace drops.now → AreByPlace adds.now
-        → AreWithout adds.now drops.now change.drops) }
-    ensures adds { IfOk result (λ change. AreByPlace drops.now → AreByPlace adds.now
-        → AreWithout drops.now adds.now change.adds) }
+    ensures { IfOk result (λ change. AreParted drops.now adds.now change.drops change.adds) }
 {
     let mut gone = Rows::new(alloc);
     let mut new = Rows::new(alloc);
@@ -92,10 +89,9 @@ fn parted(alloc: Global, drops: &Rows, adds: &Rows) -> Result<RowChange, AllocEr
 /// The rows that go and those that come, without those that both lists have. Takes a step for each row, where both
 /// are by place.
 pub fn without_shared(alloc: Global, drops: Rows, adds: Rows) -> Result<RowChange, AllocError>
-    ensures drops { IfOk result (λ change. AreByPlace drops → AreByPlace adds → AreWithout adds drops change.drops) }
-    ensures adds { IfOk result (λ change. AreByPlace drops → AreByPlace adds → AreWithout drops adds change.adds) }
+    ensures { IfOk result (λ change. AreParted drops adds change.drops change.adds) }
 {
-    if drops.len() == 0 {
+    if drops.len() == 0 || adds.len() == 0 {
         return Ok(RowChange { drops, adds });
     }
     parted(alloc, &drops, &adds)

@@ -1,7 +1,7 @@
 //! Making a database.
 
-ghost use Rattle.std.specs.Prelude.{◌≡◌, ◌≢◌, ℕ, ◌+◌, ◌≤◌, [], IsTrue, true, false, None, Err, Ok, IfOk, IfErr};
-ghost use Rattle.rpm_db.specs.Prelude.{CanMake, DiskFault, Idx, images, is_blank, IsEmptyIndex, IsEmptyStill, IsInit, IsInitFault, IsMadeEmpty, IsRefused, IsSettled, IsThere, LeavesIn, made_new, Pkg, ReachesMade, ReachesTo, ReadAtMost, Remade, Runs, SameLog, slot_with, StopsAs, units_for};
+ghost use Rattle.std.specs.Prelude.{◌≡◌, ◌≢◌, ℕ, ◌+◌, ◌≤◌, [], IsTrue, true, false, Err, Ok, IfOk, IfErr};
+ghost use Rattle.rpm_db.specs.Prelude.{CanMake, DiskFault, Idx, images, is_blank, IsEmptyIndex, IsEmptyStill, IsInit, IsInitFault, IsMadeEmpty, IsRefused, IsSettled, IsThere, LeavesIn, made_new, Pkg, ReachesMade, ReachesTo, ReadAtMost, Remade, Runs, SameLog, StopsAs, units_for};
 ghost use Rattle.rpm_db.specs.Database.{Keeps};
 
 use crate::change_fault::ChangeFault;
@@ -43,7 +43,6 @@ pub fn make_files<D: Disk>(
     requires can { CanMake D.Disk disk.old store.old }
     ensures room { (needed : ℕ) → result ≢ Err (RewriteFault.IndexFull needed) }
     ensures made { IfOk result (λ _index. store.new ≡ made_new store.old) }
-    ensures from_one { slot_with 0 store.old.slots ≡ None → slot_with 0 store.new.slots ≡ None }
     ensures empty { IfOk result (λ index. IsMadeEmpty D.Disk disk.new store.new index) }
     ensures refused { IfErr result (λ e. IsRefused e → (store.new ≡ store.old)
         × (IsTrue D.tells → D.files disk.new ≡ D.files disk.old)) }

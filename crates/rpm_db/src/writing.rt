@@ -24,7 +24,7 @@ pub fn put_raised<D: Disk>(
     ensures number { IfOk result (λ n. n ≡ plan.target.number) }
     ensures ok { OnOk result (store.new ≡ with_spare store.new.spare
         (with_plan plan (with_generation (store.old.generation + 1) store.old))) }
-    ensures err { OnErr result ((store.new.slots ≡ store.old.slots) × (store.new.pages ≡ store.old.pages)) }
+    ensures err { OnErr result (store.new.pages ≡ store.old.pages) }
     ensures stored { OnOk result (IsStored D.Disk disk.new store.new
         (finite.insert (blobs (D.files disk.old).pkg store.old) plan.target.number (Some blob.now))) }
     ensures images { IsTrue D.tells → IsQuiet store.old (D.files disk.old) (images D.Disk disk.old)
@@ -51,7 +51,7 @@ pub fn erase_raised<D: Disk>(disk: &mut D, store: &mut PkgDb, n: u32) -> Result<
     requires left { store.old.generation < 4294967295 }
     requires held { IsSome (slot_with n store.old.slots) }
     ensures ok { OnOk result (store.new ≡ erased n (with_generation (store.old.generation + 1) store.old)) }
-    ensures err { OnErr result ((store.new.slots ≡ store.old.slots) × (store.new.pages ≡ store.old.pages)) }
+    ensures err { OnErr result (store.new.pages ≡ store.old.pages) }
     ensures stored { OnOk result (IsStored D.Disk disk.new store.new
         (finite.remove (blobs (D.files disk.old).pkg store.old) n)) }
     ensures images { IsTrue D.tells → IsQuiet store.old (D.files disk.old) (images D.Disk disk.old)

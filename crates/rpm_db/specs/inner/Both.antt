@@ -25,14 +25,10 @@ use Rattle.rpm_db.specs.Lawful.{HasRows, IsWholeIndex}
 use Rattle.rpm_db.specs.Refusals.{BadIndexIs, FullIndexIs, LaterIs}
 use Rattle.rpm_db.specs.Room.{RoomCause, RoomIs, raised}
 use Rattle.rpm_db.specs.Rows.{header_rows, rows}
-use Rattle.rpm_db.specs.Runs.{Runs}
+use Rattle.rpm_db.specs.Runs.{SameFiles}
 use Rattle.rpm_db.specs.State.{Package, packages, state}
-use Rattle.rpm_db.specs.inner.Writes.{IsSealedAfter, SameFiles, WritesRows, WritesWhole, number_for, packages_of, put_map, state_of}
-
--- a store that was made, without a package of the number 0
-pub record IsMade (value : Store) : Type 0 where
-  pub made : 1 ≤ value.pages
-  pub from_one : slot_with 0 value.slots ≡ None
+use Rattle.rpm_db.specs.inner.Writes.{IsSealedAfter, WritesRows, WritesWhole, number_for, packages_of, put_map, state_of}
+use Rattle.rpm_db.specs.Frame.{Runs}
 
 -- a number that is there, or that there is a next one
 pub record CanTake (n : Option ℕ) (value : Store) : Type 0 where
@@ -79,7 +75,6 @@ module _ {D : Type 0} (d : disk.Ghosts D) where
   pub record CanChange (at : D) (value : Store) (index : hindex.State) : Type 0 where
     pub going : value.is_stopped ≡ false
     pub made : 1 ≤ value.pages
-    pub from_one : slot_with 0 value.slots ≡ None
     pub order : hindex.is_current value.generation index ≡ true
     pub keeps : IsTrue d.tells → Keeps (d.files at).pkg value
     pub units : IsTrue d.tells → hindex.Keeps (d.files at).idx index
@@ -151,4 +146,4 @@ module _ {D : Type 0} (d : disk.Ghosts D) where
   pub record IsRefused (old new : D) (before after : Store) (was is : hindex.State) : Type 0 where
     pub store_is : after ≡ before
     pub index_is : is ≡ was
-    pub runs : Runs d.tells d.files d.left_since d.moment d.bytes_read d.follows SameFiles old new
+    pub runs : Runs d SameFiles old new

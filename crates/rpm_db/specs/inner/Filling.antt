@@ -18,7 +18,7 @@ use Rattle.rpm_db.specs.Lawful.{HasRows, IsOfRows}
 use Rattle.rpm_db.specs.Refusals.{BadIndexIs, FullIndexIs}
 use Rattle.rpm_db.specs.Rows.{header_rows, rows}
 use Rattle.rpm_db.specs.State.{Package}
-use Rattle.rpm_db.specs.inner.Both.{AreRead, IsMade, IsStored}
+use Rattle.rpm_db.specs.inner.Both.{AreRead, IsStored}
 use Rattle.rpm_db.specs.inner.Writes.{put_map}
 use Rattle.rpm_pkgdb.specs.Quiet.{IsQuiet}
 
@@ -30,7 +30,7 @@ module _ {D : Type 0} (d : disk.Ghosts D) where
   -- a header can be put into the store alone: a crash leaves the same packages, and the index is settled
   pub record CanPutAside (at : D) (value : Store) (index : hindex.State) : Type 0 where
     pub going : value.is_stopped ≡ false
-    pub made : IsMade value
+    pub made : 1 ≤ value.pages
     pub read : AreRead d at value index
     pub quiet : IsTrue d.tells → IsQuiet value (d.files at) (d.left_since at (d.moment at))
     pub settled : IsTrue d.tells → IsSettled Idx (d.files at) (d.left_since at (d.moment at))

@@ -5,10 +5,11 @@ use Rattle.rpm_outside.specs.Files.{Units, Files, unit_at, blank}
 use Rattle.rpm_pkgdb.specs.Store.{Store}
 use Rattle.rpm_outside.specs.Words.{word}
 use Rattle.rpm_hindex.specs.State.{state_of, sealed, is_headed, is_in_order, is_ordered, is_current, buckets_of}
-use Rattle.rpm_outside.specs.Crash.{LeavesOnly}
 use Rattle.rpm_outside.specs.inner.Moments.{leaves_weaker}
 use Rattle.rpm_db.specs.Lawful.{Agrees, IsLawful, AreLawful, IsLawfulStill, IsIndexOf, Remade}
 use Rattle.rpm_db.specs.Runs.{CameOf}
+use Rattle.rpm_outside.specs.declared.disk.Disk as disk
+use Rattle.rpm_outside.specs.Frame.{LeavesIn, images}
 
 void_unsealed : sealed blank ≡ 0
 unfolding blank word
@@ -63,10 +64,10 @@ remade_then a b c first second = record {
 }
 
 -- and what crashes leave meanwhile is lawful, where the images at the start are
-pub stops_lawful : {D : Type 0} (moment : D → ℕ) (left_since : D → ℕ → Files → Type 0) (a b : D) → AreLawful (left_since a (moment a))
-    → LeavesOnly moment left_since a b (CameOf Remade (left_since a (moment a))) → LeavesOnly moment left_since a b (IsLawfulStill (left_since a (moment a)))
-stops_lawful moment left_since a b lawful =
-    leaves_weaker moment left_since a b (CameOf Remade (left_since a (moment a))) (IsLawfulStill (left_since a (moment a)))
+pub stops_lawful : {D : Type 0} (d : disk.Ghosts D) (a b : D) → AreLawful (images d a)
+    → LeavesIn d a b (CameOf Remade (images d a)) → LeavesIn d a b (IsLawfulStill (images d a))
+stops_lawful d a b lawful =
+    leaves_weaker d.moment d.left_since a b (CameOf Remade (images d a)) (IsLawfulStill (images d a))
     (λ image c. record {
       from = c.from;
       was = c.was;

@@ -21,7 +21,6 @@ module _ {D : Type 0} (d : disk.Ghosts D) where
   pub record CanIndex (at : D) (value : Store) : Type 0 where
     pub keeps : IsTrue d.tells → Keeps (d.files at).pkg value
     pub made : 1 ≤ value.pages
-    pub from_one : slot_with 0 value.slots ≡ None
     pub pkg : IsTrue d.tells → IsSettled Pkg (d.files at) (d.left_since at (d.moment at))
     pub idx : IsTrue d.tells → IsSettled Idx (d.files at) (d.left_since at (d.moment at))
 

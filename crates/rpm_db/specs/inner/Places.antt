@@ -21,3 +21,7 @@ AreByPlace (row ∷ rows) = StandsBeforeAll row rows × AreByPlace rows
 -- these rows without those, each as often as it is here more often
 abbrev pub AreWithout : List Row → List Row → List Row → Type 0
 AreWithout others rows rest = (row : Row) → times row rest ≡ times row rows - times row others
+
+-- both lists without the rows that both have, where they are by place
+abbrev pub AreParted : List Row → List Row → List Row → List Row → Type 0
+AreParted drops adds gone new = AreByPlace drops → AreByPlace adds → AreWithout adds drops gone × AreWithout drops adds new

@@ -59,14 +59,6 @@ pub record WritesRows (rows : List Row) (work : Work) (file : Units) : Type 0 wh
   pub whole : WritesWhole work file
   pub same : SameRows rows (records (buckets_after work) (after work file))
 
--- the log stays
-abbrev pub SameLog : Files → Files → Type 0
-SameLog from image = image.log ≡ from.log
-
--- all three files stay
-abbrev pub SameFiles : Files → Files → Type 0
-SameFiles from image = image ≡ from
-
 -- the rows of a number that is there, and none for a new number
 abbrev pub old_rows : Option ℕ → finite.FinMap nat_cmp Package → List Row
 old_rows None packages = []

@@ -1,5 +1,5 @@
 use Rattle.std.proofs.lemmas.Result.{err_from_is_err_and}
-use Rattle.rpm_pkgdb.specs.Store.{store}
+use Rattle.rpm_db.proofs.Vocabulary.{store}
 use Rattle.rpm_db.proofs.Faults.{store_told}
 use Rattle.rpm_db.proofs.database.open_store.Goals as goal
 

@@ -1,11 +1,7 @@
 use Rattle.std.proofs.Common.{ℕ, List, [], sym, subst}
-use Rattle.rpm_hindex.specs.Index.{records}
-use Rattle.rpm_hindex.specs.Plans.{HasChanged}
-use Rattle.rpm_hindex.specs.Rows.{Row}
-use Rattle.rpm_hindex.specs.State.{buckets_of}
-use Rattle.rpm_hindex.specs.Whole.{IsWellFormed}
-use Rattle.rpm_db.specs.Rows.{rows}
+use Rattle.rpm_db.proofs.Vocabulary.{buckets_of, HasChanged, IsWellFormed, records, Row, rows}
 use Rattle.rpm_db.proofs.Prepared.{of_records}
+use Rattle.rpm_db.proofs.Unwritten.{looked_at}
 use Rattle.rpm_db.proofs.gathering.expect_room.Goals as goal
 
 pub returns-then-has_room_for-clause-takes : goal.returns-then-has_room_for-clause-takes
@@ -36,3 +32,9 @@ returns-clause-takes g c = record {
       (subst (λ (rs : List Row). HasChanged rs c.args.owed.now (rows before) (rows after)) (sym c.new.ensures) changed);
   bad = λ told. c.in-Err.ensures.bad told;
 }
+
+pub returns-in-Ok-clause-runs : goal.returns-in-Ok-clause-runs
+returns-in-Ok-clause-runs g c = looked_at g.D.Disk _ _ _ c.in-Ok.ensures.looks
+
+pub returns-clause-runs : goal.returns-clause-runs
+returns-clause-runs g c = looked_at g.D.Disk _ _ _ c.in-Err.ensures.looks

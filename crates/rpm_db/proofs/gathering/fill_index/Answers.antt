@@ -1,16 +1,12 @@
 use Rattle.std.proofs.Common.{◌≡◌, ◌==◌, List, true, false, refl, sym, ap, ◌∙◌, subst, arith}
 use Rattle.std.proofs.lemmas.Bool.Decides.{nat_tests}
-use Rattle.rpm_outside.specs.Files.{Files}
-use Rattle.rpm_hindex.specs.Plans.{HasChanged}
-use Rattle.rpm_hindex.specs.Rows.{Row}
+use Rattle.rpm_db.proofs.Vocabulary.{Files, HasChanged, IndexTo, IsSealedAfter, Row, rows}
 use Rattle.rpm_hindex.specs.State as hindex
-use Rattle.rpm_db.specs.Rows.{rows}
-use Rattle.rpm_db.specs.inner.Writes.{IndexTo, IsSealedAfter}
 use Rattle.rpm_db.proofs.Both.{quiet_then, runs_rows}
 use Rattle.rpm_db.proofs.Changed.{rows_sealed}
 use Rattle.rpm_db.proofs.FillStops.{still_lawful, stops_filled}
 use Rattle.rpm_db.proofs.OwedRows.{current_sealed, other_sealed, rows_clear}
-use Rattle.rpm_db.proofs.Unwritten.{log_same, log_then, quiet_same}
+use Rattle.rpm_db.proofs.Unwritten.{log_same, log_then, looked_at, quiet_same}
 use Rattle.rpm_db.proofs.Wholes.{whole_cause, whole_sealed}
 use Rattle.rpm_db.proofs.gathering.fill_index.Goals as goal
 
@@ -38,7 +34,7 @@ prepare_rows-requires-clause-order g c = c.requires.ready.order
 
 pub write_rows-requires-clause-keeps : goal.write_rows-requires-clause-keeps
 write_rows-requires-clause-keeps g c = λ told.
-    subst (λ (f : Files). hindex.Keeps f.idx c.args.index.now) (sym (c.in-Ok.ensures.runs.reads_as told)) (c.requires.ready.keeps told)
+    subst (λ (f : Files). hindex.Keeps f.idx c.args.index.now) (sym (c.in-Ok.ensures.looks.untouched told).same) (c.requires.ready.keeps told)
 
 pub returns-in-Ok-write_rows-clause-filled : goal.returns-in-Ok-write_rows-clause-filled
 returns-in-Ok-write_rows-clause-filled g c =
@@ -48,7 +44,7 @@ returns-in-Ok-write_rows-clause-filled g c =
     let e = c.write_rows.new.disk in
     let index = c.args.index.now in
     let n = c.args.generation in
-    let run = c.in-Ok.ensures.runs in
+    let run = looked_at g.D.Disk _ _ _ c.in-Ok.ensures.looks in
     let w = c.in-Ok-write_rows.ensures in
     let other : hindex.is_current n index ≡ false = sym c.is_current.ensures ∙ c.if-is_current.false in
     let apart = other_sealed n index c.requires.ready.order other in
@@ -58,8 +54,7 @@ returns-in-Ok-write_rows-clause-filled g c =
       kept = λ told. w.applied.kept told;
       settled = λ told. w.applied.settled told;
       quiet = λ told value quiet.
-          quiet_then D.tells D.files D.left_since D.moment D.bytes_read D.follows told value (IndexTo n c.in-Ok.plan.work (D.files b).idx) 0 b e w.writes.changes
-          (quiet_same D.tells D.files D.left_since D.moment D.bytes_read D.follows a b told run value quiet);
+          quiet_then D told value (IndexTo n c.in-Ok.plan.work (D.files b).idx) 0 b e w.writes.changes (quiet_same D a b told run value quiet);
       rows_are = λ told from to has changed.
           (let leads = c.in-Ok.ensures.leads from to
           (subst (λ (rs : List Row). HasChanged rs c.args.owed.now (rows from) (rows to)) (sym c.new-drops.ensures) changed) in
@@ -91,7 +86,7 @@ returns-in-Err-clause-whole g c = λ told whole.
 
 pub returns-in-Ok-write_rows-clause-whole : goal.returns-in-Ok-write_rows-clause-whole
 returns-in-Ok-write_rows-clause-whole g c = λ told whole.
-    whole_sealed _ c.in-Ok.plan.work _ _ _ (c.in-Ok.ensures.runs.reads_as told) (c.in-Ok.ensures.whole told whole)
+    whole_sealed _ c.in-Ok.plan.work _ _ _ (c.in-Ok.ensures.looks.untouched told).same (c.in-Ok.ensures.whole told whole)
     (c.in-Ok-write_rows.ensures.applied.sealed told)
 
 pub returns-in-Err-clause-unwritten : goal.returns-in-Err-clause-unwritten
@@ -107,34 +102,36 @@ returns-clause-unwritten g c = λ is.
     absurd (other_sealed c.args.generation c.args.index.now c.requires.ready.order (sym c.is_current.ensures ∙ c.if-is_current.false) is)
 
 pub returns-in-Err-clause-store : goal.returns-in-Err-clause-store
-returns-in-Err-clause-store g c = λ told. ap (λ (f : Files). f.pkg) (c.in-Err.ensures.runs.reads_as told)
+returns-in-Err-clause-store g c = λ told. ap (λ (f : Files). f.pkg) (c.in-Err.ensures.looks.untouched told).same
 
 pub returns-in-Ok-write_rows-clause-store : goal.returns-in-Ok-write_rows-clause-store
 returns-in-Ok-write_rows-clause-store g c = λ told.
-    c.in-Ok-write_rows.ensures.writes.changes.pkg told ∙ ap (λ (f : Files). f.pkg) (c.in-Ok.ensures.runs.reads_as told)
+    c.in-Ok-write_rows.ensures.writes.changes.pkg told ∙ ap (λ (f : Files). f.pkg) (c.in-Ok.ensures.looks.untouched told).same
 
 pub returns-clause-store : goal.returns-clause-store
 returns-clause-store g c = λ told.
-    c.in-Err-write_rows.ensures.writes.changes.pkg told ∙ ap (λ (f : Files). f.pkg) (c.in-Ok.ensures.runs.reads_as told)
+    c.in-Err-write_rows.ensures.writes.changes.pkg told ∙ ap (λ (f : Files). f.pkg) (c.in-Ok.ensures.looks.untouched told).same
 
 pub returns-in-Err-clause-runs : goal.returns-in-Err-clause-runs
-returns-in-Err-clause-runs g c = log_same _ _ _ _ _ _ _ _ c.in-Err.ensures.runs
+returns-in-Err-clause-runs g c = log_same g.D.Disk _ _ (looked_at g.D.Disk _ _ _ c.in-Err.ensures.looks)
 
 pub returns-in-Ok-write_rows-clause-runs : goal.returns-in-Ok-write_rows-clause-runs
 returns-in-Ok-write_rows-clause-runs g c =
-    log_then _ _ _ _ _ _ g.met.D.Disk.follows_trans _ _ _ c.in-Ok.ensures.runs (runs_rows _ _ _ _ _ _ _ _ _ _ c.in-Ok-write_rows.ensures.writes.changes)
+    log_then g.D.Disk g.met.D.Disk.follows_trans _ _ _ (looked_at g.D.Disk _ _ _ c.in-Ok.ensures.looks) (runs_rows g.D.Disk _ _ _ _
+    c.in-Ok-write_rows.ensures.writes.changes)
 
 pub returns-clause-runs : goal.returns-clause-runs
 returns-clause-runs g c =
-    log_then _ _ _ _ _ _ g.met.D.Disk.follows_trans _ _ _ c.in-Ok.ensures.runs (runs_rows _ _ _ _ _ _ _ _ _ _ c.in-Err-write_rows.ensures.writes.changes)
+    log_then g.D.Disk g.met.D.Disk.follows_trans _ _ _ (looked_at g.D.Disk _ _ _ c.in-Ok.ensures.looks) (runs_rows g.D.Disk _ _ _ _
+    c.in-Err-write_rows.ensures.writes.changes)
 
 pub returns-in-Err-clause-refused : goal.returns-in-Err-clause-refused
-returns-in-Err-clause-refused g c = λ refusal. (refl, c.in-Err.ensures.runs)
+returns-in-Err-clause-refused g c = λ refusal. (refl, (looked_at g.D.Disk _ _ _ c.in-Err.ensures.looks))
 
 -- ---- what crashes leave
 
 pub returns-in-Err-clause-stops : goal.returns-in-Err-clause-stops
-returns-in-Err-clause-stops g c = λ told lawful from to has changed of. still_lawful _ _ _ _ _ _ _ _ told lawful c.in-Err.ensures.runs
+returns-in-Err-clause-stops g c = λ told lawful from to has changed of. still_lawful g.D.Disk _ _ told lawful (looked_at g.D.Disk _ _ _ c.in-Err.ensures.looks)
 
 pub returns-in-Ok-write_rows-clause-stops : goal.returns-in-Ok-write_rows-clause-stops
 returns-in-Ok-write_rows-clause-stops g c = λ told lawful from to has changed of.
@@ -142,7 +139,7 @@ returns-in-Ok-write_rows-clause-stops g c = λ told lawful from to has changed o
     let leads = c.in-Ok.ensures.leads from to
     (subst (λ (rs : List Row). HasChanged rs c.args.owed.now (rows from) (rows to)) (sym c.new-drops.ensures) changed) in
     let apart = other_sealed c.args.generation c.args.index.now ready.order (sym c.is_current.ensures ∙ c.if-is_current.false) in
-    stops_filled _ _ _ _ _ _ _ _ _ told lawful c.in-Ok.ensures.runs c.args.generation c.in-Ok.plan.work to (ready.settled told)
+    stops_filled g.D.Disk _ _ _ told lawful (looked_at g.D.Disk _ _ _ c.in-Ok.ensures.looks) c.args.generation c.in-Ok.plan.work to (ready.settled told)
     (λ at. apart (ap hindex.sealed (ready.keeps told).first ∙ at)) of (leads.makes told has) c.in-Ok-write_rows.ensures.writes.changes
 
 pub returns-clause-stops : goal.returns-clause-stops
@@ -151,5 +148,5 @@ returns-clause-stops g c = λ told lawful from to has changed of.
     let leads = c.in-Ok.ensures.leads from to
     (subst (λ (rs : List Row). HasChanged rs c.args.owed.now (rows from) (rows to)) (sym c.new-drops.ensures) changed) in
     let apart = other_sealed c.args.generation c.args.index.now ready.order (sym c.is_current.ensures ∙ c.if-is_current.false) in
-    stops_filled _ _ _ _ _ _ _ _ _ told lawful c.in-Ok.ensures.runs c.args.generation c.in-Ok.plan.work to (ready.settled told)
+    stops_filled g.D.Disk _ _ _ told lawful (looked_at g.D.Disk _ _ _ c.in-Ok.ensures.looks) c.args.generation c.in-Ok.plan.work to (ready.settled told)
     (λ at. apart (ap hindex.sealed (ready.keeps told).first ∙ at)) of (leads.makes told has) c.in-Err-write_rows.ensures.writes.changes

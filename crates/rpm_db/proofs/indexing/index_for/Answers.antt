@@ -1,25 +1,14 @@
 use Rattle.std.proofs.Common.{◌≡◌, ℕ, length, arith, true, false, refl, ap, sym, ◌∙◌, subst}
 use Rattle.std.specs.Prelude.{IsTrue}
-use Rattle.rpm_outside.specs.Files.{Files}
-use Rattle.rpm_outside.specs.declared.disk.File.TheVariants.{Idx}
-use Rattle.rpm_hindex.specs.State.{is_current}
-use Rattle.rpm_pkgdb.specs.Store.{store}
-use Rattle.rpm_db.specs.Lawful.{Remade, HasRows, is_current_at}
-use Rattle.rpm_hindex.specs.Sizes.{units_for}
-use Rattle.rpm_db.specs.Reaches.{ReachesMade}
-use Rattle.rpm_db.specs.Rows.{rows}
-use Rattle.rpm_db.specs.State.{packages}
-use Rattle.rpm_db.specs.inner.LawfulLaws.{remade_none, remade_then}
-use Rattle.rpm_db.specs.inner.Running.{runs_looks, runs_then}
+use Rattle.rpm_db.proofs.Vocabulary.{Files, HasRows, Idx, is_current, is_current_at, packages, ReachesMade, Remade, remade_none, remade_then, rows}
+use Rattle.rpm_db.proofs.Vocabulary.{runs_looks, runs_then, store, units_for}
 use Rattle.rpm_db.proofs.Making.{rows_of_lawful, rows_of_index, current_same}
 use Rattle.rpm_db.proofs.indexing.index_for.Goals as goal
 
 pub returns-in-Err-DiskFault-clause-runs : goal.returns-in-Err-DiskFault-clause-runs
 returns-in-Err-DiskFault-clause-runs g c =
-    runs_then g.D.Disk.tells g.D.Disk.files g.D.Disk.left_since g.D.Disk.moment g.D.Disk.bytes_read g.D.Disk.follows g.met.D.Disk.follows_trans
-    Remade Remade Remade c.args.disk.now c.open.new.disk c.make_index.new.disk (λ x y r. r) remade_then
-    (runs_looks g.D.Disk.tells g.D.Disk.files g.D.Disk.left_since g.D.Disk.moment g.D.Disk.bytes_read g.D.Disk.follows Remade remade_none Idx 32
-    c.args.disk.now c.open.new.disk refl c.in-Ok.ensures.reads.looks) c.in-Err-DiskFault.ensures.runs
+    runs_then g.D.Disk g.met.D.Disk.follows_trans Remade Remade Remade c.args.disk.now c.open.new.disk c.make_index.new.disk (λ x y r. r) remade_then
+    (runs_looks g.D.Disk Remade remade_none Idx 32 c.args.disk.now c.open.new.disk refl c.in-Ok.ensures.reads.looks) c.in-Err-DiskFault.ensures.runs
 
 pub returns-then-is_current-clause-reach : goal.returns-then-is_current-clause-reach
 returns-then-is_current-clause-reach g c = λ told.

@@ -1,11 +1,5 @@
 use Rattle.std.proofs.Common.{ℕ, ◌≤◌, max, List, ap, sym, ◌∙◌, subst, arith}
-use Rattle.rpm_outside.specs.Files.{Files}
-use Rattle.rpm_hindex.specs.Rows.{Row}
-use Rattle.rpm_hindex.specs.Sizes.{units_for}
-use Rattle.rpm_db.specs.Lawful.{IsOfRows}
-use Rattle.rpm_db.specs.Rows.{rows}
-use Rattle.rpm_db.specs.State.{packages}
-use Rattle.rpm_db.specs.inner.Making.{IsSealedHere}
+use Rattle.rpm_db.proofs.Vocabulary.{Files, IsOfRows, IsSealedHere, packages, Row, rows, units_for}
 use Rattle.rpm_db.proofs.Results.{both_ok}
 use Rattle.rpm_db.proofs.Making.{of_rows}
 use Rattle.rpm_db.proofs.indexing.make_index.Goals as goal
@@ -25,6 +19,7 @@ returns-clause-reach g c =
     let before = c.args.index.now.units in
     let after = c.write_index.new.index in
     let new = (g.D.Disk.files c.write_index.new.disk).idx in
-    both_ok c.write_index.result (λ (grows : after.units ≤ max before (units_for all)) (sealed : IsSealedHere g.D.Disk c.write_index.new.disk c.generation.result after) told.
+    both_ok c.write_index.result (λ (grows : after.units ≤ max before (units_for all)) (sealed : IsSealedHere g.D.Disk c.write_index.new.disk
+    c.generation.result after) told.
     let most = subst (λ (rs : List Row). after.units ≤ max before (units_for rs)) (c.in_ok-rows.ensures.rows told) grows in
     omega (arith, most, (sealed.kept told).units, (c.requires.index told).units)) c.write_index.ensures.grows c.write_index.ensures.sealed

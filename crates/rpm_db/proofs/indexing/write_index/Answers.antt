@@ -1,8 +1,5 @@
 use Rattle.std.proofs.Common.{arith}
-use Rattle.rpm_hindex.specs.Images.{VoidOrSame}
-use Rattle.rpm_db.specs.Lawful.{Remade}
-use Rattle.rpm_db.specs.inner.LawfulLaws.{remade_then}
-use Rattle.rpm_db.specs.inner.Running.{runs_index, runs_then}
+use Rattle.rpm_db.proofs.Vocabulary.{Remade, remade_then, runs_index, runs_then, VoidOrSame}
 use Rattle.rpm_db.proofs.Making.{voiding, ordered_pending}
 use Rattle.rpm_db.proofs.indexing.write_index.Goals as goal
 
@@ -12,16 +9,16 @@ seal_index-requires-clause-written g c = ordered_pending c.rewrite.new.self.pend
 
 pub returns-in-Ok-clause-runs : goal.returns-in-Ok-clause-runs
 returns-in-Ok-clause-runs g c =
-    runs_then g.D.Disk.tells g.D.Disk.files g.D.Disk.left_since g.D.Disk.moment g.D.Disk.bytes_read g.D.Disk.follows g.met.D.Disk.follows_trans
+    runs_then g.D.Disk g.met.D.Disk.follows_trans
     Remade Remade Remade c.args.disk.now c.rewrite.new.disk c.seal_index.new.disk (λ x y r. r) remade_then
-    (runs_index g.D.Disk.tells g.D.Disk.files g.D.Disk.left_since g.D.Disk.moment g.D.Disk.bytes_read g.D.Disk.follows Remade VoidOrSame (λ f. Unit {0}) 0
+    (runs_index g.D.Disk Remade VoidOrSame (λ f. Unit {0}) 0
     c.args.disk.now c.rewrite.new.disk voiding (λ told. tt) (λ told image left. tt) c.in_ok-rewrite.ensures.writes.changes) c.in-Ok.ensures.runs
 
 pub returns-in-Err-clause-runs : goal.returns-in-Err-clause-runs
 returns-in-Err-clause-runs g c =
-    runs_then g.D.Disk.tells g.D.Disk.files g.D.Disk.left_since g.D.Disk.moment g.D.Disk.bytes_read g.D.Disk.follows g.met.D.Disk.follows_trans
+    runs_then g.D.Disk g.met.D.Disk.follows_trans
     Remade Remade Remade c.args.disk.now c.rewrite.new.disk c.seal_index.new.disk (λ x y r. r) remade_then
-    (runs_index g.D.Disk.tells g.D.Disk.files g.D.Disk.left_since g.D.Disk.moment g.D.Disk.bytes_read g.D.Disk.follows Remade VoidOrSame (λ f. Unit {0}) 0
+    (runs_index g.D.Disk Remade VoidOrSame (λ f. Unit {0}) 0
     c.args.disk.now c.rewrite.new.disk voiding (λ told. tt) (λ told image left. tt) c.in_ok-rewrite.ensures.writes.changes) c.in-Err.ensures.runs
 
 pub returns-in-Ok-clause-grows : goal.returns-in-Ok-clause-grows

@@ -1,14 +1,6 @@
-use Rattle.std.proofs.Common.{ℕ, ◌^◌, ◌<◌, List, sym, subst, refl, arith}
-use Rattle.rpm_outside.specs.declared.disk.File.TheVariants.{Idx}
+use Rattle.std.proofs.Common.{ℕ, ◌^◌, ◌<◌, List, sym, subst, arith}
+use Rattle.rpm_db.proofs.Vocabulary.{buckets_of, HasChanged, HasRoomFor, IsBad, IsPlanFor, IsWellFormed, ReachesFor, records, rows}
 use Rattle.rpm_hindex.specs.declared.faults.PrepareFault.TheVariants.{BadIndex}
-use Rattle.rpm_hindex.specs.Index.{records}
-use Rattle.rpm_hindex.specs.Plans.{IsPlanFor, HasChanged, ReachesFor}
-use Rattle.rpm_hindex.specs.Refusals.{IsBad, HasRoomFor}
-use Rattle.rpm_hindex.specs.State.{buckets_of}
-use Rattle.rpm_hindex.specs.Whole.{IsWellFormed}
-use Rattle.rpm_db.specs.Rows.{rows}
-use Rattle.rpm_db.specs.inner.Running.{runs_looks}
-use Rattle.rpm_db.specs.inner.Writes.{SameFiles}
 use Rattle.rpm_db.proofs.Prepared.{of_records, writes_rows, never_bad}
 use Rattle.rpm_db.proofs.Wholes.{whole_plan}
 use Rattle.rpm_db.proofs.preparing.prepare_rows.Goals as goal
@@ -37,8 +29,7 @@ returns-in-Err-IndexFull-clause-full g c = λ told old new has changed.
     let whole = subst (λ (u : List ℕ). IsWellFormed (buckets_of u) idx) (sym first) has.whole in
     let large = rw c.in-Err-IndexFull.field-0-is at (c.in-Err-IndexFull.ensures.refused.full told whole) in
     let is =
-    large.1 (rows new)
-    (subst (λ (u : List ℕ). HasChanged drops adds (records (buckets_of u) idx) (rows new)) (sym first)
+    large.1 (rows new) (subst (λ (u : List ℕ). HasChanged drops adds (records (buckets_of u) idx) (rows new)) (sym first)
     (of_records drops adds old new idx has changed)) in
     (subst (λ (n : ℕ). 2 ^ 28 < n) is large.0, is)
 
@@ -55,51 +46,6 @@ returns-in-Err-BadIndex-clause-bad g c = λ told.
     let idx = (g.D.Disk.files c.args.disk.now).idx in
     subst (λ (u : List ℕ). IsBad (buckets_of u) idx (BadIndex c.in-Err-BadIndex.unit)) (c.requires.keeps told).first
     (rw c.in-Err-BadIndex.field-0-is at (c.in-Err-BadIndex.ensures.refused.bad told))
-
-pub returns-in-Ok-clause-runs : goal.returns-in-Ok-clause-runs
-returns-in-Ok-clause-runs g c =
-    runs_looks g.D.Disk.tells g.D.Disk.files g.D.Disk.left_since g.D.Disk.moment g.D.Disk.bytes_read g.D.Disk.follows SameFiles (λ f. refl) Idx _
-    c.args.disk.now
-    c.prepare.new.disk refl c.in-Ok.ensures.reads.looks
-
-pub returns-in-Ok-clause-unread : goal.returns-in-Ok-clause-unread
-returns-in-Ok-clause-unread g c = omega (arith, c.in-Ok.ensures.reads.looks.reads.pkg)
-
-pub returns-in-Err-IndexFull-clause-runs : goal.returns-in-Err-IndexFull-clause-runs
-returns-in-Err-IndexFull-clause-runs g c =
-    runs_looks g.D.Disk.tells g.D.Disk.files g.D.Disk.left_since g.D.Disk.moment g.D.Disk.bytes_read g.D.Disk.follows SameFiles (λ f. refl) Idx _
-    c.args.disk.now
-    c.prepare.new.disk refl c.in-Err-IndexFull.ensures.reads.looks
-
-pub returns-in-Err-IndexFull-clause-unread : goal.returns-in-Err-IndexFull-clause-unread
-returns-in-Err-IndexFull-clause-unread g c = omega (arith, c.in-Err-IndexFull.ensures.reads.looks.reads.pkg)
-
-pub returns-in-Err-BadIndex-clause-runs : goal.returns-in-Err-BadIndex-clause-runs
-returns-in-Err-BadIndex-clause-runs g c =
-    runs_looks g.D.Disk.tells g.D.Disk.files g.D.Disk.left_since g.D.Disk.moment g.D.Disk.bytes_read g.D.Disk.follows SameFiles (λ f. refl) Idx _
-    c.args.disk.now
-    c.prepare.new.disk refl c.in-Err-BadIndex.ensures.reads.looks
-
-pub returns-in-Err-BadIndex-clause-unread : goal.returns-in-Err-BadIndex-clause-unread
-returns-in-Err-BadIndex-clause-unread g c = omega (arith, c.in-Err-BadIndex.ensures.reads.looks.reads.pkg)
-
-pub returns-in-Err-DiskFault-clause-runs : goal.returns-in-Err-DiskFault-clause-runs
-returns-in-Err-DiskFault-clause-runs g c =
-    runs_looks g.D.Disk.tells g.D.Disk.files g.D.Disk.left_since g.D.Disk.moment g.D.Disk.bytes_read g.D.Disk.follows SameFiles (λ f. refl) Idx _
-    c.args.disk.now
-    c.prepare.new.disk refl c.in-Err-DiskFault.ensures.reads.looks
-
-pub returns-in-Err-DiskFault-clause-unread : goal.returns-in-Err-DiskFault-clause-unread
-returns-in-Err-DiskFault-clause-unread g c = omega (arith, c.in-Err-DiskFault.ensures.reads.looks.reads.pkg)
-
-pub returns-in-Err-NoMemory-clause-runs : goal.returns-in-Err-NoMemory-clause-runs
-returns-in-Err-NoMemory-clause-runs g c =
-    runs_looks g.D.Disk.tells g.D.Disk.files g.D.Disk.left_since g.D.Disk.moment g.D.Disk.bytes_read g.D.Disk.follows SameFiles (λ f. refl) Idx _
-    c.args.disk.now
-    c.prepare.new.disk refl c.in-Err-NoMemory.ensures.reads.looks
-
-pub returns-in-Err-NoMemory-clause-unread : goal.returns-in-Err-NoMemory-clause-unread
-returns-in-Err-NoMemory-clause-unread g c = omega (arith, c.in-Err-NoMemory.ensures.reads.looks.reads.pkg)
 
 pub returns-in-Ok-clause-change : goal.returns-in-Ok-clause-change
 returns-in-Ok-clause-change g c = record { can = c.in-Ok.ensures.can; ordered = c.in-Ok.ensures.prepared.ordered }

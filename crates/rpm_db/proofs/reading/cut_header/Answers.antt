@@ -1,6 +1,5 @@
 use Rattle.std.proofs.Common.{◌≡◌, List, ℕ, length, take, Ok, sym, ap, ◌∙◌}
-use Rattle.rpm_header.specs.Header.{header}
-use Rattle.rpm_db.specs.State.{read_as, Good}
+use Rattle.rpm_db.proofs.Vocabulary.{Good, header, read_as}
 use Rattle.rpm_db.proofs.reading.cut_header.Goals as goal
 
 pub returns : goal.returns

@@ -1,7 +1,6 @@
 use Rattle.std.proofs.Common.{◌≡◌, ◌++◌, ap, ◌∙◌, arith, ℕ, take}
-use Rattle.std.specs.List.{flat_map}
+use Rattle.rpm_db.proofs.Vocabulary.{flat_map, header_rows, kind_rows, kinds}
 use Rattle.rpm_tags.specs.declared.kind.Kind.TheVariants as kind
-use Rattle.rpm_db.specs.Rows.{kinds, kind_rows, header_rows}
 use Rattle.rpm_db.proofs.Rowing.{kinds_more}
 use Rattle.rpm_db.proofs.rows.push_header.Goals as goal
 

@@ -1,6 +1,5 @@
 use Rattle.std.proofs.Common.{◌≡◌, ◌++◌, take}
-use Rattle.std.specs.List.{flat_map}
-use Rattle.rpm_db.specs.Rows.{kinds, kind_rows}
+use Rattle.rpm_db.proofs.Vocabulary.{flat_map, kind_rows, kinds}
 use Rattle.rpm_db.proofs.rows.push_header.Given as goal
 
 abbrev pub invariant-loop-kind : goal.invariant-loop-kind

@@ -1,5 +1,5 @@
 use Rattle.std.proofs.Common.{◌≡◌, ◌++◌, map}
-use Rattle.rpm_db.specs.Rows.{kind_rows, key_row}
+use Rattle.rpm_db.proofs.Vocabulary.{key_row, kind_rows}
 use Rattle.rpm_db.proofs.rows.push_kind.Given as goal
 
 abbrev pub invariant-loop-key : goal.invariant-loop-key

@@ -1,8 +1,6 @@
 use Rattle.std.proofs.Common.{ap, sym, ◌∙◌, ◌++◌, Some, None, List, ℕ}
 use Rattle.std.proofs.lemmas.List.{append-nil}
-use Rattle.rpm_header.specs.Header.{header}
-use Rattle.rpm_hindex.specs.Rows.{Row}
-use Rattle.rpm_db.specs.Rows.{rows_read}
+use Rattle.rpm_db.proofs.Vocabulary.{header, Row, rows_read}
 use Rattle.rpm_db.proofs.Rowing.{package_rows-blob, rows_at-blob}
 use Rattle.rpm_db.proofs.rows.push_package.Goals as goal
 

@@ -1,12 +1,7 @@
 use Rattle.std.proofs.Common.{◌≡◌, ap, ◌∙◌, arith, subst, Some, None, List, ◌++◌}
 use Rattle.std.specs.FinMap as finite
-use Rattle.rpm_outside.specs.Files.{Files}
-use Rattle.rpm_outside.specs.inner.Looking.{looks_none, looks_then, looks_more}
-use Rattle.rpm_outside.specs.declared.disk.File.TheVariants.{Pkg}
-use Rattle.rpm_pkgdb.specs.Costs.{cost, cost_to, cost_all, cost_to_more, cost_to-cost_all}
-use Rattle.rpm_hindex.specs.Rows.{Row}
-use Rattle.rpm_db.specs.Rows.{rows_at, rows_in}
-use Rattle.rpm_db.specs.State.{packages, above}
+use Rattle.rpm_db.proofs.Vocabulary.{above, cost, cost_all, cost_to, cost_to-cost_all, cost_to_more, Files, in_file, looks_more, looks_none, looks_then}
+use Rattle.rpm_db.proofs.Vocabulary.{none_stored, packages, Pkg, Row, rows_at, rows_in}
 use Rattle.rpm_db.proofs.Rowing.{rows_begin, rows_more, rows_end, none_at, next_package}
 use Rattle.rpm_db.proofs.rows.rows_of.Goals as goal
 
@@ -22,7 +17,8 @@ loop-number-init g c = record {
   same = λ told.
       let map = packages (g.D.Disk.files c.args.disk.now).pkg c.args.store.now in
       ap (λ (rs : List Row). rs ++ rows_in (above 0 (finite.entries map))) c.new-rows.ensures
-      ∙ rows_begin map (none_at (g.D.Disk.files c.args.disk.now).pkg c.args.store.now 0 c.requires.from_one);
+      ∙ rows_begin map (none_at (g.D.Disk.files c.args.disk.now).pkg c.args.store.now 0
+      (none_stored (g.D.Disk.files c.args.disk.now).pkg (in_file c.args.store.now) (c.requires.keeps told)));
 }
 
 pub loop-number-preserved : goal.loop-number-preserved

@@ -1,6 +1,5 @@
 use Rattle.std.proofs.Common.{◌≡◌, ◌+◌, ◌<◌, List, [], ◌∷◌, length, false, sym, ap, ◌∙◌, inl, inr, arith}
-use Rattle.rpm_hindex.specs.Rows.{Row, times, same_row, row_nth}
-use Rattle.rpm_db.specs.inner.RowLaws.{times-append}
+use Rattle.rpm_db.proofs.Vocabulary.{Row, row_nth, same_row, times, times-append}
 use Rattle.rpm_db.proofs.Apart.{apart_none, apart_both, apart_drop, apart_add, without_end}
 use Rattle.rpm_db.proofs.Places.{same_is}
 use Rattle.rpm_db.proofs.Shared.{times_next}
@@ -74,26 +73,11 @@ loop-i-preserved c =
           (c.comes_first.ensures.behind c.if-comes_first.false) (inv.apart by_drops by_adds);
     }
 
-pub returns-clause-drops : goal.returns-clause-drops
-returns-clause-drops c = λ by_drops by_adds.
-    let drops = c.args.drops.now in
-    let adds = c.args.adds.now in
-    let inv = c.loop-i.invariant in
-    (without_end drops adds c.loop-i.i c.loop-i.j c.loop-i.gone c.loop-i.new c.push_rest.new.rows c.push_rest-2.new.rows c.in_ok-push_rest.ensures
-    c.in_ok-push_rest-2.ensures
+pub returns : goal.returns
+returns c = λ by_drops by_adds.
+    without_end c.args.drops.now c.args.adds.now c.loop-i.i c.loop-i.j c.loop-i.gone c.loop-i.new c.push_rest.new.rows c.push_rest-2.new.rows
+    c.in_ok-push_rest.ensures c.in_ok-push_rest-2.ensures
     (elim c.loop-i-test.branch [
       | then-loop-i-test+else-j-len w ↦ inr (omega (arith, w.if-j-len.false, w.len-in-loop-i.ensures))
       | else-loop-i-test w ↦ inl (omega (arith, w.loop-i-test.false, c.len.ensures))
-    ]) inv.balanced (inv.apart by_drops by_adds)).0
-
-pub returns-clause-adds : goal.returns-clause-adds
-returns-clause-adds c = λ by_drops by_adds.
-    let drops = c.args.drops.now in
-    let adds = c.args.adds.now in
-    let inv = c.loop-i.invariant in
-    (without_end drops adds c.loop-i.i c.loop-i.j c.loop-i.gone c.loop-i.new c.push_rest.new.rows c.push_rest-2.new.rows c.in_ok-push_rest.ensures
-    c.in_ok-push_rest-2.ensures
-    (elim c.loop-i-test.branch [
-      | then-loop-i-test+else-j-len w ↦ inr (omega (arith, w.if-j-len.false, w.len-in-loop-i.ensures))
-      | else-loop-i-test w ↦ inl (omega (arith, w.loop-i-test.false, c.len.ensures))
-    ]) inv.balanced (inv.apart by_drops by_adds)).1
+    ]) c.loop-i.invariant.balanced (c.loop-i.invariant.apart by_drops by_adds)

@@ -1,6 +1,5 @@
 use Rattle.std.proofs.Common.{◌≡◌, ◌+◌, ◌-◌, ◌≤◌, length, take, drop}
-use Rattle.rpm_hindex.specs.Rows.{Row, times}
-use Rattle.rpm_db.specs.inner.Places.{AreByPlace}
+use Rattle.rpm_db.proofs.Vocabulary.{AreByPlace, Row, times}
 use Rattle.rpm_db.proofs.Apart.{NoneIsShared}
 use Rattle.rpm_db.proofs.sharing.parted.Given as goal
 

@@ -1,32 +1,22 @@
 use Rattle.std.proofs.Common.{◌≡◌, length, ap, refl, arith, rules}
-use Rattle.rpm_outside.specs.declared.disk.File.TheVariants.{Idx}
+use Rattle.rpm_db.proofs.Vocabulary.{Files, Idx, Remade, remade_none, remade_then, runs_index, runs_looks, runs_then, units_for, VoidOrSame}
 use Rattle.rpm_hindex.specs.declared.faults.RewriteFault.TheVariants as rewrite
-use Rattle.rpm_outside.specs.Files.{Files}
-use Rattle.rpm_hindex.specs.Sizes.{units_for}
-use Rattle.rpm_hindex.specs.Images.{VoidOrSame}
-use Rattle.rpm_db.specs.Lawful.{Remade}
-use Rattle.rpm_db.specs.inner.LawfulLaws.{remade_none, remade_then}
-use Rattle.rpm_db.specs.inner.Running.{runs_index, runs_looks, runs_then}
 use Rattle.rpm_db.proofs.Emptied.{never_full}
 use Rattle.rpm_db.proofs.Making.{voiding}
 use Rattle.rpm_db.proofs.starting.empty_index.Goals as goal
 
 pub returns-in-Ok-rewrite-clause-runs : goal.returns-in-Ok-rewrite-clause-runs
 returns-in-Ok-rewrite-clause-runs g c =
-    runs_then g.D.Disk.tells g.D.Disk.files g.D.Disk.left_since g.D.Disk.moment g.D.Disk.bytes_read g.D.Disk.follows g.met.D.Disk.follows_trans
-    Remade Remade Remade c.args.disk.now c.open.new.disk c.rewrite.new.disk (λ x y r. r) remade_then
-    (runs_looks g.D.Disk.tells g.D.Disk.files g.D.Disk.left_since g.D.Disk.moment g.D.Disk.bytes_read g.D.Disk.follows Remade remade_none Idx 32
-    c.args.disk.now c.open.new.disk refl c.in-Ok.ensures.reads.looks)
-    (runs_index g.D.Disk.tells g.D.Disk.files g.D.Disk.left_since g.D.Disk.moment g.D.Disk.bytes_read g.D.Disk.follows Remade VoidOrSame (λ f. Unit {0}) 0
+    runs_then g.D.Disk g.met.D.Disk.follows_trans Remade Remade Remade c.args.disk.now c.open.new.disk c.rewrite.new.disk (λ x y r. r) remade_then
+    (runs_looks g.D.Disk Remade remade_none Idx 32 c.args.disk.now c.open.new.disk refl c.in-Ok.ensures.reads.looks)
+    (runs_index g.D.Disk Remade VoidOrSame (λ f. Unit {0}) 0
     c.open.new.disk c.rewrite.new.disk voiding (λ told. tt) (λ told image left. tt) c.rewrite.ensures.writes.changes)
 
 pub returns-clause-runs : goal.returns-clause-runs
 returns-clause-runs g c =
-    runs_then g.D.Disk.tells g.D.Disk.files g.D.Disk.left_since g.D.Disk.moment g.D.Disk.bytes_read g.D.Disk.follows g.met.D.Disk.follows_trans
-    Remade Remade Remade c.args.disk.now c.open.new.disk c.rewrite.new.disk (λ x y r. r) remade_then
-    (runs_looks g.D.Disk.tells g.D.Disk.files g.D.Disk.left_since g.D.Disk.moment g.D.Disk.bytes_read g.D.Disk.follows Remade remade_none Idx 32
-    c.args.disk.now c.open.new.disk refl c.in-Ok.ensures.reads.looks)
-    (runs_index g.D.Disk.tells g.D.Disk.files g.D.Disk.left_since g.D.Disk.moment g.D.Disk.bytes_read g.D.Disk.follows Remade VoidOrSame (λ f. Unit {0}) 0
+    runs_then g.D.Disk g.met.D.Disk.follows_trans Remade Remade Remade c.args.disk.now c.open.new.disk c.rewrite.new.disk (λ x y r. r) remade_then
+    (runs_looks g.D.Disk Remade remade_none Idx 32 c.args.disk.now c.open.new.disk refl c.in-Ok.ensures.reads.looks)
+    (runs_index g.D.Disk Remade VoidOrSame (λ f. Unit {0}) 0
     c.open.new.disk c.rewrite.new.disk voiding (λ told. tt) (λ told image left. tt) c.rewrite.ensures.writes.changes)
 
 pub returns-clause-room : goal.returns-clause-room

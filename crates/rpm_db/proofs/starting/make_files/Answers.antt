@@ -1,14 +1,11 @@
 use Rattle.std.proofs.Common.{◌≡◌, length, sym, ap, ◌∙◌, subst, arith}
-use Rattle.rpm_outside.specs.Files.{Units, unit_at, blank}
-use Rattle.rpm_pkgdb.specs.Stays.{SameOutside}
-use Rattle.rpm_pkgdb.specs.Store.{Store, store, in_file}
+use Rattle.rpm_db.proofs.Vocabulary.{IsUnsealed, SameOutside, Store, store, Units}
 use Rattle.rpm_pkgdb.specs.Store as pkgdb
 use Rattle.rpm_hindex.specs.State as hindex
-use Rattle.rpm_db.specs.Lawful.{IsUnsealed}
-use Rattle.rpm_db.proofs.Emptied.{blank_is, empty_unsealed}
-use Rattle.rpm_db.proofs.EmptyStops.{stops_index, stops_make, stops_seal, two}
+use Rattle.rpm_db.proofs.Emptied.{empty_unsealed}
+use Rattle.rpm_db.proofs.EmptyStops.{stops_all, stops_both, stops_first}
 use Rattle.rpm_db.proofs.Making.{ordered_pending}
-use Rattle.rpm_db.proofs.Opened.{settled_quiet, still_settled, still_quiet}
+use Rattle.rpm_db.proofs.Opened.{still_quiet}
 use Rattle.rpm_db.proofs.SameLogs.{log_remade, log_made, log_sealed}
 use Rattle.rpm_db.proofs.starting.make_files.Goals as goal
 
@@ -32,7 +29,8 @@ seal_index-requires-clause-here g c = λ told.
     let idx = m.writes.changes.idx told in
     subst (λ (u : Units). IsUnsealed 1 c.in-Ok.index.pending (g.D.Disk.files c.make.new.disk).pkg u) (sym idx)
     (empty_unsealed c.in-Ok.index.pending (g.D.Disk.files c.make.new.disk).pkg (g.D.Disk.files c.empty_index.new.disk).idx c.args.store.now
-    (subst (pkgdb.Keeps (g.D.Disk.files c.make.new.disk).pkg) m.ok (m.made told).written.kept) (c.in-Ok.ensures.empty.whole told) (c.in-Ok.ensures.empty.rows told))
+    (subst (pkgdb.Keeps (g.D.Disk.files c.make.new.disk).pkg) m.ok (m.made told).written.kept) (c.in-Ok.ensures.empty.whole told) (c.in-Ok.ensures.empty.rows
+    told))
 
 pub seal_index-requires-clause-each : goal.seal_index-requires-clause-each
 seal_index-requires-clause-each g c = λ told image here.
@@ -43,79 +41,21 @@ seal_index-requires-clause-each g c = λ told image here.
     (subst (pkgdb.Keeps image.pkg) m.ok ((m.made told).written.quiet image here).keeps) (c.in-Ok.ensures.empty.whole told) (c.in-Ok.ensures.empty.rows told))
 
 pub returns-in-Err-clause-stops : goal.returns-in-Err-clause-stops
-returns-in-Err-clause-stops g c = λ told.
-    let value = c.args.store.now in
-    let a = c.args.disk.now in
-    let b = c.empty_index.new.disk in
-    let none = blank_is (g.D.Disk.files a).pkg (in_file value) (c.requires.can.keeps told) c.requires.can.blank in
-    let e = c.in-Err.ensures in
-    let first = stops_index g.D.Disk.moment g.D.Disk.left_since a b (g.D.Disk.files a).pkg none (c.requires.can.pkg told) (e.runs.any_moment told) in
-    first
+returns-in-Err-clause-stops g c = λ told. stops_first g.D.Disk _ told _ _ c.requires.can c.in-Err.ensures.runs
 
 pub returns-in_default-clause-stops : goal.returns-in_default-clause-stops
 returns-in_default-clause-stops g c = λ told.
-    let value = c.args.store.now in
-    let a = c.args.disk.now in
-    let b = c.empty_index.new.disk in
-    let none = blank_is (g.D.Disk.files a).pkg (in_file value) (c.requires.can.keeps told) c.requires.can.blank in
-    let e = c.in-Ok.ensures in
-    let first = stops_index g.D.Disk.moment g.D.Disk.left_since a b (g.D.Disk.files a).pkg none (c.requires.can.pkg told) (e.runs.any_moment told) in
-    let d = c.make.new.disk in
-    let m = c.in_default.ensures in
-    let idx = (g.D.Disk.files b).idx in
-    let void : unit_at idx 0 ≡ blank = sym (e.empty.kept told).first ∙ e.empty.voided in
-    let keeps = ap store (e.runs.reads_as told).pkg ∙ c.requires.can.keeps told in
-    let quiet = settled_quiet value (g.D.Disk.files b) (g.D.Disk.left_since b (g.D.Disk.moment b)) keeps
-    (still_settled g.D.Disk.tells g.D.Disk.files g.D.Disk.left_since g.D.Disk.moment g.D.Disk.bytes_read g.D.Disk.follows a b told e.runs (c.requires.can.pkg
-    told)) in
-    let made = stops_make g.D.Disk.moment g.D.Disk.left_since a b d idx void (e.runs.now told) (e.empty.settled told) (m.images told quiet) in
-    two g.D.Disk.moment g.D.Disk.left_since a b d first made
+    stops_both g.D.Disk _ told _ _ _ _ c.requires.can c.in-Ok.ensures.runs c.in-Ok.ensures.empty (c.in_default.ensures.images told)
 
 pub returns-in-Ok-seal_index-clause-stops : goal.returns-in-Ok-seal_index-clause-stops
 returns-in-Ok-seal_index-clause-stops g c = λ told.
-    let value = c.args.store.now in
-    let a = c.args.disk.now in
-    let b = c.empty_index.new.disk in
-    let none = blank_is (g.D.Disk.files a).pkg (in_file value) (c.requires.can.keeps told) c.requires.can.blank in
-    let e = c.in-Ok.ensures in
-    let first = stops_index g.D.Disk.moment g.D.Disk.left_since a b (g.D.Disk.files a).pkg none (c.requires.can.pkg told) (e.runs.any_moment told) in
-    let d = c.make.new.disk in
-    let m = c.in-Ok-make.ensures in
-    let idx = (g.D.Disk.files b).idx in
-    let void : unit_at idx 0 ≡ blank = sym (e.empty.kept told).first ∙ e.empty.voided in
-    let keeps = ap store (e.runs.reads_as told).pkg ∙ c.requires.can.keeps told in
-    let quiet = settled_quiet value (g.D.Disk.files b) (g.D.Disk.left_since b (g.D.Disk.moment b)) keeps
-    (still_settled g.D.Disk.tells g.D.Disk.files g.D.Disk.left_since g.D.Disk.moment g.D.Disk.bytes_read g.D.Disk.follows a b told e.runs (c.requires.can.pkg
-    told)) in
-    let made = stops_make g.D.Disk.moment g.D.Disk.left_since a b d idx void (e.runs.now told) (e.empty.settled told) (m.images told quiet) in
-    let f = c.seal_index.new.disk in
-    let sealed = stops_seal g.D.Disk.moment g.D.Disk.left_since a b d f
-    (λ i here. g.met.D.Disk.earlier d (g.D.Disk.moment b) (g.D.Disk.moment d) i told made.later (omega arith) here) made
-    (c.in-Ok-seal_index.ensures.runs.any_moment told) in
-    two g.D.Disk.moment g.D.Disk.left_since a d f (two g.D.Disk.moment g.D.Disk.left_since a b d first made) sealed
+    stops_all g.D.Disk _ told _ _ _ _ c.requires.can c.in-Ok.ensures.runs c.in-Ok.ensures.empty (c.in-Ok-make.ensures.images told)
+    g.met.D.Disk.earlier _ (c.in-Ok-seal_index.ensures.runs.any_moment told)
 
 pub returns-in-Err-seal_index-clause-stops : goal.returns-in-Err-seal_index-clause-stops
 returns-in-Err-seal_index-clause-stops g c = λ told.
-    let value = c.args.store.now in
-    let a = c.args.disk.now in
-    let b = c.empty_index.new.disk in
-    let none = blank_is (g.D.Disk.files a).pkg (in_file value) (c.requires.can.keeps told) c.requires.can.blank in
-    let e = c.in-Ok.ensures in
-    let first = stops_index g.D.Disk.moment g.D.Disk.left_since a b (g.D.Disk.files a).pkg none (c.requires.can.pkg told) (e.runs.any_moment told) in
-    let d = c.make.new.disk in
-    let m = c.in-Ok-make.ensures in
-    let idx = (g.D.Disk.files b).idx in
-    let void : unit_at idx 0 ≡ blank = sym (e.empty.kept told).first ∙ e.empty.voided in
-    let keeps = ap store (e.runs.reads_as told).pkg ∙ c.requires.can.keeps told in
-    let quiet = settled_quiet value (g.D.Disk.files b) (g.D.Disk.left_since b (g.D.Disk.moment b)) keeps
-    (still_settled g.D.Disk.tells g.D.Disk.files g.D.Disk.left_since g.D.Disk.moment g.D.Disk.bytes_read g.D.Disk.follows a b told e.runs (c.requires.can.pkg
-    told)) in
-    let made = stops_make g.D.Disk.moment g.D.Disk.left_since a b d idx void (e.runs.now told) (e.empty.settled told) (m.images told quiet) in
-    let f = c.seal_index.new.disk in
-    let sealed = stops_seal g.D.Disk.moment g.D.Disk.left_since a b d f
-    (λ i here. g.met.D.Disk.earlier d (g.D.Disk.moment b) (g.D.Disk.moment d) i told made.later (omega arith) here) made
-    (c.in-Err-seal_index.ensures.runs.any_moment told) in
-    two g.D.Disk.moment g.D.Disk.left_since a d f (two g.D.Disk.moment g.D.Disk.left_since a b d first made) sealed
+    stops_all g.D.Disk _ told _ _ _ _ c.requires.can c.in-Ok.ensures.runs c.in-Ok.ensures.empty (c.in-Ok-make.ensures.images told)
+    g.met.D.Disk.earlier _ (c.in-Err-seal_index.ensures.runs.any_moment told)
 
 pub returns-in-Ok-seal_index-clause-empty : goal.returns-in-Ok-seal_index-clause-empty
 returns-in-Ok-seal_index-clause-empty g c =
@@ -124,8 +64,7 @@ returns-in-Ok-seal_index-clause-empty g c =
     record {
       kept = λ told. ap store (s.runs.reads_as told).pkg ∙ (m.made told).written.kept;
       quiet = λ told.
-          still_quiet g.D.Disk.tells g.D.Disk.files g.D.Disk.left_since g.D.Disk.moment g.D.Disk.bytes_read g.D.Disk.follows c.make.new.disk
-          c.seal_index.new.disk c.make.new.self told s.runs (m.made told).written.quiet;
+          still_quiet g.D.Disk c.make.new.disk c.seal_index.new.disk c.make.new.self told s.runs (m.made told).written.quiet;
       current = s.sealed.current;
       units = s.sealed.kept;
       index_of = s.sealed.index_of;
@@ -134,23 +73,22 @@ returns-in-Ok-seal_index-clause-empty g c =
 
 pub returns-in-Err-clause-runs : goal.returns-in-Err-clause-runs
 returns-in-Err-clause-runs g c =
-    log_remade g.D.Disk.tells g.D.Disk.files g.D.Disk.left_since g.D.Disk.moment g.D.Disk.bytes_read g.D.Disk.follows c.args.disk.now
-    c.empty_index.new.disk c.in-Err.ensures.runs
+    log_remade g.D.Disk c.args.disk.now c.empty_index.new.disk c.in-Err.ensures.runs
 
 pub returns-in_default-clause-runs : goal.returns-in_default-clause-runs
 returns-in_default-clause-runs g c =
-    log_made g.D.Disk.tells g.D.Disk.files g.D.Disk.left_since g.D.Disk.moment g.D.Disk.bytes_read g.D.Disk.follows g.met.D.Disk.follows_trans
+    log_made g.D.Disk g.met.D.Disk.follows_trans
     (SameOutside 0 256) 0 c.args.disk.now c.empty_index.new.disk c.make.new.disk c.in-Ok.ensures.runs c.in_default.ensures.writes.changes
 
 pub returns-in-Ok-seal_index-clause-runs : goal.returns-in-Ok-seal_index-clause-runs
 returns-in-Ok-seal_index-clause-runs g c =
-    log_sealed g.D.Disk.tells g.D.Disk.files g.D.Disk.left_since g.D.Disk.moment g.D.Disk.bytes_read g.D.Disk.follows g.met.D.Disk.follows_trans
+    log_sealed g.D.Disk g.met.D.Disk.follows_trans
     (SameOutside 0 256) 0 c.args.disk.now c.empty_index.new.disk c.make.new.disk c.seal_index.new.disk c.in-Ok.ensures.runs c.in-Ok-make.ensures.writes.changes
     c.in-Ok-seal_index.ensures.runs
 
 pub returns-in-Err-seal_index-clause-runs : goal.returns-in-Err-seal_index-clause-runs
 returns-in-Err-seal_index-clause-runs g c =
-    log_sealed g.D.Disk.tells g.D.Disk.files g.D.Disk.left_since g.D.Disk.moment g.D.Disk.bytes_read g.D.Disk.follows g.met.D.Disk.follows_trans
+    log_sealed g.D.Disk g.met.D.Disk.follows_trans
     (SameOutside 0 256) 0 c.args.disk.now c.empty_index.new.disk c.make.new.disk c.seal_index.new.disk c.in-Ok.ensures.runs c.in-Ok-make.ensures.writes.changes
     c.in-Err-seal_index.ensures.runs
 

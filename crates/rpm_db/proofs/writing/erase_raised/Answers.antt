@@ -1,14 +1,7 @@
 use Rattle.std.proofs.Common.{◌≡◌, ◌+◌, IsTrue, arith, ap, ◌∙◌, rules}
 use Rattle.std.specs.FinMap as finite
-use Rattle.rpm_outside.specs.declared.disk.File.TheVariants.{Pkg}
-use Rattle.rpm_outside.specs.inner.Changing.{changes_then, changes_weaker, stops_then, stops_weaker}
-use Rattle.rpm_pkgdb.specs.Blobs.{blobs}
-use Rattle.rpm_pkgdb.specs.Quiet.{Anything, BlobMap}
-use Rattle.rpm_pkgdb.specs.Rewritten.{IsErased}
-use Rattle.rpm_pkgdb.specs.Stays.{SameOutside}
-use Rattle.rpm_pkgdb.specs.Store.{Store}
-use Rattle.rpm_pkgdb.specs.Written.{stopped, RaisesTo, ErasesTo}
-use Rattle.rpm_db.specs.inner.Writes.{BlobsTo}
+use Rattle.rpm_db.proofs.Vocabulary.{Anything, BlobMap, blobs, BlobsTo, changes_then, changes_weaker, ErasesTo, IsErased, Pkg, RaisesTo, SameOutside, stopped}
+use Rattle.rpm_db.proofs.Vocabulary.{stops_then, stops_weaker, Store}
 use Rattle.rpm_db.proofs.Results.{map_err, map_ok}
 use Rattle.rpm_db.proofs.Raised.{raises_to, erases_to}
 use Rattle.rpm_db.proofs.writing.erase_raised.Goals as goal
@@ -44,14 +37,13 @@ returns-in-Ok-clause-images g c = λ told quiet.
     stops_then D.tells D.files D.left_since D.moment D.bytes_read D.follows Pkg told (SameOutside 0 1) to 0 a b d e.writes.changes first second
 
 pub returns-in-Ok-clause-err : goal.returns-in-Ok-clause-err
-returns-in-Ok-clause-err g c = map_err c.erase.result (λ (is : c.erase.new.self ≡ stopped c.raise.new.self). (
-  ap (λ (v : Store). v.slots) is ∙ ap (λ (v : Store). v.slots) c.in-Ok.ensures.ok,
-  ap (λ (v : Store). v.pages) is ∙ ap (λ (v : Store). v.pages) c.in-Ok.ensures.ok,
-)) c.erase.ensures.err
+returns-in-Ok-clause-err g c =
+    map_err c.erase.result (λ (is : c.erase.new.self ≡ stopped c.raise.new.self). ap (λ (v : Store). v.pages) is ∙ ap (λ (v : Store). v.pages)
+    c.in-Ok.ensures.ok)
+    c.erase.ensures.err
 
 pub returns-in-Err-clause-err : goal.returns-in-Err-clause-err
-returns-in-Err-clause-err g c =
-    (ap (λ (v : Store). v.slots) c.in-Err.ensures.err, ap (λ (v : Store). v.pages) c.in-Err.ensures.err)
+returns-in-Err-clause-err g c = ap (λ (v : Store). v.pages) c.in-Err.ensures.err
 
 pub erase-requires-clause-keeps : goal.erase-requires-clause-keeps
 erase-requires-clause-keeps g c = λ told. (c.in-Ok.ensures.raised told).written.kept

@@ -1,16 +1,8 @@
 use Rattle.std.proofs.Common.{◌≡◌, ◌+◌, ◌≤◌, length, IsTrue, arith, Some, sym, ap, ◌∙◌, subst, rules}
 use Rattle.std.specs.FinMap as finite
-use Rattle.rpm_outside.specs.declared.disk.File.TheVariants.{Pkg}
-use Rattle.rpm_outside.specs.inner.Changing.{changes_then, changes_weaker, stops_then, stops_weaker}
-use Rattle.rpm_pkgdb.specs.Blobs.{blobs}
-use Rattle.rpm_pkgdb.specs.Growing.{moving_cost}
-use Rattle.rpm_pkgdb.specs.Planned.{IsPlan, moves_of}
-use Rattle.rpm_pkgdb.specs.Quiet.{Anything, BlobMap}
-use Rattle.rpm_pkgdb.specs.Puts.{AfterPut, IsPut}
-use Rattle.rpm_pkgdb.specs.Stays.{SameOutside}
-use Rattle.rpm_pkgdb.specs.Store.{Store}
-use Rattle.rpm_pkgdb.specs.Written.{stopped, RaisesTo, PutsTo, with_plan, with_spare, next_field, field_after}
-use Rattle.rpm_db.specs.inner.Writes.{BlobsTo}
+use Rattle.rpm_db.proofs.Vocabulary.{AfterPut, Anything, BlobMap, blobs, BlobsTo, changes_then, changes_weaker, field_after, IsPlan, IsPut, moves_of}
+use Rattle.rpm_db.proofs.Vocabulary.{moving_cost, next_field, Pkg, PutsTo, RaisesTo, SameOutside, stopped, stops_then, stops_weaker, Store, with_plan}
+use Rattle.rpm_db.proofs.Vocabulary.{with_spare}
 use Rattle.rpm_db.proofs.Results.{map_err, map_ok}
 use Rattle.rpm_db.proofs.Raised.{plan_raised, raises_to, puts_to}
 use Rattle.rpm_db.proofs.writing.put_raised.Goals as goal
@@ -50,18 +42,17 @@ returns-clause-images g c = λ told quiet.
     let second =
     stops_weaker D.moment D.left_since Pkg (PutsTo raised target c.args.blob.now mid) to b d
     (λ image. puts_to st.generation st.field (blobs file st) raised mid image (ap (λ (v : Store). v.generation) e.ok)
-    (ap (λ (v : Store). v.field) e.ok) (e.raised told).written.blobs_are target c.args.blob.now) (c.put.ensures.stops told (e.raised told).written.quiet).images in
+    (ap (λ (v : Store). v.field) e.ok) (e.raised told).written.blobs_are target c.args.blob.now) (c.put.ensures.stops told (e.raised
+    told).written.quiet).images in
     stops_then D.tells D.files D.left_since D.moment D.bytes_read D.follows Pkg told (SameOutside 0 1) to 0 a b d e.writes.changes first second
 
 pub returns-clause-err : goal.returns-clause-err
-returns-clause-err g c = map_err c.put.result (λ (is : c.put.new.self ≡ stopped c.raise.new.self). (
-  ap (λ (v : Store). v.slots) is ∙ ap (λ (v : Store). v.slots) c.in-Ok.ensures.ok,
-  ap (λ (v : Store). v.pages) is ∙ ap (λ (v : Store). v.pages) c.in-Ok.ensures.ok,
-)) c.put.ensures.err
+returns-clause-err g c =
+    map_err c.put.result (λ (is : c.put.new.self ≡ stopped c.raise.new.self). ap (λ (v : Store). v.pages) is ∙ ap (λ (v : Store). v.pages) c.in-Ok.ensures.ok)
+    c.put.ensures.err
 
 pub returns-in_default-clause-err : goal.returns-in_default-clause-err
-returns-in_default-clause-err g c =
-    (ap (λ (v : Store). v.slots) c.in_default.ensures.err, ap (λ (v : Store). v.pages) c.in_default.ensures.err)
+returns-in_default-clause-err g c = ap (λ (v : Store). v.pages) c.in_default.ensures.err
 
 pub put-requires-clause-ready : goal.put-requires-clause-ready
 put-requires-clause-ready g c =

@@ -1,11 +1,7 @@
 use Rattle.std.proofs.Common.{refl, ap, arith, rules}
-use Rattle.rpm_outside.specs.declared.disk.File.TheVariants.{Idx}
-use Rattle.rpm_outside.specs.inner.Changing.{changes_weaker, changes_between}
-use Rattle.rpm_hindex.specs.Images.{VoidOrSameSeal, SealedOrSame}
-use Rattle.rpm_hindex.specs.State.{State, seal_unit}
-use Rattle.rpm_db.specs.inner.Writes.{IndexTo}
+use Rattle.rpm_db.proofs.Vocabulary.{changes_between, changes_weaker, Idx, IndexTo, seal_unit, SealedOrSame, State, VoidOrSameSeal}
 use Rattle.rpm_db.proofs.Making.{ordered_some, ordered_pending}
-use Rattle.rpm_db.proofs.Results.{five_ok}
+use Rattle.rpm_db.proofs.Results.{three_ok}
 use Rattle.rpm_db.proofs.SealedRows.{IsWritten, unsealed_yet, sealed_now, sealing_rows, is_written}
 use Rattle.rpm_db.proofs.writing.write_rows.Goals as goal
 
@@ -19,7 +15,8 @@ returns-in_default-clause-writes g c =
     let D = g.D.Disk in
     let file = (D.files c.args.disk.now).idx in
     record {
-      changes = changes_weaker D.tells D.files D.left_since D.moment D.bytes_read D.follows Idx VoidOrSameSeal (IndexTo c.args.generation c.args.plan.work file) 0 0
+      changes = changes_weaker D.tells D.files D.left_since D.moment D.bytes_read D.follows Idx VoidOrSameSeal (IndexTo c.args.generation c.args.plan.work
+          file) 0 0
           c.args.disk.now c.apply.new.disk (omega arith) (unsealed_yet c.args.generation c.args.plan.work file) c.in_default.ensures.writes.changes;
       cause = search rules;
     }
@@ -39,12 +36,16 @@ returns-clause-writes g c =
     record {
       changes = changes_between D.tells D.files D.left_since D.moment D.bytes_read D.follows Idx g.met.D.Disk.follows_trans VoidOrSameSeal (SealedOrSame unit)
           (IndexTo n work file) (IsWritten n work file) 0 0 0 c.args.disk.now b c.seal.new.disk (omega arith) (unsealed_yet n work file)
-          (sealing_rows n work file unit (ap (seal_unit n) e.pending))
-          (λ told. is_written n work file i.pending mid mid e.pending (e.written told) (omega (arith, (e.kept told).units, some)) (c.seal.ensures.whichever told)
+          (sealing_rows n work file unit (ap (seal_unit n) e.value.pending))
+          (λ told. is_written n work file i.pending mid mid e.value.pending (e.left.written told) (omega (arith, (e.left.kept told).units, some))
+          (c.seal.ensures.whichever told)
           refl)
-          (λ told image left. is_written n work file i.pending mid image.idx e.pending (e.written told) (omega (arith, (e.kept told).units, some))
-          (c.seal.ensures.whichever told) (e.settled told image left))
-          e.writes.changes c.seal.ensures.writes.changes;
+          (λ told image left. is_written n work file i.pending mid image.idx e.value.pending (e.left.written told) (omega (
+            arith,
+            (e.left.kept told).units,
+            some,
+          ))
+          (c.seal.ensures.whichever told) (e.left.settled told image left)) e.writes.changes c.seal.ensures.writes.changes;
       cause = search rules;
     }
 
@@ -59,14 +60,14 @@ returns-clause-applied g c =
     let e = c.in-Ok.ensures in
     let ordered = e.ordered c.requires.change.ordered in
     let some = ordered_some i.pending i.units i.second ordered in
-    five_ok c.seal.result (λ current is kept wrote settled. record {
+    three_ok c.seal.result (λ current is left. record {
       current = current ordered;
-      grows = omega (arith, ap (λ (s : State). s.units) is, e.grows);
-      kept = kept;
+      grows = omega (arith, ap (λ (s : State). s.units) is, e.value.grows);
+      kept = left.kept;
       sealed = λ told.
-          sealed_now n work file (seal_unit n i.pending) mid (D.files c.seal.new.disk).idx (ap (seal_unit n) e.pending)
-          (is_written n work file i.pending mid mid e.pending (e.written told) (omega (arith, (e.kept told).units, some)) (c.seal.ensures.whichever told)
-          refl)
-          (wrote told);
-      settled = settled;
-    }) c.seal.ensures.current c.seal.ensures.state c.seal.ensures.kept c.seal.ensures.sealed c.seal.ensures.settled
+          sealed_now n work file (seal_unit n i.pending) mid (D.files c.seal.new.disk).idx (ap (seal_unit n) e.value.pending)
+          (is_written n work file i.pending mid mid e.value.pending (e.left.written told) (omega (arith, (e.left.kept told).units, some))
+          (c.seal.ensures.whichever told)
+          refl) (left.written told);
+      settled = left.settled;
+    }) c.seal.ensures.current c.seal.ensures.state c.seal.ensures.left

@@ -1,6 +1,5 @@
 use Rattle.std.proofs.Common.{◌≡◌, is_some, false, sym, ap, ◌∙◌, subst}
-use Rattle.rpm_db.specs.Database.{Database}
-use Rattle.rpm_db.specs.Gathering.{IsOrdered, sealed_in}
+use Rattle.rpm_db.proofs.Vocabulary.{Database, IsOrdered, sealed_in}
 use Rattle.rpm_db.proofs.OwedRows.{ordered_of, sealed_of}
 use Rattle.rpm_db.proofs.additions.Additions.begin.Goals as goal
 
@@ -12,8 +11,7 @@ returns-clause-goes c =
 pub returns-clause-order : goal.returns-clause-order
 returns-clause-order c =
     let going : c.db.inside.is_stopped ≡ false = ap (λ (d : Database). d.stopped) c.db.view_is ∙ c.requires.going in
-    subst (λ (d : Database). IsOrdered d.index) c.db.view_is
-    (ordered_of c.db.inside.store.generation c.db.inside.index (c.db.invariant.order going))
+    subst (λ (d : Database). IsOrdered d.index) c.db.view_is (ordered_of c.db.inside.store.generation c.db.inside.index (c.db.invariant.order going))
 
 pub returns-clause-sealed : goal.returns-clause-sealed
 returns-clause-sealed c =

@@ -1,14 +1,6 @@
 use Rattle.std.proofs.Common.{◌≡◌, ◌≤◌, ◌+◌, ◌==◌, ℕ, if◌then◌else◌, length, max, is_some, true, false, Option, refl, sym, ap, ◌∙◌, subst}
-use Rattle.rpm_outside.specs.Files.{Units}
-use Rattle.rpm_hindex.specs.Sizes.{live_of, units_for}
+use Rattle.rpm_db.proofs.Vocabulary.{AreOfRows, HasRows, IsOrdered, KeepsUnits, live_of, packages, rows, sealed_in, store, Units, units_for}
 use Rattle.rpm_hindex.specs.State as hindex
-use Rattle.rpm_pkgdb.specs.Store.{store}
-use Rattle.rpm_db.specs.Database.{KeepsUnits}
-use Rattle.rpm_db.specs.Gathering.{IsOrdered, sealed_in}
-use Rattle.rpm_db.specs.Lawful.{HasRows}
-use Rattle.rpm_db.specs.Rows.{rows}
-use Rattle.rpm_db.specs.State.{packages}
-use Rattle.rpm_db.specs.inner.Filling.{AreOfRows}
 use Rattle.rpm_db.proofs.Refused.{reading_of}
 use Rattle.rpm_db.proofs.FillStops.{rows_quiet}
 use Rattle.rpm_db.proofs.Served.{database_of, indexed_as, refused_same}
@@ -58,8 +50,7 @@ returns-in-Ok-clause-settled g c =
 pub returns-clause-full : goal.returns-clause-full
 returns-clause-full g c =
     let e = c.in-Err.ensures in
-    rw (sym c.db.view_is, sym c.self.view_is) (λ told o.
-    reading_of c.in-Err.fault _ e.kinds (e.full.1 told o.from _ o.has o.changed)
+    rw (sym c.db.view_is, sym c.self.view_is) (λ told o. reading_of c.in-Err.fault _ e.kinds (e.full.1 told o.from _ o.has o.changed)
     (o.fits (λ at. e.full.0 (ap sealed_in (sym c.in-Some.is) ∙ at ∙ sym c.generation-generation.ensures.value))))
 
 pub returns-in-Ok-clause-unwritten : goal.returns-in-Ok-clause-unwritten
@@ -79,8 +70,7 @@ returns-in-Ok-clause-stops g c =
     let old = g.D.Disk.files a in
     let images = g.D.Disk.left_since a (g.D.Disk.moment a) in
     let st = c.db.inside.store in
-    rw (sym c.db.view_is, sym c.self.view_is) (λ told lawful o.
-    c.in-Ok.ensures.stops told lawful o.from (packages old.pkg st) o.has o.changed
+    rw (sym c.db.view_is, sym c.self.view_is) (λ told lawful o. c.in-Ok.ensures.stops told lawful o.from (packages old.pkg st) o.has o.changed
     (subst (λ (n : ℕ). AreOfRows n (packages old.pkg st) images) (sym c.generation-generation.ensures.value)
     (rows_quiet st old images (was.serving told).keeps (c.db.invariant.made (ap is_some c.in-Some.is)) (was.serving told).quiet)))
 
@@ -91,8 +81,7 @@ returns-clause-stops g c =
     let old = g.D.Disk.files a in
     let images = g.D.Disk.left_since a (g.D.Disk.moment a) in
     let st = c.db.inside.store in
-    rw (sym c.db.view_is, sym c.self.view_is) (λ told lawful o.
-    c.in-Err.ensures.stops told lawful o.from (packages old.pkg st) o.has o.changed
+    rw (sym c.db.view_is, sym c.self.view_is) (λ told lawful o. c.in-Err.ensures.stops told lawful o.from (packages old.pkg st) o.has o.changed
     (subst (λ (n : ℕ). AreOfRows n (packages old.pkg st) images) (sym c.generation-generation.ensures.value)
     (rows_quiet st old images (was.serving told).keeps (c.db.invariant.made (ap is_some c.in-Some.is)) (was.serving told).quiet)))
 
@@ -114,7 +103,6 @@ pub invariant_of-db-in-Err : goal.invariant_of-db-in-Err
 invariant_of-db-in-Err g c =
     let was = rw (sym c.db.view_is) at c.requires.gathering in
     record {
-      from_one = c.db.invariant.from_one;
       made = λ some. c.db.invariant.made (ap is_some c.in-Some.is);
       going = λ is. absurd (let both : true ≡ false = sym was.suspends ∙ is in cc);
       order = λ is. absurd (let both : true ≡ false = sym was.suspends ∙ is in cc);

@@ -1,14 +1,6 @@
 use Rattle.std.proofs.Common.{◌≡◌, ℕ, List, false, sym, ap, ◌∙◌, subst}
-use Rattle.rpm_outside.specs.Files.{unit_at}
-use Rattle.rpm_tags.specs.Kinds.{code_of}
-use Rattle.rpm_hindex.specs.Answers.{AreHits}
-use Rattle.rpm_hindex.specs.Index.{records}
-use Rattle.rpm_hindex.specs.Rows.{hash_of}
+use Rattle.rpm_db.proofs.Vocabulary.{AreHits, code_of, Database, hash_of, IsInOrder, IsWellFormed, KeepsUnits, packages, records, rows, unit_at}
 use Rattle.rpm_hindex.specs.State as hindex
-use Rattle.rpm_hindex.specs.Whole.{IsWellFormed}
-use Rattle.rpm_db.specs.Database.{Database, KeepsUnits, IsInOrder}
-use Rattle.rpm_db.specs.Rows.{rows}
-use Rattle.rpm_db.specs.State.{packages}
 use Rattle.rpm_db.proofs.Found.{current_in_order, some_buckets, same_hits, ok_map, no_bad, chain_ok}
 use Rattle.rpm_db.proofs.database.Db.find.Goals as goal
 

@@ -1,7 +1,5 @@
 use Rattle.std.proofs.Common.{is_some, sym, ap, ◌∙◌}
-use Rattle.rpm_pkgdb.specs.Slots.{slot_with}
-use Rattle.rpm_db.specs.Database.{Database}
-use Rattle.rpm_db.specs.inner.Laws.{is_there}
+use Rattle.rpm_db.proofs.Vocabulary.{Database, is_there, slot_with}
 use Rattle.rpm_db.proofs.database.Db.holds.Goals as goal
 
 pub returns-clause-held : goal.returns-clause-held

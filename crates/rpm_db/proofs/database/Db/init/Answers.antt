@@ -1,10 +1,7 @@
 use Rattle.std.proofs.Common.{◌≡◌, ℕ, Some, false, refl, sym, ap, ◌∙◌, arith, rules}
 use Rattle.std.proofs.lemmas.Grind.{common_steps}
 use Rattle.rpm_hindex.specs.State as hindex
-use Rattle.rpm_pkgdb.specs.Store.{Store}
-use Rattle.rpm_pkgdb.specs.Written.{made_new}
-use Rattle.rpm_db.specs.Database.{Database}
-use Rattle.rpm_db.specs.State.{state}
+use Rattle.rpm_db.proofs.Vocabulary.{Database, made_new, state, Store}
 use Rattle.rpm_db.proofs.Rebuilt.{indexed_now}
 use Rattle.rpm_db.proofs.Stays.{state_made}
 use Rattle.rpm_db.proofs.database.Db.init.Goals as goal

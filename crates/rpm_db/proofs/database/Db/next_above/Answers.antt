@@ -1,8 +1,6 @@
 use Rattle.std.proofs.Common.{is_some, subst}
 use Rattle.std.specs.FinMap as finite
-use Rattle.rpm_db.specs.State.{packages}
-use Rattle.rpm_db.specs.Database.{Database, holds, IsNext}
-use Rattle.rpm_db.specs.inner.Laws.{is_there}
+use Rattle.rpm_db.proofs.Vocabulary.{Database, holds, is_there, IsNext, packages}
 use Rattle.rpm_db.proofs.Answers.{next_of_slots, next_is}
 use Rattle.rpm_db.proofs.database.Db.next_above.Goals as goal
 

@@ -1,6 +1,6 @@
 use Rattle.std.proofs.Common.{sym, ap, ◌∙◌}
+use Rattle.rpm_db.proofs.Vocabulary.{next-state}
 use Rattle.rpm_db.specs.Database.{next_number}
-use Rattle.rpm_db.specs.inner.States.{next-state}
 use Rattle.rpm_db.proofs.database.Db.next_number.Goals as goal
 
 pub returns-clause-told : goal.returns-clause-told

@@ -1,26 +1,20 @@
 use Rattle.std.proofs.Common.{subst}
-use Rattle.rpm_outside.specs.Files.{Files}
-use Rattle.rpm_pkgdb.specs.Store.{store}
-use Rattle.rpm_db.specs.Lawful.{Remade}
-use Rattle.rpm_db.specs.Openings.{IsOpenedOn, units_needed}
-use Rattle.rpm_db.specs.Reaches.{ReachesMade}
-use Rattle.rpm_db.specs.inner.LawfulLaws.{remade_then}
-use Rattle.rpm_db.specs.inner.Running.{runs_then}
+use Rattle.rpm_db.proofs.Vocabulary.{Files, IsOpenedOn, ReachesMade, Remade, remade_then, runs_then, store, units_needed}
 use Rattle.rpm_db.proofs.Opened.{stays_lawful}
 use Rattle.rpm_db.proofs.Results.{map_if_ok}
 use Rattle.rpm_db.proofs.database.Db.open.Goals as goal
 
 pub returns-in-Ok-clause-runs : goal.returns-in-Ok-clause-runs
 returns-in-Ok-clause-runs g c =
-    runs_then g.D.Disk.tells g.D.Disk.files g.D.Disk.left_since g.D.Disk.moment g.D.Disk.bytes_read g.D.Disk.follows g.met.D.Disk.follows_trans
+    runs_then g.D.Disk g.met.D.Disk.follows_trans
     Remade Remade Remade c.args.disk.now c.settle.new.disk c.open_settled.new.disk (λ x y r. r) remade_then c.in-Ok.ensures.runs
     c.open_settled.ensures.runs
 
 pub returns-in-Ok-clause-stops : goal.returns-in-Ok-clause-stops
-returns-in-Ok-clause-stops g c = λ told. stays_lawful _ _ _ _ _ _ _ _ told (returns-in-Ok-clause-runs g c)
+returns-in-Ok-clause-stops g c = λ told. stays_lawful g.D.Disk _ _ told (returns-in-Ok-clause-runs g c)
 
 pub returns-in-Err-clause-stops : goal.returns-in-Err-clause-stops
-returns-in-Err-clause-stops g c = λ told. stays_lawful _ _ _ _ _ _ _ _ told c.in-Err.ensures.runs
+returns-in-Err-clause-stops g c = λ told. stays_lawful g.D.Disk _ _ told c.in-Err.ensures.runs
 
 pub returns-in-Ok-clause-served : goal.returns-in-Ok-clause-served
 returns-in-Ok-clause-served g c =

@@ -1,31 +1,21 @@
 use Rattle.std.proofs.Common.{ℕ, length, IsTrue, Result, refl, ap, sym, ◌∙◌, subst, arith, rules}
-use Rattle.rpm_outside.specs.Files.{Files}
-use Rattle.rpm_pkgdb.specs.declared.slot.Damage.{Damage}
-use Rattle.rpm_hindex.specs.Sizes.{units_for}
-use Rattle.rpm_db.specs.Openings.{units_needed}
-use Rattle.rpm_db.specs.Reaches.{ReachesMade}
-use Rattle.rpm_db.specs.Rows.{rows}
-use Rattle.rpm_db.specs.State.{packages}
-use Rattle.rpm_db.specs.Lawful.{Remade}
-use Rattle.rpm_pkgdb.specs.Store.{Store, store}
-use Rattle.rpm_db.specs.inner.LawfulLaws.{remade_then}
-use Rattle.rpm_db.specs.inner.Running.{runs_then}
+use Rattle.rpm_db.proofs.Vocabulary.{Damage, Files, packages, ReachesMade, Remade, remade_then, rows, runs_then, Store, store, units_for, units_needed}
 use Rattle.rpm_db.proofs.Opened.{opened_made, settled_quiet, still_settled, runs_read, stays_lawful}
 use Rattle.rpm_db.proofs.database.Db.open_settled.Goals as goal
 
 -- ---- the store was read alone
 
 pub returns-then-is_blank-clause-runs : goal.returns-then-is_blank-clause-runs
-returns-then-is_blank-clause-runs g c = runs_read _ _ _ _ _ _ _ _ _ c.in_ok-store.ensures.looks
+returns-then-is_blank-clause-runs g c = runs_read g.D.Disk _ _ _ c.in_ok-store.ensures.looks
 
 pub returns-in_err-store-clause-runs : goal.returns-in_err-store-clause-runs
-returns-in_err-store-clause-runs g c = runs_read _ _ _ _ _ _ _ _ _ c.in_err-store.ensures.looks
+returns-in_err-store-clause-runs g c = runs_read g.D.Disk _ _ _ c.in_err-store.ensures.looks
 
 pub returns-then-is_blank-clause-stops : goal.returns-then-is_blank-clause-stops
-returns-then-is_blank-clause-stops g c = λ told. stays_lawful _ _ _ _ _ _ _ _ told (returns-then-is_blank-clause-runs g c)
+returns-then-is_blank-clause-stops g c = λ told. stays_lawful g.D.Disk _ _ told (returns-then-is_blank-clause-runs g c)
 
 pub returns-in_err-store-clause-stops : goal.returns-in_err-store-clause-stops
-returns-in_err-store-clause-stops g c = λ told. stays_lawful _ _ _ _ _ _ _ _ told (returns-in_err-store-clause-runs g c)
+returns-in_err-store-clause-stops g c = λ told. stays_lawful g.D.Disk _ _ told (returns-in_err-store-clause-runs g c)
 
 -- ---- and then the index
 
@@ -40,21 +30,21 @@ returns-clause-opened g c = λ told.
 
 pub returns-clause-runs : goal.returns-clause-runs
 returns-clause-runs g c =
-    runs_then g.D.Disk.tells g.D.Disk.files g.D.Disk.left_since g.D.Disk.moment g.D.Disk.bytes_read g.D.Disk.follows g.met.D.Disk.follows_trans
+    runs_then g.D.Disk g.met.D.Disk.follows_trans
     Remade Remade Remade c.args.disk.now c.open_store.new.disk c.index_for.new.disk (λ x y r. r) remade_then
-    (runs_read _ _ _ _ _ _ _ _ _ c.in_ok-store.ensures.looks) c.in_ok-index.ensures.runs
+    (runs_read g.D.Disk _ _ _ c.in_ok-store.ensures.looks) c.in_ok-index.ensures.runs
 
 pub returns-in_err-index-clause-runs : goal.returns-in_err-index-clause-runs
 returns-in_err-index-clause-runs g c =
-    runs_then g.D.Disk.tells g.D.Disk.files g.D.Disk.left_since g.D.Disk.moment g.D.Disk.bytes_read g.D.Disk.follows g.met.D.Disk.follows_trans
+    runs_then g.D.Disk g.met.D.Disk.follows_trans
     Remade Remade Remade c.args.disk.now c.open_store.new.disk c.index_for.new.disk (λ x y r. r) remade_then
-    (runs_read _ _ _ _ _ _ _ _ _ c.in_ok-store.ensures.looks) c.in_err-index.ensures.runs
+    (runs_read g.D.Disk _ _ _ c.in_ok-store.ensures.looks) c.in_err-index.ensures.runs
 
 pub returns-clause-stops : goal.returns-clause-stops
-returns-clause-stops g c = λ told. stays_lawful _ _ _ _ _ _ _ _ told (returns-clause-runs g c)
+returns-clause-stops g c = λ told. stays_lawful g.D.Disk _ _ told (returns-clause-runs g c)
 
 pub returns-in_err-index-clause-stops : goal.returns-in_err-index-clause-stops
-returns-in_err-index-clause-stops g c = λ told. stays_lawful _ _ _ _ _ _ _ _ told (returns-in_err-index-clause-runs g c)
+returns-in_err-index-clause-stops g c = λ told. stays_lawful g.D.Disk _ _ told (returns-in_err-index-clause-runs g c)
 
 -- ---- what it serves
 
@@ -63,7 +53,7 @@ returns-then-is_blank-clause-served g c =
     let D = g.D.Disk in
     let new = c.open_store.new.disk in
     let looks = c.in_ok-store.ensures.looks in
-    let durable = λ (told : IsTrue D.tells). still_settled _ _ _ _ _ _ _ _ told (returns-then-is_blank-clause-runs g c) (c.requires.pkg told) in
+    let durable = λ (told : IsTrue D.tells). still_settled g.D.Disk _ _ told (returns-then-is_blank-clause-runs g c) (c.requires.pkg told) in
     record {
       fresh = record { from_one = search rules; indexed = search rules; going = refl };
       quiet = λ told. settled_quiet c.in_ok-store.store (D.files new) (D.left_since new (D.moment new)) (c.in_ok-store.ensures.kept told) (durable told);
@@ -82,7 +72,7 @@ returns-clause-served g c =
     let f = D.files in
     let s = c.in_ok-store.ensures in
     let e = c.in_ok-index.ensures in
-    let durable = λ (told : IsTrue D.tells). still_settled _ _ _ _ _ _ _ _ told (returns-clause-runs g c) (c.requires.pkg told) in
+    let durable = λ (told : IsTrue D.tells). still_settled g.D.Disk _ _ told (returns-clause-runs g c) (c.requires.pkg told) in
     record {
       fresh = record { from_one = search rules; indexed = search rules; going = refl };
       quiet = λ told.

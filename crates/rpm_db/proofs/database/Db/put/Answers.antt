@@ -1,8 +1,5 @@
 use Rattle.std.proofs.Common.{◌≡◌, Ok, Err, sym, subst}
-use Rattle.rpm_header.specs.Header.{Header, header}
-use Rattle.rpm_db.specs.Changed.{Makes}
-use Rattle.rpm_db.specs.Changes.{Put}
-use Rattle.rpm_db.specs.inner.Own.{header-own}
+use Rattle.rpm_db.proofs.Vocabulary.{Header, header, header-own, Makes, Put}
 use Rattle.rpm_db.proofs.database.Db.put.Goals as goal
 
 pub put_view-requires-clause-own : goal.put_view-requires-clause-own

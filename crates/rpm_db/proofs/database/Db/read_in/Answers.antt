@@ -1,10 +1,7 @@
 use Rattle.std.proofs.Common.{sym, subst}
 use Rattle.std.specs.Prelude.{Option}
 use Rattle.std.specs.FinMap as finite
-use Rattle.rpm_db.specs.State.{Package, packages}
-use Rattle.rpm_db.specs.Database.{Database}
-use Rattle.rpm_db.specs.Answers.{ReadIs}
-use Rattle.rpm_db.specs.inner.Laws.{get-packages}
+use Rattle.rpm_db.proofs.Vocabulary.{Database, get-packages, Package, packages, ReadIs}
 use Rattle.rpm_db.proofs.Answers.{read_is}
 use Rattle.rpm_db.proofs.database.Db.read_in.Goals as goal
 

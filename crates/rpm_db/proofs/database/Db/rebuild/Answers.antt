@@ -1,11 +1,6 @@
 use Rattle.std.proofs.Common.{◌≡◌, ◌≤◌, ◌^◌, false, sym, ap, ◌∙◌, subst}
-use Rattle.rpm_pkgdb.specs.Store.{Store, store}
+use Rattle.rpm_db.proofs.Vocabulary.{Database, packages, ReachesMade, rows, Store, store, units_for}
 use Rattle.rpm_pkgdb.specs.Store as pkgdb
-use Rattle.rpm_hindex.specs.Sizes.{units_for}
-use Rattle.rpm_db.specs.Database.{Database}
-use Rattle.rpm_db.specs.Reaches.{ReachesMade}
-use Rattle.rpm_db.specs.Rows.{rows}
-use Rattle.rpm_db.specs.State.{packages}
 use Rattle.rpm_db.proofs.Opened.{stays_lawful}
 use Rattle.rpm_db.proofs.Rebuilt.{rebuilt, serving_now}
 use Rattle.rpm_db.proofs.database.Db.rebuild.Goals as goal
@@ -46,13 +41,13 @@ returns-in-Ok-clause-renewed g c =
     }
 
 pub returns-in-Ok-clause-stops : goal.returns-in-Ok-clause-stops
-returns-in-Ok-clause-stops g c = λ told. stays_lawful _ _ _ _ _ _ _ _ told c.in-Ok.ensures.runs
+returns-in-Ok-clause-stops g c = λ told. stays_lawful g.D.Disk _ _ told c.in-Ok.ensures.runs
 
 pub returns-in-Err-IndexFull-clause-stops : goal.returns-in-Err-IndexFull-clause-stops
-returns-in-Err-IndexFull-clause-stops g c = λ told. stays_lawful _ _ _ _ _ _ _ _ told c.in-Err-IndexFull.ensures.runs
+returns-in-Err-IndexFull-clause-stops g c = λ told. stays_lawful g.D.Disk _ _ told c.in-Err-IndexFull.ensures.runs
 
 pub returns-in-Err-NoMemory-clause-stops : goal.returns-in-Err-NoMemory-clause-stops
-returns-in-Err-NoMemory-clause-stops g c = λ told. stays_lawful _ _ _ _ _ _ _ _ told c.in-Err-NoMemory.ensures.runs
+returns-in-Err-NoMemory-clause-stops g c = λ told. stays_lawful g.D.Disk _ _ told c.in-Err-NoMemory.ensures.runs
 
 pub returns-in-Err-DiskFault-clause-stops : goal.returns-in-Err-DiskFault-clause-stops
-returns-in-Err-DiskFault-clause-stops g c = λ told. stays_lawful _ _ _ _ _ _ _ _ told c.in-Err-DiskFault.ensures.runs
+returns-in-Err-DiskFault-clause-stops g c = λ told. stays_lawful g.D.Disk _ _ told c.in-Err-DiskFault.ensures.runs

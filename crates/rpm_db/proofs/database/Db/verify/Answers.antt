@@ -1,7 +1,6 @@
 use Rattle.std.proofs.Common.{◌≡◌, Some, subst}
+use Rattle.rpm_db.proofs.Vocabulary.{Database, verdict}
 use Rattle.rpm_db.specs.declared.verify.Verdict.TheVariants.{BadHeader}
-use Rattle.rpm_db.specs.Database.{Database}
-use Rattle.rpm_db.specs.Verdicts.{verdict}
 use Rattle.rpm_db.proofs.Answers.{broken}
 use Rattle.rpm_db.proofs.database.Db.verify.Goals as goal
 

@@ -1,15 +1,6 @@
 use Rattle.std.proofs.Common.{ℕ, ◌+◌, ◌≤◌, ◌++◌, List, [], None, Ok, Err, length, sym, ap, ◌∙◌, subst, arith, rules}
-use Rattle.rpm_outside.specs.Files.{Files}
-use Rattle.rpm_pkgdb.specs.Placing.{placed, placement_of}
-use Rattle.rpm_pkgdb.specs.Planned.{moves_of}
-use Rattle.rpm_pkgdb.specs.Reaches.{ReachesTo}
-use Rattle.rpm_pkgdb.specs.Slots.{slot_with}
-use Rattle.rpm_pkgdb.specs.Store.{Keeps, Store, store}
-use Rattle.rpm_pkgdb.specs.Quiet.{Anything}
-use Rattle.rpm_hindex.specs.Rows.{Row}
-use Rattle.rpm_hindex.specs.Sizes.{units_for}
-use Rattle.rpm_db.specs.Rows.{header_rows, rows}
-use Rattle.rpm_db.specs.inner.Filling.{TakesRows}
+use Rattle.rpm_db.proofs.Vocabulary.{Anything, Files, header_rows, Keeps, moves_of, placed, placement_of, ReachesTo, Row, rows, Store, store, TakesRows}
+use Rattle.rpm_db.proofs.Vocabulary.{units_for}
 use Rattle.rpm_db.proofs.Both.{runs_store}
 use Rattle.rpm_db.proofs.Planning.{number_put, stops_aside}
 use Rattle.rpm_db.proofs.Puts.{field_planned, map_planned, number_same}
@@ -17,7 +8,7 @@ use Rattle.rpm_db.proofs.Raised.{some_pages}
 use Rattle.rpm_db.proofs.Refused.{later_of_index, room_index}
 use Rattle.rpm_db.proofs.Rooms.{put_placed, room_of_index, room_put}
 use Rattle.rpm_db.proofs.Unwritten.{log_same, log_then, quiet_roomed, settled_same, stops_refused}
-use Rattle.rpm_db.proofs.gathering.put_aside.Goals as goal
+use Rattle.rpm_db.proofs.gathering.store_header.Goals as goal
 
 -- ---- what the write asks for
 
@@ -30,7 +21,7 @@ put_raised-requires-clause-keeps g c = λ told.
     (ap (λ (f : Files). store f.pkg) (c.in-Ok-expect_room.ensures.runs.reads_as told) ∙ c.requires.ready.read.keeps told)
 
 pub put_raised-requires-clause-made : goal.put_raised-requires-clause-made
-put_raised-requires-clause-made g c = omega (arith, ap (λ (v : Store). v.pages) c.in-Ok.ensures.value, c.requires.ready.made.made)
+put_raised-requires-clause-made g c = omega (arith, ap (λ (v : Store). v.pages) c.in-Ok.ensures.value, c.requires.ready.made)
 
 pub put_raised-requires-clause-length : goal.put_raised-requires-clause-length
 put_raised-requires-clause-length g c = c.in-Ok.ensures.placed.1.length_is ∙ ap length (sym c.blob.ensures.value)
@@ -76,7 +67,13 @@ returns-in-Ok-put_raised-clause-room g c = record {
 pub returns-in-Ok-put_raised-clause-number : goal.returns-in-Ok-put_raised-clause-number
 returns-in-Ok-put_raised-clause-number g c =
     let e = c.in-Ok.ensures in
-    c.in-Ok-put_raised.ensures.number ∙ number_put {value = c.args.store.now} (record { room = e.value; plan_is = e.plan.plan_is; asked = e.placed.1; own = c.blob.ensures.value })
+    c.in-Ok-put_raised.ensures.number ∙ number_put {value = c.args.store.now} (record {
+      room = e.value;
+      plan_is = e.plan.plan_is;
+      asked = e.placed.1;
+      own
+          = c.blob.ensures.value;
+    })
 
 -- ---- the index
 
@@ -91,14 +88,14 @@ returns-in_default-clause-rows g c = record { full = λ told before after has ch
 pub returns-in-Err-expect_room-clause-rows : goal.returns-in-Err-expect_room-clause-rows
 returns-in-Err-expect_room-clause-rows g c =
     let more = c.in-Ok-push_header.ensures ∙ ap (λ (n : ℕ). c.args.owed.now ++ header_rows n c.args.view.now)
-    (c.next_number.ensures ∙ number_same None c.args.store.now c.plan_room.new.store c.in-Ok.ensures.value) in
+    (c.next_number.ensures ∙ number_same None c.args.store.now c.plan_blob.new.store c.in-Ok.ensures.value) in
     subst (λ (rs : List Row). TakesRows g.D.Disk {A = ℕ} c.args.disk.now [] rs (Err c.in-Err-expect_room.fault)) more
     (record { full = c.in-Err-expect_room.ensures.takes.full; bad = c.in-Err-expect_room.ensures.takes.bad })
 
 pub returns-in-Ok-put_raised-clause-rows : goal.returns-in-Ok-put_raised-clause-rows
 returns-in-Ok-put_raised-clause-rows g c =
     let more = c.in-Ok-push_header.ensures ∙ ap (λ (n : ℕ). c.args.owed.now ++ header_rows n c.args.view.now)
-    (c.next_number.ensures ∙ number_same None c.args.store.now c.plan_room.new.store c.in-Ok.ensures.value) in
+    (c.next_number.ensures ∙ number_same None c.args.store.now c.plan_blob.new.store c.in-Ok.ensures.value) in
     subst (λ (rs : List Row). TakesRows g.D.Disk c.args.disk.now [] rs (Ok c.in-Ok-put_raised.number)) more
     (record { full = c.in-Ok-expect_room.ensures.takes.full; bad = λ told. tt })
 
@@ -119,25 +116,25 @@ returns-in-Err-put_raised-clause-index g c = λ told.
 -- ---- what crashes leave
 
 pub returns-in-Err-expect_room-clause-stops : goal.returns-in-Err-expect_room-clause-stops
-returns-in-Err-expect_room-clause-stops g c = λ told lawful. stops_refused _ _ _ _ _ _ _ _ _ _ told lawful c.in-Err-expect_room.ensures.runs
+returns-in-Err-expect_room-clause-stops g c = λ told lawful. stops_refused _ _ g.D.Disk _ _ told lawful c.in-Err-expect_room.ensures.runs
 
 pub returns-in-Ok-put_raised-clause-stops : goal.returns-in-Ok-put_raised-clause-stops
 returns-in-Ok-put_raised-clause-stops g c = λ told lawful.
     let e = c.in-Ok.ensures in
     let run = c.in-Ok-expect_room.ensures.runs in
     let ready = c.requires.ready in
-    stops_aside _ _ _ _ _ _ _ _ _ told run (record { room = e.value; plan_is = e.plan.plan_is; asked = e.placed.1; own = c.blob.ensures.value }) lawful
-    (g.met.D.Disk.as_read c.args.disk.now told) (ready.read.keeps told) ready.made.made (ready.settled told)
-    (c.in-Ok-put_raised.ensures.images told (quiet_roomed _ _ _ _ _ _ _ _ told run _ _ e.value (ready.quiet told)))
+    stops_aside g.D.Disk _ _ _ told run (record { room = e.value; plan_is = e.plan.plan_is; asked = e.placed.1; own = c.blob.ensures.value }) lawful
+    (g.met.D.Disk.as_read c.args.disk.now told) (ready.read.keeps told) ready.made (ready.settled told)
+    (c.in-Ok-put_raised.ensures.images told (quiet_roomed g.D.Disk _ _ told run _ _ e.value (ready.quiet told)))
 
 pub returns-in-Err-put_raised-clause-stops : goal.returns-in-Err-put_raised-clause-stops
 returns-in-Err-put_raised-clause-stops g c = λ told lawful.
     let e = c.in-Ok.ensures in
     let run = c.in-Ok-expect_room.ensures.runs in
     let ready = c.requires.ready in
-    stops_aside _ _ _ _ _ _ _ _ _ told run (record { room = e.value; plan_is = e.plan.plan_is; asked = e.placed.1; own = c.blob.ensures.value }) lawful
-    (g.met.D.Disk.as_read c.args.disk.now told) (ready.read.keeps told) ready.made.made (ready.settled told)
-    (c.in-Err-put_raised.ensures.images told (quiet_roomed _ _ _ _ _ _ _ _ told run _ _ e.value (ready.quiet told)))
+    stops_aside g.D.Disk _ _ _ told run (record { room = e.value; plan_is = e.plan.plan_is; asked = e.placed.1; own = c.blob.ensures.value }) lawful
+    (g.met.D.Disk.as_read c.args.disk.now told) (ready.read.keeps told) ready.made (ready.settled told)
+    (c.in-Err-put_raised.ensures.images told (quiet_roomed g.D.Disk _ _ told run _ _ e.value (ready.quiet told)))
 
 pub returns-in-Err-expect_room-clause-refused : goal.returns-in-Err-expect_room-clause-refused
 returns-in-Err-expect_room-clause-refused g c = λ refusal. (c.in-Ok.ensures.value, c.in-Err-expect_room.ensures.runs)
@@ -145,21 +142,21 @@ returns-in-Err-expect_room-clause-refused g c = λ refusal. (c.in-Ok.ensures.val
 -- ---- the runs
 
 pub returns-in-Err-expect_room-clause-runs : goal.returns-in-Err-expect_room-clause-runs
-returns-in-Err-expect_room-clause-runs g c = record { files = log_same _ _ _ _ _ _ _ _ c.in-Err-expect_room.ensures.runs; cause = search rules }
+returns-in-Err-expect_room-clause-runs g c = record { files = log_same g.D.Disk _ _ c.in-Err-expect_room.ensures.runs; cause = search rules }
 
 pub returns-in-Ok-put_raised-clause-runs : goal.returns-in-Ok-put_raised-clause-runs
 returns-in-Ok-put_raised-clause-runs g c =
     record {
-      files = log_then _ _ _ _ _ _ g.met.D.Disk.follows_trans _ _ _ c.in-Ok-expect_room.ensures.runs
-          (runs_store _ _ _ _ _ _ Anything _ _ _ c.in-Ok-put_raised.ensures.writes.changes);
+      files = log_then g.D.Disk g.met.D.Disk.follows_trans _ _ _ c.in-Ok-expect_room.ensures.runs
+          (runs_store g.D.Disk Anything _ _ _ c.in-Ok-put_raised.ensures.writes.changes);
       cause = search rules;
     }
 
 pub returns-in-Err-put_raised-clause-runs : goal.returns-in-Err-put_raised-clause-runs
 returns-in-Err-put_raised-clause-runs g c =
     record {
-      files = log_then _ _ _ _ _ _ g.met.D.Disk.follows_trans _ _ _ c.in-Ok-expect_room.ensures.runs
-          (runs_store _ _ _ _ _ _ Anything _ _ _ c.in-Err-put_raised.ensures.writes.changes);
+      files = log_then g.D.Disk g.met.D.Disk.follows_trans _ _ _ c.in-Ok-expect_room.ensures.runs
+          (runs_store g.D.Disk Anything _ _ _ c.in-Err-put_raised.ensures.writes.changes);
       cause = search rules;
     }
 
@@ -180,7 +177,7 @@ returns-in-Ok-put_raised-clause-done g c =
     let e = c.in-Ok.ensures in
     let w = c.in-Ok-put_raised.ensures in
     let st = c.args.store.now in
-    let planned = c.plan_room.new.store in
+    let planned = c.plan_blob.new.store in
     let size = length c.args.view.now.blob in
     record {
       going = ap (λ (v : Store). v.is_stopped) w.ok ∙ ap (λ (v : Store). v.is_stopped) e.value ∙ c.requires.ready.going;
@@ -201,7 +198,7 @@ returns-in-Ok-put_raised-clause-done g c =
       settled = λ told image here.
           (let moved = w.writes.changes.now told image here in
           moved.idx
-          ∙ settled_same _ _ _ _ _ _ _ _ told c.in-Ok-expect_room.ensures.runs (c.requires.ready.settled told) moved.from moved.was
+          ∙ settled_same g.D.Disk _ _ told c.in-Ok-expect_room.ensures.runs (c.requires.ready.settled told) moved.from moved.was
           ∙ sym (w.writes.changes.idx told));
       end = λ told.
           subst (λ (old : Files). ReachesTo c.put_raised.new.store old.pkg (g.D.Disk.files c.put_raised.new.disk).pkg)
@@ -210,38 +207,20 @@ returns-in-Ok-put_raised-clause-done g c =
 
 -- ---- the store
 
-pub returns-in-Err-clause-is_made : goal.returns-in-Err-clause-is_made
-returns-in-Err-clause-is_made g c = record {
-  made = omega (arith, ap (λ (v : Store). v.pages) c.in-Err.ensures.value, c.requires.ready.made.made);
-  from_one = ap (λ (v : Store). slot_with 0 v.slots) c.in-Err.ensures.value ∙ c.requires.ready.made.from_one;
-}
+pub returns-in-Err-clause-made : goal.returns-in-Err-clause-made
+returns-in-Err-clause-made g c = omega (arith, ap (λ (v : Store). v.pages) c.in-Err.ensures.value, c.requires.ready.made)
 
-pub returns-in_default-clause-is_made : goal.returns-in_default-clause-is_made
-returns-in_default-clause-is_made g c = record {
-  made = omega (arith, ap (λ (v : Store). v.pages) c.in-Ok.ensures.value, c.requires.ready.made.made);
-  from_one = ap (λ (v : Store). slot_with 0 v.slots) c.in-Ok.ensures.value ∙ c.requires.ready.made.from_one;
-}
+pub returns-in_default-clause-made : goal.returns-in_default-clause-made
+returns-in_default-clause-made g c = omega (arith, ap (λ (v : Store). v.pages) c.in-Ok.ensures.value, c.requires.ready.made)
 
-pub returns-in-Err-expect_room-clause-is_made : goal.returns-in-Err-expect_room-clause-is_made
-returns-in-Err-expect_room-clause-is_made g c = record {
-  made = omega (arith, ap (λ (v : Store). v.pages) c.in-Ok.ensures.value, c.requires.ready.made.made);
-  from_one = ap (λ (v : Store). slot_with 0 v.slots) c.in-Ok.ensures.value ∙ c.requires.ready.made.from_one;
-}
+pub returns-in-Err-expect_room-clause-made : goal.returns-in-Err-expect_room-clause-made
+returns-in-Err-expect_room-clause-made g c = omega (arith, ap (λ (v : Store). v.pages) c.in-Ok.ensures.value, c.requires.ready.made)
 
-pub returns-in-Err-put_raised-clause-is_made : goal.returns-in-Err-put_raised-clause-is_made
-returns-in-Err-put_raised-clause-is_made g c =
-    let e = c.in-Ok.ensures in
-    let w = c.in-Err-put_raised.ensures in
-    record {
-      made = omega (arith, w.err.1, ap (λ (v : Store). v.pages) e.value, c.requires.ready.made.made);
-      from_one = ap (slot_with 0) w.err.0 ∙ ap (λ (v : Store). slot_with 0 v.slots) e.value ∙ c.requires.ready.made.from_one;
-    }
+pub returns-in-Err-put_raised-clause-made : goal.returns-in-Err-put_raised-clause-made
+returns-in-Err-put_raised-clause-made g c =
+    omega (arith, c.in-Err-put_raised.ensures.err, ap (λ (v : Store). v.pages) c.in-Ok.ensures.value, c.requires.ready.made)
 
-pub returns-in-Ok-put_raised-clause-is_made : goal.returns-in-Ok-put_raised-clause-is_made
-returns-in-Ok-put_raised-clause-is_made g c =
-    let e = c.in-Ok.ensures in
-    let pages : 1 ≤ c.plan_room.new.store.pages = omega (arith, ap (λ (v : Store). v.pages) e.value, c.requires.ready.made.made) in
-    record {
-      made = omega (arith, ap (λ (v : Store). v.pages) c.in-Ok-put_raised.ensures.ok, some_pages (moves_of c.in-Ok.plan.page) c.plan_room.new.store.pages pages);
-      from_one = c.generation.ensures.from_one;
-    }
+pub returns-in-Ok-put_raised-clause-made : goal.returns-in-Ok-put_raised-clause-made
+returns-in-Ok-put_raised-clause-made g c =
+    let pages : 1 ≤ c.plan_blob.new.store.pages = omega (arith, ap (λ (v : Store). v.pages) c.in-Ok.ensures.value, c.requires.ready.made) in
+    omega (arith, ap (λ (v : Store). v.pages) c.in-Ok-put_raised.ensures.ok, some_pages (moves_of c.in-Ok.plan.page) c.plan_blob.new.store.pages pages)

@@ -17,7 +17,7 @@ use Rattle.rpm_pkgdb.specs.Slots.{is_used, greatest_number, slot_with}
 use Rattle.rpm_pkgdb.specs.Store.{Store, next_number}
 use Rattle.rpm_db.specs.Changes.{greatest_in, next}
 use Rattle.rpm_db.specs.State.{Package, Good, read_as, package_of, packages, state}
-use Rattle.rpm_db.specs.inner.Laws.{find-map, get-packages}
+use Rattle.rpm_db.specs.PackageLaws.{find-map, get-packages}
 use Rattle.rpm_db.specs.inner.Writes.{packages_of, state_with, state_of}
 
 pub packages-blobs : (file : Units) (value : Store) → packages file value ≡ packages_of (blobs file value)
@@ -67,7 +67,7 @@ package-own h is = ap read_as is
 
 -- two lists of which the same numbers can be found have the same greatest number
 module _ {X : Type 0} where
-  below_greatest : (es : List (ℕ × X)) (n : ℕ) → is_some (finite.find nat_cmp n es) ≡ true → n ≤ greatest_in es
+  pub below_greatest : (es : List (ℕ × X)) (n : ℕ) → is_some (finite.find nat_cmp n es) ≡ true → n ≤ greatest_in es
   below_greatest [] n there = absurd cc
   below_greatest (e ∷ es) n there = elim (cases_Bool (n == e.0)) [
     | inl same ↦ (let is : n ≡ e.0 = grind (arith, nat_tests) in omega (arith, is))
@@ -77,7 +77,7 @@ module _ {X : Type 0} where
         omega (arith, rest))
   ]
 
-  found_greatest : (es : List (ℕ × X)) → 0 < greatest_in es → is_some (finite.find nat_cmp (greatest_in es) es) ≡ true
+  pub found_greatest : (es : List (ℕ × X)) → 0 < greatest_in es → is_some (finite.find nat_cmp (greatest_in es) es) ≡ true
   found_greatest [] some = absurd (omega (arith, some))
   found_greatest (e ∷ es) some =
       let n = max e.0 (greatest_in es) in

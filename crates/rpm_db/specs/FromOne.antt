@@ -52,7 +52,8 @@ none_read file s None is =
     let pages = word 3 (unit_at file 0) in
     none_made file s pages (table_fault pages (length file) (table pages file)) refl is
 
-none_stored : (file : Units) (s : Store) → store file ≡ Ok s → slot_with 0 s.slots ≡ None
+-- of a store that a file says
+pub none_stored : (file : Units) (s : Store) → store file ≡ Ok s → slot_with 0 s.slots ≡ None
 unfolding store
 none_stored file s is = elim (cases_Bool (is_blank file)) [
   | inl blank ↦ (let same : Ok blank_store ≡ Ok s = rw blank at is in

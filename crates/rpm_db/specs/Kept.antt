@@ -8,7 +8,7 @@ use Rattle.std.specs.FinMap.Entries.{below_all}
 use Rattle.std.proofs.lemmas.Bool.{cases_Bool}
 use Rattle.std.proofs.lemmas.Bool.Decides.{nat_tests}
 use Rattle.rpm_db.specs.State.{above}
-use Rattle.rpm_db.specs.inner.Above.{both_true, is_below}
+use Rattle.rpm_db.specs.Above.{both_true, is_below}
 
 module _ {X : Type 0} (p : ℕ × X → Bool) where
   pub kept_above : (k x : ℕ) (es : List (ℕ × X)) → T (below_all nat_cmp x es) → k ≤ x → above k (filter p es) ≡ filter p es

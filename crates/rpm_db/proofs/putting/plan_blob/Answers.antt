@@ -1,9 +1,7 @@
 use Rattle.std.proofs.Common.{◌≡◌, ℕ, List, length, is_none, Some, None, Ok, Err, ap, sym, subst, arith}
 use Rattle.std.proofs.lemmas.Bool.Decides.{nat_tests}
-use Rattle.rpm_header.specs.Header.{header}
-use Rattle.rpm_pkgdb.specs.Placing.{placed, placement_of}
-use Rattle.rpm_pkgdb.specs.Planned.{IsFor, IsFull}
-use Rattle.rpm_db.proofs.putting.plan_room.Goals as goal
+use Rattle.rpm_db.proofs.Vocabulary.{header, IsFor, IsFull, placed, placement_of}
+use Rattle.rpm_db.proofs.putting.plan_blob.Goals as goal
 
 pub returns-in-Err-StoreFull-clause-later : goal.returns-in-Err-StoreFull-clause-later
 returns-in-Err-StoreFull-clause-later c = (
@@ -25,7 +23,8 @@ returns-in-Err-StoreFull-clause-placed c =
 
 pub returns-in-Ok-clause-placed : goal.returns-in-Ok-clause-placed
 returns-in-Ok-clause-placed c = (
-  subst (λ (bs : List ℕ). placed c.args.n (length bs) c.args.store.now ≡ Some (placement_of c.in-Ok.plan)) c.blob.ensures.value c.in-Ok.ensures.planned.placed_is,
+  subst (λ (bs : List ℕ). placed c.args.n (length bs) c.args.store.now ≡ Some (placement_of c.in-Ok.plan)) c.blob.ensures.value
+      c.in-Ok.ensures.planned.placed_is,
   subst (λ (bs : List ℕ). IsFor c.args.n (length bs) c.in-Ok.plan) c.blob.ensures.value c.in-Ok.ensures.planned.asked,
 )
 
