@@ -1,10 +1,7 @@
 -- What is kept of a sorted list above a number.
 use Rattle.std.proofs.Common.{ℕ, List, map}
-use Rattle.std.specs.Ordering.{nat_cmp}
+use Rattle.rpm_check.proofs.Vocabulary.{above, nat_cmp, Package, picks, Selection}
 use Rattle.std.specs.FinMap as finite
-use Rattle.rpm_db.specs.State.{Package, above}
-use Rattle.rpm_select.specs.declared.selection.Selection.{Selection}
-use Rattle.rpm_select.specs.Selections.{picks}
 
 -- the numbers of those above n
 abbrev pub numbers_above : finite.FinMap nat_cmp Package → Selection → ℕ → List ℕ

@@ -2,18 +2,11 @@
 use Rattle.std.proofs.Common.{◌≡◌, ℕ, List, ◌≤◌, Ok, Err, ◌∙◌, refl, sym, ap, subst, arith}
 use Rattle.std.specs.Prelude.{Result, OnOk, OnErr, IfOk, IfErr, false}
 use Rattle.rpm_outside.specs.declared.disk.Disk as disk
-use Rattle.rpm_outside.specs.Files.{Files, Units}
-use Rattle.rpm_tags.specs.declared.kind.Kind.{Kind}
-use Rattle.rpm_db.specs.Database.{Database, Keeps}
-use Rattle.rpm_select.specs.declared.picked.PickFault.{PickFault}
+use Rattle.rpm_check.proofs.Vocabulary.{Asks, AsksIndex, CheckFault, Database, DiskFault, fault_in, Files, is_broken, is_of_index, IsAskable, IsBroken, Keeps}
+use Rattle.rpm_check.proofs.Vocabulary.{Kept, KeptIndex, Kind, NoMemory, PickFault, Units}
 use Rattle.rpm_select.specs.declared.picked.PickFault.TheVariants as pick
 use Rattle.rpm_select.specs.Picks as picks
-use Rattle.rpm_select.specs.Frame.{AsksIndex}
-use Rattle.rpm_check.specs.declared.faults.CheckFault.{CheckFault}
-use Rattle.rpm_check.specs.declared.faults.CheckFault.TheVariants.{DiskFault, NoMemory}
-use Rattle.rpm_check.specs.Answers.{IsBroken, is_of_index, is_broken}
-use Rattle.rpm_check.specs.Frame.{IsAskable, Kept, KeptIndex, Glances, Asks}
-use Rattle.rpm_check.specs.inner.Faults.{fault_in}
+use Rattle.rpm_check.specs.Frame.{Glances}
 use Rattle.rpm_check.proofs.Faulting.{broken_from}
 use Rattle.rpm_check.proofs.Glancing.{glances_none, glances_then, glances_index}
 

@@ -1,17 +1,11 @@
 -- The graph of the packages has an edge exactly where one requires what the other gives.
 use Rattle.std.proofs.Common.{◌≡◌, ℕ, zero, suc, ◌==◌, ◌⊎◌, List, [], ◌∷◌, ◌++◌, map, Bool, true, false, sym, ap, ◌∙◌, subst, refl, inl, inr, arith}
 use Rattle.std.specs.Prelude.{◌&&◌, filter, Contains}
-use Rattle.std.specs.List.{flat_map}
-use Rattle.std.specs.Ordering.{nat_cmp}
+use Rattle.rpm_check.proofs.Vocabulary.{all_edges, Edge, edge, edges_from, flat_map, good_numbers, graph_of, HasEdge, HasEdgesOf, is_edge, is_good, is_in}
+use Rattle.rpm_check.proofs.Vocabulary.{nat_cmp, or_cases, or_left, or_right, Package}
 use Rattle.std.specs.FinMap as finite
 use Rattle.std.proofs.lemmas.Bool.{and_parts, cases_Bool, eqb-true, eq-eqb}
 use Rattle.std.proofs.lemmas.List.Elements.{Contains-append_left, Contains-append_right, Contains-append_cases}
-use Rattle.rpm_db.specs.State.{Package}
-use Rattle.rpm_graph.specs.declared.graph.Edge.{Edge}
-use Rattle.rpm_graph.specs.Networks.{edge, HasEdge}
-use Rattle.rpm_select.specs.Reach.{is_in}
-use Rattle.rpm_select.specs.inner.Keyed.{or_left, or_right, or_cases}
-use Rattle.rpm_check.specs.Edges.{HasEdgesOf, all_edges, edges_from, good_numbers, graph_of, is_edge, is_good}
 use Rattle.rpm_check.proofs.Ending.{edgeless, endless}
 use Rattle.rpm_check.proofs.Members.{in_filter}
 use Rattle.rpm_check.proofs.Numbering.{numbers}

@@ -1,19 +1,11 @@
 -- Where the edges from one package end.
 use Rattle.std.proofs.Common.{◌≡◌, ℕ, ◌==◌, List, [], ◌∷◌, map, Bool, true, false, not, ◌||◌, Option, Some, None, refl, sym, ap, ◌∙◌}
 use Rattle.std.specs.Prelude.{◌&&◌, filter}
-use Rattle.std.specs.List.{list_any, flat_map}
-use Rattle.std.specs.List.Sorted.{IsStrictlyIncreasing}
-use Rattle.std.specs.Ordering.{nat_cmp}
+use Rattle.rpm_check.proofs.Vocabulary.{Bad, edge, edges_from, flat_map, givers, Good, good_numbers, is_edge, is_edge_between, is_end, is_good, is_good_at}
+use Rattle.rpm_check.proofs.Vocabulary.{is_in, IsStrictlyIncreasing, list_any, meets, nat_cmp, Needed, needs_at, needs_of, Package, Rises, rises}
+use Rattle.rpm_check.proofs.Vocabulary.{same_members}
 use Rattle.std.specs.FinMap as finite
 use Rattle.std.proofs.lemmas.List.Folds.{list_any-append}
-use Rattle.rpm_tags.specs.Wanted.{Needed}
-use Rattle.rpm_db.specs.State.{Package, Good, Bad}
-use Rattle.rpm_graph.specs.Networks.{edge}
-use Rattle.rpm_select.specs.Reach.{is_in}
-use Rattle.rpm_check.specs.Unmet.{meets}
-use Rattle.rpm_check.specs.Edges.{givers, is_edge, is_edge_between, is_good, good_numbers, edges_from, needs_of}
-use Rattle.rpm_check.specs.inner.Ends.{needs_at, is_end, is_good_at}
-use Rattle.rpm_select.specs.inner.Rising.{Rises, rises, same_members}
 use Rattle.rpm_check.proofs.Members.{in_filter, rises_filter}
 use Rattle.rpm_check.proofs.Numbering.{holds_at, in_numbers, numbers_rise}
 use Rattle.rpm_check.proofs.Picking.{list_any_same}

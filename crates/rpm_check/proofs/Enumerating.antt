@@ -1,25 +1,14 @@
 -- The requirements that no package meets rise by number and place, and the next one is the first above a pair.
+use Rattle.rpm_check.proofs.Vocabulary.{above, all_above_zero, AllByRecursion, Bad, below_all, both_true, Database, flat_map, from_one, Good, Header, header}
+use Rattle.rpm_check.proofs.Vocabulary.{HeaderFault, is_above, is_below, is_lt, is_there, IsFirst, IsNext, IsNextUnmet, Keeps, lacks, nat_cmp, Needed}
+use Rattle.rpm_check.proofs.Vocabulary.{none_is, Package, packages, required, room, Units, Unmet, unmet, unmet_after, unmet_at, unmet_in, unmet_of}
+use Rattle.rpm_check.proofs.Vocabulary.{unmet_read}
 use Rattle.std.proofs.Common.{◌≡◌, ℕ, ◌+◌, ◌-◌, ◌<◌, ◌≤◌, List, [], ◌∷◌, ◌++◌, Bool, true, false, Option, Some, None, is_some, Result, Ok, Err, refl, sym, ap, ◌∙◌, subst, inl, inr, arith, nat_lt}
 use Rattle.std.specs.Prelude.{T, filter}
-use Rattle.std.specs.List.{AllByRecursion, flat_map}
-use Rattle.std.specs.Ordering.{nat_cmp, is_lt}
 use Rattle.std.specs.FinMap as finite
-use Rattle.std.specs.FinMap.Entries.{below_all}
 use Rattle.std.proofs.lemmas.Bool.{cases_Bool, cases_lt}
 use Rattle.std.proofs.lemmas.Bool.Decides.{nat_tests}
 use Rattle.std.proofs.lemmas.List.Elements.{filter-append}
-use Rattle.rpm_tags.specs.Wanted.{Needed}
-use Rattle.rpm_header.specs.declared.form.HeaderFault.{HeaderFault}
-use Rattle.rpm_header.specs.Header.{Header, header}
-use Rattle.rpm_outside.specs.Files.{Units}
-use Rattle.rpm_db.specs.Database.{Database, Keeps, IsNext}
-use Rattle.rpm_db.specs.State.{Package, Good, Bad, packages, above}
-use Rattle.rpm_db.specs.inner.Above.{both_true, is_below, none_is, all_above_zero}
-use Rattle.rpm_db.specs.inner.Laws.{is_there}
-use Rattle.rpm_check.specs.declared.list.Unmet.{Unmet}
-use Rattle.rpm_check.specs.Unmet.{required, lacks, unmet_in, unmet_read, unmet_of, unmet, is_above, unmet_after, IsNextUnmet}
-use Rattle.rpm_check.specs.inner.Rounds.{unmet_at, IsFirst}
-use Rattle.rpm_db.specs.inner.FromOne.{from_one}
 use Rattle.rpm_check.proofs.Turning.{turns_above, one_turn, no_turn}
 
 -- ---- rising lists
@@ -193,10 +182,10 @@ passed all n i k under (e ∷ es) = elim (cases_Bool (nat_lt k e.0)) [
 
 -- those above a pair are of the packages from its number on
 pub after_from : (file : Units) (db : Database) (n i : ℕ) → Keeps file db
-    → unmet_after (packages file db.store) n i ≡ turns_above (packages file db.store) (after_in (packages file db.store) n i) (n - 1)
+    → unmet_after (packages file (room db)) n i ≡ turns_above (packages file (room db)) (after_in (packages file (room db)) n i) (n - 1)
 unfolding unmet_after unmet
 after_from file db n i keeps =
-    let all = packages file db.store in
+    let all = packages file (room db) in
     let es = finite.entries all in
     filter_flat_map (is_above n i) (unmet_of (lacks all)) es ∙ (elim (cases_lt 0 n) [
       | inl some ↦ passed all n i (n - 1) (omega (arith, some)) es
@@ -276,10 +265,10 @@ behind_zero is_lacking (e ∷ es) = elim (cases_Bool (nat_lt 0 e.0)) [
       (behind_zero is_lacking es)))
 ]
 
-pub begins : (file : Units) (db : Database) → Keeps file db → unmet_after (packages file db.store) 0 0 ≡ unmet (packages file db.store)
+pub begins : (file : Units) (db : Database) → Keeps file db → unmet_after (packages file (room db)) 0 0 ≡ unmet (packages file (room db))
 unfolding unmet_after unmet
 begins file db keeps =
-    let all = packages file db.store in
+    let all = packages file (room db) in
     let whole = all_above_zero all (none_is (finite.get all 0) (is_there file db 0 ∙ from_one file db keeps)) in
     let f = unmet_of (lacks all) in
     kept_all (is_above 0 0) (flat_map f (finite.entries all)) (weaker (IsBehind 0) (λ u. is_above 0 0 u ≡ true) above_zero (flat_map f (finite.entries all))

@@ -1,13 +1,8 @@
 -- Faults of an index.
 use Rattle.std.proofs.Common.{ℕ, List, [], ◌∷◌, inl, inr}
-use Rattle.rpm_outside.specs.Files.{Units}
-use Rattle.rpm_tags.specs.declared.kind.Kind.{Kind}
-use Rattle.rpm_select.specs.declared.picked.PickFault.{PickFault}
+use Rattle.rpm_check.proofs.Vocabulary.{fault_in, IsBroken, IsFaultOfOne, IsFaultOfSome, Kind, PickFault, Units}
 use Rattle.rpm_select.specs.declared.picked.PickFault.TheVariants as pick
 use Rattle.rpm_select.specs.Reach as select
-use Rattle.rpm_select.specs.Reach.{IsFaultOfOne}
-use Rattle.rpm_check.specs.Answers.{IsFaultOfSome, IsBroken}
-use Rattle.rpm_check.specs.inner.Faults.{fault_in}
 
 of_some : (keys : List (Kind × List ℕ)) (idx : Units) (unit : ℕ) → IsFaultOfOne keys idx unit → IsFaultOfSome idx unit
 of_some [] idx unit none = absurd none

@@ -1,16 +1,9 @@
 -- The numbers of packages that are picked, one after the other.
+use Rattle.rpm_check.proofs.Vocabulary.{above, Database, from_one, Keeps, nat_cmp, next_picked, NextNumberIs, Package, packages, picks, picks_from_one, room}
+use Rattle.rpm_check.proofs.Vocabulary.{Selection, Units}
 use Rattle.std.proofs.Common.{◌≡◌, ℕ, List, [], ◌∷◌, ◌++◌, map, Some, Ok, sym, ap, ◌∙◌, append_assoc, append-nil}
 use Rattle.std.specs.FinMap as finite
-use Rattle.std.specs.Ordering.{nat_cmp}
-use Rattle.rpm_outside.specs.Files.{Units}
-use Rattle.rpm_db.specs.Database.{Database, Keeps}
-use Rattle.rpm_db.specs.State.{Package, packages, above}
-use Rattle.rpm_select.specs.declared.selection.Selection.{Selection}
-use Rattle.rpm_select.specs.Picks.{NextNumberIs}
-use Rattle.rpm_select.specs.Selections.{picks}
 use Rattle.rpm_check.proofs.Above.{numbers_above}
-use Rattle.rpm_db.specs.inner.FromOne.{from_one}
-use Rattle.rpm_select.specs.inner.Rising.{next_picked, picks_from_one}
 
 -- one more is pushed
 pub gained : (all : finite.FinMap nat_cmp Package) (sel : Selection) (n m : ℕ) (ns new whole : List ℕ) → NextNumberIs (above n (picks all sel)) (Ok (Some m))
@@ -22,9 +15,9 @@ gained all sel n m ns new whole next added so_far =
 
 -- no more
 pub all_picked : (file : Units) (db : Database) (sel : Selection) (n : ℕ) (ns : List ℕ) → Keeps file db
-    → above n (picks (packages file db.store) sel) ≡ []
-    → ns ++ numbers_above (packages file db.store) sel n ≡ numbers_above (packages file db.store) sel 0
-    → ns ≡ map (λ e. e.0) (picks (packages file db.store) sel)
+    → above n (picks (packages file (room db)) sel) ≡ []
+    → ns ++ numbers_above (packages file (room db)) sel n ≡ numbers_above (packages file (room db)) sel 0
+    → ns ≡ map (λ e. e.0) (picks (packages file (room db)) sel)
 all_picked file db sel n ns keeps none so_far =
     sym (append-nil ns) ∙ ap (λ (es : List (ℕ × Package)). ns ++ map (λ e. e.0) es) (sym none) ∙ so_far
     ∙ ap (map (λ e. e.0)) (picks_from_one file db sel (from_one file db keeps))

@@ -1,23 +1,13 @@
 -- The packages that can be read, one after the other, and the edges from each.
 use Rattle.std.proofs.Common.{◌≡◌, ℕ, ◌+◌, ◌<◌, ◌≤◌, List, [], ◌∷◌, ◌++◌, length, get_or, drop, add-one, drop-cons, true, false, refl, sym, ap, ◌∙◌, subst, inl, inr, arith, append_assoc, append-nil}
-use Rattle.std.specs.List.{All, flat_map}
-use Rattle.std.specs.List.Sorted.{IsStrictlyIncreasing}
-use Rattle.std.specs.Ordering.{nat_cmp}
+use Rattle.rpm_check.proofs.Vocabulary.{All, among, AreRising, BeginsBelow, BeginsUpTo, Edge, edges_from, edges_of, flat_map, good_numbers, is_good_at, is_in}
+use Rattle.rpm_check.proofs.Vocabulary.{IsRising, IsStrictlyIncreasing, nat_cmp, Node, numbers_of, Package}
 use Rattle.std.specs.FinMap as finite
 use Rattle.std.proofs.lemmas.Bool.{cases_lt}
 use Rattle.std.proofs.lemmas.Grind.{flat_map-append}
 use Rattle.std.proofs.lemmas.List.{get_or_append_left, get_or_push, get_or-map, length_push, length-map, map-append}
 use Rattle.std.proofs.lemmas.List.Elements.{All-get_or, All-nil, All-push, All-same, All-weaker}
-use Rattle.rpm_db.specs.State.{Package}
-use Rattle.rpm_graph.specs.declared.graph.Edge.{Edge}
-use Rattle.rpm_graph.specs.Networks.{IsRising}
-use Rattle.rpm_select.specs.Reach.{is_in}
-use Rattle.rpm_check.specs.declared.nodes.Node.{Node}
-use Rattle.rpm_check.specs.Edges.{good_numbers, edges_from}
-use Rattle.rpm_check.specs.inner.Ends.{BeginsBelow, BeginsUpTo, is_good_at}
-use Rattle.rpm_check.specs.inner.Nodes.{AreRising, numbers_of, edges_of}
 use Rattle.rpm_check.proofs.Ending.{good_in, no_edges}
-use Rattle.rpm_select.specs.inner.Among.{among}
 
 -- ---- one more after them
 

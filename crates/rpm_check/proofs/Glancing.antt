@@ -1,10 +1,6 @@
 -- Runs of calls that read packages and an index.
 use Rattle.std.proofs.Common.{ℕ, Bool, refl, ◌∙◌, arith}
-use Rattle.rpm_outside.specs.declared.disk.File.{File}
-use Rattle.rpm_outside.specs.declared.disk.File.TheVariants.{Pkg, Idx}
-use Rattle.rpm_outside.specs.Files.{Files}
-use Rattle.rpm_outside.specs.Looks.{Looks, LooksAt}
-use Rattle.rpm_check.specs.Answers.{Glances}
+use Rattle.rpm_check.proofs.Vocabulary.{File, Files, Glances, Idx, Looks, LooksAt, Pkg}
 
 module _ {D : Type 0} (tells : Bool) (files : D → Files) (left_since : D → ℕ → Files → Type 0) (moment : D → ℕ)
     (bytes_read : D → File → ℕ) (follows : D → D → Type 0) where

@@ -1,14 +1,8 @@
 -- What a package has whose header was read.
 use Rattle.std.proofs.Common.{◌≡◌, ℕ, Bool, List, Option, Some, None, Ok, Err, ap, ◌∙◌}
 use Rattle.std.specs.Prelude.{Result}
-use Rattle.rpm_header.specs.declared.form.HeaderFault.{HeaderFault}
-use Rattle.rpm_header.specs.Header.{Header, header}
-use Rattle.rpm_tags.specs.Wanted.{Needed}
-use Rattle.rpm_db.specs.State.{Package, Good, Bad, package_of, read_as}
-use Rattle.rpm_db.specs.inner.Own.{header-own}
-use Rattle.rpm_check.specs.Unmet.{required, unmet_in, unmet_read}
-use Rattle.rpm_check.specs.inner.Headers.{header_at, header_read}
-use Rattle.rpm_check.specs.inner.Rounds.{unmet_at}
+use Rattle.rpm_check.proofs.Vocabulary.{Bad, Good, Header, header, header-own, header_at, header_read, HeaderFault, Needed, Package, package_of, read_as}
+use Rattle.rpm_check.proofs.Vocabulary.{required, unmet_at, unmet_in, unmet_read}
 
 pub header_good : (blob : List ℕ) (h : Header) → header blob ≡ Ok h → header_at (Some (package_of (Some blob))) ≡ Some h
 header_good blob h is = ap (λ r. header_at (Some (read_as r))) is ∙ ap header_read (header-own blob h is)

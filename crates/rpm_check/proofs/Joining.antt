@@ -1,19 +1,11 @@
 -- Edges that are added to a graph.
 use Rattle.std.proofs.Common.{◌≡◌, ℕ, ◌<◌, ◌≤◌, ◌+◌, ◌==◌, List, [], ◌∷◌, ◌++◌, map, length, get_or, drop, add-one, drop-cons, Bool, true, false, not, Result, Ok, Err, refl, sym, ap, ◌∙◌, subst, inl, inr, arith, append_assoc, append-nil}
 use Rattle.std.specs.Prelude.{filter, is_ok, OnOk, OnErr}
-use Rattle.std.specs.List.{All}
-use Rattle.std.specs.List.Sorted.{IsBinarySearchResult}
-use Rattle.std.specs.Ordering.{nat_cmp}
+use Rattle.rpm_check.proofs.Vocabulary.{All, among, AreAbove, BeginsBelow, BeginsUpTo, Edge, edge, is_end, is_in, IsBefore, IsBinarySearchResult, IsRising}
+use Rattle.rpm_check.proofs.Vocabulary.{Joins, nat_cmp, Network, not_among, or_left, or_right}
 use Rattle.std.proofs.lemmas.Bool.{and_parts, cases_Bool, cases_lt, eq-eqb}
 use Rattle.std.proofs.lemmas.List.Elements.{All-nil, All-cons, All-same, All-append, All-weaker}
 use Rattle.std.proofs.lemmas.List.Sorted.{searched}
-use Rattle.rpm_graph.specs.Networks.{Network, IsRising, IsBefore, Joins, edge}
-use Rattle.rpm_graph.specs.declared.graph.Edge.{Edge}
-use Rattle.rpm_select.specs.Reach.{is_in}
-use Rattle.rpm_select.specs.inner.Keyed.{or_left, or_right}
-use Rattle.rpm_check.specs.inner.Ends.{BeginsBelow, BeginsUpTo, is_end}
-use Rattle.rpm_select.specs.inner.Rising.{AreAbove}
-use Rattle.rpm_select.specs.inner.Among.{among, not_among}
 use Rattle.rpm_check.proofs.Members.{contained}
 
 -- ---- what is searched

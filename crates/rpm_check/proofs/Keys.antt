@@ -1,17 +1,10 @@
 -- Keys of a memo that the order doesn't tell apart are one requirement.
 use Rattle.std.proofs.Common.{◌≡◌, Bool, true, cond, Some, None, Bor, refl, sym, ap, ◌∙◌, subst, inl, inr}
 use Rattle.std.specs.Prelude.{Option, IfSome}
-use Rattle.std.specs.declared.cmp.Ordering.{Ordering}
-use Rattle.std.specs.declared.cmp.Ordering.TheVariants.{Less, Equal, Greater}
-use Rattle.std.specs.BTreeMap.{BTreeMap, get, is_at, Updates}
-use Rattle.std.specs.Option.{option_copied}
-use Rattle.std.specs.Ordering.{ordering_then, is_eq, nat_cmp}
-use Rattle.std.specs.Cmp.Lexicographic.{slice_cmp}
+use Rattle.rpm_check.proofs.Vocabulary.{BTreeMap, Equal, get, Greater, is_at, is_eq, key_order, Less, nat_cmp, need_of, Needed, option_copied, Ordering}
+use Rattle.rpm_check.proofs.Vocabulary.{ordering_then, Requirement, slice_cmp, Updates}
 use Rattle.std.proofs.lemmas.Bool.{cases_Bool}
 use Rattle.std.proofs.lemmas.Map.Lookups.{exact_bytes, exact_unsigned}
-use Rattle.rpm_tags.specs.Wanted.{Needed}
-use Rattle.rpm_check.specs.declared.memo.Requirement.{Requirement}
-use Rattle.rpm_check.specs.inner.Memos.{need_of, key_order}
 
 equal_if : (o : Ordering) → is_eq o ≡ true → o ≡ Equal
 equal_if Less is = absurd cc

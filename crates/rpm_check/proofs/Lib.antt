@@ -17,3 +17,4 @@ pub mod Placing
 pub mod Providing
 pub mod Rounding
 pub mod Turning
+pub mod Vocabulary

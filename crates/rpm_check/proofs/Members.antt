@@ -3,9 +3,7 @@ use Rattle.std.proofs.Common.{◌≡◌, ℕ, suc, ◌==◌, List, [], ◌∷◌
 use Rattle.std.specs.Prelude.{filter, Contains, ◌&&◌}
 use Rattle.std.proofs.lemmas.Bool.{and_parts, cases_Bool, eqb-true}
 use Rattle.std.proofs.lemmas.Map.Views.{any-filter_same}
-use Rattle.rpm_select.specs.Reach.{is_in}
-use Rattle.rpm_select.specs.inner.Keyed.{or_cases}
-use Rattle.rpm_select.specs.inner.Rising.{Rises}
+use Rattle.rpm_check.proofs.Vocabulary.{is_in, or_cases, Rises}
 
 pub in_filter : (p : ℕ → Bool) (n : ℕ) (xs : List ℕ) → is_in n (filter p xs) ≡ (p n && is_in n xs)
 in_filter p n xs = any-filter_same (λ m. m == n) p (p n) (λ k is. ap p (eqb-true k n is)) xs

@@ -1,17 +1,10 @@
 -- The numbers of some packages of a map.
 use Rattle.std.proofs.Common.{◌≡◌, ℕ, ◌==◌, List, [], ◌∷◌, map, Bool, true, false, Option, Some, None, refl, sym, ap, ◌∙◌, inl, inr, arith}
 use Rattle.std.specs.Prelude.{T, filter}
-use Rattle.std.specs.Ordering.{nat_cmp, is_lt}
-use Rattle.std.specs.Cmp.{unsigned_tied}
+use Rattle.rpm_check.proofs.Vocabulary.{AreAbove, below_all, both_true, is_below, is_in, is_lt, nat_cmp, none_below, or_cases, Package, Rises, unsigned_tied}
 use Rattle.std.specs.FinMap as finite
-use Rattle.std.specs.FinMap.Entries.{below_all}
 use Rattle.std.proofs.lemmas.Bool.{cases_Bool, eqb-true, eq-eqb}
 use Rattle.std.proofs.lemmas.Bool.Decides.{nat_tests}
-use Rattle.rpm_db.specs.State.{Package}
-use Rattle.rpm_db.specs.inner.Above.{both_true, is_below, none_below}
-use Rattle.rpm_select.specs.Reach.{is_in}
-use Rattle.rpm_select.specs.inner.Keyed.{or_cases}
-use Rattle.rpm_select.specs.inner.Rising.{AreAbove, Rises}
 
 abbrev pub numbers : List (ℕ × Package) → List ℕ
 numbers es = map (λ e. e.0) es

@@ -1,10 +1,7 @@
 -- Whether a selection picks a package.
 use Rattle.std.proofs.Common.{◌≡◌, ℕ, List, [], ◌∷◌, Bool, cond, ◌||◌, Option, Some, None, is_some, Ok, refl, sym, ap, inl, inr}
-use Rattle.std.specs.List.{filter, list_any}
+use Rattle.rpm_check.proofs.Vocabulary.{filter, is_some_of, list_any, NextNumberIs, Package}
 use Rattle.std.proofs.lemmas.Bool.{cases_Bool}
-use Rattle.rpm_db.specs.State.{Package}
-use Rattle.rpm_select.specs.Picks.{NextNumberIs}
-use Rattle.rpm_check.specs.inner.Picking.{is_some_of}
 
 -- the first above a number is there where there is one
 pub is_some_next : (left : List (ℕ × Package)) (o : Option ℕ) → NextNumberIs left (Ok o) → is_some o ≡ is_some_of left

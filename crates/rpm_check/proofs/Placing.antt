@@ -1,9 +1,6 @@
 -- How many requirements a package has.
 use Rattle.std.proofs.Common.{◌≡◌, ℕ, List, [], ◌∷◌, length, refl}
-use Rattle.rpm_header.specs.Header.{Header}
-use Rattle.rpm_tags.specs.declared.needed.Tags.{Tags}
-use Rattle.rpm_tags.specs.Value.{texts_in, numbers_in}
-use Rattle.rpm_tags.specs.Wanted.{listed, beside, dependencies}
+use Rattle.rpm_check.proofs.Vocabulary.{beside, dependencies, Header, listed, numbers_in, Tags, texts_in}
 
 length-beside : (names : List (List ℕ)) (flags : List ℕ) (versions : List (List ℕ)) → length (beside names flags versions) ≡ length names
 length-beside [] flags versions = refl

@@ -1,21 +1,10 @@
 -- A requirement is met where its capability is provided.
 use Rattle.std.proofs.Common.{◌≡◌, ℕ, List, map, ◌==◌, ◌||◌, Ok, Err, refl, ap, ◌∙◌}
 use Rattle.std.specs.Prelude.{◌&&◌, Result, slice_index}
-use Rattle.std.specs.Ordering.{nat_cmp}
-use Rattle.std.specs.Str.{bytes_eq}
-use Rattle.std.specs.FinMap.{FinMap, entries}
-use Rattle.rpm_header.specs.declared.form.HeaderFault.{HeaderFault}
-use Rattle.rpm_header.specs.Header.{Header, header}
-use Rattle.rpm_tags.specs.Wanted.{Needed, has_file}
-use Rattle.rpm_version.specs.Capability.{CapabilityParts}
-use Rattle.rpm_version.specs.Range.{is_open, overlaps}
-use Rattle.rpm_db.specs.State.{Package, Good, Bad}
-use Rattle.rpm_select.specs.declared.selection.Selection.TheVariants.{Provides}
+use Rattle.rpm_check.proofs.Vocabulary.{answers, Bad, bytes_eq, CapabilityParts, entries, FinMap, givers, gives, Good, has_file, Header, header, HeaderFault}
+use Rattle.rpm_check.proofs.Vocabulary.{is_file_of, is_met, is_open, is_picked, is_some_of, meets, nat_cmp, Needed, overlaps, Package, picks, provided}
+use Rattle.rpm_check.proofs.Vocabulary.{Provides, read_gives, takes_header, takes_read}
 use Rattle.rpm_select.specs.Selections as select
-use Rattle.rpm_select.specs.Selections.{is_picked, takes_header, takes_read, picks}
-use Rattle.rpm_check.specs.Edges.{givers}
-use Rattle.rpm_check.specs.Unmet.{answers, is_file_of, provided, gives, read_gives, meets, is_met}
-use Rattle.rpm_check.specs.inner.Picking.{is_some_of}
 use Rattle.rpm_check.proofs.Picking.{is_some_of-filter, list_any_same, filter_same}
 
 -- a capability stands for a requirement

@@ -1,17 +1,8 @@
 -- The packages of a report, one after the other.
+use Rattle.rpm_check.proofs.Vocabulary.{above, all_above_zero, Database, flat_map, holds, is_there, IsNext, lacks, nat_cmp, Needed, next_above, none_is}
+use Rattle.rpm_check.proofs.Vocabulary.{nothing_above, Package, packages, room, Units, Unmet, unmet, unmet_at, unmet_of}
 use Rattle.std.proofs.Common.{◌≡◌, ℕ, ◌<◌, List, [], ◌++◌, Bool, true, false, Option, Some, None, is_some, refl, ap, ◌∙◌}
-use Rattle.std.specs.List.{flat_map}
-use Rattle.std.specs.Ordering.{nat_cmp}
 use Rattle.std.specs.FinMap as finite
-use Rattle.rpm_tags.specs.Wanted.{Needed}
-use Rattle.rpm_outside.specs.Files.{Units}
-use Rattle.rpm_db.specs.Database.{Database, IsNext, holds}
-use Rattle.rpm_db.specs.State.{Package, packages, above}
-use Rattle.rpm_db.specs.inner.Above.{none_is, next_above, nothing_above, all_above_zero}
-use Rattle.rpm_db.specs.inner.Laws.{is_there}
-use Rattle.rpm_check.specs.declared.list.Unmet.{Unmet}
-use Rattle.rpm_check.specs.Unmet.{unmet_of, lacks, unmet}
-use Rattle.rpm_check.specs.inner.Rounds.{unmet_at}
 
 module _ (all : finite.FinMap nat_cmp Package) (is_lacking : Needed → Bool) where
   -- what the packages above a number have
@@ -31,13 +22,13 @@ module _ (all : finite.FinMap nat_cmp Package) (is_lacking : Needed → Bool) wh
   no_round k next = ap (flat_map (unmet_of is_lacking)) (nothing_above all k (λ q lt. none_is (finite.get all q) (next q lt)))
 
 -- no package has the number 0
-above_from_one : (file : Units) (db : Database) → holds 0 db ≡ false → above 0 (finite.entries (packages file db.store))
-    ≡ finite.entries (packages file db.store)
+above_from_one : (file : Units) (db : Database) → holds 0 db ≡ false → above 0 (finite.entries (packages file (room db)))
+    ≡ finite.entries (packages file (room db))
 above_from_one file db none =
-    let all = packages file db.store in
+    let all = packages file (room db) in
     all_above_zero all (none_is (finite.get all 0) (is_there file db 0 ∙ none))
 
 pub all_rounds : (file : Units) (db : Database) → holds 0 db ≡ false
-    → unmet_above (packages file db.store) (lacks (packages file db.store)) 0 ≡ unmet (packages file db.store)
+    → unmet_above (packages file (room db)) (lacks (packages file (room db))) 0 ≡ unmet (packages file (room db))
 unfolding unmet
-all_rounds file db none = ap (flat_map (unmet_of (lacks (packages file db.store)))) (above_from_one file db none)
+all_rounds file db none = ap (flat_map (unmet_of (lacks (packages file (room db))))) (above_from_one file db none)

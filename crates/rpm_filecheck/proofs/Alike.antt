@@ -1,12 +1,10 @@
 -- Where all say the same of a path or all are directories, no two of them conflict.
 use Rattle.std.proofs.Common.{◌≡◌, ℕ, ◌/◌, ◌%◌, ◌==◌, List, [], ◌∷◌, Bool, true, false, not, ◌||◌, ◌⊎◌, inl, inr, refl, sym, ap, ◌∙◌}
 use Rattle.std.specs.Prelude.{◌&&◌}
-use Rattle.std.specs.List.{list_all}
-use Rattle.std.specs.Str.{bytes_eq}
+use Rattle.rpm_filecheck.proofs.Vocabulary.{agrees, bytes_eq, conflicts_on, conflicts_with, is_alike, is_conflict, is_directory, is_ghost, list_all}
+use Rattle.rpm_filecheck.proofs.Vocabulary.{may_share, Owner}
 use Rattle.std.proofs.lemmas.Bool.{and_parts, eqb-true, eq-eqb}
 use Rattle.std.proofs.lemmas.Slice.Eq.{bytes_eq-Decides}
-use Rattle.rpm_filecheck.specs.Owners.{Owner, is_directory, is_ghost, is_conflict, may_share, conflicts_with, conflicts_on}
-use Rattle.rpm_filecheck.specs.inner.Alike.{is_alike, agrees}
 
 and_false : (x : Bool) → (x && false) ≡ false
 and_false true = refl

@@ -1,20 +1,11 @@
 -- What was gathered of all packages is what the definitions say.
 use Rattle.std.proofs.Common.{◌≡◌, ℕ, ◌<◌, Bool, cond, List, [], ◌∷◌, map, Option, Some, None, Result, Ok, Err, refl, sym, ap, ◌∙◌, subst, arith}
 use Rattle.std.specs.Prelude.{T}
-use Rattle.std.specs.Ordering.{nat_cmp, is_lt}
-use Rattle.std.specs.Cmp.Lexicographic.{nat_list_cmp_total}
+use Rattle.rpm_filecheck.proofs.Vocabulary.{all_paths, as_owner, Bad, below_all, both_true, Facts, files, files_of, files_read, find, Found, Good, Header}
+use Rattle.rpm_filecheck.proofs.Vocabulary.{header, HeaderFault, is_below, is_lt, is_sorted, last_from, nat_cmp, nat_list_cmp_total, nothing, owned, Owner}
+use Rattle.rpm_filecheck.proofs.Vocabulary.{owner_of, owners, Package, path_order, said_of, same_entries, with_package, with_packages, with_read}
 use Rattle.std.specs.FinMap as finite
-use Rattle.std.specs.FinMap.{find, is_sorted}
-use Rattle.std.specs.FinMap.Entries.{below_all, same_entries}
 use Rattle.std.proofs.lemmas.Bool.Decides.{nat_tests}
-use Rattle.rpm_header.specs.declared.form.HeaderFault.{HeaderFault}
-use Rattle.rpm_header.specs.Header.{Header, header}
-use Rattle.rpm_db.specs.State.{Package, Good, Bad}
-use Rattle.rpm_db.specs.inner.Above.{both_true, is_below}
-use Rattle.rpm_filecheck.specs.Conflicts.{path_order, files_read, files_of, as_owner, owner_of, owners, all_paths, owned}
-use Rattle.rpm_filecheck.specs.Files.{Facts, files, said_of}
-use Rattle.rpm_filecheck.specs.Owners.{Owner}
-use Rattle.rpm_filecheck.specs.inner.Gathered.{Found, nothing, last_from, with_read, with_package, with_packages}
 use Rattle.rpm_filecheck.proofs.Joining.{last_from-append}
 use Rattle.rpm_filecheck.proofs.Folding.{path_order-same, is_sorted-with_files, grown, grown-append, IsNew, find-package}
 use Rattle.rpm_filecheck.proofs.Owning.{has-owners, find-paths, grown-none}

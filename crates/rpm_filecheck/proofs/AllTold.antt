@@ -1,24 +1,14 @@
 -- The labels and the numbers that were gathered of all packages.
 use Rattle.std.proofs.Common.{◌≡◌, ℕ, Bool, true, false, ◌==◌, cond, List, [], ◌∷◌, ◌++◌, Option, Some, None, Result, Ok, Err, refl, sym, ap, ◌∙◌, append_assoc, append-nil, arith, inl, inr}
 use Rattle.std.specs.Prelude.{T}
-use Rattle.std.specs.List.{flat_map}
-use Rattle.std.specs.Option.{option_and_then}
-use Rattle.std.specs.Ordering.{nat_cmp, eq_by_cmp}
-use Rattle.std.specs.Cmp.{unsigned_tied}
+use Rattle.rpm_filecheck.proofs.Vocabulary.{Bad, bad, bad_of, below_all, both_true, Conflict, conflicts, conflicts_on, eq_by_cmp, find, find-put, flat_map}
+use Rattle.rpm_filecheck.proofs.Vocabulary.{Found, Good, Header, header, HeaderFault, is_sorted, IsReport, label, label_at, label_of, label_read, nat_cmp}
+use Rattle.rpm_filecheck.proofs.Vocabulary.{none_below, nothing, option_and_then, Package, Paths, unsigned_tied, with_package, with_packages, with_read}
 use Rattle.std.specs.FinMap as finite
-use Rattle.std.specs.FinMap.{find, is_sorted}
-use Rattle.std.specs.FinMap.Entries.{below_all, find-put}
 use Rattle.std.proofs.lemmas.Cmp.{nat_cmp_total}
 use Rattle.std.proofs.lemmas.Bool.{cases_Bool}
 use Rattle.std.proofs.lemmas.Bool.Decides.{nat_tests}
-use Rattle.rpm_header.specs.declared.form.HeaderFault.{HeaderFault}
-use Rattle.rpm_header.specs.Header.{Header, header}
-use Rattle.rpm_db.specs.State.{Package, Good, Bad}
-use Rattle.rpm_db.specs.inner.Above.{both_true, none_below}
-use Rattle.rpm_filecheck.specs.Conflicts.{bad_of, bad, label, label_read, label_of, label_at, conflicts, IsReport}
-use Rattle.rpm_filecheck.specs.Owners.{Conflict, conflicts_on}
 use Rattle.rpm_filecheck.proofs.AllOwned.{paths-owned}
-use Rattle.rpm_filecheck.specs.inner.Gathered.{Paths, Found, nothing, with_read, with_package, with_packages}
 
 -- ---- the numbers that can't be read
 

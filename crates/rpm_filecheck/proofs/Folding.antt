@@ -1,18 +1,11 @@
 -- What the files of a package add to the owners of one path.
 use Rattle.std.proofs.Common.{◌≡◌, ℕ, Bool, true, false, ◌==◌, cond, List, [], ◌∷◌, ◌++◌, Option, Some, None, refl, sym, ap, ◌∙◌, arith, append_assoc, append-nil, Less, Equal, Greater}
 use Rattle.std.specs.Prelude.{T}
-use Rattle.std.specs.declared.cmp.Ordering.{Ordering}
-use Rattle.std.specs.Ordering.{is_eq}
-use Rattle.std.specs.Str.{bytes_eq}
-use Rattle.std.specs.Cmp.Lexicographic.{nat_list_cmp_total}
-use Rattle.std.specs.FinMap.{find, is_sorted, nat_cmp-IsAntisymmetric, slice_cmp-IsAntisymmetric}
-use Rattle.std.specs.FinMap.Entries.{find-put, is_sorted-put}
+use Rattle.rpm_filecheck.proofs.Vocabulary.{as_owner, bytes_eq, Facts, find, find-put, is_eq, is_sorted, is_sorted-put, joined, joined_to, last_from}
+use Rattle.rpm_filecheck.proofs.Vocabulary.{nat_cmp-IsAntisymmetric, nat_list_cmp_total, Ordering, Owner, OwnFile, path_order, Paths, said_of}
+use Rattle.rpm_filecheck.proofs.Vocabulary.{slice_cmp-IsAntisymmetric, with_files, with_owner}
 use Rattle.std.proofs.lemmas.Map.Text.{is_eq-slice_cmp}
 use Rattle.std.proofs.lemmas.Bool.Decides.{nat_tests}
-use Rattle.rpm_filecheck.specs.Conflicts.{path_order, as_owner}
-use Rattle.rpm_filecheck.specs.Files.{Facts, OwnFile, said_of}
-use Rattle.rpm_filecheck.specs.Owners.{Owner}
-use Rattle.rpm_filecheck.specs.inner.Gathered.{Paths, last_from, joined, joined_to, with_owner, with_files}
 use Rattle.rpm_filecheck.proofs.Joining.{last_from-append}
 
 -- ---- the order of paths

@@ -1,14 +1,9 @@
 -- Going through the packages by their numbers.
+use Rattle.rpm_filecheck.proofs.Vocabulary.{above, all_above_zero, Database, Found, is_there, IsNext, Keeps, nat_cmp, next_above, none_is, nothing_above}
+use Rattle.rpm_filecheck.proofs.Vocabulary.{Package, packages, room, Units, with_packages, with_some}
 use Rattle.std.proofs.Common.{◌≡◌, ℕ, List, true, Option, Some, None, is_some, refl, sym, ap, ◌∙◌}
-use Rattle.std.specs.Ordering.{nat_cmp}
 use Rattle.std.specs.FinMap as finite
-use Rattle.rpm_outside.specs.Files.{Units}
-use Rattle.rpm_db.specs.State.{Package, packages, above}
-use Rattle.rpm_db.specs.Database.{Database, IsNext, Keeps}
-use Rattle.rpm_db.specs.inner.Above.{none_is, next_above, nothing_above, all_above_zero}
-use Rattle.rpm_db.specs.inner.FromOne.{from_one as none_zero}
-use Rattle.rpm_db.specs.inner.Laws.{is_there}
-use Rattle.rpm_filecheck.specs.inner.Gathered.{Found, with_some, with_packages}
+use Rattle.rpm_db.specs.FromOne.{from_one as none_zero}
 
 some_is : (o : Option Package) → is_some o ≡ true → (p : Package) × (o ≡ Some p)
 some_is None some = absurd cc
@@ -32,7 +27,7 @@ last_found map n found all none was =
 
 -- none has the number 0
 pub from_one : (file : Units) (db : Database) → Keeps file db
-    → above 0 (finite.entries (packages file db.store)) ≡ finite.entries (packages file db.store)
+    → above 0 (finite.entries (packages file (room db))) ≡ finite.entries (packages file (room db))
 from_one file db keeps =
-    let all = packages file db.store in
+    let all = packages file (room db) in
     all_above_zero all (none_is (finite.get all 0) (is_there file db 0 ∙ none_zero file db keeps))

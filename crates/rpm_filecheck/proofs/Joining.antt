@@ -1,14 +1,8 @@
 -- One owner more.
 use Rattle.std.proofs.Common.{◌≡◌, ℕ, List, [], ◌∷◌, ◌++◌, Option, Some, None, refl, ap, sym, ◌∙◌}
 use Rattle.std.specs.Prelude.{Vec}
-use Rattle.std.specs.declared.alloc.Global.{Global}
-use Rattle.std.specs.Option.{option_map}
-use Rattle.std.specs.BTreeMap.{insert_entry, is_at}
-use Rattle.std.specs.Map.{lookup}
-use Rattle.std.specs.FinMap.{find, put}
-use Rattle.rpm_filecheck.specs.Conflicts.{path_order}
-use Rattle.rpm_filecheck.specs.Owners.{Owner}
-use Rattle.rpm_filecheck.specs.inner.Gathered.{key_order, joined_to, last_from, with_owner, Paths}
+use Rattle.rpm_filecheck.proofs.Vocabulary.{find, Global, insert_entry, is_at, joined_to, key_order, last_from, lookup, option_map, Owner, path_order, Paths}
+use Rattle.rpm_filecheck.proofs.Vocabulary.{put, with_owner}
 use Rattle.rpm_filecheck.proofs.Placing.{seen_as, seen-insert_entry, lookup-seen}
 
 pub last_from-append : (n : ℕ) (os : List Owner) (o : Owner) → last_from n (os ++ o ∷ []) ≡ o.number

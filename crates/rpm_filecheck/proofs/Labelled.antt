@@ -1,17 +1,8 @@
 -- The map of labels, and what is read of a blob.
 use Rattle.std.proofs.Common.{◌≡◌, ℕ, List, [], Option, Ok, unwrap_or, Some, ap, ◌∙◌}
 use Rattle.std.specs.Prelude.{Vec, Result}
-use Rattle.std.specs.declared.alloc.Global.{Global}
-use Rattle.std.specs.Option.{option_map}
-use Rattle.std.specs.Ordering.{nat_cmp}
-use Rattle.std.specs.BTreeMap.{insert_entry, is_at}
-use Rattle.std.specs.Map.{lookup}
-use Rattle.std.specs.FinMap.{find, put}
-use Rattle.rpm_header.specs.declared.form.HeaderFault.{HeaderFault}
-use Rattle.rpm_header.specs.Header.{Header, header}
-use Rattle.rpm_db.specs.State.{package_of, read_as}
-use Rattle.rpm_db.specs.inner.Own.{header-own}
-use Rattle.rpm_filecheck.specs.inner.Gathered.{Labels, Found, with_package, with_read, with_header}
+use Rattle.rpm_filecheck.proofs.Vocabulary.{find, Found, Global, Header, header, header-own, HeaderFault, insert_entry, is_at, Labels, lookup, nat_cmp}
+use Rattle.rpm_filecheck.proofs.Vocabulary.{option_map, package_of, put, read_as, with_header, with_package, with_read}
 use Rattle.rpm_filecheck.proofs.Placing.{seen_as, seen-insert_entry, lookup-seen}
 
 -- what contracts see of a map from numbers to texts

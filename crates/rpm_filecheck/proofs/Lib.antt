@@ -8,3 +8,4 @@ pub mod Labelled
 pub mod Owning
 pub mod Placed
 pub mod Placing
+pub mod Vocabulary

@@ -1,13 +1,8 @@
 -- Which paths have owners.
 use Rattle.std.proofs.Common.{◌≡◌, ℕ, Bool, true, false, ◌||◌, cond, List, [], ◌∷◌, ◌++◌, map, Option, Some, None, refl, sym, ap, ◌∙◌}
-use Rattle.std.specs.List.{list_any}
-use Rattle.std.specs.Str.{bytes_eq}
-use Rattle.std.specs.FinMap.{find}
+use Rattle.rpm_filecheck.proofs.Vocabulary.{all_paths, as_owner, bytes_eq, files_of, find, list_any, own_paths, Owner, owner_of, owners, OwnFile, Package}
+use Rattle.rpm_filecheck.proofs.Vocabulary.{path_order, said_of}
 use Rattle.std.proofs.lemmas.Map.Text.{is_eq-slice_cmp}
-use Rattle.rpm_db.specs.State.{Package}
-use Rattle.rpm_filecheck.specs.Conflicts.{path_order, files_of, as_owner, owner_of, owners, own_paths, all_paths}
-use Rattle.rpm_filecheck.specs.Files.{OwnFile, said_of}
-use Rattle.rpm_filecheck.specs.Owners.{Owner}
 use Rattle.rpm_filecheck.proofs.Folding.{same_path, grown}
 
 abbrev pub is_some_owner : List Owner → Bool

@@ -1,12 +1,6 @@
 -- A map of the library, seen as a list by its order.
 use Rattle.std.proofs.Common.{◌≡◌, List, [], ◌∷◌, map, true, false, cond, Some, refl, ap, Less, Equal, Greater}
-use Rattle.std.specs.declared.cmp.Ordering.{Ordering}
-use Rattle.std.specs.Ordering.{is_eq, match_ordering}
-use Rattle.std.specs.Option.{option_map}
-use Rattle.std.specs.BTreeMap.{insert_entry}
-use Rattle.std.specs.Map.{lookup}
-use Rattle.std.specs.FinMap.{find, put}
-use Rattle.std.specs.FinMap.Entries.{by_order}
+use Rattle.rpm_filecheck.proofs.Vocabulary.{by_order, find, insert_entry, is_eq, lookup, match_ordering, option_map, Ordering, put}
 
 module _ {K Q X Y : Type 0} (R : Q → Q → Ordering) (g : K → Q) (h : X → Y) where
   abbrev pub seen_as : List (K × X) → List (Q × Y)

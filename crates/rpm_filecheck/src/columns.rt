@@ -1,10 +1,8 @@
 //! What a header says of its files, one after the other.
 
 ghost use Rattle.std.specs.Prelude.{◌≡◌, [], drop, slice_get, IfOk};
-ghost use Rattle.std.specs.Option.{option_copied};
-ghost use Rattle.rpm_tags.specs.Value.{numbers_in, texts_in};
-ghost use Rattle.rpm_tags.specs.Wanted.{listed, first_or};
-ghost use Rattle.rpm_filecheck.specs.Files.{columns, first_facts, rest_of};
+ghost use Rattle.rpm_filecheck.specs.Prelude.{columns, first_facts, first_or, listed, numbers_in, option_copied, rest_of, texts_in};
+ghost use Rattle.rpm_filecheck.specs.Files as model;
 
 use crate::owner::Owner;
 use rpm_header::View;
@@ -30,9 +28,6 @@ pub struct Columns<'a> {
 }
 
 impl<'a> Model for Columns<'a> {
-    ghost use Rattle.rpm_tags.specs.Wanted.{listed};
-    ghost use Rattle.rpm_filecheck.specs.Files as model;
-
     ghost Value = { model.Columns };
 
     ghost view = { λ s. record { modes = listed s.modes; digests = listed s.digests; links = listed s.links; flags = listed s.flags } };
@@ -42,20 +37,14 @@ impl<'a> Model for Columns<'a> {
 fn numbers<'a>(view: &View<'a>, tag: u32) -> Option<NumberIter<'a>>
     ensures { result ≡ numbers_in view.now tag }
 {
-    match numbers_in(view, tag) {
-        None => None,
-        Some(numbers) => Some(numbers.in_order()),
-    }
+    Some(numbers_in(view, tag)?.in_order())
 }
 
 /// The texts of a tag.
 fn texts<'a>(view: &View<'a>, tag: u32) -> Option<TextIter<'a>>
     ensures { result ≡ texts_in view.now tag }
 {
-    match texts_in(view, tag) {
-        None => None,
-        Some(texts) => Some(texts.iter()),
-    }
+    Some(texts_in(view, tag)?.iter())
 }
 
 /// The next of some numbers, or 0.

@@ -1,9 +1,8 @@
 //! Two packages that conflict on a path.
 
-ghost use Rattle.std.specs.Prelude.{◌≡◌, ◌∷◌, ◌++◌, [], OnOk, drop};
-ghost use Rattle.std.specs.List.{list_all};
-ghost use Rattle.rpm_filecheck.specs.Owners.{conflict, conflicts_with, conflicts_on};
-ghost use Rattle.rpm_filecheck.specs.inner.Alike.{is_alike, agrees};
+ghost use Rattle.std.specs.Prelude.{◌≡◌, ◌∷◌, ◌++◌, [], OnOk};
+ghost use Rattle.rpm_filecheck.specs.Prelude.{agrees, conflicts_on, conflicts_with, is_alike, list_all};
+ghost use Rattle.rpm_filecheck.specs.Owners as model;
 
 use crate::columns::copy;
 use crate::owner::{Owner, Owners};
@@ -22,8 +21,6 @@ pub struct Conflict {
 }
 
 impl Model for Conflict {
-    ghost use Rattle.rpm_filecheck.specs.Owners as model;
-
     ghost Value = { model.Conflict };
 
     ghost view = { λ s. record { path = s.path.items; first = s.first; second = s.second; digest = s.digest; mode = s.mode; link = s.link } };

@@ -1,8 +1,8 @@
 //! What was found in the packages so far.
 
 ghost use Rattle.std.specs.Prelude.{◌≡◌, OnOk, Some};
-ghost use Rattle.rpm_db.specs.State.{package_of};
-ghost use Rattle.rpm_filecheck.specs.inner.Gathered.{nothing, with_header, with_bad, with_package};
+ghost use Rattle.rpm_filecheck.specs.Prelude.{nothing, package_of, with_bad, with_header, with_package};
+ghost use Rattle.rpm_filecheck.specs.inner.Gathered as model;
 
 use crate::labels::{Labels, label_of};
 use crate::owned::Owned;
@@ -20,8 +20,6 @@ pub struct Found {
 }
 
 impl Model for Found {
-    ghost use Rattle.rpm_filecheck.specs.inner.Gathered as model;
-
     ghost Value = { model.Found };
 
     ghost view = { λ s. record { paths = s.owned; labels = s.labels; bad = s.bad.items } };

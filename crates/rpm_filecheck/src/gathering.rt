@@ -1,12 +1,9 @@
 //! Going through all packages.
 
 ghost use Rattle.std.specs.Prelude.{◌≡◌, IsTrue, true, false, OnOk, IfOk};
+ghost use Rattle.rpm_filecheck.specs.Prelude.{Asks, cost, cost_all, Kept, nothing, packages_in, with_packages, with_some};
 ghost use Rattle.std.specs.FinMap as finite;
 ghost use Rattle.rpm_db.specs.Database as database;
-ghost use Rattle.rpm_db.specs.Database.{cost, cost_all};
-ghost use Rattle.rpm_db.specs.Frame.{Kept, packages_in};
-ghost use Rattle.rpm_filecheck.specs.Frame.{Asks};
-ghost use Rattle.rpm_filecheck.specs.inner.Gathered.{nothing, with_some, with_packages};
 
 use crate::fault::FileCheckFault;
 use crate::found::Found;

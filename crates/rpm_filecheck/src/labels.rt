@@ -1,10 +1,7 @@
 //! The labels of packages.
 
-ghost use Rattle.std.specs.Prelude.{◌≡◌, [], OnOk, IfOk, unwrap_or};
-ghost use Rattle.std.specs.FinMap.{find, put};
-ghost use Rattle.std.specs.Ordering.{nat_cmp};
-ghost use Rattle.std.specs.BTreeMap.{insert_entry};
-ghost use Rattle.rpm_filecheck.specs.Conflicts.{label};
+ghost use Rattle.std.specs.Prelude.{◌≡◌, [], OnOk, IfOk, unwrap_or, List, ℕ, map};
+ghost use Rattle.rpm_filecheck.specs.Prelude.{find, insert_entry, label, nat_cmp, put};
 
 use crate::columns::copy;
 use crate::paths::bytes_of;
@@ -21,8 +18,6 @@ pub struct Labels {
 }
 
 impl Model for Labels {
-    ghost use Rattle.std.specs.Prelude.{List, ℕ, map};
-
     ghost Value = { List (ℕ × List ℕ) };
 
     ghost view = { λ s. map (λ e. (e.0, e.1.items)) s.texts.entries };

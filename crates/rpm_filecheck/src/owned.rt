@@ -1,10 +1,8 @@
 //! The owners of all paths.
 
-ghost use Rattle.std.specs.Prelude.{◌≡◌, [], OnOk, IfOk};
-ghost use Rattle.std.specs.List.{flat_map};
-ghost use Rattle.std.specs.BTreeMap.{get, insert_entry};
-ghost use Rattle.rpm_filecheck.specs.Owners.{conflicts_on};
-ghost use Rattle.rpm_filecheck.specs.inner.Gathered.{with_owner, joined_to, key_order};
+ghost use Rattle.std.specs.Prelude.{◌≡◌, [], OnOk, IfOk, List, ℕ, map};
+ghost use Rattle.rpm_filecheck.specs.Prelude.{conflicts_on, flat_map, get, insert_entry, joined_to, key_order, with_owner};
+ghost use Rattle.rpm_filecheck.specs.Owners as model;
 
 use crate::conflict::{Conflict, push_owners};
 use crate::owner::{Owner, Owners};
@@ -21,9 +19,6 @@ pub struct Owned {
 }
 
 impl Model for Owned {
-    ghost use Rattle.std.specs.Prelude.{List, ℕ, map};
-    ghost use Rattle.rpm_filecheck.specs.Owners as model;
-
     ghost Value = { List (List ℕ × List model.Owner) };
 
     ghost view = { λ s. map (λ e. (e.0.items, e.1)) s.paths.entries };

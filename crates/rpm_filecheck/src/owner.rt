@@ -1,8 +1,8 @@
 //! The owners of a path.
 
-ghost use Rattle.std.specs.Prelude.{◌≡◌, ◌∷◌, [], OnOk};
-ghost use Rattle.rpm_filecheck.specs.Owners.{conflict, differs, is_directory, is_ghost, may_share, is_conflict};
-ghost use Rattle.rpm_filecheck.specs.inner.Gathered.{joined, last_from};
+ghost use Rattle.std.specs.Prelude.{◌≡◌, ◌∷◌, [], OnOk, List};
+ghost use Rattle.rpm_filecheck.specs.Prelude.{is_directory, is_ghost, joined, last_from, may_share};
+ghost use Rattle.rpm_filecheck.specs.Owners as model;
 
 use std::alloc::{AllocError, Global};
 use std::marker::Model;
@@ -18,8 +18,6 @@ pub struct Owner {
 }
 
 impl Model for Owner {
-    ghost use Rattle.rpm_filecheck.specs.Owners as model;
-
     ghost Value = { model.Owner };
 
     ghost view = { λ s. record { number = s.number; facts = record { mode = s.mode; digest = s.digest.items; link = s.link.items; flags = s.flags } } };
@@ -57,10 +55,6 @@ pub struct Owners {
 }
 
 impl Model for Owners {
-    ghost use Rattle.std.specs.Prelude.{◌≡◌, List, ◌∷◌};
-    ghost use Rattle.rpm_filecheck.specs.Owners as model;
-    ghost use Rattle.rpm_filecheck.specs.inner.Gathered.{last_from};
-
     ghost Value = { List model.Owner };
 
     ghost view = { λ s. s.first ∷ s.others.items };

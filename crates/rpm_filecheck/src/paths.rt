@@ -1,10 +1,7 @@
 //! The paths of a package, put among those of others.
 
 ghost use Rattle.std.specs.Prelude.{◌≡◌, OnOk, IfOk};
-ghost use Rattle.std.specs.List.{concat};
-ghost use Rattle.rpm_tags.specs.Value.{class_of, text_list};
-ghost use Rattle.rpm_filecheck.specs.Files.{beside, files};
-ghost use Rattle.rpm_filecheck.specs.inner.Gathered.{with_files};
+ghost use Rattle.rpm_filecheck.specs.Prelude.{beside, class_of, concat, files, text_list, with_files};
 
 use crate::columns::Columns;
 use crate::owned::Owned;

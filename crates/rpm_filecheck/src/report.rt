@@ -1,10 +1,8 @@
 //! The report of all conflicts.
 
 ghost use Rattle.std.specs.Prelude.{◌≡◌, ◌<◌, [], IsTrue, false, Some, IfOk, length, slice_get, unwrap_or};
-ghost use Rattle.rpm_db.specs.Database.{cost_all};
-ghost use Rattle.rpm_db.specs.Frame.{Kept, packages_in};
-ghost use Rattle.rpm_filecheck.specs.Conflicts.{IsReport, told_label};
-ghost use Rattle.rpm_filecheck.specs.Frame.{Asks};
+ghost use Rattle.rpm_filecheck.specs.Prelude.{Asks, cost_all, IsReport, Kept, packages_in, told_label};
+ghost use Rattle.rpm_filecheck.specs.Conflicts as model;
 
 use crate::conflict::Conflict;
 use crate::fault::FileCheckFault;
@@ -26,8 +24,6 @@ pub struct ConflictList {
 }
 
 impl Model for ConflictList {
-    ghost use Rattle.rpm_filecheck.specs.Conflicts as model;
-
     ghost Value = { model.Report };
 
     ghost view = { λ s. record { conflicts = s.conflicts.items; bad = s.bad.items; labels = s.labels } };

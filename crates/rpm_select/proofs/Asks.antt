@@ -2,14 +2,8 @@
 use Rattle.std.proofs.Common.{◌≡◌, ℕ, ◌+◌, ◌≤◌, Ok, Err, refl, ap, arith}
 use Rattle.std.specs.Prelude.{Result}
 use Rattle.rpm_outside.specs.declared.disk.Disk as disk
-use Rattle.rpm_outside.specs.declared.disk.File.TheVariants.{Pkg}
+use Rattle.rpm_select.proofs.Vocabulary.{AsksPackages, Database, DiskFault, Kept, looks_more, looks_then, PickFault, Pkg}
 use Rattle.rpm_outside.specs.Frame.{Looks}
-use Rattle.rpm_outside.specs.inner.Looking.{looks_then, looks_more}
-use Rattle.rpm_db.specs.Database.{Database}
-use Rattle.rpm_db.specs.Frame.{Kept}
-use Rattle.rpm_select.specs.declared.picked.PickFault.{PickFault}
-use Rattle.rpm_select.specs.declared.picked.PickFault.TheVariants.{DiskFault}
-use Rattle.rpm_select.specs.Frame.{AsksPackages}
 
 -- an answer of this type
 abbrev pub failed : (X : Type 0) → PickFault → Result X PickFault

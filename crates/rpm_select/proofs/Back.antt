@@ -1,7 +1,6 @@
 -- What is kept on the way through a glob and a text.
 use Rattle.std.proofs.Common.{ℕ, ◌+◌, ◌≤◌, List, length, Option, Some, None, Bor}
-use Rattle.rpm_select.specs.Glob.{Piece, pieces}
-use Rattle.rpm_select.specs.inner.Unclosed.{IsUnclosed}
+use Rattle.rpm_select.proofs.Vocabulary.{IsUnclosed, Piece, pieces}
 
 abbrev pub Back : Type 0
 Back = Option (Bor (List ℕ) × Bor (List ℕ))

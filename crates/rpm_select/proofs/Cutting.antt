@@ -1,12 +1,10 @@
 -- A text that is cut before its last byte of a kind.
 use Rattle.std.proofs.Common.{◌≡◌, ℕ, ◌-◌, ◌<◌, ◌≤◌, List, [], ◌∷◌, length, take, reverse, Bool, true, false, not, Some, None, refl, sym, ap, ◌∙◌, inl, inr, arith}
 use Rattle.std.specs.Prelude.{if◌then◌else◌}
-use Rattle.std.specs.List.{list_any, before_last, prefix_len, suffix_len}
+use Rattle.rpm_select.proofs.Vocabulary.{before_last, cut, list_any, or_left, or_right, prefix_len, suffix_len}
 use Rattle.std.proofs.lemmas.Bool.{cases_Bool}
 use Rattle.std.proofs.lemmas.List.{length-reverse}
 use Rattle.std.proofs.lemmas.List.Sorted.{list_any-IsPermutation, IsPermutation-reverse}
-use Rattle.rpm_select.specs.Candidates.{cut}
-use Rattle.rpm_select.specs.inner.Keyed.{or_left, or_right}
 
 module _ (p : ℕ → Bool) where
   met : (xs : List ℕ) → prefix_len (λ b. not (p b)) xs < length xs → list_any p xs ≡ true

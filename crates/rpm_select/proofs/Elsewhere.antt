@@ -1,15 +1,9 @@
 -- A number that a selection can't pick.
 use Rattle.std.proofs.Common.{◌≡◌, ℕ, ◌==◌, Bool, true, false, not, Option, Some, None, Ok, Err, refl, sym, subst}
 use Rattle.std.specs.Prelude.{Result}
-use Rattle.rpm_header.specs.declared.form.HeaderFault.{HeaderFault}
-use Rattle.rpm_header.specs.Header.{Header, header}
-use Rattle.rpm_db.specs.State.{Package, Good, Bad}
-use Rattle.rpm_select.specs.declared.selection.Selection.{Selection}
-use Rattle.rpm_select.specs.declared.selection.Selection.TheVariants.{Number, All, Pattern, Label, Path, Group, Provides, Requires, Conflicts, Obsoletes, Trigger, Directory, Tid, Recommends}
-use Rattle.rpm_select.specs.declared.picked.Picked.{Picked}
-use Rattle.rpm_select.specs.declared.picked.PickFault.{PickFault}
-use Rattle.rpm_select.specs.inner.Single.{OneIs, OneOf}
-use Rattle.rpm_select.specs.Selections.{takes_header, takes_read, is_picked, is_elsewhere}
+use Rattle.rpm_select.proofs.Vocabulary.{All, Bad, Conflicts, Directory, Good, Group, Header, header, HeaderFault, is_elsewhere, is_picked, Label, Number}
+use Rattle.rpm_select.proofs.Vocabulary.{Obsoletes, OneIs, OneOf, Package, Path, Pattern, Picked, PickFault, Provides, Recommends, Requires, Selection}
+use Rattle.rpm_select.proofs.Vocabulary.{takes_header, takes_read, Tid, Trigger}
 
 no_header : (m n : ℕ) → (n == m) ≡ false → (r : Result Header HeaderFault) → takes_read (Number m) n r ≡ false
 unfolding takes_header

@@ -1,8 +1,6 @@
 -- The definitions, computed on small globs and labels: what they say doesn't come from the code.
 use Rattle.std.specs.Prelude.{◌≡◌, [], ◌∷◌, codes, Some, true, false, refl}
-use Rattle.rpm_select.specs.Candidates.{names_in}
-use Rattle.rpm_select.specs.Glob.{glob, pieces_behind, piece_at}
-use Rattle.rpm_select.specs.Labels.{with_name, without, is_dash, is_dash_or_dot}
+use Rattle.rpm_select.proofs.Vocabulary.{glob, is_dash, is_dash_or_dot, names_in, piece_at, pieces_behind, with_name, without}
 
 ends : (glob (codes "*a") (codes "ba") ≡ true) × (glob (codes "*a") (codes "ab") ≡ false) × (glob (codes "a?c") (codes "abc") ≡ true)
     × (glob (codes "?") [] ≡ false)

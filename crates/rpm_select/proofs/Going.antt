@@ -1,7 +1,7 @@
 -- How a glob is gone through: only the last star is tried again.
 use Rattle.std.proofs.Common.{◌≡◌, ◌≢◌, ℕ, List, [], ◌∷◌, Bool, true, false, ◌&&◌, ◌||◌, Option, Some, None, refl, sym, ap, ◌∙◌, inl, inr}
 use Rattle.std.proofs.lemmas.Bool.{cases_Bool}
-use Rattle.rpm_select.specs.Glob.{Piece, Star, Question, Byte, Set, takes, stands_for}
+use Rattle.rpm_select.proofs.Vocabulary.{Byte, Piece, Question, Set, stands_for, Star, takes}
 
 -- ---- what a star stands for
 

@@ -1,29 +1,13 @@
 -- Numbers that have rows of a key: of hits, of all packages, of one package.
 use Rattle.std.proofs.Common.{◌≡◌, ℕ, ◌+◌, ◌<◌, ◌&&◌, ◌||◌, ◌==◌, List, [], ◌∷◌, map, length, Bool, true, false, Option, Some, None, Result, Ok, Err, refl, sym, ap, ◌∙◌, subst}
 use Rattle.std.specs.Prelude.{zip}
-use Rattle.std.specs.List.{list_any, flat_map, range_with_len}
-use Rattle.std.specs.Ordering.{nat_cmp}
-use Rattle.std.specs.Str.{bytes_eq}
+use Rattle.rpm_select.proofs.Vocabulary.{AreHits, AreWith, Bad, bytes_eq, code_of, flat_map, Good, has_key, has_key_in, has_row, Header, header, header_rows}
+use Rattle.rpm_select.proofs.Vocabulary.{HeaderFault, Hit, is_among, is_candidate, is_in, is_row_of, key_list, key_row, keys, keys_asked, Kind, kind_rows}
+use Rattle.rpm_select.proofs.Vocabulary.{kinds, list_any, nat_cmp, Package, range_with_len, Row, row_of_hit, rows, rows_at, rows_read, Selection, times-rows}
 use Rattle.std.specs.FinMap as finite
 use Rattle.std.proofs.lemmas.Bool.{eq-eqb}
 use Rattle.std.proofs.lemmas.List.Folds.{list_any-append}
-use Rattle.rpm_header.specs.declared.form.HeaderFault.{HeaderFault}
-use Rattle.rpm_header.specs.Header.{Header, header}
-use Rattle.rpm_tags.specs.declared.kind.Kind.{Kind}
 use Rattle.rpm_tags.specs.declared.kind.Kind.TheVariants as kind
-use Rattle.rpm_tags.specs.Kinds.{code_of}
-use Rattle.rpm_tags.specs.Keys.{keys, key_list}
-use Rattle.rpm_hindex.specs.declared.hits.Hit.{Hit}
-use Rattle.rpm_hindex.specs.Answers.{AreHits, row_of_hit}
-use Rattle.rpm_hindex.specs.Rows.{Row}
-use Rattle.rpm_db.specs.State.{Package, Good, Bad}
-use Rattle.rpm_db.specs.Rows.{kinds, key_row, kind_rows, header_rows, rows_read, rows_at, rows}
-use Rattle.rpm_db.specs.inner.RowLaws.{times-rows}
-use Rattle.rpm_select.specs.declared.selection.Selection.{Selection}
-use Rattle.rpm_select.specs.Candidates.{has_key, has_key_in, keys_asked, is_candidate}
-use Rattle.rpm_select.specs.Selections.{is_among}
-use Rattle.rpm_select.specs.Reach.{is_in}
-use Rattle.rpm_select.specs.inner.Asking.{is_row_of, has_row, AreWith}
 use Rattle.rpm_select.proofs.Hits.{found_hit, found_times, hit, hit_found, row, times_found}
 
 pub same_truth : (a b : Bool) → (a ≡ true → b ≡ true) → (b ≡ true → a ≡ true) → a ≡ b

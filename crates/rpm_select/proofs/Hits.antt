@@ -1,15 +1,8 @@
 -- What stands among rows, and among hits.
 use Rattle.std.proofs.Common.{◌≡◌, ℕ, ◌+◌, ◌<◌, ◌&&◌, ◌==◌, List, [], ◌∷◌, map, Bool, true, false, cond, refl, sym, ap, ◌∙◌, inl, inr, arith}
-use Rattle.std.specs.List.{list_any}
-use Rattle.std.specs.Str.{bytes_eq}
+use Rattle.rpm_select.proofs.Vocabulary.{bytes_eq, Hit, is_in, is_row_of, list_any, or_cases, or_left, or_right, Row, same_hit, same_row, times, times_hit}
 use Rattle.std.proofs.lemmas.Bool.{cases_Bool, and_parts, eqb-true, eq-eqb}
 use Rattle.std.proofs.lemmas.List.Sums.{sum_by-cons}
-use Rattle.rpm_hindex.specs.declared.hits.Hit.{Hit}
-use Rattle.rpm_hindex.specs.Answers.{same_hit, times_hit}
-use Rattle.rpm_hindex.specs.Rows.{Row, same_row, times}
-use Rattle.rpm_select.specs.Reach.{is_in}
-use Rattle.rpm_select.specs.inner.Asking.{is_row_of}
-use Rattle.rpm_select.specs.inner.Keyed.{or_left, or_right, or_cases}
 
 both : (a b : Bool) → a ≡ true → b ≡ true → (a && b) ≡ true
 both true b first second = second

@@ -19,3 +19,4 @@ pub mod Searching
 pub mod Serving
 pub mod Unclosed
 pub mod Unpicked
+pub mod Vocabulary

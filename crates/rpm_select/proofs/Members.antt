@@ -2,8 +2,7 @@
 use Rattle.std.proofs.Common.{◌≡◌, ℕ, ◌-◌, ◌<◌, List, [], ◌∷◌, length, take, drop, Bool, true, false, ◌||◌, ◌==◌, suc, nat_lt, refl, sym, ap, ◌∙◌, inl, inr, arith}
 use Rattle.std.proofs.lemmas.Bool.{cases_Bool, lt-ltb}
 use Rattle.std.proofs.lemmas.List.{take_all, length-drop}
-use Rattle.rpm_select.specs.Glob.{is_member}
-use Rattle.rpm_select.specs.inner.Members.{first_has, first_len}
+use Rattle.rpm_select.proofs.Vocabulary.{first_has, first_len, is_member}
 
 or_false : (x : Bool) → (x || false) ≡ x
 or_false true = refl

@@ -2,13 +2,7 @@
 use Rattle.std.proofs.Common.{◌≡◌, ℕ, ◌+◌, ◌<◌, ◌≤◌, ◌||◌, ◌==◌, List, [], ◌∷◌, ◌++◌, map, take, length, Bool, sym, ap, ◌∙◌, append_assoc}
 use Rattle.std.proofs.lemmas.List.{take_more, take_all, map-append}
 use Rattle.std.proofs.lemmas.List.Folds.{list_any-append}
-use Rattle.rpm_tags.specs.declared.kind.Kind.{Kind}
-use Rattle.rpm_tags.specs.Kinds.{code_of}
-use Rattle.rpm_hindex.specs.declared.hits.Hit.{Hit}
-use Rattle.rpm_hindex.specs.Answers.{hit_at, AreHits}
-use Rattle.rpm_hindex.specs.Rows.{Row}
-use Rattle.rpm_select.specs.Reach.{is_in}
-use Rattle.rpm_select.specs.inner.Asking.{Adds}
+use Rattle.rpm_select.proofs.Vocabulary.{Adds, AreHits, code_of, Hit, hit_at, is_in, Kind, Row}
 use Rattle.rpm_select.proofs.Having.{hits_have}
 
 pub number_more : (ns : List ℕ) (hits : List Hit) (i j : ℕ) → j ≡ i + 1 → i < length hits

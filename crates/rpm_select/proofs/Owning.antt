@@ -3,11 +3,7 @@ use Rattle.std.proofs.Common.{◌≡◌, ℕ, ◌+◌, ◌<◌, ◌≤◌, ◌==
 use Rattle.std.specs.Prelude.{if◌then◌else◌}
 use Rattle.std.proofs.lemmas.Bool.{cases_Bool}
 use Rattle.std.proofs.lemmas.Bool.Decides.{nat_tests}
-use Rattle.rpm_db.specs.Database.{Database, cost}
-use Rattle.rpm_select.specs.declared.selection.Selection.{Selection}
-use Rattle.rpm_select.specs.declared.selection.Selection.TheVariants.{Number}
-use Rattle.rpm_select.specs.Selections.{is_elsewhere}
-use Rattle.rpm_select.specs.Picks.{ReadsOwn}
+use Rattle.rpm_select.proofs.Vocabulary.{cost, Database, is_elsewhere, Number, ReadsOwn, Selection}
 
 -- the blocks of m where the numbers up to k are passed
 abbrev pub owing : ℕ → ℕ → (ℕ → ℕ) → ℕ

@@ -1,15 +1,10 @@
 -- The packages that are picked above a number.
 use Rattle.std.proofs.Common.{◌≡◌, ℕ, ◌≤◌, ◌==◌, nat_lt, ◌||◌, List, [], ◌∷◌, Bool, false, Some, drop, zero, suc, ◌+◌, refl, inl, inr, arith}
 use Rattle.std.specs.Prelude.{slice_get, nat_le}
-use Rattle.std.specs.Ordering.{nat_cmp}
+use Rattle.rpm_select.proofs.Vocabulary.{above, commute, filter, is_picked, list_any, nat_cmp, Package, picks, Selection}
 use Rattle.std.specs.FinMap as finite
-use Rattle.std.specs.List.{filter, list_any}
 use Rattle.std.proofs.lemmas.Bool.{cases_Bool}
 use Rattle.std.proofs.lemmas.Bool.Decides.{nat_tests}
-use Rattle.rpm_db.specs.State.{Package, above}
-use Rattle.rpm_select.specs.declared.selection.Selection.{Selection}
-use Rattle.rpm_select.specs.Selections.{is_picked, picks}
-use Rattle.rpm_select.specs.inner.Rising.{commute}
 
 -- those that are picked among those above a number
 abbrev pub left : finite.FinMap nat_cmp Package → Selection → ℕ → List (ℕ × Package)

@@ -1,6 +1,6 @@
 -- The pieces of a pattern, one by one.
 use Rattle.std.proofs.Common.{◌≡◌, ℕ, zero, suc, ◌-◌, ◌<◌, List, [], ◌∷◌, length, drop, get_or, refl, sym, ap, ◌∙◌, arith}
-use Rattle.rpm_select.specs.Glob.{Piece, pieces, pieces_behind, piece_at, Written}
+use Rattle.rpm_select.proofs.Vocabulary.{Piece, piece_at, pieces, pieces_behind, Written}
 
 behind_is : (n : ℕ) (xs : List ℕ) → pieces_behind n xs ≡ pieces_behind 0 (drop n xs)
 unfolding pieces_behind

@@ -1,22 +1,12 @@
 -- A package that was read, and what a selection does with it.
 use Rattle.std.proofs.Common.{◌≡◌, ℕ, ◌<◌, ◌≤◌, Bool, true, false, nat_lt, Option, Some, None, Ok, Err, refl, sym, ap, ◌∙◌, inl, inr, arith}
 use Rattle.std.specs.Prelude.{Result}
-use Rattle.std.specs.Ordering.{nat_cmp}
+use Rattle.rpm_select.proofs.Vocabulary.{All, Bad, entry_in, Good, Header, header, HeaderFault, is_picked, IsNext, IsOf, nat_cmp, number_in, OneOf, Package}
+use Rattle.rpm_select.proofs.Vocabulary.{package_in, Picked, picks_at, Selection, takes_header, takes_read}
 use Rattle.std.specs.FinMap as finite
 use Rattle.std.proofs.lemmas.Bool.{cases_Bool}
 use Rattle.std.proofs.lemmas.Bool.Decides.{nat_tests}
-use Rattle.rpm_header.specs.declared.form.HeaderFault.{HeaderFault}
-use Rattle.rpm_header.specs.Header.{Header, header}
-use Rattle.rpm_db.specs.Database.{IsNext}
-use Rattle.rpm_db.specs.State.{Package, Good, Bad}
-use Rattle.rpm_select.specs.declared.picked.Picked.{Picked}
 use Rattle.rpm_select.specs.declared.picked.Picked.TheVariants as picked
-use Rattle.rpm_select.specs.declared.selection.Selection.{Selection}
-use Rattle.rpm_select.specs.declared.selection.Selection.TheVariants.{All}
-use Rattle.rpm_select.specs.inner.Single.{OneOf}
-use Rattle.rpm_select.specs.Picks.{entry_in, number_in, package_in}
-use Rattle.rpm_select.specs.Recents.{IsOf, picks_at}
-use Rattle.rpm_select.specs.Selections.{takes_header, takes_read, is_picked}
 
 packaged : (p : Picked) → (entry_in p).1 ≡ package_in p
 packaged (picked.Good number blob) = refl

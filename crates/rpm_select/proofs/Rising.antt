@@ -1,20 +1,11 @@
 -- The numbers of the candidates, by which they are told.
 use Rattle.std.proofs.Common.{◌≡◌, ℕ, ◌==◌, List, [], ◌∷◌, map, Bool, true, false, Some, refl, sym, ap, ◌∙◌, inl, inr, arith}
 use Rattle.std.specs.Prelude.{T, filter}
-use Rattle.std.specs.List.Sorted.{IsStrictlyIncreasing}
-use Rattle.std.specs.Ordering.{nat_cmp, is_lt}
-use Rattle.std.specs.Cmp.{unsigned_tied}
+use Rattle.rpm_select.proofs.Vocabulary.{AreAbove, below_all, both_true, candidates, is_below, is_candidate, is_in, is_lt, IsStrictlyIncreasing, nat_cmp}
+use Rattle.rpm_select.proofs.Vocabulary.{none_below, or_cases, Package, Rises, rises, same_members, Selection, unsigned_tied}
 use Rattle.std.specs.FinMap as finite
-use Rattle.std.specs.FinMap.Entries.{below_all}
 use Rattle.std.proofs.lemmas.Bool.{cases_Bool, eqb-true, eq-eqb}
 use Rattle.std.proofs.lemmas.Bool.Decides.{nat_tests}
-use Rattle.rpm_db.specs.State.{Package}
-use Rattle.rpm_db.specs.inner.Above.{both_true, is_below, none_below}
-use Rattle.rpm_select.specs.declared.selection.Selection.{Selection}
-use Rattle.rpm_select.specs.Candidates.{is_candidate, candidates}
-use Rattle.rpm_select.specs.Reach.{is_in}
-use Rattle.rpm_select.specs.inner.Keyed.{or_cases}
-use Rattle.rpm_select.specs.inner.Rising.{AreAbove, Rises, rises, same_members}
 use Rattle.rpm_select.proofs.Having.{is_candidate_at}
 
 abbrev numbers : List (ℕ × Package) → List ℕ

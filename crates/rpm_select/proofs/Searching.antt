@@ -1,11 +1,7 @@
 -- The next of rising numbers, and numbers that are put in order.
 use Rattle.std.proofs.Common.{◌≡◌, ℕ, zero, suc, ◌+◌, ◌<◌, ◌≤◌, ◌||◌, ◌==◌, List, [], ◌∷◌, length, get_or, Bool, true, false, Some, None, refl, sym, ap, ◌∙◌, inl, inr, arith, eqb}
-use Rattle.std.specs.List.{dedup, dedup_from}
-use Rattle.std.specs.List.Sorted.{IsStrictlyIncreasing}
+use Rattle.rpm_select.proofs.Vocabulary.{among, dedup, dedup_from, is_in, IsNext, IsStrictlyIncreasing, not_among}
 use Rattle.std.proofs.lemmas.Bool.{cases_Bool, cases_lt, eqb-true}
-use Rattle.rpm_db.specs.Database.{IsNext}
-use Rattle.rpm_select.specs.Reach.{is_in}
-use Rattle.rpm_select.specs.inner.Among.{among, not_among}
 
 -- numbers that rise don't fall further on
 pub no_fall : (xs : List ℕ) → IsStrictlyIncreasing xs → (i j : ℕ) → i ≤ j → j < length xs → get_or xs i 0 ≤ get_or xs j 0

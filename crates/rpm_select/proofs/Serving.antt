@@ -1,18 +1,10 @@
 -- What a picker goes over has whatever is picked.
 use Rattle.std.proofs.Common.{◌≡◌, ℕ, ◌==◌, Bool, true, false, [], ◌∷◌, Ok, Err, Result, refl, sym, ap, ◌∙◌}
-use Rattle.std.specs.Ordering.{nat_cmp}
+use Rattle.rpm_select.proofs.Vocabulary.{All, Bad, complete, Conflicts, Directory, Good, Group, has_keys, Header, header, HeaderFault, is_in, is_picked}
+use Rattle.rpm_select.proofs.Vocabulary.{Label, nat_cmp, Number, Obsoletes, or_left, Package, Path, Pattern, Provides, reach, Recommends, Requires, Selection}
+use Rattle.rpm_select.proofs.Vocabulary.{Serves, takes_header, takes_read, Tid, Trigger, unasked}
 use Rattle.std.specs.FinMap as finite
 use Rattle.std.proofs.lemmas.Bool.{eqb-true, eq-eqb}
-use Rattle.rpm_header.specs.declared.form.HeaderFault.{HeaderFault}
-use Rattle.rpm_header.specs.Header.{Header, header}
-use Rattle.rpm_db.specs.State.{Package, Good, Bad}
-use Rattle.rpm_select.specs.declared.selection.Selection.{Selection}
-use Rattle.rpm_select.specs.declared.selection.Selection.TheVariants.{All, Pattern, Label, Path, Group, Provides, Requires, Conflicts, Obsoletes, Trigger, Number, Directory, Tid, Recommends}
-use Rattle.rpm_select.specs.Candidates.{has_keys}
-use Rattle.rpm_select.specs.Reach.{is_in, reach, unasked, Serves}
-use Rattle.rpm_select.specs.Selections.{takes_header, takes_read, is_picked}
-use Rattle.rpm_select.specs.inner.Complete.{complete}
-use Rattle.rpm_select.specs.inner.Keyed.{or_left}
 use Rattle.rpm_select.proofs.Having.{is_candidate_at}
 use Rattle.rpm_select.proofs.Rising.{candidates_in}
 

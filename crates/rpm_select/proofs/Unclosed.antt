@@ -1,10 +1,8 @@
 -- The part of a glob in which no set ends.
 use Rattle.std.proofs.Common.{◌≡◌, ◌≢◌, ℕ, suc, ◌+◌, ◌-◌, ◌<◌, ◌≤◌, List, [], ◌∷◌, length, take, drop, get_or, false, ◌==◌, refl, sym, ap, ◌∙◌, subst, arith}
-use Rattle.std.specs.List.{position_or_len}
+use Rattle.rpm_select.proofs.Vocabulary.{is_close, IsUnclosed, position_or_len}
 use Rattle.std.proofs.lemmas.Bool.Decides.{nat_tests}
 use Rattle.std.proofs.lemmas.List.{get_or-drop, length-drop}
-use Rattle.rpm_select.specs.Glob.{is_close}
-use Rattle.rpm_select.specs.inner.Unclosed.{IsUnclosed}
 use Rattle.rpm_select.proofs.Members.{rest_is}
 
 -- what follows so many bytes

@@ -1,21 +1,11 @@
 -- A package out of reach is not picked.
+use Rattle.rpm_select.proofs.Vocabulary.{above, below_all, both_true, Database, eq_by_cmp, Everything, filter, is_picked, is_there, nat_cmp, none_below}
+use Rattle.rpm_select.proofs.Vocabulary.{Package, packages, Reach, reaches, room, Selection, Serves, These, Units, unsigned_tied}
 use Rattle.std.proofs.Common.{◌≡◌, ℕ, ◌<◌, ◌≤◌, List, [], ◌∷◌, Bool, true, false, Some, None, is_some, refl, sym, ap, ◌∙◌, inl, inr, arith, nat_lt}
 use Rattle.std.specs.Prelude.{T}
-use Rattle.std.specs.Ordering.{nat_cmp, eq_by_cmp}
-use Rattle.std.specs.Cmp.{unsigned_tied}
 use Rattle.std.specs.FinMap as finite
-use Rattle.std.specs.FinMap.Entries.{below_all}
-use Rattle.std.specs.List.{filter}
 use Rattle.std.proofs.lemmas.Bool.{cases_Bool}
 use Rattle.std.proofs.lemmas.Bool.Decides.{nat_tests}
-use Rattle.rpm_outside.specs.Files.{Units}
-use Rattle.rpm_db.specs.State.{Package, packages, above}
-use Rattle.rpm_db.specs.Database.{Database}
-use Rattle.rpm_db.specs.inner.Above.{both_true, none_below}
-use Rattle.rpm_db.specs.inner.Laws.{is_there}
-use Rattle.rpm_select.specs.declared.selection.Selection.{Selection}
-use Rattle.rpm_select.specs.Reach.{Reach, Everything, These, reaches, Serves}
-use Rattle.rpm_select.specs.Selections.{is_picked}
 
 find_here : {X : Type 0} (e : ℕ × X) (es : List (ℕ × X)) → finite.find nat_cmp e.0 (e ∷ es) ≡ Some e.1
 find_here e es =
@@ -67,8 +57,8 @@ none_in P k (e ∷ es) t none =
     ]
 
 -- a package out of reach isn't picked
-pub unpicked : (r : Reach) (file : Units) (db : Database) (sel : Selection) → Serves r (packages file db.store) sel → (q : ℕ) (p : Package)
-    → reaches r db q ≡ false → finite.get (packages file db.store) q ≡ Some p → is_picked sel (q, p) ≡ false
+pub unpicked : (r : Reach) (file : Units) (db : Database) (sel : Selection) → Serves r (packages file (room db)) sel → (q : ℕ) (p : Package)
+    → reaches r db q ≡ false → finite.get (packages file (room db)) q ≡ Some p → is_picked sel (q, p) ≡ false
 unpicked Everything file db sel serves q p out there =
     (let both : true ≡ false = sym (ap is_some there) ∙ is_there file db q ∙ out in absurd cc)
 unpicked (These ns) file db sel serves q p out there = elim (cases_Bool (is_picked sel (q, p))) [

@@ -1,4 +1,5 @@
 -- The packages that a picker goes over, and what reading them takes.
+use Rattle.rpm_db.specs.Frame.{room}
 use Rattle.std.specs.Prelude.{◌≡◌, ◌⊎◌, ℕ, ◌+◌, ◌-◌, ◌*◌, ◌≤◌, IsOk, List, [], ◌∷◌, map, filter, Bool, true, ◌&&◌, ◌==◌, nat_le, if◌then◌else◌, Option, Some, Result, Ok, Err}
 use Rattle.std.specs.List.{list_any, sum_by, AllByRecursion}
 use Rattle.std.specs.Ordering.{nat_cmp}
@@ -54,7 +55,7 @@ Serves (These ns) packages sel = (n : ℕ) (p : Package) → finite.get packages
 
 -- an index that is kept holds the rows of the packages
 abbrev pub HasIndexRows : Database → Units → Units → Type 0
-HasIndexRows db pkg idx = is_indexed db ≡ true → HasRows (packages pkg db.store) idx
+HasIndexRows db pkg idx = is_indexed db ≡ true → HasRows (packages pkg (room db)) idx
 
 -- ---- what is read
 

@@ -6,7 +6,7 @@ use Rattle.std.proofs.lemmas.Bool.{cases_Bool}
 use Rattle.std.proofs.lemmas.List.Sums.{sum_by-cons}
 use Rattle.std.proofs.lemmas.Bool.Decides.{nat_tests}
 use Rattle.rpm_db.specs.Database.{Database, IsNext, cost}
-use Rattle.rpm_db.specs.inner.Laws.{cost_more, cost_some, cost_up}
+use Rattle.rpm_db.specs.PackageLaws.{cost_more, cost_some, cost_up}
 use Rattle.rpm_select.specs.Reach.{Reach, Everything, These, reaches, is_in, reach_to, reach_all}
 
 module _ (costs : ℕ → ℕ) where

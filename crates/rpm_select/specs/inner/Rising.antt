@@ -1,4 +1,5 @@
 -- Rising numbers, and the packages that are picked by rising number.
+use Rattle.rpm_db.specs.Frame.{room}
 use Rattle.std.proofs.Common.{◌≡◌, ℕ, suc, ◌+◌, ◌<◌, ◌≤◌, ◌==◌, List, [], ◌∷◌, length, Bool, true, false, refl, sym, ap, ◌∙◌, subst}
 use Rattle.std.proofs.Common.{inl, inr, arith, nat_lt}
 use Rattle.std.specs.Prelude.{filter, slice_index}
@@ -9,9 +10,9 @@ use Rattle.std.proofs.lemmas.Bool.{cases_Bool, eqb-true, eq-eqb}
 use Rattle.rpm_outside.specs.Files.{Units}
 use Rattle.rpm_db.specs.State.{Package, packages, above}
 use Rattle.rpm_db.specs.Database.{Database, holds}
-use Rattle.rpm_db.specs.inner.Above.{none_is, all_above_zero}
-use Rattle.rpm_db.specs.inner.Kept.{split_above}
-use Rattle.rpm_db.specs.inner.Laws.{is_there}
+use Rattle.rpm_db.specs.Above.{none_is, all_above_zero}
+use Rattle.rpm_db.specs.Kept.{split_above}
+use Rattle.rpm_db.specs.PackageLaws.{is_there}
 use Rattle.rpm_select.specs.declared.selection.Selection.{Selection}
 use Rattle.rpm_select.specs.Reach.{is_in}
 use Rattle.rpm_select.specs.Selections.{is_picked, picks}
@@ -103,10 +104,10 @@ commute p q (x ∷ xs) = elim (cases_Bool (p x)) [
 ]
 
 -- no package has the number 0
-pub picks_from_one : (file : Units) (db : Database) (sel : Selection) → holds 0 db ≡ false → above 0 (picks (packages file db.store) sel)
-    ≡ picks (packages file db.store) sel
+pub picks_from_one : (file : Units) (db : Database) (sel : Selection) → holds 0 db ≡ false → above 0 (picks (packages file (room db)) sel)
+    ≡ picks (packages file (room db)) sel
 unfolding picks
 picks_from_one file db sel none =
-    let map = packages file db.store in
+    let map = packages file (room db) in
     commute (λ e. nat_lt 0 e.0) (is_picked sel) (finite.entries map)
     ∙ ap (filter (is_picked sel)) (all_above_zero map (none_is (finite.get map 0) (is_there file db 0 ∙ none)))

@@ -1,6 +1,5 @@
 use Rattle.std.proofs.Common.{sym, ap, subst, ◌∙◌}
-use Rattle.rpm_graph.specs.Networks.{IsRising}
-use Rattle.rpm_select.specs.Reach.{is_in}
+use Rattle.rpm_check.proofs.Vocabulary.{is_in, IsRising}
 use Rattle.rpm_check.proofs.Joining.{found_is}
 use Rattle.rpm_check.proofs.edges.has_number.Goals as goal
 

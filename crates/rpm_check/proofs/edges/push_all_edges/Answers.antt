@@ -1,15 +1,8 @@
 use Rattle.std.proofs.Common.{◌≡◌, ℕ, ◌+◌, ◌<◌, ◌≤◌, ◌++◌, [], List, map, length, drop, refl, sym, ap, ◌∙◌, subst, arith, append-nil}
 use Rattle.std.specs.Prelude.{filter}
-use Rattle.std.specs.List.{flat_map}
-use Rattle.std.specs.List.Sorted.{IsStrictlyIncreasing}
+use Rattle.rpm_check.proofs.Vocabulary.{Edge, edge, edges_of, flat_map, is_end, is_in, IsStrictlyIncreasing, Node}
 use Rattle.std.proofs.lemmas.List.{drop_all}
 use Rattle.std.proofs.lemmas.List.Elements.{All-nil, All-same}
-use Rattle.rpm_graph.specs.declared.graph.Edge.{Edge}
-use Rattle.rpm_graph.specs.Networks.{edge}
-use Rattle.rpm_select.specs.Reach.{is_in}
-use Rattle.rpm_check.specs.declared.nodes.Node.{Node}
-use Rattle.rpm_check.specs.inner.Ends.{is_end}
-use Rattle.rpm_check.specs.inner.Nodes.{edges_of}
 use Rattle.rpm_check.proofs.Gathering.{IsBelowFrom, number_in, ends_rise, edges_behind, edges_below, edges_told}
 use Rattle.rpm_check.proofs.edges.push_all_edges.Goals as goal
 

@@ -1,7 +1,6 @@
 use Rattle.std.proofs.Common.{◌≡◌, ◌++◌, drop}
 use Rattle.std.specs.Prelude.{All}
-use Rattle.std.specs.List.{flat_map}
-use Rattle.rpm_check.specs.inner.Nodes.{edges_of}
+use Rattle.rpm_check.proofs.Vocabulary.{edges_of, flat_map}
 use Rattle.rpm_check.proofs.Gathering.{IsBelowFrom}
 use Rattle.rpm_check.proofs.edges.push_all_edges.Given as goal
 

@@ -1,5 +1,5 @@
 use Rattle.std.proofs.Common.{sym, ◌∙◌}
-use Rattle.rpm_check.specs.inner.Ends.{is_end}
+use Rattle.rpm_check.proofs.Vocabulary.{is_end}
 use Rattle.rpm_check.proofs.Joining.{joins_end, none_more, numbers_stay, edge_told, edges_left}
 use Rattle.rpm_check.proofs.edges.push_edge.Goals as goal
 

@@ -2,11 +2,8 @@ use Rattle.std.proofs.Common.{◌≡◌, ℕ, ◌+◌, ◌<◌, ◌≤◌, ◌++
 use Rattle.std.specs.Prelude.{All, filter}
 use Rattle.std.proofs.lemmas.List.{drop_all}
 use Rattle.std.proofs.lemmas.List.Elements.{All-same, All-weaker}
-use Rattle.rpm_graph.specs.Networks.{edge}
-use Rattle.rpm_select.specs.Reach.{is_in}
-use Rattle.rpm_check.specs.inner.Ends.{BeginsBelow, BeginsUpTo, is_end}
+use Rattle.rpm_check.proofs.Vocabulary.{BeginsBelow, BeginsUpTo, edge, is_end, is_in, Rises, rises}
 use Rattle.rpm_check.proofs.Joining.{IsBehind, behind_all, behind_first, behind_more, low_more, told_more, next_drop}
-use Rattle.rpm_select.specs.inner.Rising.{Rises, rises}
 use Rattle.rpm_check.proofs.edges.push_edges.Goals as goal
 
 pub loop-to-init : goal.loop-to-init

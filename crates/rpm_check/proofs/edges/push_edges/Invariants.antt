@@ -1,9 +1,7 @@
 use Rattle.std.proofs.Common.{◌≡◌, ◌++◌, drop, map}
 use Rattle.std.specs.Prelude.{All, filter}
-use Rattle.rpm_graph.specs.Networks.{edge}
-use Rattle.rpm_check.specs.inner.Ends.{BeginsUpTo, is_end}
+use Rattle.rpm_check.proofs.Vocabulary.{BeginsUpTo, edge, is_end, Rises}
 use Rattle.rpm_check.proofs.Joining.{IsBehind}
-use Rattle.rpm_select.specs.inner.Rising.{Rises}
 use Rattle.rpm_check.proofs.edges.push_edges.Given as goal
 
 abbrev pub invariant-loop-to : goal.invariant-loop-to

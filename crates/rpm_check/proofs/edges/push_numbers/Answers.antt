@@ -2,9 +2,7 @@ use Rattle.std.proofs.Common.{◌≡◌, ℕ, ◌+◌, ◌<◌, ◌≤◌, ◌++
 use Rattle.std.specs.Prelude.{All}
 use Rattle.std.proofs.lemmas.List.{drop_all}
 use Rattle.std.proofs.lemmas.List.Elements.{All-nil, All-same}
-use Rattle.rpm_graph.specs.Networks.{Network}
-use Rattle.rpm_check.specs.declared.nodes.Node.{Node}
-use Rattle.rpm_check.specs.inner.Nodes.{numbers_of}
+use Rattle.rpm_check.proofs.Vocabulary.{Network, Node, numbers_of}
 use Rattle.rpm_check.proofs.Gathering.{IsBelowFrom, numbers_behind, numbers_below, numbers_told}
 use Rattle.rpm_check.proofs.edges.push_numbers.Goals as goal
 

@@ -1,6 +1,6 @@
 use Rattle.std.proofs.Common.{◌≡◌, ◌++◌, drop}
 use Rattle.std.specs.Prelude.{All}
-use Rattle.rpm_check.specs.inner.Nodes.{numbers_of}
+use Rattle.rpm_check.proofs.Vocabulary.{numbers_of}
 use Rattle.rpm_check.proofs.Gathering.{IsBelowFrom}
 use Rattle.rpm_check.proofs.edges.push_numbers.Given as goal
 

@@ -1,10 +1,6 @@
+use Rattle.rpm_check.proofs.Vocabulary.{flat_map, givers, is_in, needs_at, packages, room}
 use Rattle.std.proofs.Common.{◌++◌, ℕ, List, sym, ap, ◌∙◌}
-use Rattle.std.specs.List.{flat_map}
 use Rattle.std.specs.FinMap as finite
-use Rattle.rpm_db.specs.State.{packages}
-use Rattle.rpm_select.specs.Reach.{is_in}
-use Rattle.rpm_check.specs.Edges.{givers}
-use Rattle.rpm_check.specs.inner.Ends.{needs_at}
 use Rattle.rpm_check.proofs.ends.ends_of.Goals as goal
 
 pub returns-then-good-clause-good : goal.returns-then-good-clause-good
@@ -12,7 +8,7 @@ returns-then-good-clause-good g c = λ told. sym c.if-good.true ∙ c.in_ok-good
 
 pub returns-then-good-clause-told : goal.returns-then-good-clause-told
 returns-then-good-clause-told g c = λ told has m.
-    let all = packages (g.D.Disk.files c.args.disk.now).pkg c.args.db.now.store in
+    let all = packages (g.D.Disk.files c.args.disk.now).pkg (room c.args.db.now) in
     let given = flat_map (givers all) (needs_at (finite.get all c.args.number)) in
     c.each_once.ensures.same m
     ∙ ap (is_in m) (c.in_ok-good.ensures.told told has ∙ ap (λ (ms : List ℕ). ms ++ given) c.new-ends.ensures.items)

@@ -1,11 +1,6 @@
+use Rattle.rpm_check.proofs.Vocabulary.{flat_map, givers, HasIndexRows, KnowsGiversOn, packages, required, room}
 use Rattle.std.proofs.Common.{◌≡◌, ◌++◌, length}
 use Rattle.std.specs.Prelude.{IsTrue}
-use Rattle.std.specs.List.{flat_map}
-use Rattle.rpm_db.specs.State.{packages}
-use Rattle.rpm_select.specs.Reach.{HasIndexRows}
-use Rattle.rpm_check.specs.Edges.{givers}
-use Rattle.rpm_check.specs.Unmet.{required}
-use Rattle.rpm_check.specs.inner.GiverMemos.{KnowsGiversOn}
 use Rattle.rpm_check.proofs.ends.push_ends.Given as goal
 use Rattle.rpm_check.proofs.Asking.{Asking}
 
@@ -14,8 +9,8 @@ invariant-loop-needed g l = record {
   asking : Asking g.D.Disk l.initial.disk l.disk l.db;
   remembers : KnowsGiversOn g.D.Disk l.initial.disk l.db l.memo;
   told : IsTrue g.D.Disk.tells → HasIndexRows l.db (g.D.Disk.files l.initial.disk).pkg (g.D.Disk.files l.initial.disk).idx
-      → l.ends.items ++ flat_map (givers (packages (g.D.Disk.files l.initial.disk).pkg l.db.store)) l.left
-      ≡ l.initial.ends.items ++ flat_map (givers (packages (g.D.Disk.files l.initial.disk).pkg l.db.store)) (required l.view);
+      → l.ends.items ++ flat_map (givers (packages (g.D.Disk.files l.initial.disk).pkg (room l.db))) l.left
+      ≡ l.initial.ends.items ++ flat_map (givers (packages (g.D.Disk.files l.initial.disk).pkg (room l.db))) (required l.view);
 }
 
 abbrev pub decreases-loop-needed : goal.decreases-loop-needed

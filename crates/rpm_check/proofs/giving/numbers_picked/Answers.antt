@@ -1,13 +1,6 @@
+use Rattle.rpm_check.proofs.Vocabulary.{above, Files, Keeps, KeepsIndex, keys_asked, NextNumberIs, packages, picks, Recalls, room, Serves}
 use Rattle.std.proofs.Common.{◌≡◌, ℕ, List, ◌++◌, Option, Some, None, Ok, arith, sym, ap, subst}
 use Rattle.std.proofs.lemmas.Result.{err_from_is_err_and}
-use Rattle.rpm_outside.specs.Files.{Files}
-use Rattle.rpm_db.specs.Database.{Keeps, KeepsIndex}
-use Rattle.rpm_db.specs.State.{packages, above}
-use Rattle.rpm_select.specs.Candidates.{keys_asked}
-use Rattle.rpm_select.specs.Picks.{NextNumberIs}
-use Rattle.rpm_select.specs.Reach.{Serves}
-use Rattle.rpm_select.specs.Recents.{Recalls}
-use Rattle.rpm_select.specs.Selections.{picks}
 use Rattle.rpm_check.proofs.Above.{numbers_above}
 use Rattle.rpm_check.proofs.Gaining.{gained, all_picked}
 use Rattle.rpm_check.proofs.Glancing.{glances_then, glances_index, glances_packages}
@@ -35,7 +28,7 @@ loop-numbers-init g c =
       };
       recalls = λ told holds. holds;
       told = λ told has holds.
-          ap (λ (ns : List ℕ). ns ++ numbers_above (packages (g.D.Disk.files c.args.disk.now).pkg db.store) c.args.selection.now 0)
+          ap (λ (ns : List ℕ). ns ++ numbers_above (packages (g.D.Disk.files c.args.disk.now).pkg (room db)) c.args.selection.now 0)
           c.new-numbers.ensures.items;
     }
 
@@ -60,12 +53,12 @@ loop-numbers-preserved g c =
         faults = omega (arith, inv.asking.faults, done.asks.cause.later);
       };
       recalls = λ told holds.
-          subst (λ (f : Files). Recalls (packages f.pkg db.store) c.loop-numbers.recent → Recalls (packages f.pkg db.store) c.next_number_after.new.recent)
+          subst (λ (f : Files). Recalls (packages f.pkg (room db)) c.loop-numbers.recent → Recalls (packages f.pkg (room db)) c.next_number_after.new.recent)
           (inv.asking.looks.untouched told).same (done.recalls told) (inv.recalls told holds);
       told = λ told has holds.
-          let all = packages (g.D.Disk.files c.args.disk.now).pkg db.store in
-          let next = subst (λ (f : Files). Serves picker (packages f.pkg db.store) sel → Recalls (packages f.pkg db.store) c.loop-numbers.recent
-          → NextNumberIs (above n (picks (packages f.pkg db.store) sel)) (Ok c.in_ok-next.field-0)) (inv.asking.looks.untouched told).same (done.told told)
+          let all = packages (g.D.Disk.files c.args.disk.now).pkg (room db) in
+          let next = subst (λ (f : Files). Serves picker (packages f.pkg (room db)) sel → Recalls (packages f.pkg (room db)) c.loop-numbers.recent
+          → NextNumberIs (above n (picks (packages f.pkg (room db)) sel)) (Ok c.in_ok-next.field-0)) (inv.asking.looks.untouched told).same (done.told told)
           (c.in_ok-picker.ensures.serves told has) (inv.recalls told holds) in
           gained all sel n c.in-Some.next c.loop-numbers.numbers.items c.push.new.self.items (numbers_above all sel 0)
           (subst (λ (o : Option ℕ). NextNumberIs (above n (picks all sel)) (Ok o)) is next) c.in_ok-push.ensures.items (inv.told told has holds);
@@ -80,29 +73,29 @@ returns-clause-told g c = λ told has holds.
     let picker = c.in_ok-picker.picker in
     let pkg = (g.D.Disk.files c.args.disk.now).pkg in
     let is : c.in_ok-next.field-0 ≡ None = cc in
-    let none = subst (λ (f : Files). Serves picker (packages f.pkg db.store) sel → Recalls (packages f.pkg db.store) c.loop-numbers.recent
-    → NextNumberIs (above n (picks (packages f.pkg db.store) sel)) (Ok c.in_ok-next.field-0)) (inv.asking.looks.untouched told).same
+    let none = subst (λ (f : Files). Serves picker (packages f.pkg (room db)) sel → Recalls (packages f.pkg (room db)) c.loop-numbers.recent
+    → NextNumberIs (above n (picks (packages f.pkg (room db)) sel)) (Ok c.in_ok-next.field-0)) (inv.asking.looks.untouched told).same
     (c.in_ok-next.ensures.told told) (c.in_ok-picker.ensures.serves told has) (inv.recalls told holds) in
     all_picked pkg db sel n c.loop-numbers.numbers.items (c.requires.asked.keeps told)
-    (subst (λ (o : Option ℕ). NextNumberIs (above n (picks (packages pkg db.store) sel)) (Ok o)) is none) (inv.told told has holds)
+    (subst (λ (o : Option ℕ). NextNumberIs (above n (picks (packages pkg (room db)) sel)) (Ok o)) is none) (inv.told told has holds)
 
 pub returns-clause-recalls : goal.returns-clause-recalls
 returns-clause-recalls g c = λ told holds.
     let db = c.args.db.now in
     let inv = c.loop-numbers.invariant in
-    subst (λ (f : Files). Recalls (packages f.pkg db.store) c.loop-numbers.recent → Recalls (packages f.pkg db.store) c.next_number_after.new.recent)
+    subst (λ (f : Files). Recalls (packages f.pkg (room db)) c.loop-numbers.recent → Recalls (packages f.pkg (room db)) c.next_number_after.new.recent)
     (inv.asking.looks.untouched told).same (c.in_ok-next.ensures.recalls told) (inv.recalls told holds)
 
 pub returns-in_err-next-clause-recalls : goal.returns-in_err-next-clause-recalls
 returns-in_err-next-clause-recalls g c = λ told holds.
     let db = c.args.db.now in
     let inv = c.loop-numbers.invariant in
-    subst (λ (f : Files). Recalls (packages f.pkg db.store) c.loop-numbers.recent → Recalls (packages f.pkg db.store) c.next_number_after.new.recent)
+    subst (λ (f : Files). Recalls (packages f.pkg (room db)) c.loop-numbers.recent → Recalls (packages f.pkg (room db)) c.next_number_after.new.recent)
     (inv.asking.looks.untouched told).same (c.in_err-next.ensures.recalls told) (inv.recalls told holds)
 
 pub returns-in_err-push-clause-recalls : goal.returns-in_err-push-clause-recalls
 returns-in_err-push-clause-recalls g c = λ told holds.
     let db = c.args.db.now in
     let inv = c.loop-numbers.invariant in
-    subst (λ (f : Files). Recalls (packages f.pkg db.store) c.loop-numbers.recent → Recalls (packages f.pkg db.store) c.next_number_after.new.recent)
+    subst (λ (f : Files). Recalls (packages f.pkg (room db)) c.loop-numbers.recent → Recalls (packages f.pkg (room db)) c.next_number_after.new.recent)
     (inv.asking.looks.untouched told).same (c.in_ok-next.ensures.recalls told) (inv.recalls told holds)

@@ -1,9 +1,6 @@
+use Rattle.rpm_check.proofs.Vocabulary.{HasIndexRows, KnowsOn, lacks, packages, required, room, unmet_in}
 use Rattle.std.proofs.Common.{◌≡◌, ◌+◌, ◌++◌, length}
 use Rattle.std.specs.Prelude.{IsTrue}
-use Rattle.rpm_db.specs.State.{packages}
-use Rattle.rpm_select.specs.Reach.{HasIndexRows}
-use Rattle.rpm_check.specs.Unmet.{required, lacks, unmet_in}
-use Rattle.rpm_check.specs.inner.Memos.{KnowsOn}
 use Rattle.rpm_check.proofs.lacking.push_lacking.Given as goal
 use Rattle.rpm_check.proofs.Asking.{Asking}
 
@@ -13,6 +10,6 @@ invariant-loop-place g l = record {
   places : l.place + length l.left ≡ length (required l.view);
   remembers : KnowsOn g.D.Disk l.initial.disk l.db l.memo;
   told : IsTrue g.D.Disk.tells → HasIndexRows l.db (g.D.Disk.files l.initial.disk).pkg (g.D.Disk.files l.initial.disk).idx
-      → l.found.items ++ unmet_in (lacks (packages (g.D.Disk.files l.initial.disk).pkg l.db.store)) l.number l.left l.place
-      ≡ l.initial.found.items ++ unmet_in (lacks (packages (g.D.Disk.files l.initial.disk).pkg l.db.store)) l.number (required l.view) 0;
+      → l.found.items ++ unmet_in (lacks (packages (g.D.Disk.files l.initial.disk).pkg (room l.db))) l.number l.left l.place
+      ≡ l.initial.found.items ++ unmet_in (lacks (packages (g.D.Disk.files l.initial.disk).pkg (room l.db))) l.number (required l.view) 0;
 }

@@ -1,7 +1,5 @@
 use Rattle.std.proofs.Common.{◌≡◌, ℕ, List, length, Option, Some, None, sym, ap, ◌∙◌}
-use Rattle.rpm_tags.specs.Numbers.{REQUIRENAME, REQUIREFLAGS, REQUIREVERSION}
-use Rattle.rpm_tags.specs.Value.{texts_in}
-use Rattle.rpm_tags.specs.Wanted.{listed}
+use Rattle.rpm_check.proofs.Vocabulary.{listed, REQUIREFLAGS, REQUIRENAME, REQUIREVERSION, texts_in}
 use Rattle.rpm_check.proofs.Placing.{length-dependencies}
 use Rattle.rpm_check.proofs.lacking.required_count.Goals as goal
 

@@ -1,15 +1,6 @@
+use Rattle.rpm_check.proofs.Vocabulary.{above, Files, from_one, is_some_of, keys_asked, NextNumberIs, packages, picks, picks_from_one, Recalls, room, Serves}
 use Rattle.std.proofs.Common.{Ok, ap, ◌∙◌, subst}
 use Rattle.std.proofs.lemmas.Result.{err_from_is_err_and}
-use Rattle.rpm_outside.specs.Files.{Files}
-use Rattle.rpm_db.specs.State.{packages, above}
-use Rattle.rpm_select.specs.Candidates.{keys_asked}
-use Rattle.rpm_select.specs.Picks.{NextNumberIs}
-use Rattle.rpm_select.specs.Reach.{Serves}
-use Rattle.rpm_select.specs.Recents.{Recalls}
-use Rattle.rpm_select.specs.Selections.{picks}
-use Rattle.rpm_check.specs.inner.Picking.{is_some_of}
-use Rattle.rpm_db.specs.inner.FromOne.{from_one}
-use Rattle.rpm_select.specs.inner.Rising.{picks_from_one}
 use Rattle.rpm_check.proofs.Picking.{is_some_next}
 use Rattle.rpm_check.proofs.meeting.picks_any.Goals as goal
 use Rattle.rpm_check.proofs.Asking.{asks_picker}
@@ -27,15 +18,15 @@ returns-clause-told g c = λ told has holds.
     let picker = c.in_ok-picker.picker in
     let picked = c.in_ok-picked.picked in
     let pkg = (g.D.Disk.files c.args.disk.now).pkg in
-    let next = subst (λ (f : Files). Serves picker (packages f.pkg db.store) sel
-    → Recalls (packages f.pkg db.store) c.args.recent.now → NextNumberIs (above 0 (picks (packages f.pkg db.store) sel)) (Ok picked))
+    let next = subst (λ (f : Files). Serves picker (packages f.pkg (room db)) sel
+    → Recalls (packages f.pkg (room db)) c.args.recent.now → NextNumberIs (above 0 (picks (packages f.pkg (room db)) sel)) (Ok picked))
     (c.in_ok-picker.ensures.asks.looks.untouched told).same
     (c.in_ok-picked.ensures.told told) in
-    c.is_some.ensures ∙ is_some_next (above 0 (picks (packages pkg db.store) sel)) picked (next (c.in_ok-picker.ensures.serves told has) holds)
+    c.is_some.ensures ∙ is_some_next (above 0 (picks (packages pkg (room db)) sel)) picked (next (c.in_ok-picker.ensures.serves told has) holds)
     ∙ ap is_some_of (picks_from_one pkg db sel (from_one pkg db (c.requires.asked.keeps told)))
 
 pub returns-clause-recalls : goal.returns-clause-recalls
 returns-clause-recalls g c = λ told holds.
     let db = c.args.db.now in
-    subst (λ (f : Files). Recalls (packages f.pkg db.store) c.args.recent.now → Recalls (packages f.pkg db.store) c.next_number_after.new.recent)
+    subst (λ (f : Files). Recalls (packages f.pkg (room db)) c.args.recent.now → Recalls (packages f.pkg (room db)) c.next_number_after.new.recent)
     (c.in_ok-picker.ensures.asks.looks.untouched told).same (c.in_ok-picked.ensures.recalls told) holds

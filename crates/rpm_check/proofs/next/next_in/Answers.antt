@@ -1,20 +1,14 @@
+use Rattle.rpm_check.proofs.Vocabulary.{Files, HasIndexRows, header_at, is_above, IsFirst, lacks, packages, required, room, Unmet, unmet_in}
 use Rattle.std.proofs.Common.{◌≡◌, Some, sym, subst}
 use Rattle.std.specs.Prelude.{filter, List}
 use Rattle.std.specs.FinMap as finite
-use Rattle.rpm_outside.specs.Files.{Files}
-use Rattle.rpm_db.specs.State.{packages}
-use Rattle.rpm_select.specs.Reach.{HasIndexRows}
-use Rattle.rpm_check.specs.declared.list.Unmet.{Unmet}
-use Rattle.rpm_check.specs.Unmet.{required, lacks, unmet_in, is_above}
-use Rattle.rpm_check.specs.inner.Headers.{header_at}
-use Rattle.rpm_check.specs.inner.Rounds.{IsFirst}
 use Rattle.rpm_check.proofs.Asking.{told_more}
 use Rattle.rpm_check.proofs.Heading.{unmet_some}
 use Rattle.rpm_check.proofs.next.next_in.Goals as goal
 
 pub returns-in-Some-clause-told : goal.returns-in-Some-clause-told
 returns-in-Some-clause-told g c =
-    let store = c.args.db.now.store in
+    let store = (room c.args.db.now) in
     let number = c.args.number in
     let view = c.in-Some.view in
     let all = packages (g.D.Disk.files c.args.disk.now).pkg store in

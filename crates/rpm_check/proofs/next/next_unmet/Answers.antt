@@ -1,12 +1,7 @@
+use Rattle.rpm_check.proofs.Vocabulary.{Files, HasIndexRows, is_above, IsFirst, Knows, lacks, packages, room, unmet_at}
 use Rattle.std.proofs.Common.{sym, ap, ◌∙◌, subst}
 use Rattle.std.specs.Prelude.{filter}
 use Rattle.std.specs.FinMap as finite
-use Rattle.rpm_outside.specs.Files.{Files}
-use Rattle.rpm_db.specs.State.{packages}
-use Rattle.rpm_select.specs.Reach.{HasIndexRows}
-use Rattle.rpm_check.specs.Unmet.{lacks, is_above}
-use Rattle.rpm_check.specs.inner.Memos.{Knows}
-use Rattle.rpm_check.specs.inner.Rounds.{unmet_at, IsFirst}
 use Rattle.rpm_check.proofs.Enumerating.{after_in, after_from, found_here, none_here, none_later}
 use Rattle.rpm_check.proofs.Turning.{turns_above}
 use Rattle.rpm_check.proofs.next.next_unmet.Goals as goal
@@ -17,9 +12,9 @@ loop-number-init g c =
     let pkg = (g.D.Disk.files c.args.disk.now).pkg in
     record {
       asking = asking_none g.D.Disk g.met.D.Disk.follows_refl c.args.disk.now c.args.db.now c.requires.asked;
-      remembers = λ told has. c.new-memo.ensures (packages pkg c.args.db.now.store);
+      remembers = λ told has. c.new-memo.ensures (packages pkg (room c.args.db.now));
       told = λ told has. after_from pkg c.args.db.now c.args.n c.args.i (c.requires.asked.keeps told)
-          ∙ ap (turns_above (packages pkg c.args.db.now.store) (after_in (packages pkg c.args.db.now.store) c.args.n c.args.i))
+          ∙ ap (turns_above (packages pkg (room c.args.db.now)) (after_in (packages pkg (room c.args.db.now)) c.args.n c.args.i))
           (sym c.saturating_sub-passed.ensures);
     }
 
@@ -34,13 +29,13 @@ loop-number-preserved g c =
     record {
       asking = asking_then g.D.Disk g.met.D.Disk.follows_trans c.args.disk.now c.loop-number.disk c.next_in.new.disk db inv.asking done.asks;
       remembers = λ told has.
-          subst (λ (f : Files). HasIndexRows db f.pkg f.idx → Knows (packages f.pkg db.store) c.next_in.new.memo)
+          subst (λ (f : Files). HasIndexRows db f.pkg f.idx → Knows (packages f.pkg (room db)) c.next_in.new.memo)
           (inv.asking.looks.untouched told).same (done.remembered told) has;
       told = λ told has.
           let pkg = (g.D.Disk.files c.args.disk.now).pkg in
-          let all = packages pkg db.store in
-          let here = subst (λ (f : Files). HasIndexRows db f.pkg f.idx → IsFirst (filter (is_above n i) (unmet_at (lacks (packages f.pkg db.store)) number
-          (finite.get (packages f.pkg db.store) number))) c.in_ok-found.found) (inv.asking.looks.untouched told).same (done.told told) has in
+          let all = packages pkg (room db) in
+          let here = subst (λ (f : Files). HasIndexRows db f.pkg f.idx → IsFirst (filter (is_above n i) (unmet_at (lacks (packages f.pkg (room db))) number
+          (finite.get (packages f.pkg (room db)) number))) c.in_ok-found.found) (inv.asking.looks.untouched told).same (done.told told) has in
           none_here all n i c.loop-number.passed number c.in_ok-found.found (c.in-Some.ensures.told pkg) (inv.told told has) here
           (sym c.is_some.ensures ∙ c.if-is_some.false);
     }
@@ -53,13 +48,14 @@ returns-then-is_some-clause-told g c = λ told has.
     let n = c.args.n in
     let i = c.args.i in
     let pkg = (g.D.Disk.files c.args.disk.now).pkg in
-    let all = packages pkg db.store in
-    let here = subst (λ (f : Files). HasIndexRows db f.pkg f.idx → IsFirst (filter (is_above n i) (unmet_at (lacks (packages f.pkg db.store)) number
-    (finite.get (packages f.pkg db.store) number))) c.in_ok-found.found) (inv.asking.looks.untouched told).same (c.in_ok-found.ensures.told told) has in
+    let all = packages pkg (room db) in
+    let here = subst (λ (f : Files). HasIndexRows db f.pkg f.idx → IsFirst (filter (is_above n i) (unmet_at (lacks (packages f.pkg (room db))) number
+    (finite.get (packages f.pkg (room db)) number))) c.in_ok-found.found) (inv.asking.looks.untouched told).same (c.in_ok-found.ensures.told told) has in
     found_here all n i c.loop-number.passed number c.in_ok-found.found (c.in-Some.ensures.told pkg) (inv.told told has) here
     (sym c.is_some.ensures ∙ c.if-is_some.true)
 
 pub returns-clause-told : goal.returns-clause-told
 returns-clause-told g c = λ told has.
     let pkg = (g.D.Disk.files c.args.disk.now).pkg in
-    none_later (packages pkg c.args.db.now.store) c.args.n c.args.i c.loop-number.passed (c.in_default.ensures.told pkg) (c.loop-number.invariant.told told has)
+    none_later (packages pkg (room c.args.db.now)) c.args.n c.args.i c.loop-number.passed (c.in_default.ensures.told pkg) (c.loop-number.invariant.told told
+    has)

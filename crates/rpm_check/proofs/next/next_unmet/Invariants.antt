@@ -1,9 +1,6 @@
+use Rattle.rpm_check.proofs.Vocabulary.{HasIndexRows, KnowsOn, packages, room, unmet_after}
 use Rattle.std.proofs.Common.{◌≡◌, ◌-◌, ◌^◌}
 use Rattle.std.specs.Prelude.{IsTrue}
-use Rattle.rpm_db.specs.State.{packages}
-use Rattle.rpm_select.specs.Reach.{HasIndexRows}
-use Rattle.rpm_check.specs.Unmet.{unmet_after}
-use Rattle.rpm_check.specs.inner.Memos.{KnowsOn}
 use Rattle.rpm_check.proofs.Enumerating.{after_in}
 use Rattle.rpm_check.proofs.Turning.{turns_above}
 use Rattle.rpm_check.proofs.next.next_unmet.Given as goal
@@ -14,9 +11,9 @@ invariant-loop-number g l = record {
   asking : Asking g.D.Disk l.initial.disk l.disk l.db;
   remembers : KnowsOn g.D.Disk l.initial.disk l.db l.memo;
   told : IsTrue g.D.Disk.tells → HasIndexRows l.db (g.D.Disk.files l.initial.disk).pkg (g.D.Disk.files l.initial.disk).idx
-      → unmet_after (packages (g.D.Disk.files l.initial.disk).pkg l.db.store) l.n l.i
-      ≡ turns_above (packages (g.D.Disk.files l.initial.disk).pkg l.db.store)
-      (after_in (packages (g.D.Disk.files l.initial.disk).pkg l.db.store) l.n l.i) l.passed;
+      → unmet_after (packages (g.D.Disk.files l.initial.disk).pkg (room l.db)) l.n l.i
+      ≡ turns_above (packages (g.D.Disk.files l.initial.disk).pkg (room l.db))
+      (after_in (packages (g.D.Disk.files l.initial.disk).pkg (room l.db)) l.n l.i) l.passed;
 }
 
 abbrev pub decreases-loop-number : goal.decreases-loop-number

@@ -1,15 +1,8 @@
+use Rattle.rpm_check.proofs.Vocabulary.{Edge, edges_of, flat_map, givers, good_numbers, is_in, IsStrictlyIncreasing, needs_at, Node, numbers_of, packages}
+use Rattle.rpm_check.proofs.Vocabulary.{room}
 use Rattle.std.proofs.Common.{◌≡◌, ℕ, ◌≤◌, ◌++◌, [], ◌∷◌, List, Some, None, is_some, refl, sym, ap, ◌∙◌, subst, append-nil}
 use Rattle.std.specs.Prelude.{All, IfSome}
-use Rattle.std.specs.List.{flat_map}
-use Rattle.std.specs.List.Sorted.{IsStrictlyIncreasing}
 use Rattle.std.specs.FinMap as finite
-use Rattle.rpm_db.specs.State.{packages}
-use Rattle.rpm_graph.specs.declared.graph.Edge.{Edge}
-use Rattle.rpm_select.specs.Reach.{is_in}
-use Rattle.rpm_check.specs.declared.nodes.Node.{Node}
-use Rattle.rpm_check.specs.Edges.{givers, good_numbers}
-use Rattle.rpm_check.specs.inner.Ends.{needs_at}
-use Rattle.rpm_check.specs.inner.Nodes.{numbers_of, edges_of}
 use Rattle.rpm_check.proofs.Ending.{same_ends}
 use Rattle.rpm_check.proofs.Gathering.{edges_push, nodes_reach, none_from}
 use Rattle.rpm_check.proofs.nodes.push_node.Goals.{in-Ok, in-Err-push}
@@ -17,7 +10,7 @@ use Rattle.rpm_check.proofs.nodes.push_node.Goals as goal
 
 pub returns-in-Ok-None-clause-told : goal.returns-in-Ok-None-clause-told
 returns-in-Ok-None-clause-told g c = λ told has.
-    let all = packages (g.D.Disk.files c.args.disk.now).pkg c.args.db.now.store in
+    let all = packages (g.D.Disk.files c.args.disk.now).pkg (room c.args.db.now) in
     let old = flat_map (edges_of (good_numbers all)) c.args.nodes.now.items in
     let which = c.in-Ok-None.field-0-is in
     let is : None ≡ c.in-Ok-None.field-0 = cc in
@@ -38,7 +31,7 @@ returns-clause-reached g c =
 
 pub returns-clause-told : goal.returns-clause-told
 returns-clause-told g c =
-    let all = packages (g.D.Disk.files c.args.disk.now).pkg c.args.db.now.store in
+    let all = packages (g.D.Disk.files c.args.disk.now).pkg (room c.args.db.now) in
     let good = good_numbers all in
     let number = c.args.number in
     let nodes = c.args.nodes.now.items in

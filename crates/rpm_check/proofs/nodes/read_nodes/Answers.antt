@@ -1,17 +1,8 @@
+use Rattle.rpm_check.proofs.Vocabulary.{AreRising, Edge, edges_from, edges_of, Files, flat_map, from_one, good_if, good_numbers, good_of, HasIndexRows}
+use Rattle.rpm_check.proofs.Vocabulary.{is_good_at, KnowsGivers, Node, numbers_of, Package, packages, room}
 use Rattle.std.proofs.Common.{◌≡◌, ℕ, ◌<◌, ◌≤◌, ◌++◌, [], List, Option, Some, sym, ap, ◌∙◌, subst, arith, append_assoc, append-nil}
-use Rattle.std.specs.List.{flat_map}
 use Rattle.std.specs.FinMap as finite
 use Rattle.std.proofs.lemmas.List.Elements.{All-nil, All-same, All-weaker}
-use Rattle.rpm_outside.specs.Files.{Files}
-use Rattle.rpm_db.specs.State.{Package, packages}
-use Rattle.rpm_graph.specs.declared.graph.Edge.{Edge}
-use Rattle.rpm_select.specs.Reach.{HasIndexRows}
-use Rattle.rpm_check.specs.declared.nodes.Node.{Node}
-use Rattle.rpm_check.specs.Edges.{good_numbers, edges_from}
-use Rattle.rpm_check.specs.inner.Ends.{good_if, good_of, is_good_at}
-use Rattle.rpm_check.specs.inner.GiverMemos.{KnowsGivers}
-use Rattle.rpm_check.specs.inner.Nodes.{AreRising, numbers_of, edges_of}
-use Rattle.rpm_db.specs.inner.FromOne.{from_one}
 use Rattle.rpm_check.proofs.Gathering.{none_rise}
 use Rattle.rpm_check.proofs.Turning.{turns_above, one_turn, no_turn, all_turns, goods_are, edges_are_all}
 use Rattle.rpm_check.proofs.nodes.read_nodes.Goals as goal
@@ -21,7 +12,7 @@ pub loop-next-init : goal.loop-next-init
 loop-next-init g c =
     let db = c.args.db.now in
     let pkg = (g.D.Disk.files c.args.disk.now).pkg in
-    let all = packages pkg db.store in
+    let all = packages pkg (room db) in
     let f = λ (e : ℕ × Package). edges_from all e.0 in
     let none = c.new-nodes.ensures.items in
     record {
@@ -51,20 +42,20 @@ loop-next-preserved g c =
     let done = c.in_ok-push_node.ensures in
     let next = c.in-Some.next in
     let pkg = (g.D.Disk.files c.args.disk.now).pkg in
-    let all = packages pkg db.store in
+    let all = packages pkg (room db) in
     let f = λ (e : ℕ × Package). edges_from all e.0 in
     let nodes = c.loop-next.nodes.items in
     let more = c.push_node.new.nodes.items in
     record {
       asking = asking_then g.D.Disk g.met.D.Disk.follows_trans c.args.disk.now c.loop-next.disk c.push_node.new.disk db inv.asking done.asks;
       remembers = λ told has.
-          subst (λ (f : Files). HasIndexRows db f.pkg f.idx → KnowsGivers (packages f.pkg db.store) c.push_node.new.memo)
+          subst (λ (f : Files). HasIndexRows db f.pkg f.idx → KnowsGivers (packages f.pkg (room db)) c.push_node.new.memo)
           (inv.asking.looks.untouched told).same (done.remembered told) has;
       rising = done.rising;
       reached = done.reached;
       numbers = λ told.
           let old = numbers_of nodes in
-          let added = subst (λ (f : Files). numbers_of more ≡ old ++ good_if (is_good_at (finite.get (packages f.pkg db.store) next)) next)
+          let added = subst (λ (f : Files). numbers_of more ≡ old ++ good_if (is_good_at (finite.get (packages f.pkg (room db)) next)) next)
           (inv.asking.looks.untouched told).same (done.numbers told) in
           let turn = one_turn all good_of c.loop-next.passed next (c.in-Some.ensures.told pkg) in
           ap (λ (ns : List ℕ). ns ++ turns_above all good_of next) (added ∙ ap (λ (o : Option Package). old ++ good_if (is_good_at o) next) turn.1)
@@ -72,8 +63,8 @@ loop-next-preserved g c =
           ∙ ap (λ (ns : List ℕ). old ++ ns) (sym turn.2) ∙ inv.numbers told;
       told = λ told has.
           let old = flat_map (edges_of (good_numbers all)) nodes in
-          let added = subst (λ (f : Files). HasIndexRows db f.pkg f.idx → flat_map (edges_of (good_numbers (packages f.pkg db.store))) more
-          ≡ flat_map (edges_of (good_numbers (packages f.pkg db.store))) nodes ++ edges_from (packages f.pkg db.store) next)
+          let added = subst (λ (f : Files). HasIndexRows db f.pkg f.idx → flat_map (edges_of (good_numbers (packages f.pkg (room db)))) more
+          ≡ flat_map (edges_of (good_numbers (packages f.pkg (room db)))) nodes ++ edges_from (packages f.pkg (room db)) next)
           (inv.asking.looks.untouched told).same (done.told told) has in
           let turn = one_turn all f c.loop-next.passed next (c.in-Some.ensures.told pkg) in
           ap (λ (es : List Edge). es ++ turns_above all f next) added ∙ append_assoc old (edges_from all next) (turns_above all f next)
@@ -83,7 +74,7 @@ loop-next-preserved g c =
 pub returns-clause-numbers : goal.returns-clause-numbers
 returns-clause-numbers g c = λ told.
     let pkg = (g.D.Disk.files c.args.disk.now).pkg in
-    let all = packages pkg c.args.db.now.store in
+    let all = packages pkg (room c.args.db.now) in
     let old = numbers_of c.loop-next.nodes.items in
     sym (append-nil old) ∙ ap (λ (ns : List ℕ). old ++ ns) (sym (no_turn all good_of c.loop-next.passed (c.in_default.ensures.told pkg)))
     ∙ c.loop-next.invariant.numbers told
@@ -91,7 +82,7 @@ returns-clause-numbers g c = λ told.
 pub returns-clause-told : goal.returns-clause-told
 returns-clause-told g c = λ told has.
     let pkg = (g.D.Disk.files c.args.disk.now).pkg in
-    let all = packages pkg c.args.db.now.store in
+    let all = packages pkg (room c.args.db.now) in
     let f = λ (e : ℕ × Package). edges_from all e.0 in
     let old = flat_map (edges_of (good_numbers all)) c.loop-next.nodes.items in
     sym (append-nil old) ∙ ap (λ (es : List Edge). old ++ es) (sym (no_turn all f c.loop-next.passed (c.in_default.ensures.told pkg)))

@@ -1,6 +1,5 @@
 use Rattle.std.proofs.Common.{◌≡◌, Ok, sym, ap, ◌∙◌}
-use Rattle.rpm_header.specs.Header.{header}
-use Rattle.rpm_check.specs.inner.Headers.{header_at}
+use Rattle.rpm_check.proofs.Vocabulary.{header, header_at}
 use Rattle.rpm_check.proofs.Heading.{header_good}
 use Rattle.rpm_check.proofs.package.read_header.Goals as goal
 

@@ -1,10 +1,5 @@
+use Rattle.rpm_check.proofs.Vocabulary.{AreRising, edges_of, flat_map, graph_of, HasEdgesOf, Network, Node, numbers_of, packages, room}
 use Rattle.std.proofs.Common.{◌≡◌, ℕ, List, sym, ap, ◌∙◌, subst}
-use Rattle.std.specs.List.{flat_map}
-use Rattle.rpm_db.specs.State.{packages}
-use Rattle.rpm_graph.specs.Networks.{Network}
-use Rattle.rpm_check.specs.declared.nodes.Node.{Node}
-use Rattle.rpm_check.specs.Edges.{HasEdgesOf, graph_of}
-use Rattle.rpm_check.specs.inner.Nodes.{AreRising, numbers_of, edges_of}
 use Rattle.rpm_check.proofs.Between.{has_edges}
 use Rattle.rpm_check.proofs.reading.read_graph.Goals as goal
 
@@ -16,7 +11,7 @@ graph_of-requires g c = record { rising = subst AreRising (sym c.deref.ensures.v
 
 pub returns-clause-told : goal.returns-clause-told
 returns-clause-told g c = λ told has.
-    let all = packages (g.D.Disk.files c.args.disk.now).pkg c.args.db.now.store in
+    let all = packages (g.D.Disk.files c.args.disk.now).pkg (room c.args.db.now) in
     let nodes = c.in_ok-nodes.nodes.items in
     let done = c.in_ok-graph.ensures in
     let whole = c.deref.ensures.value in
@@ -27,5 +22,5 @@ returns-clause-told g c = λ told has.
 
 pub returns-clause-edges : goal.returns-clause-edges
 returns-clause-edges g c = λ told has.
-    let all = packages (g.D.Disk.files c.args.disk.now).pkg c.args.db.now.store in
+    let all = packages (g.D.Disk.files c.args.disk.now).pkg (room c.args.db.now) in
     subst (HasEdgesOf all) (sym (returns-clause-told g c told has)) (has_edges all)

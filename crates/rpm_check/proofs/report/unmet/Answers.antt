@@ -1,14 +1,7 @@
+use Rattle.rpm_check.proofs.Vocabulary.{Files, from_one, HasIndexRows, Knows, lacks, packages, room, Unmet, unmet_at}
 use Rattle.std.proofs.Common.{◌≡◌, ◌++◌, sym, ap, ◌∙◌, subst, append_assoc, append-nil}
 use Rattle.std.specs.Prelude.{List}
 use Rattle.std.specs.FinMap as finite
-use Rattle.rpm_outside.specs.Files.{Files}
-use Rattle.rpm_db.specs.State.{packages}
-use Rattle.rpm_select.specs.Reach.{HasIndexRows}
-use Rattle.rpm_check.specs.declared.list.Unmet.{Unmet}
-use Rattle.rpm_check.specs.Unmet.{lacks}
-use Rattle.rpm_check.specs.inner.Memos.{Knows}
-use Rattle.rpm_check.specs.inner.Rounds.{unmet_at}
-use Rattle.rpm_db.specs.inner.FromOne.{from_one}
 use Rattle.rpm_check.proofs.Rounding.{unmet_above, one_round, no_round, all_rounds}
 use Rattle.rpm_check.proofs.report.unmet.Goals as goal
 use Rattle.rpm_check.proofs.Asking.{asking_none, asking_then}
@@ -16,10 +9,10 @@ use Rattle.rpm_check.proofs.Asking.{asking_none, asking_then}
 pub loop-next-init : goal.loop-next-init
 loop-next-init g c = record {
   asking = asking_none g.D.Disk g.met.D.Disk.follows_refl c.args.disk.now c.args.db.now c.requires.asked;
-  remembers = λ told has. c.new-memo.ensures (packages (g.D.Disk.files c.args.disk.now).pkg c.args.db.now.store);
+  remembers = λ told has. c.new-memo.ensures (packages (g.D.Disk.files c.args.disk.now).pkg (room c.args.db.now));
   told = λ told has.
       let pkg = (g.D.Disk.files c.args.disk.now).pkg in
-      let all = packages pkg c.args.db.now.store in
+      let all = packages pkg (room c.args.db.now) in
       ap (λ (us : List Unmet). us ++ unmet_above all (lacks all) 0) c.new-found.ensures.items
       ∙ all_rounds pkg c.args.db.now (from_one pkg c.args.db.now (c.requires.asked.keeps told));
 }
@@ -33,14 +26,14 @@ loop-next-preserved g c =
     record {
       asking = asking_then g.D.Disk g.met.D.Disk.follows_trans c.args.disk.now c.loop-next.disk c.push_unmet.new.disk db inv.asking done.asks;
       remembers = λ told has.
-          subst (λ (f : Files). HasIndexRows db f.pkg f.idx → Knows (packages f.pkg db.store) c.push_unmet.new.memo)
+          subst (λ (f : Files). HasIndexRows db f.pkg f.idx → Knows (packages f.pkg (room db)) c.push_unmet.new.memo)
           (inv.asking.looks.untouched told).same (done.remembered told) has;
       told = λ told has.
           let pkg = (g.D.Disk.files c.args.disk.now).pkg in
-          let all = packages pkg db.store in
+          let all = packages pkg (room db) in
           let old = c.loop-next.found.items in
           let added = subst (λ (f : Files). HasIndexRows db f.pkg f.idx → c.push_unmet.new.found.items
-          ≡ old ++ unmet_at (lacks (packages f.pkg db.store)) next (finite.get (packages f.pkg db.store) next)) (inv.asking.looks.untouched told).same
+          ≡ old ++ unmet_at (lacks (packages f.pkg (room db))) next (finite.get (packages f.pkg (room db)) next)) (inv.asking.looks.untouched told).same
           (done.told told) has in
           ap (λ (us : List Unmet). us ++ unmet_above all (lacks all) next) added
           ∙ append_assoc old (unmet_at (lacks all) next (finite.get all next)) (unmet_above all (lacks all) next)
@@ -51,7 +44,7 @@ loop-next-preserved g c =
 pub returns-clause-told : goal.returns-clause-told
 returns-clause-told g c = λ told has.
     let pkg = (g.D.Disk.files c.args.disk.now).pkg in
-    let all = packages pkg c.args.db.now.store in
+    let all = packages pkg (room c.args.db.now) in
     let old = c.loop-next.found.items in
     c.of.ensures ∙ sym (append-nil old)
     ∙ ap (λ (us : List Unmet). old ++ us) (sym (no_round all (lacks all) c.loop-next.passed (c.in_default.ensures.told pkg)))

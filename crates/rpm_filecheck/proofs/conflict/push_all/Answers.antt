@@ -1,5 +1,5 @@
 use Rattle.std.proofs.Common.{List, sym, ap, ◌++◌, ◌∙◌, append-nil}
-use Rattle.rpm_filecheck.specs.Owners.{Conflict}
+use Rattle.rpm_filecheck.proofs.Vocabulary.{Conflict}
 use Rattle.rpm_filecheck.proofs.Alike.{none_on}
 use Rattle.rpm_filecheck.proofs.conflict.push_all.Goals as goal
 

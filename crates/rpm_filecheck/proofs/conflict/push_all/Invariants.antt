@@ -1,5 +1,5 @@
 use Rattle.std.proofs.Common.{◌≡◌, ◌++◌, ◌∷◌, drop}
-use Rattle.rpm_filecheck.specs.Owners.{conflicts_on}
+use Rattle.rpm_filecheck.proofs.Vocabulary.{conflicts_on}
 use Rattle.rpm_filecheck.proofs.conflict.push_all.Given as goal
 
 abbrev pub invariant-loop-i : goal.invariant-loop-i

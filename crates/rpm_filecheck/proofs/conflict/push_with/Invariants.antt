@@ -1,5 +1,5 @@
 use Rattle.std.proofs.Common.{◌≡◌, ◌++◌, drop}
-use Rattle.rpm_filecheck.specs.Owners.{conflicts_with}
+use Rattle.rpm_filecheck.proofs.Vocabulary.{conflicts_with}
 use Rattle.rpm_filecheck.proofs.conflict.push_with.Given as goal
 
 abbrev pub invariant-loop-b : goal.invariant-loop-b

@@ -1,12 +1,7 @@
+use Rattle.rpm_filecheck.proofs.Vocabulary.{above, cost, cost_all, cost_more, cost_some, cost_to, Files, Found, looks_more, looks_none, looks_then, nothing}
+use Rattle.rpm_filecheck.proofs.Vocabulary.{Package, packages, Pkg, room, with_packages, with_some}
 use Rattle.std.proofs.Common.{◌≡◌, ℕ, List, ap, ◌∙◌, arith, rules, subst}
 use Rattle.std.specs.FinMap as finite
-use Rattle.rpm_outside.specs.Files.{Files}
-use Rattle.rpm_outside.specs.inner.Looking.{looks_none, looks_then, looks_more}
-use Rattle.rpm_outside.specs.declared.disk.File.TheVariants.{Pkg}
-use Rattle.rpm_db.specs.Database.{cost, cost_to, cost_all}
-use Rattle.rpm_db.specs.State.{Package, packages, above}
-use Rattle.rpm_db.specs.inner.Laws.{cost_more, cost_some}
-use Rattle.rpm_filecheck.specs.inner.Gathered.{Found, nothing, with_some, with_packages}
 use Rattle.rpm_filecheck.proofs.Going.{next_found, last_found, from_one}
 use Rattle.rpm_filecheck.proofs.gathering.gather.Goals as goal
 
@@ -23,7 +18,7 @@ loop-number-init g c =
           c.args.disk.now);
       faults = omega arith;
       same = λ told.
-          ap (λ (f : Found). with_packages (above 0 (finite.entries (packages file db.store))) f) c.new-found.ensures
+          ap (λ (f : Found). with_packages (above 0 (finite.entries (packages file (room db)))) f) c.new-found.ensures
           ∙ ap (λ (es : List (ℕ × Package)). with_packages es nothing) (from_one file db (c.requires.keeps told));
     }
 
@@ -42,9 +37,9 @@ loop-number-preserved g c =
           (cost_to k db) (cost m db) (cost_to m db) c.args.disk.now c.loop-number.disk c.add_package.new.disk
           (omega (arith, cost_more db k m c.in-Some.ensures.next.0)) inv.looks e.asks.looks;
       faults = omega (arith, inv.faults, e.asks.cause.later);
-      same = λ told. next_found (packages file db.store) k m c.loop-number.found c.add_package.new.found
-          (with_packages (finite.entries (packages file db.store)) nothing) (c.in-Some.ensures.told file) (inv.same told)
-          (subst (λ (f : Files). c.add_package.new.found ≡ with_some m (finite.get (packages f.pkg db.store) m) c.loop-number.found)
+      same = λ told. next_found (packages file (room db)) k m c.loop-number.found c.add_package.new.found
+          (with_packages (finite.entries (packages file (room db))) nothing) (c.in-Some.ensures.told file) (inv.same told)
+          (subst (λ (f : Files). c.add_package.new.found ≡ with_some m (finite.get (packages f.pkg (room db)) m) c.loop-number.found)
           (inv.looks.untouched told).same (e.found told));
     }
 
@@ -79,5 +74,5 @@ pub returns-clause-found : goal.returns-clause-found
 returns-clause-found g c = λ told.
     let db = c.args.db.now in
     let file = (g.D.Disk.files c.args.disk.now).pkg in
-    last_found (packages file db.store) c.loop-number.passed c.loop-number.found (with_packages (finite.entries (packages file db.store)) nothing)
+    last_found (packages file (room db)) c.loop-number.passed c.loop-number.found (with_packages (finite.entries (packages file (room db))) nothing)
     (c.in_default.ensures.told file) (c.loop-number.invariant.same told)

@@ -1,11 +1,7 @@
+use Rattle.rpm_filecheck.proofs.Vocabulary.{above, cost_to, Keeps, Looks, nothing, packages, Pkg, room, with_packages}
 use Rattle.std.proofs.Common.{◌≡◌, ◌≤◌, ◌^◌, ◌-◌}
 use Rattle.std.specs.Prelude.{IsTrue}
 use Rattle.std.specs.FinMap as finite
-use Rattle.rpm_outside.specs.Looks.{Looks}
-use Rattle.rpm_outside.specs.declared.disk.File.TheVariants.{Pkg}
-use Rattle.rpm_db.specs.Database.{Keeps, cost_to}
-use Rattle.rpm_db.specs.State.{packages, above}
-use Rattle.rpm_filecheck.specs.inner.Gathered.{nothing, with_packages}
 use Rattle.rpm_filecheck.proofs.gathering.gather.Given as goal
 
 abbrev pub invariant-loop-number : goal.invariant-loop-number
@@ -14,8 +10,8 @@ invariant-loop-number g l = record {
   looks : Looks g.D.Disk.tells g.D.Disk.files g.D.Disk.left_since g.D.Disk.moment g.D.Disk.bytes_read g.D.Disk.follows Pkg
       (cost_to l.passed l.db) l.initial.disk l.disk;
   faults : g.D.Disk.faults l.initial.disk ≤ g.D.Disk.faults l.disk;
-  same : IsTrue g.D.Disk.tells → with_packages (above l.passed (finite.entries (packages (g.D.Disk.files l.initial.disk).pkg l.db.store))) l.found
-      ≡ with_packages (finite.entries (packages (g.D.Disk.files l.initial.disk).pkg l.db.store)) nothing;
+  same : IsTrue g.D.Disk.tells → with_packages (above l.passed (finite.entries (packages (g.D.Disk.files l.initial.disk).pkg (room l.db)))) l.found
+      ≡ with_packages (finite.entries (packages (g.D.Disk.files l.initial.disk).pkg (room l.db))) nothing;
 }
 
 abbrev pub decreases-loop-number : goal.decreases-loop-number

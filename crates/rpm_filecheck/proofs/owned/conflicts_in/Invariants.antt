@@ -1,6 +1,5 @@
 use Rattle.std.proofs.Common.{◌≡◌, ◌++◌}
-use Rattle.std.specs.List.{flat_map}
-use Rattle.rpm_filecheck.specs.Owners.{conflicts_on}
+use Rattle.rpm_filecheck.proofs.Vocabulary.{conflicts_on, flat_map}
 use Rattle.rpm_filecheck.proofs.owned.conflicts_in.Given as goal
 
 abbrev pub invariant-loop-path : goal.invariant-loop-path

@@ -1,6 +1,5 @@
 use Rattle.std.proofs.Common.{◌≡◌}
-use Rattle.rpm_filecheck.specs.Files.{beside}
-use Rattle.rpm_filecheck.specs.inner.Gathered.{with_files}
+use Rattle.rpm_filecheck.proofs.Vocabulary.{beside, with_files}
 use Rattle.rpm_filecheck.proofs.paths.add_paths.Given as goal
 
 abbrev pub invariant-loop-path : goal.invariant-loop-path

@@ -1,5 +1,5 @@
 use Rattle.std.proofs.Common.{◌++◌, List, ℕ, arith, sym, ap}
-use Rattle.std.specs.List.{concat}
+use Rattle.rpm_filecheck.proofs.Vocabulary.{concat}
 use Rattle.rpm_filecheck.proofs.Placed.{within, concat_more, concat_end}
 use Rattle.rpm_filecheck.proofs.paths.bytes_of.Goals as goal
 

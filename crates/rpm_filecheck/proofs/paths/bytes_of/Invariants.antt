@@ -1,5 +1,5 @@
 use Rattle.std.proofs.Common.{◌≡◌, ◌-◌, ◌++◌, length, drop}
-use Rattle.std.specs.List.{concat}
+use Rattle.rpm_filecheck.proofs.Vocabulary.{concat}
 use Rattle.rpm_filecheck.proofs.paths.bytes_of.Given as goal
 
 abbrev pub invariant-loop-part : goal.invariant-loop-part

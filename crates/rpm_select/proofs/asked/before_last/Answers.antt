@@ -1,4 +1,4 @@
-use Rattle.rpm_select.specs.inner.Asking.{is_byte}
+use Rattle.rpm_select.proofs.Vocabulary.{is_byte}
 use Rattle.rpm_select.proofs.Cutting.{cut_there, cut_none}
 use Rattle.rpm_select.proofs.asked.before_last.Goals as goal
 

@@ -2,7 +2,7 @@ use Rattle.std.proofs.Common.{sym, ap, ◌∙◌, ◌==◌}
 use Rattle.std.proofs.lemmas.List.Filters.{dedup_is}
 use Rattle.std.proofs.lemmas.List.Sorted.{list_any-IsPermutation}
 use Rattle.std.proofs.lemmas.Map.Keys.{IsStrictlyIncreasing-dedup}
-use Rattle.rpm_select.specs.Reach.{is_in}
+use Rattle.rpm_select.proofs.Vocabulary.{is_in}
 use Rattle.rpm_select.proofs.Searching.{dedup_in}
 use Rattle.rpm_select.proofs.asking.each_once.Goals as goal
 

@@ -1,6 +1,6 @@
 use Rattle.std.proofs.Common.{◌+◌, ◌-◌, ◌*◌, ◌<◌, length, take, drop, sym, subst, arith}
 use Rattle.std.proofs.lemmas.Bool.Decides.{nat_tests}
-use Rattle.rpm_select.specs.Glob.{stands_for, pieces}
+use Rattle.rpm_select.proofs.Vocabulary.{pieces, stands_for}
 use Rattle.rpm_select.proofs.Back.{Back, back_in, tries, IsWithin}
 use Rattle.rpm_select.proofs.Going.{starred, taken}
 use Rattle.rpm_select.proofs.Members.{rest_len}

@@ -1,7 +1,6 @@
 use Rattle.std.proofs.Common.{◌+◌, ◌*◌, ◌≤◌, length}
-use Rattle.rpm_select.specs.Glob.{stands_for, pieces}
+use Rattle.rpm_select.proofs.Vocabulary.{IsUnclosed, pieces, stands_for}
 use Rattle.rpm_select.proofs.Back.{back_in, tries, IsWithin, IsUnclosedBack}
-use Rattle.rpm_select.specs.inner.Unclosed.{IsUnclosed}
 use Rattle.rpm_select.proofs.Going.{Goes}
 use Rattle.rpm_select.proofs.matching.glob.Given as goal
 

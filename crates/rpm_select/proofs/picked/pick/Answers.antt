@@ -1,9 +1,6 @@
+use Rattle.rpm_select.proofs.Vocabulary.{cost, looks_none, packages, Pkg, room}
 use Rattle.std.proofs.Common.{None, arith}
-use Rattle.rpm_outside.specs.declared.disk.File.TheVariants.{Pkg}
-use Rattle.rpm_outside.specs.inner.Looking.{looks_none}
 use Rattle.std.specs.FinMap as finite
-use Rattle.rpm_db.specs.Database.{cost}
-use Rattle.rpm_db.specs.State.{packages}
 use Rattle.rpm_select.proofs.Asks.{asks_done}
 use Rattle.rpm_select.proofs.Elsewhere.{one_elsewhere}
 use Rattle.rpm_select.proofs.picked.pick.Goals as goal
@@ -11,7 +8,7 @@ use Rattle.rpm_select.proofs.picked.pick.Goals as goal
 pub returns-then-is_elsewhere-clause-told : goal.returns-then-is_elsewhere-clause-told
 returns-then-is_elsewhere-clause-told g c = λ told.
     one_elsewhere c.args.selection.now c.args.number c.if-is_elsewhere.ensures
-    (finite.get (packages (g.D.Disk.files c.args.disk.now).pkg c.args.db.now.store) c.args.number)
+    (finite.get (packages (g.D.Disk.files c.args.disk.now).pkg (room c.args.db.now)) c.args.number)
 
 pub returns-then-is_elsewhere-clause-asks : goal.returns-then-is_elsewhere-clause-asks
 returns-then-is_elsewhere-clause-asks g c =

@@ -1,7 +1,5 @@
 use Rattle.std.proofs.Common.{◌≡◌, ℕ, List, true, false, length, take, Ok, sym, ap, subst, ◌∙◌}
-use Rattle.rpm_header.specs.Header.{header}
-use Rattle.rpm_db.specs.State.{Package, Good, read_as}
-use Rattle.rpm_select.specs.Selections.{is_picked, takes_header, takes_read}
+use Rattle.rpm_select.proofs.Vocabulary.{Good, header, is_picked, Package, read_as, takes_header, takes_read}
 use Rattle.rpm_select.proofs.picked.taken_length.Goals as goal
 
 pub returns-in-Ok-true-clause-told : goal.returns-in-Ok-true-clause-told

@@ -1,5 +1,5 @@
 use Rattle.std.proofs.Common.{◌≡◌, length}
-use Rattle.rpm_select.specs.Glob.{is_member}
+use Rattle.rpm_select.proofs.Vocabulary.{is_member}
 use Rattle.rpm_select.proofs.piece.is_member.Given as goal
 
 abbrev pub invariant-loop-rest : goal.invariant-loop-rest

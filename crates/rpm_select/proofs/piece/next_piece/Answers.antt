@@ -1,7 +1,6 @@
 use Rattle.std.proofs.Common.{ℕ, ◌<◌, List, ◌∷◌, length, get_or, ap, sym, ◌∙◌, arith}
 use Rattle.std.proofs.lemmas.Bool.Decides.{nat_tests}
-use Rattle.rpm_select.specs.Glob.{pieces, piece_at}
-use Rattle.rpm_select.specs.inner.Pieces.{written_in}
+use Rattle.rpm_select.proofs.Vocabulary.{piece_at, pieces, written_in}
 use Rattle.rpm_select.proofs.Pieces.{none_cut, one_cut}
 use Rattle.rpm_select.proofs.Members.{rest_is}
 use Rattle.rpm_select.proofs.piece.next_piece.Goals as goal

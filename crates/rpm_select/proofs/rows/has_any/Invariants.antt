@@ -1,6 +1,5 @@
 use Rattle.std.proofs.Common.{◌≡◌, length}
-use Rattle.std.specs.List.{list_any}
-use Rattle.rpm_select.specs.Selections.{meets, has_any}
+use Rattle.rpm_select.proofs.Vocabulary.{has_any, list_any, meets}
 use Rattle.rpm_select.proofs.rows.has_any.Given as goal
 
 abbrev pub invariant-loop-needed : goal.invariant-loop-needed

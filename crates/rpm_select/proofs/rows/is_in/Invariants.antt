@@ -1,5 +1,5 @@
 use Rattle.std.proofs.Common.{◌≡◌, length}
-use Rattle.rpm_select.specs.Selections.{is_among}
+use Rattle.rpm_select.proofs.Vocabulary.{is_among}
 use Rattle.rpm_select.proofs.rows.is_in.Given as goal
 
 abbrev pub invariant-loop-text : goal.invariant-loop-text

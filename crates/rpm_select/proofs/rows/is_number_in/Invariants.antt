@@ -1,5 +1,5 @@
 use Rattle.std.proofs.Common.{◌≡◌, ◌==◌, drop}
-use Rattle.std.specs.List.{list_any}
+use Rattle.rpm_select.proofs.Vocabulary.{list_any}
 use Rattle.rpm_select.proofs.rows.is_number_in.Given as goal
 
 abbrev pub invariant-loop-i : goal.invariant-loop-i

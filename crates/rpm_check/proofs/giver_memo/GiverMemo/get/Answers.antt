@@ -1,8 +1,6 @@
 use Rattle.std.proofs.Common.{◌≡◌, ℕ}
 use Rattle.std.specs.Prelude.{Vec}
-use Rattle.std.specs.declared.alloc.Global.{Global}
-use Rattle.rpm_check.specs.Edges.{givers}
-use Rattle.rpm_check.specs.inner.Memos.{need_of}
+use Rattle.rpm_check.proofs.Vocabulary.{givers, Global, need_of}
 use Rattle.rpm_check.proofs.Keys.{from_copied}
 use Rattle.rpm_check.proofs.giver_memo.GiverMemo.get.Goals as goal
 

@@ -1,6 +1,5 @@
 use Rattle.std.specs.Prelude.{ℕ, Vec}
-use Rattle.std.specs.declared.alloc.Global.{Global}
-use Rattle.rpm_check.specs.Edges.{givers}
+use Rattle.rpm_check.proofs.Vocabulary.{givers, Global}
 use Rattle.rpm_check.proofs.Keys.{known_more}
 use Rattle.rpm_check.proofs.giver_memo.GiverMemo.put.Goals as goal
 

@@ -1,7 +1,6 @@
 use Rattle.std.proofs.Common.{◌≡◌, Bool, sym, ◌∙◌, subst}
 use Rattle.std.specs.Prelude.{Option, IfSome}
-use Rattle.rpm_check.specs.Unmet.{is_met}
-use Rattle.rpm_check.specs.inner.Memos.{need_of}
+use Rattle.rpm_check.proofs.Vocabulary.{is_met, need_of}
 use Rattle.rpm_check.proofs.memo.Memo.get.Goals as goal
 
 pub returns : goal.returns

@@ -1,5 +1,5 @@
 use Rattle.std.specs.Prelude.{Bool}
-use Rattle.rpm_check.specs.Unmet.{is_met}
+use Rattle.rpm_check.proofs.Vocabulary.{is_met}
 use Rattle.rpm_check.proofs.Keys.{known_more}
 use Rattle.rpm_check.proofs.memo.Memo.put.Goals as goal
 

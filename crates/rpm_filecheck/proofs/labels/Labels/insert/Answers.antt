@@ -1,8 +1,6 @@
 use Rattle.std.proofs.Common.{◌∙◌, ap}
-use Rattle.std.specs.FinMap.{put}
-use Rattle.std.specs.Ordering.{nat_cmp}
+use Rattle.rpm_filecheck.proofs.Vocabulary.{Labels, nat_cmp, put}
 use Rattle.std.proofs.lemmas.Result.{on_ok_weaker}
-use Rattle.rpm_filecheck.specs.inner.Gathered.{Labels}
 use Rattle.rpm_filecheck.proofs.Labelled.{seen, seen-put}
 use Rattle.rpm_filecheck.proofs.labels.Labels.insert.Goals as goal
 

@@ -1,6 +1,6 @@
 use Rattle.std.proofs.Common.{◌∙◌, ap}
 use Rattle.std.proofs.lemmas.Result.{on_ok_weaker}
-use Rattle.rpm_filecheck.specs.inner.Gathered.{with_owner, Paths}
+use Rattle.rpm_filecheck.proofs.Vocabulary.{Paths, with_owner}
 use Rattle.rpm_filecheck.proofs.Joining.{seen, seen-joined}
 use Rattle.rpm_filecheck.proofs.owned.Owned.add.Goals as goal
 

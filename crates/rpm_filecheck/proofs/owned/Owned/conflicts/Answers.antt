@@ -1,11 +1,8 @@
 use Rattle.std.proofs.Common.{ℕ, List, sym, ap, ◌∙◌}
 use Rattle.std.specs.Prelude.{Vec}
-use Rattle.std.specs.declared.alloc.Global.{Global}
-use Rattle.std.specs.List.{flat_map}
+use Rattle.rpm_filecheck.proofs.Vocabulary.{Conflict, conflicts_on, flat_map, Global, Owner, Paths}
 use Rattle.std.proofs.lemmas.List.Folds.{flat_map-map}
 use Rattle.std.proofs.lemmas.Result.{IfOk-weaker}
-use Rattle.rpm_filecheck.specs.Owners.{Owner, Conflict, conflicts_on}
-use Rattle.rpm_filecheck.specs.inner.Gathered.{Paths}
 use Rattle.rpm_filecheck.proofs.owned.Owned.conflicts.Goals as goal
 
 pub returns : goal.returns

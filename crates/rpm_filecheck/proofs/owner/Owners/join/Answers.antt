@@ -1,6 +1,5 @@
 use Rattle.std.proofs.Common.{sym, ap, ◌∙◌}
-use Rattle.rpm_filecheck.specs.Owners.{Owner}
-use Rattle.rpm_filecheck.specs.inner.Gathered.{last_from}
+use Rattle.rpm_filecheck.proofs.Vocabulary.{last_from, Owner}
 use Rattle.rpm_filecheck.proofs.Joining.{last_from-append}
 use Rattle.rpm_filecheck.proofs.owner.Owners.join.Goals as goal
 

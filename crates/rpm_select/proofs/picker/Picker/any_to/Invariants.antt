@@ -1,10 +1,6 @@
+use Rattle.rpm_select.proofs.Vocabulary.{cost_to, Keeps, Looks, packages, Pkg, reach_to, room, Serves}
 use Rattle.std.proofs.Common.{◌≡◌, ◌≤◌, ◌+◌, ◌^◌, ◌-◌}
 use Rattle.std.specs.Prelude.{IsTrue}
-use Rattle.rpm_outside.specs.Looks.{Looks}
-use Rattle.rpm_db.specs.State.{packages}
-use Rattle.rpm_db.specs.Database.{Keeps, cost_to}
-use Rattle.rpm_outside.specs.declared.disk.File.TheVariants.{Pkg}
-use Rattle.rpm_select.specs.Reach.{reach_to, Serves}
 use Rattle.rpm_select.proofs.Owning.{ReadsOwnTo}
 use Rattle.rpm_select.proofs.Picking.{left}
 use Rattle.rpm_select.proofs.picker.Picker.any_to.Given as goal
@@ -19,9 +15,9 @@ invariant-loop-next g l = record {
   own : ReadsOwnTo l.passed l.selection l.db (g.D.Disk.bytes_read l.initial.disk Pkg) (g.D.Disk.bytes_read l.disk Pkg);
   reads : g.D.Disk.bytes_read l.disk Pkg ≤ g.D.Disk.bytes_read l.initial.disk Pkg + reach_to l.passed l.self l.db;
   faults : g.D.Disk.faults l.initial.disk ≤ g.D.Disk.faults l.disk;
-  same : IsTrue g.D.Disk.tells → Serves l.self (packages (g.D.Disk.files l.initial.disk).pkg l.db.store) l.selection
-      → left (packages (g.D.Disk.files l.initial.disk).pkg l.db.store) l.selection 0
-      ≡ left (packages (g.D.Disk.files l.initial.disk).pkg l.db.store) l.selection l.passed;
+  same : IsTrue g.D.Disk.tells → Serves l.self (packages (g.D.Disk.files l.initial.disk).pkg (room l.db)) l.selection
+      → left (packages (g.D.Disk.files l.initial.disk).pkg (room l.db)) l.selection 0
+      ≡ left (packages (g.D.Disk.files l.initial.disk).pkg (room l.db)) l.selection l.passed;
 }
 
 abbrev pub decreases-loop-next : goal.decreases-loop-next

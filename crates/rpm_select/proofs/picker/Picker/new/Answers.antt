@@ -1,16 +1,8 @@
+use Rattle.rpm_select.proofs.Vocabulary.{AreWith, asks, FinMap, has_keys, is_indexed, IsStrictlyIncreasing, keys_asked, nat_cmp, Package, packages, Reach}
+use Rattle.rpm_select.proofs.Vocabulary.{reach, room, rows, Selection, Serves, These}
 use Rattle.std.proofs.Common.{◌≡◌, Bool, true, sym, ap, ◌∙◌, subst}
 use Rattle.std.proofs.lemmas.Bool.{and_parts}
-use Rattle.std.specs.Ordering.{nat_cmp}
-use Rattle.std.specs.FinMap.{FinMap}
-use Rattle.rpm_db.specs.Database.{is_indexed}
-use Rattle.rpm_db.specs.Rows.{rows}
-use Rattle.rpm_db.specs.State.{Package, packages}
-use Rattle.std.specs.List.Sorted.{IsStrictlyIncreasing}
 use Rattle.std.proofs.Common.{List, ℕ}
-use Rattle.rpm_select.specs.declared.selection.Selection.{Selection}
-use Rattle.rpm_select.specs.Candidates.{has_keys, keys_asked}
-use Rattle.rpm_select.specs.Reach.{Reach, These, asks, reach, Serves}
-use Rattle.rpm_select.specs.inner.Asking.{AreWith}
 use Rattle.rpm_select.proofs.Having.{with_candidates}
 use Rattle.rpm_select.proofs.Rising.{are_candidates}
 use Rattle.rpm_select.proofs.Serving.{served, unasked_serves}
@@ -24,14 +16,14 @@ gone_over asked all sel ns r is_asked rising are is =
 
 pub returns-then-not-asks-clause-serves : goal.returns-then-not-asks-clause-serves
 returns-then-not-asks-clause-serves g c = λ told has.
-    let all = packages (g.D.Disk.files c.args.disk.now).pkg c.args.db.now.store in
+    let all = packages (g.D.Disk.files c.args.disk.now).pkg (room c.args.db.now) in
     subst (λ (r : Reach). Serves r all c.args.selection.now) (sym c.unasked.ensures) (unasked_serves all c.args.selection.now)
 
 pub returns-clause-reach : goal.returns-clause-reach
 returns-clause-reach g c = λ told has.
     let db = c.args.db.now in
     let sel = c.args.selection.now in
-    let all = packages (g.D.Disk.files c.args.disk.now).pkg db.store in
+    let all = packages (g.D.Disk.files c.args.disk.now).pkg (room db) in
     let asked : asks db sel ≡ true = sym c.if-not-asks.ensures in
     gone_over (asks db sel) all sel c.in_ok-numbers.numbers.items c.over.result asked c.in_ok-numbers.ensures.rising
     (c.in_ok-numbers.ensures.with told (has (and_parts (has_keys sel) (is_indexed db) asked).1)) c.over.ensures
@@ -40,7 +32,7 @@ pub returns-clause-serves : goal.returns-clause-serves
 returns-clause-serves g c = λ told has.
     let db = c.args.db.now in
     let sel = c.args.selection.now in
-    let all = packages (g.D.Disk.files c.args.disk.now).pkg db.store in
+    let all = packages (g.D.Disk.files c.args.disk.now).pkg (room db) in
     let asked : asks db sel ≡ true = sym c.if-not-asks.ensures in
     subst (λ (r : Reach). Serves r all sel)
     (sym (gone_over (asks db sel) all sel c.in_ok-numbers.numbers.items c.over.result asked c.in_ok-numbers.ensures.rising

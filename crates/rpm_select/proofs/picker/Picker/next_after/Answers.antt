@@ -1,17 +1,8 @@
 mod Reading
+use Rattle.rpm_select.proofs.Vocabulary.{cost, cost_more, cost_to, Files, looks_then, OneOf, packages, Pkg, Reach, reach_more, reach_of, room, Serves}
 use Rattle.std.proofs.Common.{◌-◌, Some, None, Ok, sym, subst, ◌∙◌, arith}
 use Rattle.std.specs.FinMap as finite
-use Rattle.rpm_outside.specs.Files.{Files}
-use Rattle.rpm_outside.specs.inner.Looking.{looks_then}
-use Rattle.rpm_db.specs.State.{packages}
-use Rattle.rpm_db.specs.Database.{cost, cost_to}
-use Rattle.rpm_db.specs.inner.Laws.{cost_more}
-use Rattle.rpm_outside.specs.declared.disk.File.TheVariants.{Pkg}
 use Rattle.rpm_select.proofs.Owning.{own_then}
-use Rattle.rpm_select.specs.Reach.{Reach, Serves}
-use Rattle.rpm_select.specs.inner.Reaching.{reach_of}
-use Rattle.rpm_select.specs.inner.Single.{OneOf}
-use Rattle.rpm_select.specs.inner.Costing.{reach_more}
 use Rattle.rpm_select.proofs.Passing.{found_one, passed_next, picked_next, none_next}
 use Rattle.rpm_select.proofs.Picking.{left, above_picks}
 use Rattle.rpm_select.proofs.picker.Picker.next_after.Answers.Reading as reading
@@ -45,7 +36,7 @@ loop-next-preserved g c =
       faults = omega (arith, inv.faults, done.asks.cause.later);
       same = λ told serves.
           let file = (g.D.Disk.files c.args.disk.now).pkg in
-          let one = subst (λ (f : Files). OneOf sel m (finite.get (packages f.pkg db.store) m) (Ok None)) (inv.looks.untouched told).same
+          let one = subst (λ (f : Files). OneOf sel m (finite.get (packages f.pkg (room db)) m) (Ok None)) (inv.looks.untouched told).same
           (rw c.in-Ok-None.field-0-is at (done.told told)) in
           inv.same told serves ∙ passed_next r file db sel serves k m c.in-Some.ensures one;
     }
@@ -58,12 +49,12 @@ returns-in-Ok-Some-clause-told g c = λ told serves.
     let sel = c.args.selection.now in
     let inv = c.loop-next.invariant in
     let file = (g.D.Disk.files c.args.disk.now).pkg in
-    let all = subst (λ (x : Reach). Serves x (packages file db.store) sel) (sym c.self.view_is) serves in
-    let one = subst (λ (f : Files). OneOf sel m (finite.get (packages f.pkg db.store) m) (Ok (Some c.in-Ok-Some.picked))) (inv.looks.untouched told).same
+    let all = subst (λ (x : Reach). Serves x (packages file (room db)) sel) (sym c.self.view_is) serves in
+    let one = subst (λ (f : Files). OneOf sel m (finite.get (packages f.pkg (room db)) m) (Ok (Some c.in-Ok-Some.picked))) (inv.looks.untouched told).same
     (rw c.in-Ok-Some.field-0-is at (c.in-Ok-Some.ensures.told told)) in
-    let found = found_one (packages file db.store) sel m c.in-Ok-Some.picked one in (
-      left (packages file db.store) sel m,
-      above_picks (packages file db.store) sel c.args.n ∙ inv.same told all
+    let found = found_one (packages file (room db)) sel m c.in-Ok-Some.picked one in (
+      left (packages file (room db)) sel m,
+      above_picks (packages file (room db)) sel c.args.n ∙ inv.same told all
           ∙ picked_next (reach_of c.self.inside.reach) file db sel all k m c.in-Ok-Some.picked c.in-Some.ensures found,
     )
 
@@ -77,8 +68,8 @@ pub returns-clause-told : goal.returns-clause-told
 returns-clause-told g c = λ told serves.
     let file = (g.D.Disk.files c.args.disk.now).pkg in
     let db = c.args.db.now in
-    let all = subst (λ (x : Reach). Serves x (packages file db.store) c.args.selection.now) (sym c.self.view_is) serves in
-    above_picks (packages file db.store) c.args.selection.now c.args.n ∙ c.loop-next.invariant.same told all
+    let all = subst (λ (x : Reach). Serves x (packages file (room db)) c.args.selection.now) (sym c.self.view_is) serves in
+    above_picks (packages file (room db)) c.args.selection.now c.args.n ∙ c.loop-next.invariant.same told all
     ∙ none_next (reach_of c.self.inside.reach) file db c.args.selection.now all c.loop-next.passed c.in_default.ensures
 
 pub returns-clause-reads : goal.returns-clause-reads

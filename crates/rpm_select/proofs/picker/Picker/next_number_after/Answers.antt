@@ -1,14 +1,7 @@
+use Rattle.rpm_select.proofs.Vocabulary.{cost, Files, IsHeld, looks_then, packages, picks_at, Pkg, reach_all, reach_more, reach_some, reach_to, reaches}
+use Rattle.rpm_select.proofs.Vocabulary.{Recalls, Recent, room}
 use Rattle.std.proofs.Common.{◌≡◌, ℕ, ◌<◌, ◌-◌, true, false, Some, None, refl, sym, subst, ◌∙◌, arith}
 use Rattle.std.specs.FinMap as finite
-use Rattle.rpm_outside.specs.Files.{Files}
-use Rattle.rpm_outside.specs.inner.Looking.{looks_then}
-use Rattle.rpm_db.specs.State.{packages}
-use Rattle.rpm_db.specs.Database.{cost}
-use Rattle.rpm_outside.specs.declared.disk.File.TheVariants.{Pkg}
-use Rattle.rpm_select.specs.declared.recent.Recent.{Recent}
-use Rattle.rpm_select.specs.Reach.{reaches, reach_to, reach_all}
-use Rattle.rpm_select.specs.Recents.{IsHeld, Recalls, picks_at}
-use Rattle.rpm_select.specs.inner.Costing.{reach_more, reach_some}
 use Rattle.rpm_select.proofs.Asks.{asks_done, asks_then, asks_failed}
 use Rattle.rpm_select.proofs.Passing.{passed_next, taken_next, none_next}
 use Rattle.rpm_select.proofs.Picking.{left, above_picks}
@@ -38,15 +31,15 @@ loop-next-preserved g c =
       start = λ at. (let lt : k < m = c.in-Some.ensures.0 in absurd (omega (arith, at, lt, inv.later)));
       reached = λ lt. c.in-Some.ensures.1;
       recalls = λ told holds.
-          subst (λ (f : Files). Recalls (packages f.pkg db.store) c.loop-next.recent → Recalls (packages f.pkg db.store) c.picks.new.self)
+          subst (λ (f : Files). Recalls (packages f.pkg (room db)) c.loop-next.recent → Recalls (packages f.pkg (room db)) c.picks.new.self)
           (inv.looks.untouched told).same (done.recalls told) (inv.recalls told holds);
       same = λ told serves holds.
           let file = (g.D.Disk.files c.args.disk.now).pkg in
-          let answer = subst (λ (f : Files). Recalls (packages f.pkg db.store) c.loop-next.recent
-          → false ≡ picks_at sel m (finite.get (packages f.pkg db.store) m)) (inv.looks.untouched told).same
+          let answer = subst (λ (f : Files). Recalls (packages f.pkg (room db)) c.loop-next.recent
+          → false ≡ picks_at sel m (finite.get (packages f.pkg (room db)) m)) (inv.looks.untouched told).same
           (rw c.in-Ok-false.field-0-test at (done.told told)) (inv.recalls told holds) in
           inv.same told serves holds
-          ∙ passed_next r file db sel serves k m c.in-Some.ensures (passed_at sel m (finite.get (packages file db.store) m) answer);
+          ∙ passed_next r file db sel serves k m c.in-Some.ensures (passed_at sel m (finite.get (packages file (room db)) m) answer);
     }
 
 pub returns-in-Ok-true-clause-told : goal.returns-in-Ok-true-clause-told
@@ -57,9 +50,9 @@ returns-in-Ok-true-clause-told g c = λ told serves holds.
     let sel = c.args.selection.now in
     let inv = c.loop-next.invariant in
     let file = (g.D.Disk.files c.args.disk.now).pkg in
-    let all = packages file db.store in
-    let answer = subst (λ (f : Files). Recalls (packages f.pkg db.store) c.loop-next.recent
-    → true ≡ picks_at sel m (finite.get (packages f.pkg db.store) m)) (inv.looks.untouched told).same
+    let all = packages file (room db) in
+    let answer = subst (λ (f : Files). Recalls (packages f.pkg (room db)) c.loop-next.recent
+    → true ≡ picks_at sel m (finite.get (packages f.pkg (room db)) m)) (inv.looks.untouched told).same
     (rw c.in-Ok-true.field-0-test at (c.in-Ok-true.ensures.told told)) (inv.recalls told holds) in
     let found = taken_next c.args.self.now file db sel serves k m (finite.get all m) c.in-Some.ensures refl answer in
     (found.0, left all sel m, above_picks all sel c.args.n ∙ inv.same told serves holds ∙ found.1)
@@ -96,14 +89,14 @@ pub returns-in-Ok-true-clause-recalls : goal.returns-in-Ok-true-clause-recalls
 returns-in-Ok-true-clause-recalls g c = λ told holds.
     let db = c.args.db.now in
     let inv = c.loop-next.invariant in
-    subst (λ (f : Files). Recalls (packages f.pkg db.store) c.loop-next.recent → Recalls (packages f.pkg db.store) c.picks.new.self)
+    subst (λ (f : Files). Recalls (packages f.pkg (room db)) c.loop-next.recent → Recalls (packages f.pkg (room db)) c.picks.new.self)
     (inv.looks.untouched told).same (c.in-Ok-true.ensures.recalls told) (inv.recalls told holds)
 
 pub returns-in-Err-clause-recalls : goal.returns-in-Err-clause-recalls
 returns-in-Err-clause-recalls g c = λ told holds.
     let db = c.args.db.now in
     let inv = c.loop-next.invariant in
-    subst (λ (f : Files). Recalls (packages f.pkg db.store) c.loop-next.recent → Recalls (packages f.pkg db.store) c.picks.new.self)
+    subst (λ (f : Files). Recalls (packages f.pkg (room db)) c.loop-next.recent → Recalls (packages f.pkg (room db)) c.picks.new.self)
     (inv.looks.untouched told).same (c.in-Err.ensures.recalls told) (inv.recalls told holds)
 
 pub returns-in-Err-clause-asks : goal.returns-in-Err-clause-asks
@@ -122,7 +115,7 @@ pub returns-clause-told : goal.returns-clause-told
 returns-clause-told g c = λ told serves holds.
     let file = (g.D.Disk.files c.args.disk.now).pkg in
     let db = c.args.db.now in
-    above_picks (packages file db.store) c.args.selection.now c.args.n ∙ c.loop-next.invariant.same told serves holds
+    above_picks (packages file (room db)) c.args.selection.now c.args.n ∙ c.loop-next.invariant.same told serves holds
     ∙ none_next c.args.self.now file db c.args.selection.now serves c.loop-next.passed c.in_default.ensures
 
 pub returns-clause-asks : goal.returns-clause-asks

@@ -1,11 +1,6 @@
+use Rattle.rpm_select.proofs.Vocabulary.{Keeps, Looks, packages, Pkg, reach_to, reaches, Recalls, room, Serves}
 use Rattle.std.proofs.Common.{◌≡◌, ◌<◌, ◌≤◌, ◌-◌, ◌^◌, true}
 use Rattle.std.specs.Prelude.{IsTrue}
-use Rattle.rpm_outside.specs.Looks.{Looks}
-use Rattle.rpm_db.specs.State.{packages}
-use Rattle.rpm_db.specs.Database.{Keeps}
-use Rattle.rpm_outside.specs.declared.disk.File.TheVariants.{Pkg}
-use Rattle.rpm_select.specs.Reach.{reaches, reach_to, Serves}
-use Rattle.rpm_select.specs.Recents.{Recalls}
 use Rattle.rpm_select.proofs.Picking.{left}
 use Rattle.rpm_select.proofs.picker.Picker.next_number_after.Given as goal
 
@@ -19,12 +14,12 @@ invariant-loop-next g l = record {
   faults : g.D.Disk.faults l.initial.disk ≤ g.D.Disk.faults l.disk;
   start : l.passed ≡ l.n → (g.D.Disk.bytes_read l.disk Pkg ≡ g.D.Disk.bytes_read l.initial.disk Pkg) × (l.recent ≡ l.initial.recent);
   reached : l.n < l.passed → reaches l.self l.db l.passed ≡ true;
-  recalls : IsTrue g.D.Disk.tells → Recalls (packages (g.D.Disk.files l.initial.disk).pkg l.db.store) l.initial.recent
-      → Recalls (packages (g.D.Disk.files l.initial.disk).pkg l.db.store) l.recent;
-  same : IsTrue g.D.Disk.tells → Serves l.self (packages (g.D.Disk.files l.initial.disk).pkg l.db.store) l.selection
-      → Recalls (packages (g.D.Disk.files l.initial.disk).pkg l.db.store) l.initial.recent
-      → left (packages (g.D.Disk.files l.initial.disk).pkg l.db.store) l.selection l.n
-      ≡ left (packages (g.D.Disk.files l.initial.disk).pkg l.db.store) l.selection l.passed;
+  recalls : IsTrue g.D.Disk.tells → Recalls (packages (g.D.Disk.files l.initial.disk).pkg (room l.db)) l.initial.recent
+      → Recalls (packages (g.D.Disk.files l.initial.disk).pkg (room l.db)) l.recent;
+  same : IsTrue g.D.Disk.tells → Serves l.self (packages (g.D.Disk.files l.initial.disk).pkg (room l.db)) l.selection
+      → Recalls (packages (g.D.Disk.files l.initial.disk).pkg (room l.db)) l.initial.recent
+      → left (packages (g.D.Disk.files l.initial.disk).pkg (room l.db)) l.selection l.n
+      ≡ left (packages (g.D.Disk.files l.initial.disk).pkg (room l.db)) l.selection l.passed;
 }
 
 abbrev pub decreases-loop-next : goal.decreases-loop-next

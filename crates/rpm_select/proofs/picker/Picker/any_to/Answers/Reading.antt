@@ -1,13 +1,8 @@
 -- What looking for one reads.
 use Rattle.std.proofs.Common.{true, false, ap, arith}
-use Rattle.rpm_db.specs.Database.{cost, cost_to}
-use Rattle.rpm_db.specs.inner.Laws.{cost_more, cost_up}
-use Rattle.rpm_outside.specs.declared.disk.File.TheVariants.{Pkg}
+use Rattle.rpm_select.proofs.Vocabulary.{cost, cost_more, cost_to, cost_up, Pkg, Reach, reach_more, reach_of, reach_to, reach_up}
 use Rattle.rpm_select.proofs.Asks.{asks_done, asks_then, asks_failed}
 use Rattle.rpm_select.proofs.Owning.{own_then, own_all}
-use Rattle.rpm_select.specs.Reach.{Reach, reach_to}
-use Rattle.rpm_select.specs.inner.Reaching.{reach_of}
-use Rattle.rpm_select.specs.inner.Costing.{reach_more, reach_up}
 use Rattle.rpm_select.proofs.picker.Picker.any_to.Goals as goal
 
 pub returns-in-Ok-Some-clause-asks : goal.returns-in-Ok-Some-clause-asks

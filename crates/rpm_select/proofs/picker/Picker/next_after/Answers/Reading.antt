@@ -1,15 +1,9 @@
 -- What going to the next one reads.
 use Rattle.std.proofs.Common.{◌≡◌, ℕ, ◌-◌, Some, None, Ok, sym, ap, subst, ◌∙◌, arith}
-use Rattle.rpm_db.specs.Database.{cost, cost_to, cost_all}
-use Rattle.rpm_db.specs.inner.Laws.{cost_more, cost_some}
-use Rattle.rpm_outside.specs.declared.disk.File.TheVariants.{Pkg}
-use Rattle.rpm_select.specs.Frame.{AsksPackages}
+use Rattle.rpm_select.proofs.Vocabulary.{AsksPackages, cost, cost_all, cost_more, cost_some, cost_to, number_in, Pkg, Reach, reach_all, reach_more, reach_of}
+use Rattle.rpm_select.proofs.Vocabulary.{reach_some, reach_to}
 use Rattle.rpm_select.proofs.Asks.{asks_done, asks_then, asks_failed}
 use Rattle.rpm_select.proofs.Owning.{own_then, own_all}
-use Rattle.rpm_select.specs.Picks.{number_in}
-use Rattle.rpm_select.specs.Reach.{Reach, reach_to, reach_all}
-use Rattle.rpm_select.specs.inner.Reaching.{reach_of}
-use Rattle.rpm_select.specs.inner.Costing.{reach_more, reach_some}
 use Rattle.rpm_select.proofs.picker.Picker.next_after.Goals as goal
 
 pub returns-in-Ok-Some-clause-asks : goal.returns-in-Ok-Some-clause-asks
