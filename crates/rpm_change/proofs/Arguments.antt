@@ -2,8 +2,7 @@
 use Rattle.std.proofs.Common.{◌≡◌, ℕ, ◌+◌, ◌<◌, ◌≤◌, List, length, drop, get_or, add-one, refl, ap, ◌∙◌}
 use Rattle.std.proofs.lemmas.List.{drop_all}
 use Rattle.std.proofs.Math.Seq.{drop-cons}
-use Rattle.rpm_db.specs.State.{State}
-use Rattle.rpm_change.specs.Steps.{Course, idle, joined, apply_all, in_turn}
+use Rattle.rpm_change.proofs.Vocabulary.{apply_all, Course, idle, in_turn, joined, State}
 
 -- the argument at a place and those after it
 pub turn_next : {X : Type 0} (each : State → ℕ → X → Course) (xs : List X) (k : ℕ) (d : X) (t u : State) → k < length xs

@@ -1,28 +1,16 @@
 -- How long the data are that are laid out.
 use Rattle.std.proofs.Common.{◌≡◌, ℕ, ◌+◌, ◌%◌, ◌-◌, ◌^◌, ◌<◌, ◌≤◌, List, [], ◌∷◌, ◌++◌, length, replicate, sym, subst, arith, length-append}
 use Rattle.std.specs.Prelude.{codes}
-use Rattle.std.specs.Fmt.{decimal}
-use Rattle.std.specs.Int.{next_multiple_of}
+use Rattle.rpm_change.proofs.Vocabulary.{alignment, bytes_in, data_from, decimal, end_of, Form, generated, Item, next_multiple_of, numbered, offset_of}
+use Rattle.rpm_change.proofs.Vocabulary.{package_items, version}
 use Rattle.std.proofs.lemmas.Fmt.{length-decimal-le}
 use Rattle.std.proofs.lemmas.List.{length-replicate}
-use Rattle.rpm_header.specs.declared.form.Form.{Form}
 use Rattle.rpm_header.specs.declared.form.Form.TheVariants as form
-use Rattle.rpm_header.specs.Header.{Item, alignment}
-use Rattle.rpm_header.specs.Laid.{bytes_in, offset_of, end_of, data_from}
-use Rattle.rpm_change.specs.Exercise.{numbered, version, package_items, generated}
 
 -- less than eight bytes are between the data of two entries
 gap_of : (at : ℕ) (f : Form) → next_multiple_of at (alignment f) < at + 8
 gap_of at form.Null = omega arith
-gap_of at form.Char = omega arith
-gap_of at form.Int8 = omega arith
-gap_of at form.Int16 = omega arith
-gap_of at form.Int32 = omega arith
-gap_of at form.Int64 = omega arith
-gap_of at form.Text = omega arith
-gap_of at form.Bin = omega arith
-gap_of at form.Texts = omega arith
-gap_of at form.I18n = omega arith
+gap_of at others = omega arith
 
 gap : (at : ℕ) (e : Item) → offset_of at e < at + 8
 unfolding offset_of

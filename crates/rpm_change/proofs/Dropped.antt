@@ -1,37 +1,13 @@
 -- The packages that rebuilding drops, by rising number.
 use Rattle.std.proofs.Common.{◌≡◌, ℕ, [], ◌<◌, ◌≤◌, Ok, true, false, Option, Some, None, is_some, refl, sym, ap, ◌∙◌, subst, arith, nat_eq, Err, Result}
 use Rattle.rpm_outside.specs.declared.disk.Disk as disk
-use Rattle.std.specs.Ordering.{nat_cmp, eq_by_cmp}
+use Rattle.rpm_change.proofs.Vocabulary.{above, apply_all, Bad, Course, Database, drop_each, dropped, eq_by_cmp, Files, Good, Halt, HasCauseAt, idle, IsNext}
+use Rattle.rpm_change.proofs.Vocabulary.{IsReady, IsWholeIndex, joined, left_none, left_read, LeftOn, LimitsTurn, Looks, looks_run, nat_cmp, next_above}
+use Rattle.rpm_change.proofs.Vocabulary.{none_is, none_made, nothing_above, Package, Pkg, room, State, state, state_in, Tally, uncounted, unsigned_tied, Went}
 use Rattle.std.specs.FinMap as finite
-use Rattle.std.specs.Cmp.{unsigned_tied}
 use Rattle.std.proofs.lemmas.Cmp.{nat_cmp_total}
 use Rattle.std.proofs.lemmas.Bool.Decides.{nat_tests}
-use Rattle.rpm_outside.specs.declared.disk.File.TheVariants.{Pkg}
-use Rattle.rpm_outside.specs.Files.{Units, Files}
-use Rattle.rpm_outside.specs.Crash.{Untouched}
-use Rattle.rpm_pkgdb.specs.Store.{Store}
-use Rattle.rpm_db.specs.Changes.{IsServing}
-use Rattle.rpm_db.specs.Database.{Database, IsNext, IsIndexed}
-use Rattle.rpm_db.specs.Lawful.{Remade}
-use Rattle.rpm_db.specs.State.{State, Package, Good, Bad, state, above}
-use Rattle.rpm_db.specs.inner.Above.{none_is, next_above, nothing_above}
-use Rattle.rpm_db.specs.Frame.{state_in}
-use Rattle.rpm_db.specs.Lawful.{IsWholeIndex}
 use Rattle.std.specs.Prelude.{IsTrue}
-use Rattle.rpm_change.specs.Limits.{LimitsTurn}
-use Rattle.rpm_change.specs.inner.Single.{none_made}
-use Rattle.rpm_change.specs.inner.Going.{uncounted}
-use Rattle.rpm_change.specs.Steps.{Course, joined, idle, apply_all}
-use Rattle.rpm_change.specs.Rebuilding.{dropped, drop_each}
-use Rattle.rpm_change.specs.inner.Leaving.{carried_any}
-use Rattle.rpm_change.specs.Went.{LeftOn, Went}
-use Rattle.rpm_db.specs.Changed.{IsReady}
-use Rattle.rpm_db.specs.inner.Running.{runs_looks}
-use Rattle.rpm_db.specs.inner.Writes.{SameLog}
-use Rattle.rpm_outside.specs.Causes.{HasCauseAt}
-use Rattle.rpm_outside.specs.Frame.{Looks}
-use Rattle.rpm_change.specs.declared.tally.Tally.{Tally}
-use Rattle.rpm_change.specs.declared.tally.Halt.{Halt}
 use Rattle.rpm_change.specs.declared.tally.Halt.TheVariants as halt
 
 -- ---- the next number
@@ -76,58 +52,26 @@ same_dropped (Good bytes) n m s t u same lt is k over = ap (λ (v : State). fini
 same_dropped Bad n m s t u same lt is k over =
     ap (λ (v : State). finite.get v.packages k) is ∙ removed_above m k t.packages over ∙ same k (omega arith)
 
--- ---- what a value keeps
+-- ---- a look
 
--- after a look the value serves as before
-pub serving_looked : (old new : Files) (past since : ℕ → Files → Type 0) (before now : ℕ) (db : Database) → Untouched old new past since → now ≡ before
-    → IsServing old (past before) db → IsServing new (since now) db
-serving_looked old new past since before now db u moment s =
-    let here : (image : Files) → since now image → past before image =
-    λ image left. subst (λ (t : ℕ). past t image) moment (u.images now image left) in
-    subst (λ (f : Files). IsServing f (since now) db) (sym u.same)
-    (record {
-      keeps = s.keeps;
-      index = s.index;
-      quiet = λ image left. s.quiet image (here image left);
-      settled = λ image left. s.settled image (here image left);
-    })
+module _ {D : Type 0} (d : disk.Ghosts D) (stays : (x : D) → d.follows x x) (joins : (x y z : D) → d.follows x y → d.follows y z → d.follows x z)
+    {most : ℕ} {old new : D} {db : Database} (ready : IsReady d old db) (looks : Looks d Pkg most old new) where
+  pub left_looked : (r : Result Tally Halt) → HasCauseAt (r ≡ Err halt.DiskFault) (d.faults old) (d.faults new) → LeftOn d old new db db r
+  left_looked = left_read d joins {tally = uncounted} (left_none d stays old db ready (Ok uncounted) (λ is. absurd cc)) (looks_run d looks)
 
-pub left_looked : {D : Type 0} (d : disk.Ghosts D) (most : ℕ) (old new : D) (db : Database) → IsReady d old db
-    → Looks d Pkg most old new → (r : Result Tally Halt)
-    → HasCauseAt (r ≡ Err halt.DiskFault) (d.faults old) (d.faults new) → LeftOn d old new db db r
-left_looked d most old new db ready looks r cause = record {
-  carried = carried_any d old new db db (record {
-    going = ready.going;
-    serving = λ told.
-        serving_looked (d.files old) (d.files new) (d.left_since old) (d.left_since new) (d.moment old) (d.moment new) db (looks.untouched told)
-        looks.moment_stays (ready.serving told);
-    index = λ told rows. subst (λ (f : Files). IsIndexed f.pkg f.idx db) (sym (looks.untouched told).same) rows;
-  }) r;
-  indexed = ready.indexed;
-  runs = runs_looks d.tells d.files d.left_since d.moment d.bytes_read d.follows SameLog (λ f. refl) Pkg most old new refl looks;
-  disk = cause;
-}
-
--- nothing was done but for a look
-pub looked_went : {D T : Type 0} (d : disk.Ghosts D) (most : ℕ) (old new : D) (db : Database) → IsReady d old db → Looks d Pkg most old new
-    → d.faults old ≤ d.faults new → (T → IsTrue d.tells) → {E : Course → State → State → Result Tally Halt → Type 0}
-    → ((s : State) → E idle s s (Ok uncounted)) → Went d T old new db db (Ok uncounted) E idle
-looked_went {T = T} d most old new db ready looks later tells {E = E} ends =
-    let same = λ (told : IsTrue d.tells). (looks.untouched told).same in
-    record {
-      ended = λ told.
-          let s = state_in d old db in
-          let is : state_in d new db ≡ s = ap (λ (f : Files). state f.pkg db.store) (same (tells told)) in
-          subst (λ (t : State). E idle s t (Ok uncounted)) (sym is) (ends s);
-      limits = λ told i rows.
-          subst (λ (f : Files). LimitsTurn i (state_in d old db) db.store db.store (d.files old) f [] (Ok uncounted)) (sym (same (tells told)))
-          (none_made i (state_in d old db) db.store db.store db.store.spare uncounted refl);
-      whole = λ told was. subst (λ (f : Files). IsWholeIndex f.idx) (sym (same told)) was;
-      left = left_looked d most old new db ready looks (Ok uncounted) (record { later = later; rose = λ is. absurd cc });
-    }
-
--- and after the index was rebuilt
-pub state_remade : (old new : Files) (before after : Database) → Remade old new → after.store ≡ before.store
-    → state new.pkg after.store ≡ state old.pkg before.store
-state_remade old new before after made store =
-    ap (λ (u : Units). state u after.store) made.pkg ∙ ap (λ (v : Store). state old.pkg v) store
+  -- nothing was done but for it
+  pub looked_went : {T : Type 0} → d.faults old ≤ d.faults new → (T → IsTrue d.tells) → {E : Course → State → State → Result Tally Halt → Type 0}
+      → ((s : State) → E idle s s (Ok uncounted)) → Went d T old new db db (Ok uncounted) E idle
+  looked_went later tells {E = E} ends =
+      let same = λ (told : IsTrue d.tells). (looks.untouched told).same in
+      record {
+        ended = λ told.
+            let s = state_in d old db in
+            let is : state_in d new db ≡ s = ap (λ (f : Files). state f.pkg (room db)) (same (tells told)) in
+            subst (λ (t : State). E idle s t (Ok uncounted)) (sym is) (ends s);
+        limits = λ told i rows.
+            subst (λ (f : Files). LimitsTurn i (state_in d old db) (room db) (room db) (d.files old) f [] (Ok uncounted)) (sym (same (tells told)))
+            (none_made i (state_in d old db) (room db) (room db) (room db).spare uncounted refl);
+        whole = λ told was. subst (λ (f : Files). IsWholeIndex f.idx) (sym (same told)) was;
+        left = left_looked (Ok uncounted) (record { later = later; rose = λ is. absurd cc });
+      }

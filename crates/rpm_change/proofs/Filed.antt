@@ -2,31 +2,10 @@
 use Rattle.std.proofs.Common.{◌≡◌, ℕ, ◌+◌, ◌<◌, ◌≤◌, Bor, true, false, List, [], map, length, drop, get_or, add-one, Option, Some, None, is_some, Result, Ok, Err, refl, sym, ap, ◌∙◌}
 use Rattle.std.proofs.lemmas.List.{drop_all}
 use Rattle.std.proofs.Math.Seq.{drop-cons}
-use Rattle.rpm_header.specs.Header.{Header, header}
-use Rattle.rpm_outside.specs.Browses.{left}
-use Rattle.rpm_outside.specs.Shelves.{Paths}
-use Rattle.rpm_file.specs.declared.fault.FileFault.{FileFault}
+use Rattle.rpm_change.proofs.Vocabulary.{apply_all, Course, entries_or_none, FileFault, GivesInstalled, Header, header, idle, in_turn, joined, left, missing}
+use Rattle.rpm_change.proofs.Vocabulary.{Package, Paths, Placing, put_file, put_found, put_read, read_again, replaced, State, stop_in}
 use Rattle.rpm_file.specs.declared.fault.FileFault.TheVariants as file
-use Rattle.rpm_file.specs.Package.{read_again, entries_or_none}
-use Rattle.rpm_db.specs.State.{State, Package}
-use Rattle.rpm_change.specs.declared.add.Placing.{Placing}
 use Rattle.rpm_change.specs.declared.tally.Halt.TheVariants as halt
-use Rattle.rpm_change.specs.Adding.{put_read, put_found, put_file, replaced, GivesInstalled, stop_in}
-use Rattle.rpm_change.specs.Erasing.{missing}
-use Rattle.rpm_change.specs.Steps.{Course, idle, joined, apply_all, in_turn}
-
--- a header's own bytes are read as it again
-again_is : (h : Header) (bytes : List ℕ) → h.blob ≡ bytes → header bytes ≡ Ok h → h ≡ read_again bytes
-again_is h bytes blob is =
-    ap (λ (b : List ℕ). record { blob = b; entries = h.entries }) blob
-    ∙ ap (λ (r : Result Header _). record { blob = bytes; entries = entries_or_none r }) (sym is)
-
-pub own_again : (h : Header) (bytes : List ℕ) → h.blob ≡ bytes → header bytes ≡ Ok h → header bytes ≡ Ok (read_again bytes)
-own_again h bytes blob is = is ∙ ap Ok (again_is h bytes blob is)
-
-pub said_again : (said : Result Header FileFault) (h : Header) (bytes : List ℕ) → said ≡ Ok h → h.blob ≡ bytes → header bytes ≡ Ok h
-    → said ≡ Ok (read_again bytes)
-said_again said h bytes says blob is = says ∙ ap Ok (again_is h bytes blob is)
 
 -- a path that was opened
 pub opened_is : (how : Placing) (j : ℕ) (path : List ℕ) (found rest : Option (List ℕ)) → rest ≡ found → (found ≡ None → ⊥)
@@ -36,24 +15,9 @@ opened_is how j path (Some bytes) rest is some = ap (λ (r : Option (List ℕ)).
 
 -- the faults that aren't a stop are the file's own
 pub own_fault : (said : Result Header FileFault) (f : FileFault) → stop_in f ≡ None → GivesInstalled said (Err f) → said ≡ Err f
-own_fault said file.Short none is = is
-own_fault said file.NotAPackage none is = is
-own_fault said file.BadMagic none is = is
-own_fault said (file.Signature of) none is = is
-own_fault said (file.Main of) none is = is
-own_fault said file.TooLarge none is = is
 own_fault said file.ReadFault none is = absurd cc
 own_fault said file.NoMemory none is = absurd cc
-
-pub read_stop : (f : FileFault) → stop_in f ≡ Some halt.ShelfFault → f ≡ file.ReadFault
-read_stop file.Short is = absurd cc
-read_stop file.NotAPackage is = absurd cc
-read_stop file.BadMagic is = absurd cc
-read_stop (file.Signature of) is = absurd cc
-read_stop (file.Main of) is = absurd cc
-read_stop file.TooLarge is = absurd cc
-read_stop file.ReadFault is = refl
-read_stop file.NoMemory is = absurd cc
+own_fault said others none is = is
 
 -- ---- a package that is replaced
 

@@ -1,32 +1,14 @@
 -- What adding one header of a list is.
 use Rattle.std.proofs.Common.{◌≡◌, ℕ, Bool, true, List, Option, Some, None, Result, Ok, Err, refl, sym, ap, subst, min, codes}
-use Rattle.rpm_header.specs.Header.{Header, header}
+use Rattle.rpm_change.proofs.Vocabulary.{absent_line, Add, add_fault, AddIs, Buffered, Change, ChangeFault, changing, Course, Database, Ended, EndedOnErr}
+use Rattle.rpm_change.proofs.Vocabulary.{failing, Files, FullCause, Halt, halt_of, Header, header, import_list, import_listed, imported, left, left_after}
+use Rattle.rpm_change.proofs.Vocabulary.{LeftOn, LimitsTurn, listed, next, next_number, next_store, once, one_refused, other_stop, Outputs, room, RoomCause}
+use Rattle.rpm_change.proofs.Vocabulary.{State, state_in, stop_by, Store, Tally, ToErr, Units, Went, whole, WholeTurn}
 use Rattle.rpm_outside.specs.declared.disk.Disk as disk
 use Rattle.rpm_outside.specs.declared.sink.Sink as sink
-use Rattle.rpm_outside.specs.declared.buffered.Buffered.{Buffered}
-use Rattle.rpm_outside.specs.Files.{Files, Units}
-use Rattle.rpm_db.specs.Frame.{state_in}
-use Rattle.rpm_outside.specs.Browses.{left}
-use Rattle.rpm_db.specs.declared.change_fault.ChangeFault.{ChangeFault}
 use Rattle.rpm_db.specs.declared.change_fault.ChangeFault.TheVariants as fault
-use Rattle.rpm_db.specs.Changes.{Change, Add, next}
-use Rattle.rpm_db.specs.Database.{Database, next_number}
-use Rattle.rpm_db.specs.Refusals.{AddIs, FullCause}
-use Rattle.rpm_db.specs.Room.{RoomCause, next_store}
-use Rattle.rpm_db.specs.State.{State}
-use Rattle.rpm_pkgdb.specs.Store.{Store}
-use Rattle.rpm_change.specs.declared.tally.Tally.{Tally}
-use Rattle.rpm_change.specs.declared.tally.Halt.{Halt}
 use Rattle.rpm_change.specs.declared.tally.Halt.TheVariants as halt
-use Rattle.rpm_change.specs.Steps.{Course, ToErr, whole, changing, failing}
-use Rattle.rpm_change.specs.Endings.{Outputs, Ended, WholeTurn, halt_of}
-use Rattle.rpm_change.specs.inner.Courses.{stop_by}
-use Rattle.rpm_change.specs.Importing.{imported, once, import_listed, import_list, listed}
-use Rattle.rpm_change.specs.Texts.{absent_line}
-use Rattle.rpm_change.specs.Limits.{needed, LimitsTurn}
-use Rattle.rpm_change.specs.Went.{EndedOnErr, LeftOn, Went}
-use Rattle.rpm_change.specs.inner.Leaving.{left_after}
-use Rattle.rpm_change.specs.inner.Single.{one_refused, other_stop, add_fault}
+use Rattle.rpm_change.specs.Limits.{needed}
 
 -- ---- a header that is added, or refused
 
@@ -34,29 +16,29 @@ pub imported_good : (k : ℕ) (bytes : List ℕ) (h : Header) → header bytes �
 imported_good k bytes h is = ap (imported k) is
 
 module _ {old new : Files} (i : Bool) (db : Database) (s : State) (w : Store) (k : ℕ) (bytes : List ℕ) (law : next s ≡ next_number db) where
-  read_limits : (f : ChangeFault) (h : Header) → header bytes ≡ Ok h → AddIs {A = ℕ} db bytes (Err f) → RoomCause (next_store (Add h.blob) db.store) f
-      → (i ≡ true → FullCause (needed s (Add h.blob)) f) → LimitsTurn i s db.store w old new (imported k (header bytes)).changes (Err (halt_of f))
-  read_limits f h read cause room full =
-      subst (λ (x : Course). LimitsTurn i s db.store w old new x.changes (Err (halt_of f))) (sym (imported_good k bytes h read))
-      (one_refused i s (Add h.blob) db.store w f (add_fault i ℕ db s bytes h.blob f law cause room full))
+  read_limits : (f : ChangeFault) (h : Header) → header bytes ≡ Ok h → AddIs {A = ℕ} db bytes (Err f) → RoomCause (next_store (Add h.blob) (room db)) f
+      → (i ≡ true → FullCause (needed s (Add h.blob)) f) → LimitsTurn i s (room db) w old new (imported k (header bytes)).changes (Err (halt_of f))
+  read_limits f h read cause place full =
+      subst (λ (x : Course). LimitsTurn i s (room db) w old new x.changes (Err (halt_of f))) (sym (imported_good k bytes h read))
+      (one_refused i s (Add h.blob) (room db) w f (add_fault i ℕ db s bytes h.blob f law cause place full))
 
   pub add_limits : (f : ChangeFault) → AddIs {A = ℕ} db bytes (Err f)
-      → ((h : Header) → header bytes ≡ Ok h → RoomCause (next_store (Add h.blob) db.store) f)
+      → ((h : Header) → header bytes ≡ Ok h → RoomCause (next_store (Add h.blob) (room db)) f)
       → (i ≡ true → (h : Header) → header bytes ≡ Ok h → FullCause (needed s (Add h.blob)) f)
-      → LimitsTurn i s db.store w old new (imported k (header bytes)).changes (Err (halt_of f))
-  add_limits fault.NumbersSpent cause room full = read_limits fault.NumbersSpent cause.0.own cause.0.read cause tt (λ is. tt)
-  add_limits fault.GenerationSpent cause room full = read_limits fault.GenerationSpent cause.1.own cause.1.read cause tt (λ is. tt)
-  add_limits fault.StoreFull cause room full =
-      read_limits fault.StoreFull cause.1.own cause.1.read cause (room cause.1.own cause.1.read) (λ is. tt)
-  add_limits (fault.IndexFull told) cause room full =
-      read_limits (fault.IndexFull told) cause.1.own cause.1.read cause (room cause.1.own cause.1.read) (λ is. full is cause.1.own cause.1.read)
-  add_limits (fault.BadIndex unit) cause room full =
-      read_limits (fault.BadIndex unit) cause.1.own cause.1.read cause (room cause.1.own cause.1.read) (λ is. full is cause.1.own cause.1.read)
-  add_limits fault.DiskFault cause room full = other_stop i s db.store w (imported k (header bytes)).changes halt.DiskFault refl
-  add_limits fault.NoMemory cause room full = other_stop i s db.store w (imported k (header bytes)).changes halt.NoMemory refl
-  add_limits (fault.BadHeader why) cause room full = other_stop i s db.store w (imported k (header bytes)).changes halt.NoMemory refl
-  add_limits fault.NoSuch cause room full = other_stop i s db.store w (imported k (header bytes)).changes halt.NoMemory refl
-  add_limits fault.Stopped cause room full = other_stop i s db.store w (imported k (header bytes)).changes halt.NoMemory refl
+      → LimitsTurn i s (room db) w old new (imported k (header bytes)).changes (Err (halt_of f))
+  add_limits fault.NumbersSpent cause place full = read_limits fault.NumbersSpent cause.0.own cause.0.read cause tt (λ is. tt)
+  add_limits fault.GenerationSpent cause place full = read_limits fault.GenerationSpent cause.1.own cause.1.read cause tt (λ is. tt)
+  add_limits fault.StoreFull cause place full =
+      read_limits fault.StoreFull cause.1.own cause.1.read cause (place cause.1.own cause.1.read) (λ is. tt)
+  add_limits (fault.IndexFull told) cause place full =
+      read_limits (fault.IndexFull told) cause.1.own cause.1.read cause (place cause.1.own cause.1.read) (λ is. full is cause.1.own cause.1.read)
+  add_limits (fault.BadIndex unit) cause place full =
+      read_limits (fault.BadIndex unit) cause.1.own cause.1.read cause (place cause.1.own cause.1.read) (λ is. full is cause.1.own cause.1.read)
+  add_limits fault.DiskFault cause place full = other_stop i s (room db) w (imported k (header bytes)).changes halt.DiskFault refl
+  add_limits fault.NoMemory cause place full = other_stop i s (room db) w (imported k (header bytes)).changes halt.NoMemory refl
+  add_limits (fault.BadHeader why) cause place full = other_stop i s (room db) w (imported k (header bytes)).changes halt.NoMemory refl
+  add_limits fault.NoSuch cause place full = other_stop i s (room db) w (imported k (header bytes)).changes halt.NoMemory refl
+  add_limits fault.Stopped cause place full = other_stop i s (room db) w (imported k (header bytes)).changes halt.NoMemory refl
 
 -- ---- the command counts once
 
@@ -89,7 +71,7 @@ module _ {D S : Type 0} (d : disk.Ghosts D) (e : sink.Ghosts S) where
       → Went d T old new before after r (EndedOnErr e x y) course → Went d T old new before after (counted_once r) (EndedOnErr e x y) (once course)
   went_once {old = old} {new = new} {before = before} {after = after} x y course r w = record {
     ended = λ told ot o. ended_once course (state_in d old before) (state_in d new after) _ _ r (w.ended told ot o);
-    limits = λ told i rows. limits_once i course.changes (state_in d old before) before.store after.store r (w.limits told i rows);
+    limits = λ told i rows. limits_once i course.changes (state_in d old before) (room before) (room after) r (w.limits told i rows);
     whole = λ told was. whole_once (d.files new).idx r (w.whole told was);
     left = left_once r w.left;
   }

@@ -5,11 +5,12 @@ pub mod Drops
 pub mod Erased
 pub mod Filed
 pub mod Imported
-pub mod Owing
 pub mod Listed
-pub mod Placed
+pub mod Owing
 pub mod Rebuilt
+pub mod Singles
 pub mod Stops
-pub mod Told
 pub mod Texts
+pub mod Told
 pub mod Turned
+pub mod Vocabulary

@@ -2,12 +2,8 @@
 use Rattle.std.proofs.Common.{◌≡◌, ℕ, zero, suc, ◌+◌, ◌<◌, ◌≤◌, Bool, true, false, List, [], ◌∷◌, length, take, drop, Option, Some, None, Result, Ok, Err, refl, sym, ap, ◌∙◌, inl, inr, arith, nat_lt, length-drop}
 use Rattle.std.proofs.lemmas.Bool.{cases_Bool, cases_lt}
 use Rattle.std.proofs.lemmas.Bool.Decides.{nat_tests}
-use Rattle.rpm_file.specs.declared.fault.ListFault.{ListFault}
-use Rattle.rpm_file.specs.declared.fault.ListFault.TheVariants.{Short}
-use Rattle.rpm_file.specs.List.{Found, sized, size_in, front_header, some_found, list_head}
-use Rattle.rpm_change.specs.Steps.{joined}
-use Rattle.rpm_change.specs.Importing.{Listed, ending, with_blob, listed_next, listed_in, listed}
-use Rattle.rpm_change.specs.Turns.{turn, Leaves, from_place}
+use Rattle.rpm_change.proofs.Vocabulary.{ending, Found, from_place, front_header, joined, Leaves, list_head, Listed, listed, listed_in, listed_next}
+use Rattle.rpm_change.proofs.Vocabulary.{ListFault, Short, size_in, sized, some_found, turn, with_blob}
 
 -- ---- what follows a header is shorter
 

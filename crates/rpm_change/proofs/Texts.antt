@@ -1,12 +1,9 @@
 -- Names, versions and capabilities have no zero byte.
 use Rattle.std.proofs.Common.{◌≡◌, ℕ, ◌%◌, ◌^◌, ◌<◌, List, [], ◌∷◌, ◌++◌, codes, refl, sym, subst, arith}
-use Rattle.std.specs.Fmt.{decimal}
-use Rattle.std.specs.Str.Parse.{AllDigits}
+use Rattle.rpm_change.proofs.Vocabulary.{AllDigits, decimal, IsText, numbered, version}
 use Rattle.std.proofs.lemmas.Fmt.{decimal_is_IsNumeral}
 use Rattle.std.proofs.lemmas.List.Folds.{list_any-append}
 use Rattle.std.proofs.lemmas.Str.Parse.{digit_from_value}
-use Rattle.rpm_header.specs.Build.{IsText}
-use Rattle.rpm_change.specs.Exercise.{numbered, version}
 
 digits_text : (ds : List ℕ) → AllDigits 10 ds → IsText ds
 digits_text [] h = refl
@@ -26,6 +23,3 @@ version_text i m text small_i small_m same =
     subst IsText (sym same)
     (append_text (decimal m ++ codes ".") (decimal (i % 10)) (append_text (decimal m) (codes ".") (decimal_text m small_m) refl)
     (decimal_text (i % 10) (omega arith)))
-
-pub full_text : (s : List ℕ) (text : List ℕ) → IsText s → text ≡ s ++ codes "-1" → IsText text
-full_text s text is same = subst IsText (sym same) (append_text s (codes "-1") is refl)

@@ -1,5 +1,5 @@
 -- What package files make of the database.
-use Rattle.std.specs.Prelude.{◌≡◌, ◌≢◌, ℕ, List, Option, Some, None, Result, Ok, Err, Vec}
+use Rattle.std.specs.Prelude.{◌≡◌, ℕ, List, Option, Some, None, Result, Ok, Err, Vec}
 use Rattle.std.specs.FinMap as finite
 use Rattle.std.specs.declared.alloc.Global.{Global}
 use Rattle.rpm_header.specs.Header.{Header}
@@ -91,7 +91,3 @@ IsOfPutting number halt.OutFault = ⊥
 IsOfPutting None halt.NumbersSpent = Unit {0}
 IsOfPutting (Some n) halt.NumbersSpent = ⊥
 IsOfPutting number others = Unit {0}
-
--- and a change of the database reads no shelf and writes no line
-abbrev pub IsOfPlacing : Option ℕ → Halt → Type 0
-IsOfPlacing number h = (h ≢ halt.ShelfFault) × (h ≢ halt.ErrFault) × IsOfPutting number h

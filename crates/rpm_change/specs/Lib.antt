@@ -9,6 +9,7 @@ pub mod Limits
 pub mod Lines
 pub mod Reaches
 pub mod Rebuilding
+pub mod Singles
 pub mod Steps
 pub mod Texts
 pub mod Turns

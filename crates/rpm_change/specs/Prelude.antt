@@ -5,7 +5,7 @@ pub use Rattle.rpm_db.specs.Database.{holds, is_indexed}
 pub use Rattle.rpm_db.specs.Frame.{Runs, state_in}
 pub use Rattle.rpm_db.specs.Gathering.{IsGathering}
 pub use Rattle.rpm_db.specs.State.{Bad, Package, State}
-pub use Rattle.rpm_db.specs.inner.Writes.{SameLog}
+pub use Rattle.rpm_db.specs.Runs.{SameLog}
 pub use Rattle.rpm_file.specs.List.{list_head}
 pub use Rattle.rpm_file.specs.Package.{package_header, read_again}
 pub use Rattle.rpm_header.specs.Build.{IsText}
@@ -15,7 +15,8 @@ pub use Rattle.rpm_outside.specs.Browses.{left}
 pub use Rattle.rpm_outside.specs.Frame.{DiskFault}
 pub use Rattle.rpm_outside.specs.Shelves.{bytes_at}
 pub use Rattle.rpm_pkgdb.specs.Written.{with_spare}
-pub use Rattle.rpm_change.specs.Adding.{GivesInstalled, IsOfPlacing, IsOfPutting, add_files, as_installed, change_at}
+pub use Rattle.rpm_change.specs.declared.tally.Halt.TheVariants.{NoMemory}
+pub use Rattle.rpm_change.specs.Adding.{GivesInstalled, IsOfPutting, add_files, as_installed, change_at}
 pub use Rattle.rpm_change.specs.Adding.{put_file, put_read, replace, stop_in}
 pub use Rattle.rpm_change.specs.Endings.{IsOfErasing, halt_of}
 pub use Rattle.rpm_change.specs.Erasing.{erase, erase_one, missing_line}
@@ -28,7 +29,8 @@ pub use Rattle.rpm_change.specs.Limits.{StopsAt, first_limit, next_stores}
 pub use Rattle.rpm_change.specs.Lines.{Fails}
 pub use Rattle.rpm_change.specs.Reaches.{ReachedAnew}
 pub use Rattle.rpm_change.specs.Rebuilding.{IsOfRebuilding, dropped, dropped_line, rebuild}
-pub use Rattle.rpm_change.specs.Steps.{changing}
+pub use Rattle.rpm_db.specs.Frame.{room}
+pub use Rattle.rpm_change.specs.Singles.{MakesOne}
 pub use Rattle.rpm_change.specs.Texts.{absent_line, at_entry, file_text, header_text, list_text, place_line}
 pub use Rattle.rpm_change.specs.Texts.{refused_line}
 pub use Rattle.rpm_change.specs.Turns.{IsOfHeaders, IsOfImporting, Leaves, StopIs, tally_of}

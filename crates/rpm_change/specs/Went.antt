@@ -14,13 +14,14 @@ use Rattle.rpm_db.specs.Frame.{IsIndexed, Runs, state_in}
 use Rattle.rpm_db.specs.Gathering.{IsGathering, OwesOn, due}
 use Rattle.rpm_db.specs.Lawful.{IsWholeIndex}
 use Rattle.rpm_db.specs.State.{State}
-use Rattle.rpm_db.specs.inner.Writes.{SameLog}
+use Rattle.rpm_db.specs.Runs.{SameLog}
 use Rattle.rpm_change.specs.declared.tally.Tally.{Tally}
 use Rattle.rpm_change.specs.declared.tally.Halt.{Halt}
 use Rattle.rpm_change.specs.declared.tally.Halt.TheVariants as halt
 use Rattle.rpm_change.specs.Endings.{Outputs, outputs, Ended, IsCarried, WholeTurn}
 use Rattle.rpm_change.specs.Limits.{LimitsTurn}
 use Rattle.rpm_change.specs.Steps.{Course}
+use Rattle.rpm_db.specs.Frame.{room}
 
 -- ---- the sinks
 
@@ -61,7 +62,7 @@ module _ {D : Type 0} (d : disk.Ghosts D) where
   abbrev pub LimitsOn : D → D → Database → Database → List Change → Result Tally Halt → Type 0
   LimitsOn old new before after changes r =
       (indexed : Bool) → (indexed ≡ true → IsIndexed d old before)
-      → LimitsTurn indexed (state_in d old before) before.store after.store (d.files old) (d.files new) changes r
+      → LimitsTurn indexed (state_in d old before) (room before) (room after) (d.files old) (d.files new) changes r
 
   -- it can be changed further, and its index holds the rows of its packages
   pub record IsCurrent (at : D) (db : Database) : Type 0 where
@@ -87,7 +88,7 @@ module _ {D : Type 0} (d : disk.Ghosts D) where
       (r : Result Tally Halt) (Ends : Course → State → State → Result Tally Halt → Type 0) (course : Course) : Type 0 where
     pub ended : Told → Ends course (state_in d old before) (state_in d new after) r
     pub limits : Told → (indexed : Bool) → (indexed ≡ true → Asked)
-        → LimitsTurn indexed (state_in d old before) before.store after.store from to course.changes r
+        → LimitsTurn indexed (state_in d old before) (room before) (room after) from to course.changes r
     pub whole : IsTrue d.tells → IsWholeIndex (d.files old).idx → WholeTurn (d.files new).idx r
     pub left : LeftBy Carried old new after r
 

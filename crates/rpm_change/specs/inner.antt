@@ -1,8 +1,12 @@
 -- Laws on the definitions, for the crates above.
 pub mod Courses
 pub mod Going
+pub mod Handing
+pub mod Joins
 pub mod Leaving
 pub mod LimitLaws
 pub mod ReachLaws
+pub mod Reading
+pub mod Ready
 pub mod Single
 pub mod Stores

@@ -1,11 +1,12 @@
 //! Adding package files.
 
-ghost use Rattle.std.specs.Prelude.{◌≡◌, ℕ, ◌+◌, ◌^◌, ◌<◌, Some, None, length, map, true, IsTrue, Ok, Err, IfOk, IfErr, IfSome};
-ghost use Rattle.rpm_change.specs.Prelude.{Add, add_files, change_at, changing, EndedOnErr, EndedQuietly, Hand, KeepsShelf, header, holds, IsOfPlacing, IsOfPutting, IsReady, left, Put, put_file, put_read, read_again, state_in, stop_in, Went};
+ghost use Rattle.std.specs.Prelude.{◌≡◌, ℕ, ◌+◌, ◌^◌, ◌<◌, Some, None, length, map, IsTrue, Ok, Err, IfOk, IfErr};
+ghost use Rattle.rpm_change.specs.Prelude.{add_files, EndedOnErr, Hand, KeepsShelf, IsOfPutting, IsReady, left, put_file, put_read, state_in, stop_in, Went};
 
 use crate::faults::{put_absent, put_refused};
 use crate::install::read_installed;
-use crate::tally::{Halt, Tally, halt_of};
+use crate::single::put_blob;
+use crate::tally::{Halt, Tally};
 use rpm_db::Db;
 use rpm_file::FileFault;
 use rpm_outside::{Absent, Buffered, Disk, Shelf, Sink};
@@ -17,71 +18,6 @@ use std::alloc::Global;
 pub struct Placing {
     pub number: Option<u32>,
     pub moment: u32,
-}
-
-/// Puts a header under a new number.
-fn add_blob<D: Disk>(alloc: Global, db: &mut Db, disk: &mut D, blob: &[u8]) -> Result<Tally, Halt>
-    requires ready { IsReady D.Disk disk.old db.old }
-    requires own { header blob.now ≡ Ok (read_again blob.now) }
-    ensures went { Went D.Disk (IsTrue D.tells) disk.old disk.new db.old db.new result
-        EndedQuietly (changing (Add blob.now)) }
-    ensures one { IfOk result (λ tally. tally.failed + tally.changes ≡ 1) }
-    ensures kinds { IfErr result (IsOfPlacing None) }
-{
-    match db.add(alloc, disk, blob) {
-        Ok(_) => Ok(Tally {
-            failed: 0,
-            changes: 1,
-        }),
-        Err(fault) => Err(halt_of(fault)),
-    }
-}
-
-/// Puts a header in place of a number's package.
-fn replace_blob<D: Disk>(
-    alloc: Global,
-    db: &mut Db,
-    disk: &mut D,
-    number: u32,
-    blob: &[u8],
-) -> Result<Tally, Halt>
-    requires ready { IsReady D.Disk disk.old db.old }
-    requires own { header blob.now ≡ Ok (read_again blob.now) }
-    requires held { holds number db.old ≡ true }
-    ensures went { Went D.Disk (IsTrue D.tells) disk.old disk.new db.old db.new result
-        EndedQuietly (changing (Put number blob.now)) }
-    ensures one { IfOk result (λ tally. tally.failed + tally.changes ≡ 1) }
-    ensures kinds { IfErr result (IsOfPlacing (Some number)) }
-{
-    match db.put(alloc, disk, number, blob) {
-        Ok(()) => Ok(Tally {
-            failed: 0,
-            changes: 1,
-        }),
-        Err(fault) => Err(halt_of(fault)),
-    }
-}
-
-/// Puts a header under a new number, or in place of a number's package.
-fn put_blob<D: Disk>(
-    alloc: Global,
-    db: &mut Db,
-    disk: &mut D,
-    number: Option<u32>,
-    blob: &[u8],
-) -> Result<Tally, Halt>
-    requires ready { IsReady D.Disk disk.old db.old }
-    requires own { header blob.now ≡ Ok (read_again blob.now) }
-    requires held { IfSome number (λ n. holds n db.old ≡ true) }
-    ensures went { Went D.Disk (IsTrue D.tells) disk.old disk.new db.old db.new result
-        EndedQuietly (changing (change_at number blob.now)) }
-    ensures one { IfOk result (λ tally. tally.failed + tally.changes ≡ 1) }
-    ensures kinds { IfErr result (IsOfPlacing number) }
-{
-    match number {
-        None => add_blob(alloc, db, disk, blob),
-        Some(n) => replace_blob(alloc, db, disk, n, blob),
-    }
 }
 
 /// What stops a command where a package file isn't read; None where the file itself is refused.
@@ -106,7 +42,6 @@ fn put_opened<D: Disk, S: Shelf, E: Sink + Drop>(
     err: &mut Buffered<E>,
 ) -> Result<Tally, Halt>
     requires ready { IsReady D.Disk disk.old db.old }
-    requires held { IfSome how.number (λ n. holds n db.old ≡ true) }
     ensures went { (j : ℕ) → Went D.Disk (IsTrue D.tells × IsTrue S.tells) disk.old disk.new db.old db.new result
         (EndedOnErr E.Sink err.old err.new) (put_read how j path.now (left (S.rest shelf.old))) }
     ensures one { IfOk result (λ tally. tally.failed + tally.changes ≡ 1) }
@@ -134,7 +69,6 @@ pub fn put_file<D: Disk, S: Shelf, E: Sink + Drop>(
     err: &mut Buffered<E>,
 ) -> Result<Tally, Halt>
     requires ready { IsReady D.Disk disk.old db.old }
-    requires held { IfSome how.number (λ n. holds n db.old ≡ true) }
     ensures went { (j : ℕ) → Went D.Disk (IsTrue D.tells × IsTrue S.tells) disk.old disk.new db.old db.new result
         (EndedOnErr E.Sink err.old err.new) (put_file how (S.paths shelf.old) j path.now) }
     ensures one { IfOk result (λ tally. tally.failed + tally.changes ≡ 1) }

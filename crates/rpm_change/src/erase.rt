@@ -4,8 +4,9 @@ ghost use Rattle.std.specs.Prelude.{◌≡◌, ℕ, ◌+◌, ◌^◌, ◌<◌, l
 ghost use Rattle.rpm_change.specs.Prelude.{EndedOnErr, erase, erase_one, Hand, IsOfErasing, IsReady, state_in, Went};
 
 use crate::lines::put_missing;
-use crate::tally::{Halt, Tally, halt_of};
-use rpm_db::{ChangeFault, Db};
+use crate::single::take_out;
+use crate::tally::{Halt, Tally};
+use rpm_db::Db;
 use rpm_outside::{Buffered, Disk, Sink};
 use std::alloc::Global;
 
@@ -24,13 +25,10 @@ fn erase_one<D: Disk, E: Sink + Drop>(
     ensures kinds { IfErr result IsOfErasing }
     ensures err { Hand E.Sink (result ≡ Err Halt.ErrFault) err.old err.new }
 {
-    match db.erase(alloc, disk, number) {
-        Ok(()) => Ok(Tally {
-            failed: 0,
-            changes: 1,
-        }),
-        Err(ChangeFault::NoSuch) => put_missing(alloc, err, number),
-        Err(fault) => Err(halt_of(fault)),
+    if db.holds(number) {
+        take_out(alloc, db, disk, number)
+    } else {
+        put_missing(alloc, err, number)
     }
 }
 

@@ -1,6 +1,6 @@
 //! The headers that the exercise makes.
 
-ghost use Rattle.std.specs.Prelude.{◌≡◌, ◌++◌, ◌∷◌, [], ◌<◌, ◌≤◌, ◌%◌, ◌+◌, ◌-◌, ◌^◌, ℕ, List, length, codes, false, IfOk, OnOk, Ok};
+ghost use Rattle.std.specs.Prelude.{◌≡◌, ◌++◌, ◌∷◌, [], ◌<◌, ◌≤◌, ◌%◌, ◌+◌, length, codes, false, IfOk, OnOk, Ok};
 ghost use Rattle.rpm_change.specs.Prelude.{data_of, file_items, generated, header, identity_items, IsText, laid, max_data, max_entries, numbered, provided_items, required_items, version};
 
 use itoa::Buffer;

@@ -111,10 +111,8 @@ pub fn put_refused<E: Sink + Drop>(
 ) -> Result<Tally, Halt>
     ensures { Fails E.Sink (refused_line path.now fault) err.old err.new result }
 {
-    match refused_line(alloc, path, fault) {
-        Ok(line) => put_failing(err, &line),
-        Err(_) => Err(Halt::NoMemory),
-    }
+    let line = refused_line(alloc, path, fault)?;
+    put_failing(err, &line)
 }
 
 /// Writes to err that a path can't be opened; then the argument fails.
@@ -125,8 +123,6 @@ pub fn put_absent<E: Sink + Drop>(
 ) -> Result<Tally, Halt>
     ensures { Fails E.Sink (absent_line path.now) err.old err.new result }
 {
-    match absent_line(alloc, path) {
-        Ok(line) => put_failing(err, &line),
-        Err(_) => Err(Halt::NoMemory),
-    }
+    let line = absent_line(alloc, path)?;
+    put_failing(err, &line)
 }

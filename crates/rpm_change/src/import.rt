@@ -4,7 +4,7 @@ ghost use Rattle.std.specs.Prelude.{◌≡◌, ◌^◌, ◌<◌, codes, IsTrue, 
 ghost use Rattle.rpm_change.specs.Prelude.{bytes_at, EndedOnErr, Hand, KeepsShelf, import_list, import_listed, IsGathering, IsOfImporting, IsReady, left, listed, max_headers, Went, WentOwing};
 
 use crate::lines::put_failing;
-use crate::tally::{Halt, Tally, halt_of};
+use crate::tally::{Halt, Tally};
 use crate::turn::import_next;
 use rpm_db::{Additions, Db};
 use rpm_outside::{Absent, Buffered, Disk, Shelf, Sink};
@@ -68,10 +68,8 @@ fn import_open<D: Disk, S: Shelf, E: Sink + Drop>(
 {
     let mut additions = Additions::begin(alloc, db);
     let tally = import_all(alloc, db, disk, shelf, &mut additions, most, err)?;
-    match additions.finish(alloc, db, disk) {
-        Ok(()) => Ok(tally),
-        Err(fault) => Err(halt_of(fault)),
-    }
+    additions.finish(alloc, db, disk)?;
+    Ok(tally)
 }
 
 /// Imports the list under the path `-` as [`import_list`] does, of at most `most` headers, which are below 2^31: a

@@ -32,8 +32,7 @@ pub fn installed(alloc: Global, view: &View<'_>, now: u32) -> Result<Vec<u8>, Fi
     };
     match with_dribbles(alloc, view, &extra) {
         Ok(blob) => Ok(blob),
-        Err(BuildFault::TooManyEntries) => Err(FileFault::TooLarge),
-        Err(BuildFault::TooMuchData) => Err(FileFault::TooLarge),
+        Err(BuildFault::TooManyEntries | BuildFault::TooMuchData) => Err(FileFault::TooLarge),
         Err(BuildFault::NoMemory) => Err(FileFault::NoMemory),
     }
 }

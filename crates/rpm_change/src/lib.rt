@@ -14,6 +14,7 @@ mod lines;
 mod places;
 mod rebuilding;
 mod replace;
+mod single;
 mod tally;
 mod turn;
 
@@ -27,4 +28,5 @@ pub use import::{import_list, import_most};
 pub use install::installed;
 pub use rebuilding::rebuild;
 pub use replace::replace_package;
-pub use tally::{Halt, Tally, halt_of};
+pub use single::{put_blob, take_out};
+pub use tally::{Halt, IDLE, Tally};

@@ -3,7 +3,7 @@
 ghost use Rattle.std.specs.Prelude.{◌≡◌, IfOk};
 ghost use Rattle.rpm_change.specs.Prelude.{Fails, missing_line};
 
-use crate::tally::{Halt, Tally};
+use crate::tally::{FAILED, Halt, Tally};
 use itoa::Buffer;
 use rpm_outside::{Buffered, Sink, put_and_flush};
 use std::alloc::{AllocError, Global};
@@ -14,10 +14,7 @@ pub fn put_failing<E: Sink + Drop>(err: &mut Buffered<E>, line: &[u8]) -> Result
 {
     err.clear();
     match put_and_flush(err, line) {
-        Ok(()) => Ok(Tally {
-            failed: 1,
-            changes: 0,
-        }),
+        Ok(()) => Ok(FAILED),
         Err(_) => Err(Halt::ErrFault),
     }
 }
@@ -43,8 +40,6 @@ pub fn put_missing<E: Sink + Drop>(
 ) -> Result<Tally, Halt>
     ensures { Fails E.Sink (missing_line number) err.old err.new result }
 {
-    match missing_line(alloc, number) {
-        Ok(line) => put_failing(err, &line),
-        Err(_) => Err(Halt::NoMemory),
-    }
+    let line = missing_line(alloc, number)?;
+    put_failing(err, &line)
 }

@@ -50,10 +50,8 @@ pub fn put_place<E: Sink + Drop>(
 ) -> Result<Tally, Halt>
     ensures { Fails E.Sink (place_line place text.now) err.old err.new result }
 {
-    match place_line(alloc, place, text) {
-        Ok(line) => put_failing(err, &line),
-        Err(_) => Err(Halt::NoMemory),
-    }
+    let line = place_line(alloc, place, text)?;
+    put_failing(err, &line)
 }
 
 /// Writes to err that the header at a place is none; then the argument fails.
@@ -66,8 +64,6 @@ pub fn put_bad_header<E: Sink + Drop>(
     ensures { Fails E.Sink (place_line place (header_text fault)) err.old err.new result }
 {
     let mut text = Vec::new(alloc);
-    match push_header_text(&mut text, fault) {
-        Ok(()) => put_place(alloc, err, place, &text),
-        Err(_) => Err(Halt::NoMemory),
-    }
+    push_header_text(&mut text, fault)?;
+    put_place(alloc, err, place, &text)
 }

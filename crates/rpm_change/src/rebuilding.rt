@@ -2,12 +2,13 @@
 
 ghost use Rattle.std.specs.Prelude.{◌≡◌, ◌+◌, ◌≤◌, true, IsTrue, Some, Err, IfOk, IfErr, OnOk};
 ghost use Rattle.std.specs.FinMap as finite;
-ghost use Rattle.rpm_change.specs.Prelude.{apply, Bad, DiskFault, dropped, dropped_line, EndedOnOut, Erase, first_limit, Hand, is_indexed, IsCurrent, IsOfRebuilding, IsReady, next_stores, Package, ReachedAnew, rebuild, Runs, SameLog, State, state_in, StopsAt, Went, with_spare};
+ghost use Rattle.rpm_change.specs.Prelude.{Bad, DiskFault, dropped, dropped_line, EndedOnOut, first_limit, Hand, is_indexed, IsCurrent, IsOfRebuilding, IsReady, next_stores, Package, ReachedAnew, rebuild, room, Runs, SameLog, state_in, StopsAt, Went, with_spare};
 ghost use Rattle.rpm_db.specs.Database as database;
 
-use crate::tally::{Halt, Tally, halt_of};
+use crate::single::take_out;
+use crate::tally::{Halt, IDLE, Tally};
 use itoa::Buffer;
-use rpm_db::{ChangeFault, Db, GetFault};
+use rpm_db::{Db, GetFault};
 use rpm_outside::{Buffered, Disk, Sink, put_and_flush};
 use std::alloc::{AllocError, Global};
 use std::mem;
@@ -25,29 +26,6 @@ fn dropped_line(alloc: Global, number: u32) -> Result<Vec<u8>, AllocError>
     Ok(line)
 }
 
-/// Writes to out that a package was dropped.
-fn put_dropped<O: Sink + Drop>(
-    out: &mut Buffered<O>,
-    number: u32,
-    line: &[u8],
-) -> Result<Tally, Halt>
-    requires line { line.now ≡ dropped_line number }
-    ensures ended { (s t : State) → t ≡ apply (Erase number) s
-        → EndedOnOut O.Sink out.old out.new (dropped number Bad) s t result }
-    ensures one { IfOk result (λ tally. tally ≡ record { failed = 0; changes = 1 }) }
-    ensures kinds { IfErr result (λ halt. halt ≡ Halt.OutFault) }
-    ensures out { Hand O.Sink (result ≡ Err Halt.OutFault) out.old out.new }
-{
-    out.clear();
-    match put_and_flush(out, line) {
-        Ok(()) => Ok(Tally {
-            failed: 0,
-            changes: 1,
-        }),
-        Err(_) => Err(Halt::OutFault),
-    }
-}
-
 /// Erases a package that is Bad, and then writes to out that it is dropped.
 fn drop_bad<D: Disk, O: Sink + Drop>(
     alloc: Global,
@@ -56,7 +34,6 @@ fn drop_bad<D: Disk, O: Sink + Drop>(
     number: u32,
     out: &mut Buffered<O>,
 ) -> Result<Tally, Halt>
-    requires held { database.holds number db.old ≡ true }
     requires ready { IsReady D.Disk disk.old db.old }
     ensures went { Went D.Disk (IsTrue D.tells) disk.old disk.new db.old db.new result
         (EndedOnOut O.Sink out.old out.new) (dropped number Bad) }
@@ -64,22 +41,22 @@ fn drop_bad<D: Disk, O: Sink + Drop>(
     ensures kinds { IfErr result IsOfRebuilding }
     ensures out { Hand O.Sink (result ≡ Err Halt.OutFault) out.old out.new }
 {
-    let Ok(line) = dropped_line(alloc, number) else {
-        return Err(Halt::NoMemory);
-    };
-    match db.erase(alloc, disk, number) {
-        Ok(()) => put_dropped(out, number, &line),
-        Err(fault) => Err(halt_of(fault)),
+    let line = dropped_line(alloc, number)?;
+    let tally = take_out(alloc, db, disk, number)?;
+    out.clear();
+    match put_and_flush(out, &line) {
+        Ok(()) => Ok(tally),
+        Err(_) => Err(Halt::OutFault),
     }
 }
 
-/// Drops a package where it is Bad. It is read into `room`.
+/// Drops a package where it is Bad. It is read into `buffer`.
 fn drop_one<D: Disk, O: Sink + Drop>(
     alloc: Global,
     db: &mut Db,
     disk: &mut D,
     number: u32,
-    room: &mut Vec<u8>,
+    buffer: &mut Vec<u8>,
     out: &mut Buffered<O>,
 ) -> Result<Tally, Halt>
     requires held { database.holds number db.old ≡ true }
@@ -91,14 +68,11 @@ fn drop_one<D: Disk, O: Sink + Drop>(
     ensures kinds { IfErr result IsOfRebuilding }
     ensures out { Hand O.Sink (result ≡ Err Halt.OutFault) out.old out.new }
 {
-    let held = mem::replace(room, Vec::new(alloc));
+    let held = mem::replace(buffer, Vec::new(alloc));
     match db.get_in(disk, number, held) {
         Ok(good) => {
-            *room = good;
-            Ok(Tally {
-                failed: 0,
-                changes: 0,
-            })
+            *buffer = good;
+            Ok(IDLE)
         }
         Err(GetFault::Bad) => drop_bad(alloc, db, disk, number, out),
         Err(GetFault::DiskFault) => Err(Halt::DiskFault),
@@ -123,9 +97,9 @@ fn drop_each<D: Disk, O: Sink + Drop>(
     let mut number = 0u32;
     let mut failed = 0u32;
     let mut changes = 0u32;
-    let mut room = Vec::new(alloc);
+    let mut buffer = Vec::new(alloc);
     while let Some(next) = db.next_above(number) {
-        let tally = drop_one(alloc, db, disk, next, &mut room, out)?;
+        let tally = drop_one(alloc, db, disk, next, &mut buffer, out)?;
         number = next;
         failed += tally.failed;
         changes += tally.changes;
@@ -163,21 +137,19 @@ pub fn rebuild<D: Disk, O: Sink + Drop>(
     requires ready { IsReady D.Disk disk.old db.old }
     ensures ended { IsTrue D.tells → EndedOnOut O.Sink out.old out.new (rebuild (state_in D.Disk disk.old db.old))
         (state_in D.Disk disk.old db.old) (state_in D.Disk disk.new db.new) result }
-    ensures limits { IsTrue D.tells → StopsAt true (first_limit true (state_in D.Disk disk.old db.old) db.old.store
+    ensures limits { IsTrue D.tells → StopsAt true (first_limit true (state_in D.Disk disk.old db.old) (room db.old)
         (rebuild (state_in D.Disk disk.old db.old)).changes) result }
     ensures current { IfOk result (λ _tally. IsCurrent D.Disk disk.new db.new) }
     ensures indexed { is_indexed db.new ≡ true }
     ensures stores { OnOk result (IsTrue D.tells → next_stores (rebuild (state_in D.Disk disk.old db.old)).changes
-        db.old.store ≡ Some (with_spare db.old.store.spare db.new.store)) }
-    ensures reach { OnOk result (IsTrue D.tells → ReachedAnew (state_in D.Disk disk.old db.old) db.old.store
+        (room db.old) ≡ Some (with_spare (room db.old).spare (room db.new))) }
+    ensures reach { OnOk result (IsTrue D.tells → ReachedAnew (state_in D.Disk disk.old db.old) (room db.old)
         (rebuild (state_in D.Disk disk.old db.old)).changes (D.files disk.old) (D.files disk.new)) }
     ensures kinds { IfErr result IsOfRebuilding }
     ensures runs { Runs D.Disk SameLog disk.old disk.new }
     ensures disk { DiskFault D.Disk (result ≡ Err Halt.DiskFault) disk.old disk.new }
     ensures out { Hand O.Sink (result ≡ Err Halt.OutFault) out.old out.new }
 {
-    match db.rebuild(alloc, disk) {
-        Ok(()) => drop_each(alloc, db, disk, out),
-        Err(fault) => Err(halt_of(fault)),
-    }
+    db.rebuild(alloc, disk)?;
+    drop_each(alloc, db, disk, out)
 }

@@ -1,9 +1,10 @@
 //! How a command that changes ends.
 
 ghost use Rattle.std.specs.Prelude.{◌≡◌};
-ghost use Rattle.rpm_change.specs.Prelude.{halt_of};
+ghost use Rattle.rpm_change.specs.Prelude.{halt_of, NoMemory};
 
 use rpm_db::ChangeFault;
+use std::alloc::AllocError;
 
 /// How many arguments of a command failed, and how many changes it made.
 #[derive(Clone, Copy, PartialEq, Eq)]
@@ -11,6 +12,24 @@ pub struct Tally {
     pub failed: u32,
     pub changes: u32,
 }
+
+/// Nothing failed, and nothing was changed.
+pub const IDLE: Tally = Tally {
+    failed: 0,
+    changes: 0,
+};
+
+/// One change was made.
+pub const CHANGED: Tally = Tally {
+    failed: 0,
+    changes: 1,
+};
+
+/// An argument failed.
+pub const FAILED: Tally = Tally {
+    failed: 1,
+    changes: 0,
+};
 
 /// Why a command was stopped before its end.
 #[derive(Clone, Copy, PartialEq, Eq)]
@@ -39,17 +58,28 @@ pub enum Halt {
 
 /// What a fault of a change makes of a command. Of the last three none comes of a header that was read, under a number
 /// that is there, on a disk that keeps what it is given.
-pub fn halt_of(fault: ChangeFault) -> Halt
-    ensures { result ≡ halt_of fault }
-{
-    match fault {
-        ChangeFault::NumbersSpent => Halt::NumbersSpent,
-        ChangeFault::GenerationSpent => Halt::GenerationSpent,
-        ChangeFault::StoreFull => Halt::StoreFull,
-        ChangeFault::IndexFull { needed } => Halt::IndexFull { needed },
-        ChangeFault::BadIndex { unit } => Halt::BadIndex { unit },
-        ChangeFault::DiskFault => Halt::DiskFault,
-        ChangeFault::NoMemory => Halt::NoMemory,
-        ChangeFault::BadHeader(_) | ChangeFault::NoSuch | ChangeFault::Stopped => Halt::NoMemory,
+impl From<ChangeFault> for Halt {
+    ghost from_gives = { λ fault e. e ≡ halt_of fault };
+
+    fn from(fault: ChangeFault) -> Halt {
+        match fault {
+            ChangeFault::NumbersSpent => Halt::NumbersSpent,
+            ChangeFault::GenerationSpent => Halt::GenerationSpent,
+            ChangeFault::StoreFull => Halt::StoreFull,
+            ChangeFault::IndexFull { needed } => Halt::IndexFull { needed },
+            ChangeFault::BadIndex { unit } => Halt::BadIndex { unit },
+            ChangeFault::DiskFault => Halt::DiskFault,
+            ChangeFault::NoMemory => Halt::NoMemory,
+            ChangeFault::BadHeader(_) | ChangeFault::NoSuch | ChangeFault::Stopped =>
+                Halt::NoMemory,
+        }
+    }
+}
+
+impl From<AllocError> for Halt {
+    ghost from_gives = { λ _ e. e ≡ NoMemory };
+
+    fn from(_: AllocError) -> Halt {
+        Halt::NoMemory
     }
 }

@@ -4,7 +4,7 @@ ghost use Rattle.std.specs.Prelude.{◌≡◌, ◌+◌, ◌<◌, ◌≤◌, true
 ghost use Rattle.rpm_change.specs.Prelude.{EndedOnErr, Hand, header, imported, IsGathering, IsOfHeaders, IsOfImporting, KeepsShelf, Leaves, left, list_head, StopIs, tally_of, turn, turn_found, WentOwing};
 
 use crate::places::{list_text, put_bad_header, put_place};
-use crate::tally::{Halt, Tally, halt_of};
+use crate::tally::{CHANGED, Halt, IDLE, Tally};
 use rpm_db::{Additions, ChangeFault, Db};
 use rpm_file::{ListFault, read_header};
 use rpm_outside::{Buffered, Disk, Shelf, Sink};
@@ -49,12 +49,9 @@ fn import_header<D: Disk, E: Sink + Drop>(
     ensures err { Hand E.Sink (result ≡ Err Halt.ErrFault) err.old err.new }
 {
     match additions.add(alloc, db, disk, blob) {
-        Ok(_) => Ok(Tally {
-            failed: 0,
-            changes: 1,
-        }),
+        Ok(_) => Ok(CHANGED),
         Err(ChangeFault::BadHeader(fault)) => put_bad_header(alloc, err, place, fault),
-        Err(fault) => Err(halt_of(fault)),
+        Err(fault) => Err(Halt::from(fault)),
     }
 }
 
@@ -116,10 +113,7 @@ pub fn import_next<D: Disk, S: Shelf, E: Sink + Drop>(
             Ok(Turn { tally, is_last })
         }
         Ok(None) => Ok(Turn {
-            tally: Tally {
-                failed: 0,
-                changes: 0,
-            },
+            tally: IDLE,
             is_last: true,
         }),
         Err(fault) => match stop_of(fault) {

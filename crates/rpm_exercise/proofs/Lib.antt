@@ -1,11 +1,9 @@
 pub mod Asking
 pub mod Halts
 pub mod Limited
-pub mod Made
 pub mod Named
 pub mod Parts
-pub mod Reading
 pub mod Through
 pub mod Told
-pub mod Turned
 pub mod Walked
+pub mod Vocabulary

@@ -2,9 +2,7 @@
 use Rattle.std.proofs.Common.{◌≡◌, ℕ, ◌+◌, ◌<◌, zero, suc, List, [], ◌∷◌, ◌++◌, Result, Ok, Err, refl, sym, subst, arith}
 use Rattle.std.specs.Prelude.{codes, IfOk}
 use Rattle.std.proofs.lemmas.Fmt.{decimal_digit}
-use Rattle.rpm_version.specs.Capability.{capability, words}
-use Rattle.rpm_change.specs.Exercise.{numbered}
-use Rattle.rpm_exercise.specs.Exercised.{capability_named}
+use Rattle.rpm_exercise.proofs.Vocabulary.{capability, capability_named, numbered, words}
 
 digit_named : (c : ℕ) → c < 7 → capability (codes "cap" ++ (48 + c) ∷ []) ≡ Ok (capability_named (codes "cap" ++ (48 + c) ∷ []))
 unfolding capability words

@@ -1,9 +1,6 @@
 -- The changes of the exercise, one round after the other.
-use Rattle.std.proofs.Common.{◌≡◌, ℕ, ◌+◌, ◌-◌, ◌<◌, ◌≤◌, suc, List, [], ◌∷◌, ◌++◌, sym, ap, arith}
-use Rattle.std.specs.List.{flat_map, range_with_len}
-use Rattle.rpm_db.specs.Changes.{next}
-use Rattle.rpm_db.specs.State.{State}
-use Rattle.rpm_exercise.specs.Rounds.{changes_after, changes}
+use Rattle.std.proofs.Common.{◌≡◌, ℕ, ◌+◌, ◌-◌, ◌<◌, ◌≤◌, suc, List, [], ◌∷◌, ◌++◌, ap, ◌∙◌, arith}
+use Rattle.rpm_exercise.proofs.Vocabulary.{changes, changes_after, flat_map, next, range_with_len, State}
 
 -- ---- numbers that are gone through
 
@@ -22,6 +19,6 @@ each_all f n = let whole : n ≡ n - 0 = omega arith in ap (λ (m : ℕ). flat_m
 
 -- ---- the three rounds
 
-pub all_is : (n b : ℕ) (s : State) → b ≡ next s - 1 → changes n s ≡ changes_after b n
+pub all_is : (n : ℕ) {b k : ℕ} (s : State) → b ≡ k - 1 → k ≡ next s → changes_after b n ≡ changes n s
 unfolding changes
-all_is n b s is = ap (λ (k : ℕ). changes_after k n) (sym is)
+all_is n s before is = ap (λ (m : ℕ). changes_after m n) (before ∙ ap (λ (m : ℕ). m - 1) is)

@@ -1,56 +1,53 @@
 -- Changes of the exercise on a disk and a database.
-use Rattle.std.proofs.Common.{◌≡◌, ℕ, Bool, true, List, [], ◌∷◌, ◌++◌, Result, Ok, Err, refl, sym, ap}
-use Rattle.std.specs.Prelude.{IsTrue}
+use Rattle.std.proofs.Common.{◌≡◌, true, List, [], ◌∷◌, ◌++◌, Result, Ok, Err, refl, sym, ap, subst, ◌+◌, ℕ}
+use Rattle.std.specs.Prelude.{IsTrue, IfErr}
 use Rattle.rpm_outside.specs.declared.disk.Disk as disk
-use Rattle.rpm_db.specs.Changed.{IsReady}
-use Rattle.rpm_db.specs.Changes.{Change, apply}
-use Rattle.rpm_db.specs.Database.{Database}
-use Rattle.rpm_db.specs.Frame.{state_in}
-use Rattle.rpm_db.specs.Lawful.{IsWholeIndex}
-use Rattle.rpm_change.specs.declared.tally.Tally.{Tally}
-use Rattle.rpm_change.specs.declared.tally.Halt.{Halt}
+use Rattle.rpm_exercise.proofs.Vocabulary.{carried_then, Change, counted_went, Database, EndedQuietly, Halt, IsOfChange, IsOfChanges, IsReady, left_none}
+use Rattle.rpm_exercise.proofs.Vocabulary.{MakesOne, making, none_gone, none_went, plus, quiet_joins, quiet_none, state_in, stopped_went, Tally, through_none}
+use Rattle.rpm_exercise.proofs.Vocabulary.{unchanged, Went, went_ahead, went_then, WentThrough}
 use Rattle.rpm_change.specs.declared.tally.Halt.TheVariants as halt
-use Rattle.rpm_change.specs.Endings.{outputs, ThroughSome}
-use Rattle.rpm_change.specs.Steps.{Course}
-use Rattle.rpm_change.specs.Went.{EndedQuietly, LeftOn, LimitsOn, Went}
-use Rattle.rpm_change.specs.inner.Courses.{none_gone, plus, through_none}
-use Rattle.rpm_change.specs.inner.Going.{counted_went, none_went, quiet_joins, quiet_none, stopped_went, went_ahead, went_as, went_then}
-use Rattle.rpm_change.specs.inner.Leaving.{carried_then, left_none, unchanged}
-use Rattle.rpm_exercise.specs.Ready.{WentThrough}
-use Rattle.rpm_exercise.specs.Rounds.{making}
 
-gone_quietly : (course : Course) (ot et : Bool) (o e : List ℕ) → ThroughSome course.steps (outputs ot o et e) (outputs ot o et e)
-gone_quietly course ot et o e = none_gone course _ _ (through_none {ot = ot} {et = et} o e)
+one_kinds : (change : Change) (r : Result Tally Halt) → IfErr r (IsOfChange change) → IfErr r IsOfChanges
+one_kinds change (Ok tally) kinds = tt
+one_kinds change (Err h) kinds = (kinds.0, kinds.1, kinds.2)
+
+-- what some changes and then others came to: nothing fails
+abbrev pub and_then : Tally → Result Tally Halt → Result Tally Halt
+and_then a (Ok b) = Ok (record { failed = 0; changes = a.changes + b.changes })
+and_then a (Err h) = Err h
 
 module _ {D : Type 0} (d : disk.Ghosts D) where
-  -- one change was made
-  pub one_through : (change : Change) (old new : D) (before after : Database)
-      → (IsTrue d.tells → state_in d new after ≡ apply change (state_in d old before))
-      → (IsTrue d.tells → LimitsOn d old new before after (change ∷ []) (Ok (record { failed = 0; changes = 1 })))
-      → (IsTrue d.tells → IsWholeIndex (d.files old).idx → IsWholeIndex (d.files new).idx)
-      → LeftOn d old new before after (Ok (record { failed = 0; changes = 1 }))
-      → WentThrough d (change ∷ []) old new before after (Ok (record { failed = 0; changes = 1 }))
-  one_through change old new before after made limits whole left = record {
-    course = record {
-      ended = λ told ot et o e.
-          record { steps = through_none {ot = ot} {et = et} o e; failed = refl; changes = refl; state_is = made told };
-      limits = limits;
-      whole = whole;
-      left = left;
-    };
-    spent = tt;
-    kinds = tt;
-  }
+  -- one change
+  pub one_through : {change : Change} {old new : D} {before after : Database} {r : Result Tally Halt} → MakesOne d change old new before after r
+      → WentThrough d (change ∷ []) old new before after r
+  one_through {change = change} {r = r} made = record { course = made.went; spent = made.spent; kinds = one_kinds change r made.kinds }
 
-  -- there was no memory
-  pub memory_through : ((x : D) → d.follows x x) → (at : D) (db : Database) → IsReady d at db → (changes : List Change)
-      → WentThrough d changes at at db db (Err halt.NoMemory)
-  memory_through stays at db ready changes = record {
-    course = stopped_went d (making changes) halt.NoMemory (λ s t. gone_quietly (making changes)) (λ i. refl) tt
-        (left_none d stays at db ready (Err halt.NoMemory) (λ is. absurd cc));
-    spent = tt;
-    kinds = tt;
-  }
+  module _ (stays : (x : D) → d.follows x x) (at : D) (db : Database) (ready : IsReady d at db) where
+    -- there was no memory
+    pub memory_through : (changes : List Change) → WentThrough d changes at at db db (Err halt.NoMemory)
+    memory_through changes = record {
+      course = stopped_went d (making changes) halt.NoMemory
+          (λ s t ot et o e. none_gone (making changes) _ _ (through_none {ot = ot} {et = et} o e)) (λ i. refl) tt
+          (left_none d stays at db ready (Err halt.NoMemory) (λ is. absurd cc));
+      spent = tt;
+      kinds = (λ is. cc, λ is. cc, λ is. cc);
+    }
+
+    pub memory_one : (change : Change) → MakesOne d change at at db db (Err halt.NoMemory)
+    memory_one change = record {
+      went = (memory_through (change ∷ [])).course;
+      one = tt;
+      kinds = (λ is. cc, λ is. cc, λ is. cc, tt);
+      spent = tt;
+    }
+
+    -- nothing was done
+    pub none_through : WentThrough d [] at at db db (Ok (record { failed = 0; changes = 0 }))
+    none_through = record {
+      course = none_went d stays (unchanged d at db ready) at db ready.indexed (quiet_none (state_in d at db));
+      spent = tt;
+      kinds = tt;
+    }
 
   -- nothing fails
   pub none_failed : {old new : D} {before after : Database} (changes : List Change) (tally : Tally)
@@ -60,32 +57,29 @@ module _ {D : Type 0} (d : disk.Ghosts D) where
       counted_went d (making changes) tally (record { failed = 0; changes = tally.changes })
       (λ told. ap (λ (n : ℕ). record { failed = n; changes = tally.changes }) (sym (w.ended told true true [] []).failed)) w
 
-  -- some changes and then others
-  pub through_then : ((x y z : D) → d.follows x y → d.follows y z → d.follows x z) → {old at new : D} {before db after : Database} (xs ys : List Change)
-      (a : Tally) (r : Result Tally Halt) → Went d (IsTrue d.tells) old at before db (Ok a) EndedQuietly (making xs)
-      → Went d (IsTrue d.tells) at new db after r EndedQuietly (making ys)
-      → Went d (IsTrue d.tells) old new before after (plus a r) EndedQuietly (making (xs ++ ys))
-  through_then joins {old = old} {at = at} {new = new} {before = before} {db = db} {after = after} xs ys a r first second =
-      went_then d joins quiet_joins (carried_then d old at new before db after) (λ carried told rows. carried.index told rows) (making xs) first (making ys) r
-      second
+  module _ (joins : (x y z : D) → d.follows x y → d.follows y z → d.follows x z) {old at new : D} {before db after : Database} {xs ys : List Change}
+      {a : Tally} where
+    both_through : (r : Result Tally Halt) → WentThrough d xs old at before db (Ok a) → WentThrough d ys at new db after r
+        → Went d (IsTrue d.tells) old new before after (plus a r) EndedQuietly (making (xs ++ ys))
+    both_through r first second =
+        went_then d joins quiet_joins (carried_then d old at new before db after) (λ carried told rows. carried.index told rows) (making xs)
+        first.course (making ys) r second.course
+
+    -- some changes and then others
+    pub through_then : (r : Result Tally Halt) → WentThrough d xs old at before db (Ok a) → WentThrough d ys at new db after r
+        → WentThrough d (xs ++ ys) old new before after (and_then a r)
+    through_then (Ok b) first second =
+        record { course = none_failed (xs ++ ys) _ (both_through (Ok b) first second); spent = tt; kinds = tt }
+    through_then (Err h) first second = record { course = both_through (Err h) first second; spent = second.spent; kinds = second.kinds }
 
   -- stopped before these
-  pub through_ahead : {old new : D} {before after : Database} (xs ys : List Change) (h : Halt)
-      → Went d (IsTrue d.tells) old new before after (Err h) EndedQuietly (making xs)
-      → Went d (IsTrue d.tells) old new before after (Err h) EndedQuietly (making (xs ++ ys))
-  through_ahead xs ys h w = went_ahead d quiet_joins.ahead (making xs) (making ys) w
+  pub through_ahead : {old new : D} {before after : Database} {xs : List Change} (ys : List Change) {h : Halt}
+      → WentThrough d xs old new before after (Err h) → WentThrough d (xs ++ ys) old new before after (Err h)
+  through_ahead {xs = xs} ys went =
+      record { course = went_ahead d quiet_joins.ahead (making xs) (making ys) went.course; spent = went.spent; kinds = went.kinds }
 
   -- of the same changes
-  pub through_as : {old new : D} {before after : Database} {r : Result Tally Halt} (xs ys : List Change) → xs ≡ ys
-      → Went d (IsTrue d.tells) old new before after r EndedQuietly (making xs)
-      → Went d (IsTrue d.tells) old new before after r EndedQuietly (making ys)
-  through_as xs ys same w = went_as d (making xs) (making ys) (λ told. told) (λ told. ap making same) (λ s t e. e) w
-
-  -- nothing was done
-  pub none_through : ((x : D) → d.follows x x) → (at : D) (db : Database) → IsReady d at db
-      → WentThrough d [] at at db db (Ok (record { failed = 0; changes = 0 }))
-  none_through stays at db ready = record {
-    course = none_went d stays (unchanged d at db ready) at db ready.indexed (quiet_none (state_in d at db));
-    spent = tt;
-    kinds = tt;
-  }
+  pub through_as : {old new : D} {before after : Database} {r : Result Tally Halt} {xs ys : List Change} → xs ≡ ys
+      → WentThrough d xs old new before after r → WentThrough d ys old new before after r
+  through_as {old = old} {new = new} {before = before} {after = after} {r = r} =
+      subst (λ (cs : List Change). WentThrough d cs old new before after r)

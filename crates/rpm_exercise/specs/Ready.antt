@@ -5,18 +5,19 @@ use Rattle.rpm_outside.specs.Frame.{DiskFault}
 use Rattle.rpm_db.specs.Changes.{Change}
 use Rattle.rpm_db.specs.Database.{Database, is_indexed}
 use Rattle.rpm_db.specs.Frame.{Runs}
-use Rattle.rpm_db.specs.inner.Writes.{SameFiles}
+use Rattle.rpm_db.specs.Runs.{SameFiles}
 use Rattle.rpm_select.specs.Frame.{HasRows}
 use Rattle.rpm_change.specs.declared.tally.Tally.{Tally}
 use Rattle.rpm_change.specs.declared.tally.Halt.{Halt}
 use Rattle.rpm_change.specs.declared.tally.Halt.TheVariants as halt
+use Rattle.rpm_change.specs.Singles.{IsSpent}
 use Rattle.rpm_change.specs.Went.{EndedQuietly, Went}
 use Rattle.rpm_exercise.specs.Endings.{IsOfReading, IsOfAsking, IsOfExercise}
-use Rattle.rpm_exercise.specs.Rounds.{IsOfChanges, IsSpent, making}
+use Rattle.rpm_exercise.specs.Rounds.{IsOfChanges, making}
 
 module _ {D : Type 0} (d : disk.Ghosts D) where
   -- packages were read, and nothing else happened
-  pub record Reads {X : Type 0} (old new : D) (r : Result X Halt) : Type 0 where
+  pub record ReadsPackages {X : Type 0} (old new : D) (r : Result X Halt) : Type 0 where
     pub kinds : IfErr r IsOfReading
     pub runs : Runs d SameFiles old new
     pub disk : DiskFault d (r ≡ Err halt.DiskFault) old new

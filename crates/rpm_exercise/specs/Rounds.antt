@@ -1,9 +1,8 @@
 -- The changes that the exercise makes, round by round.
-use Rattle.std.specs.Prelude.{◌≡◌, ℕ, ◌+◌, ◌-◌, ◌%◌, ◌==◌, List, [], ◌∷◌, ◌++◌, false, if◌then◌else◌}
+use Rattle.std.specs.Prelude.{◌≢◌, ℕ, ◌+◌, ◌-◌, ◌%◌, ◌==◌, List, [], ◌∷◌, ◌++◌, false, if◌then◌else◌}
 use Rattle.std.specs.List.{flat_map, range_with_len}
 use Rattle.rpm_header.specs.Laid.{laid}
 use Rattle.rpm_db.specs.Changes.{Change, Add, Put, Erase, next}
-use Rattle.rpm_db.specs.Database.{Database, next_number}
 use Rattle.rpm_db.specs.State.{State}
 use Rattle.rpm_change.specs.declared.tally.Halt.{Halt}
 use Rattle.rpm_change.specs.declared.tally.Halt.TheVariants as halt
@@ -42,13 +41,4 @@ making changes = record { steps = []; failed = 0; changes = changes }
 
 -- a change reads no shelf and writes no line
 abbrev pub IsOfChanges : Halt → Type 0
-IsOfChanges halt.ShelfFault = ⊥
-IsOfChanges halt.OutFault = ⊥
-IsOfChanges halt.ErrFault = ⊥
-IsOfChanges others = Unit {0}
-
--- no number, no generation is left in this value
-abbrev pub IsSpent : Database → Halt → Type 0
-IsSpent db halt.NumbersSpent = next_number db ≡ 4294967295
-IsSpent db halt.GenerationSpent = db.store.generation ≡ 4294967295
-IsSpent db others = Unit {0}
+IsOfChanges h = (h ≢ halt.ShelfFault) × (h ≢ halt.OutFault) × (h ≢ halt.ErrFault)

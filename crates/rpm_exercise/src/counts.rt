@@ -1,7 +1,7 @@
 //! How many packages a question picks.
 
 ghost use Rattle.std.specs.Prelude.{◌≡◌, false, length, IsTrue, Ok, IfOk};
-ghost use Rattle.rpm_exercise.specs.Prelude.{above, Asks, capability, capability_named, HasRows, IsAskable, Kept, packages_in, pick_halt, picked, picks, Reads, Serves};
+ghost use Rattle.rpm_exercise.specs.Prelude.{above, Asks, capability, capability_named, HasRows, IsAskable, Kept, packages_in, pick_halt, picked, picks, ReadsPackages, Serves};
 ghost use Rattle.rpm_select.specs.declared.selection.Selection.TheVariants as question;
 
 use rpm_change::Halt;
@@ -33,7 +33,7 @@ fn count_served<D: Disk>(
     requires going { db.now.stopped ≡ false }
     ensures told { IsTrue D.tells → Serves picker.old (packages_in D.Disk disk.old db.now) selection.now
         → IfOk result (λ count. count ≡ length (above 0 (picks (packages_in D.Disk disk.old db.now) selection.now))) }
-    ensures reads { Reads D.Disk disk.old disk.new result }
+    ensures reads { ReadsPackages D.Disk disk.old disk.new result }
 {
     let mut number = 0;
     let mut count = 0u32;

@@ -1,7 +1,7 @@
 //! The digest of what an export writes.
 
 ghost use Rattle.std.specs.Prelude.{◌≡◌, ◌++◌, ℕ, List, false, IsTrue, IfOk};
-ghost use Rattle.rpm_exercise.specs.Prelude.{above, Asks, entry_in, export_bytes, exported, flat_map, HasRows, Holds256, IsAskable, Kept, packages_in, picks, Reads, Serves, sha256};
+ghost use Rattle.rpm_exercise.specs.Prelude.{above, Asks, entry_in, export_bytes, exported, flat_map, HasRows, Holds256, IsAskable, Kept, packages_in, picks, ReadsPackages, Serves, sha256};
 ghost use Rattle.rpm_select.specs.declared.selection.Selection.TheVariants as question;
 
 use crate::counts::halt_of;
@@ -38,7 +38,7 @@ fn digest_served<D: Disk>(
     ensures told { IsTrue D.tells → Serves picker.old (packages_in D.Disk disk.old db.now) question.All
         → IfOk result (λ digest. digest ≡ sha256
         (flat_map exported (above 0 (picks (packages_in D.Disk disk.old db.now) question.All)))) }
-    ensures reads { Reads D.Disk disk.old disk.new result }
+    ensures reads { ReadsPackages D.Disk disk.old disk.new result }
 {
     let mut hasher = Sha256::new();
     let mut number = 0;

@@ -1,9 +1,9 @@
 //! The changes of the exercise, round by round.
 
-ghost use Rattle.std.specs.Prelude.{◌≡◌, ◌+◌, ◌<◌, ◌≤◌, [], ◌∷◌, IfOk, IfErr};
-ghost use Rattle.rpm_exercise.specs.Prelude.{Add, changes, Erase, IsReady, made, Put, round_changes, state_in, turn, WentThrough};
+ghost use Rattle.std.specs.Prelude.{◌≡◌, ◌+◌, ◌<◌, ◌≤◌, IfOk, IfErr};
+ghost use Rattle.rpm_exercise.specs.Prelude.{change_at, changes, IsReady, made, MakesOne, round_changes, state_in, turn, WentThrough};
 
-use rpm_change::{Halt, Tally, generated, halt_of};
+use rpm_change::{Halt, IDLE, Tally, generated, put_blob, take_out};
 use rpm_db::Db;
 use rpm_outside::Disk;
 use std::alloc::Global;
@@ -19,31 +19,21 @@ pub enum Round {
     Erasing,
 }
 
-// What became of a change that was made, and of a turn that has none.
-const CHANGED: Tally = Tally {
-    failed: 0,
-    changes: 1,
-};
-
-const IDLE: Tally = Tally {
-    failed: 0,
-    changes: 0,
-};
-
-/// Adds header `i`.
-fn add_one<D: Disk>(alloc: Global, db: &mut Db, disk: &mut D, i: u32) -> Result<Tally, Halt>
+/// Puts header `i` with the leading number `m` under a new number, or in place of the package that a number has.
+fn put_one<D: Disk>(
+    alloc: Global,
+    db: &mut Db,
+    disk: &mut D,
+    number: Option<u32>,
+    i: u32,
+    m: u32,
+) -> Result<Tally, Halt>
     requires small { i < 4294967295 }
     requires ready { IsReady D.Disk disk.old db.old }
-    ensures went { WentThrough D.Disk (Add (made i 1) ∷ []) disk.old disk.new db.old db.new result }
-    ensures few { IfOk result (λ tally. tally.changes ≤ 1) }
+    ensures { MakesOne D.Disk (change_at number (made i m)) disk.old disk.new db.old db.new result }
 {
-    let Ok(blob) = generated(alloc, i, 1) else {
-        return Err(Halt::NoMemory);
-    };
-    match db.add(alloc, disk, &blob) {
-        Ok(_) => Ok(CHANGED),
-        Err(fault) => Err(halt_of(fault)),
-    }
+    let blob = generated(alloc, i, m)?;
+    put_blob(alloc, db, disk, number, &blob)
 }
 
 /// The number of header `i`. It was given before, so it is one.
@@ -54,48 +44,6 @@ fn number_of(b: u32, i: u32) -> Result<u32, Halt>
     match b.checked_add(i) {
         Some(number) => Ok(number),
         None => Err(Halt::NoMemory),
-    }
-}
-
-/// Puts header `i` in place of the package of its number.
-fn replace_one<D: Disk>(
-    alloc: Global,
-    db: &mut Db,
-    disk: &mut D,
-    b: u32,
-    i: u32,
-) -> Result<Tally, Halt>
-    requires small { i < 4294967295 }
-    requires ready { IsReady D.Disk disk.old db.old }
-    ensures went { WentThrough D.Disk (Put (b + i) (made i 2) ∷ []) disk.old disk.new db.old db.new result }
-    ensures few { IfOk result (λ tally. tally.changes ≤ 1) }
-{
-    let number = number_of(b, i)?;
-    let Ok(blob) = generated(alloc, i, 2) else {
-        return Err(Halt::NoMemory);
-    };
-    match db.put(alloc, disk, number, &blob) {
-        Ok(()) => Ok(CHANGED),
-        Err(fault) => Err(halt_of(fault)),
-    }
-}
-
-/// Takes the package of header `i` out.
-fn erase_one<D: Disk>(
-    alloc: Global,
-    db: &mut Db,
-    disk: &mut D,
-    b: u32,
-    i: u32,
-) -> Result<Tally, Halt>
-    requires ready { IsReady D.Disk disk.old db.old }
-    ensures went { WentThrough D.Disk (Erase (b + i) ∷ []) disk.old disk.new db.old db.new result }
-    ensures few { IfOk result (λ tally. tally.changes ≤ 1) }
-{
-    let number = number_of(b, i)?;
-    match db.erase(alloc, disk, number) {
-        Ok(()) => Ok(CHANGED),
-        Err(fault) => Err(halt_of(fault)),
     }
 }
 
@@ -114,20 +62,20 @@ fn take_turn<D: Disk>(
     ensures few { IfOk result (λ tally. tally.changes ≤ 1) }
 {
     match round {
-        Round::Adding => add_one(alloc, db, disk, i),
+        Round::Adding => put_one(alloc, db, disk, None, i, 1),
         Round::Replacing => {
-            if i % 3 == 0 {
-                replace_one(alloc, db, disk, b, i)
-            } else {
-                Ok(IDLE)
+            if i % 3 != 0 {
+                return Ok(IDLE);
             }
+            let number = number_of(b, i)?;
+            put_one(alloc, db, disk, Some(number), i, 2)
         }
         Round::Erasing => {
-            if i % 5 == 0 {
-                erase_one(alloc, db, disk, b, i)
-            } else {
-                Ok(IDLE)
+            if i % 5 != 0 {
+                return Ok(IDLE);
             }
+            let number = number_of(b, i)?;
+            take_out(alloc, db, disk, number)
         }
     }
 }
@@ -182,8 +130,7 @@ fn go_round<D: Disk>(
 pub fn change_all<D: Disk>(alloc: Global, db: &mut Db, disk: &mut D, n: u32) -> Result<Tally, Halt>
     requires few { n ≤ 100000 }
     requires ready { IsReady D.Disk disk.old db.old }
-    ensures went { WentThrough D.Disk (changes n (state_in D.Disk disk.old db.old)) disk.old disk.new db.old db.new
-        result }
+    ensures { WentThrough D.Disk (changes n (state_in D.Disk disk.old db.old)) disk.old disk.new db.old db.new result }
 {
     let b = db.next_number().saturating_sub(1);
     let added = go_round(alloc, db, disk, Round::Adding, b, n)?;
@@ -191,6 +138,6 @@ pub fn change_all<D: Disk>(alloc: Global, db: &mut Db, disk: &mut D, n: u32) -> 
     let erased = go_round(alloc, db, disk, Round::Erasing, b, n)?;
     Ok(Tally {
         failed: 0,
-        changes: added.changes + replaced.changes + erased.changes,
+        changes: added.changes + (replaced.changes + erased.changes),
     })
 }

@@ -1,7 +1,7 @@
 //! The exercise as a whole.
 
 ghost use Rattle.std.specs.Prelude.{◌≡◌, ℕ, ◌≤◌, Bool, List, true, IsTrue, Ok, Err, OnOk, IfOk, IfErr};
-ghost use Rattle.rpm_exercise.specs.Prelude.{changes, DiskFault, Ended, EndedOnOut, exercise, Hand, HasRows, inner, is_indexed, IsAskable, IsCurrent, IsIndexed, IsNext, IsOfReading, IsOfTelling, IsReady, IsRefused, IsStop, IsTold, IsUnbroken, LeftOn, LimitsOn, LimitsTurn, OnceBegun, packages_in, ReachesMade, Remade, Renewed, Runs, SameFiles, SameLog, state_in, summary, units_needed, with_out};
+ghost use Rattle.rpm_exercise.specs.Prelude.{changes, DiskFault, Ended, EndedOnOut, exercise, Hand, HasRows, inner, is_indexed, IsAskable, IsCurrent, IsIndexed, IsNext, IsOfReading, IsOfTelling, IsReady, IsRefused, IsStop, IsTold, IsUnbroken, LeftOn, LimitsOn, LimitsTurn, OnceBegun, packages_in, ReachesMade, Remade, Renewed, room, Runs, SameFiles, SameLog, state_in, summary, units_needed, with_out};
 ghost use Rattle.rpm_db.specs.Database as database;
 
 use crate::rounds::change_all;
@@ -72,10 +72,10 @@ fn change_and_tell<D: Disk, O: Sink + Drop>(
 /// Makes the index anew, whatever it was. There are no packages, so it has room.
 fn renew<D: Disk>(alloc: Global, db: &mut Db, disk: &mut D) -> Result<(), Halt>
     requires ready { IsReady D.Disk disk.old db.old }
-    ensures store { db.new.store ≡ db.old.store }
+    ensures store { room db.new ≡ room db.old }
     ensures indexed { is_indexed db.new ≡ true }
     ensures current { OnOk result (IsCurrent D.Disk disk.new db.new) }
-    ensures reach { OnOk result (IsTrue D.tells → ReachesMade (units_needed (D.files disk.old).pkg (Ok db.old.store))
+    ensures reach { OnOk result (IsTrue D.tells → ReachesMade (units_needed (D.files disk.old).pkg (Ok (room db.old)))
         (D.files disk.old).idx (D.files disk.new).idx) }
     ensures kinds { IfErr result IsOfReading }
     ensures runs { Runs D.Disk Remade disk.old disk.new }
@@ -100,8 +100,8 @@ fn exercise_all<D: Disk, O: Sink + Drop>(
     requires ready { IsReady D.Disk disk.old db.old }
     ensures ended { IsTrue D.tells → EndedOnOut O.Sink out.old out.new (exercise n (state_in D.Disk disk.old db.old))
         (state_in D.Disk disk.old db.old) (state_in D.Disk disk.new db.new) result }
-    ensures limits { IsTrue D.tells → Renewed (units_needed (D.files disk.old).pkg (Ok db.old.store))
-        (λ mid. LimitsTurn true (state_in D.Disk disk.old db.old) db.old.store db.new.store mid (D.files disk.new)
+    ensures limits { IsTrue D.tells → Renewed (units_needed (D.files disk.old).pkg (Ok (room db.old)))
+        (λ mid. LimitsTurn true (state_in D.Disk disk.old db.old) (room db.old) (room db.new) mid (D.files disk.new)
         (changes n (state_in D.Disk disk.old db.old)) result) (D.files disk.old) }
     ensures current { IfOk result (λ _tally. IsCurrent D.Disk disk.new db.new) }
     ensures stop { IfErr result (IsStop db.new) }
@@ -161,8 +161,8 @@ pub fn exercise<D: Disk, O: Sink + Drop>(
         (state_in D.Disk disk.new db.new) r (with_out O.Sink err_tells err out.old)
         (with_out O.Sink err_tells err out.new)) result }
     ensures limits { IsTrue D.tells → OnceBegun
-        (λ r. Renewed (units_needed (D.files disk.old).pkg (Ok db.old.store))
-        (λ mid. LimitsTurn true (state_in D.Disk disk.old db.old) db.old.store db.new.store mid (D.files disk.new)
+        (λ r. Renewed (units_needed (D.files disk.old).pkg (Ok (room db.old)))
+        (λ mid. LimitsTurn true (state_in D.Disk disk.old db.old) (room db.old) (room db.new) mid (D.files disk.new)
         (changes n (state_in D.Disk disk.old db.old)) r) (D.files disk.old)) result }
     ensures current { IfOk result (λ _tally. IsCurrent D.Disk disk.new db.new) }
     ensures stop { OnceBegun (λ r. IfErr r (IsStop db.new)) result }

@@ -27,14 +27,10 @@ fn push_capability<D: Disk>(
         → OnOk result (text.new.items ≡ text.old.items ++ capability_line (packages_in D.Disk disk.old db.now) c) }
     ensures asks { Asks D.Disk disk.old disk.new db.now result }
 {
-    let Ok(name) = capability_name(alloc, c) else {
-        return Err(Halt::NoMemory);
-    };
+    let name = capability_name(alloc, c)?;
     let count = count_provided(alloc, db, disk, &name)?;
-    match push_count(text, name.as_bytes(), count) {
-        Ok(()) => Ok(()),
-        Err(_) => Err(Halt::NoMemory),
-    }
+    push_count(text, name.as_bytes(), count)?;
+    Ok(())
 }
 
 /// Appends the lines of the seven capabilities.
@@ -69,10 +65,8 @@ fn push_packages<D: Disk>(
     ensures asks { Asks D.Disk disk.old disk.new db.now result }
 {
     let count = count_picked(alloc, db, disk, &Selection::All)?;
-    match push_count(text, b"packages", count) {
-        Ok(()) => Ok(()),
-        Err(_) => Err(Halt::NoMemory),
-    }
+    push_count(text, b"packages", count)?;
+    Ok(())
 }
 
 /// How many packages are left, how many provide each capability, and the digest of what an export would write.
@@ -86,8 +80,6 @@ pub fn summary<D: Disk>(alloc: Global, db: &Db, disk: &mut D) -> Result<Vec<u8>,
     push_packages(alloc, db, disk, &mut text)?;
     push_capabilities(alloc, db, disk, &mut text)?;
     let digest = digest(alloc, db, disk)?;
-    match push_digest(alloc, &mut text, &digest) {
-        Ok(()) => Ok(text),
-        Err(_) => Err(Halt::NoMemory),
-    }
+    push_digest(alloc, &mut text, &digest)?;
+    Ok(text)
 }

@@ -1,5 +1,5 @@
 -- Courses one after the other, and how far they went.
-use Rattle.std.proofs.Common.{◌≡◌, ℕ, ◌+◌, Bool, true, false, List, [], ◌∷◌, ◌++◌, Result, Ok, Err, refl, sym, ap, ◌∙◌, subst, append_assoc, length-append, arith}
+use Rattle.std.proofs.Common.{◌≡◌, ◌≢◌, ℕ, ◌+◌, Bool, true, false, List, [], ◌∷◌, ◌++◌, Result, Ok, Err, refl, sym, ap, ◌∙◌, subst, append_assoc, length-append, arith}
 use Rattle.std.proofs.lemmas.List.{append-nil}
 use Rattle.std.specs.List.{flat_map}
 use Rattle.std.proofs.lemmas.Grind.{flat_map-append}
@@ -44,16 +44,9 @@ pub stop_by : (h : Halt) (c d : Course) (s t s' t' : State) (old new old' new' :
     → (ThroughSome c.steps old new → ThroughSome d.steps old' new')
     → ((at : Bool) → StoppedWithin c.steps at old new → StoppedWithin d.steps at old' new')
     → Ended c s t (Err h) old new → Ended d s' t' (Err h) old' new'
-stop_by halt.NumbersSpent c d s t s' t' old new old' new' some within p = some p
-stop_by halt.GenerationSpent c d s t s' t' old new old' new' some within p = some p
-stop_by halt.StoreFull c d s t s' t' old new old' new' some within p = some p
-stop_by (halt.IndexFull needed) c d s t s' t' old new old' new' some within p = some p
-stop_by (halt.BadIndex unit) c d s t s' t' old new old' new' some within p = some p
-stop_by halt.DiskFault c d s t s' t' old new old' new' some within p = some p
-stop_by halt.ShelfFault c d s t s' t' old new old' new' some within p = some p
 stop_by halt.OutFault c d s t s' t' old new old' new' some within p = within true p
 stop_by halt.ErrFault c d s t s' t' old new old' new' some within p = within false p
-stop_by halt.NoMemory c d s t s' t' old new old' new' some within p = some p
+stop_by others c d s t s' t' old new old' new' some within p = some p
 
 -- whatever was to come after it
 module _ (a b : Course) (old new : Outputs) where
@@ -93,16 +86,15 @@ none_gone course old new none = record { done = []; rest = course.steps; all_is 
 -- a fault of a change leaves some of the steps done
 pub stopped_ended : (course : Course) (s t : State) (f : ChangeFault) (old new : Outputs) → ThroughSome course.steps old new
     → Ended course s t (Err (halt_of f)) old new
-stopped_ended course s t fault.NumbersSpent old new some = some
-stopped_ended course s t fault.GenerationSpent old new some = some
-stopped_ended course s t fault.StoreFull old new some = some
-stopped_ended course s t (fault.IndexFull needed) old new some = some
-stopped_ended course s t (fault.BadIndex unit) old new some = some
 stopped_ended course s t fault.DiskFault old new some = some
-stopped_ended course s t fault.NoMemory old new some = some
-stopped_ended course s t (fault.BadHeader why) old new some = some
-stopped_ended course s t fault.NoSuch old new some = some
-stopped_ended course s t fault.Stopped old new some = some
+stopped_ended course s t others old new some = some
+
+-- so does a stop that is of no sink
+pub stopped_by : (course : Course) (s t : State) (h : Halt) (old new : Outputs) → h ≢ halt.OutFault → h ≢ halt.ErrFault → ThroughSome course.steps old new
+    → Ended course s t (Err h) old new
+stopped_by course s t halt.OutFault old new out err some = absurd (out refl)
+stopped_by course s t halt.ErrFault old new out err some = absurd (err refl)
+stopped_by course s t others old new out err some = some
 
 pub refused_quietly : (course : Course) (f : ChangeFault) (s t : State) → EndedQuietly course s t (Err (halt_of f))
 refused_quietly course f s t = λ ot et o e. stopped_ended course s t f _ _ (none_gone course _ _ (through_none {ot = ot} {et = et} o e))

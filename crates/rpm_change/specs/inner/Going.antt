@@ -5,8 +5,7 @@ use Rattle.std.specs.Prelude.{IsTrue, IfErr}
 use Rattle.rpm_outside.specs.declared.disk.Disk as disk
 use Rattle.rpm_outside.specs.declared.sink.Sink as sink
 use Rattle.rpm_outside.specs.declared.buffered.Buffered.{Buffered}
-use Rattle.rpm_outside.specs.Buffered.{inner}
-use Rattle.rpm_outside.specs.Causes.{HasCauseAt, Rose}
+use Rattle.rpm_outside.specs.Causes.{HasCauseAt}
 use Rattle.rpm_outside.specs.Files.{Files, Units}
 use Rattle.rpm_pkgdb.specs.Store.{Store}
 use Rattle.rpm_pkgdb.specs.Written.{with_spare}
@@ -18,100 +17,21 @@ use Rattle.rpm_db.specs.Frame.{Runs, state_in}
 use Rattle.rpm_db.specs.Lawful.{IsWholeIndex}
 use Rattle.rpm_db.specs.Refusals.{WholeCause}
 use Rattle.rpm_db.specs.State.{State}
-use Rattle.rpm_db.specs.inner.Writes.{SameLog}
+use Rattle.rpm_db.specs.Runs.{SameLog}
 use Rattle.rpm_change.specs.declared.tally.Tally.{Tally}
 use Rattle.rpm_change.specs.declared.tally.Halt.{Halt}
 use Rattle.rpm_change.specs.declared.tally.Halt.TheVariants as halt
-use Rattle.rpm_change.specs.Endings.{outputs, ThroughSome, WholeTurn, IsOfLines, halt_of}
-use Rattle.rpm_change.specs.Hands.{Hand}
+use Rattle.rpm_change.specs.Endings.{WholeTurn, IsOfLines, halt_of}
 use Rattle.rpm_change.specs.Limits.{LimitsTurn, is_limit}
 use Rattle.rpm_change.specs.Lines.{Fails}
 use Rattle.rpm_change.specs.Steps.{Bearer, Course, ToErr, failing, idle, joined, apply_all}
-use Rattle.rpm_change.specs.Went.{EndedOnErr, EndedOnOut, EndedQuietly, LeftBy, WentBy}
+use Rattle.rpm_change.specs.Went.{EndedOnErr, LeftBy, WentBy}
 use Rattle.rpm_change.specs.inner.Leaving.{none_by, after_by, then_by, halted_by, whole_halt}
 use Rattle.rpm_change.specs.inner.LimitLaws.{limits_none, limits_more, limits_stop, limits_counted}
 use Rattle.rpm_change.specs.inner.Single.{none_made, other_stop}
-use Rattle.rpm_change.specs.inner.Courses.{plus, joined_idle, idle_joined, joined_assoc, through_none, none_gone, stopped_ended, ended_none, ended_then, ended_ahead}
-
--- nothing yet
-abbrev pub uncounted : Tally
-uncounted = record { failed = 0; changes = 0 }
-
--- ---- on a sink
-
--- one part and then another, and one that was stopped, whatever was to come after it
-pub record Joins (E F G : Course → State → State → Result Tally Halt → Type 0) : Type 0 where
-  pub state_is : (a : Course) (s t : State) (one : Tally) → E a s t (Ok one) → t ≡ apply_all a.changes s
-  pub next_is : (b : Course) (t u : State) (one : Tally) → F b t u (Ok one) → u ≡ apply_all b.changes t
-  pub both : (a b : Course) (s t u : State) (one : Tally) (r : Result Tally Halt) → E a s t (Ok one) → F b t u r → G (joined a b) s u (plus one r)
-  pub ahead : (a b : Course) (s t : State) (h : Halt) → F a s t (Err h) → F (joined a b) s t (Err h)
-
-module _ {S : Type 0} (of : sink.Ghosts S) where
-  abbrev pub took : Buffered S → List ℕ
-  took at = of.taken (inner at)
-
-  pub err_joins : (x y z : Buffered S) → Joins (EndedOnErr of x y) (EndedOnErr of y z) (EndedOnErr of x z)
-  err_joins x y z = record {
-    state_is = λ a s t one ends. (ends true []).state_is;
-    next_is = λ b t u one ends. (ends true []).state_is;
-    both = λ a b s t u one r first second. λ ot o.
-        ended_then ot of.tells o o o (took x) (took y) (took z) a b s t u one (first ot o) r (second ot o);
-    ahead = λ a b s t h ends. λ ot o. ended_ahead a b _ _ s t h (ends ot o);
-  }
-
-  pub out_joins : (x y z : Buffered S) → Joins (EndedOnOut of x y) (EndedOnOut of y z) (EndedOnOut of x z)
-  out_joins x y z = record {
-    state_is = λ a s t one ends. (ends true []).state_is;
-    next_is = λ b t u one ends. (ends true []).state_is;
-    both = λ a b s t u one r first second. λ et e.
-        ended_then of.tells et (took x) (took y) (took z) e e e a b s t u one (first et e) r (second et e);
-    ahead = λ a b s t h ends. λ et e. ended_ahead a b _ _ s t h (ends et e);
-  }
-
-  -- nothing was done of a course
-  pub err_gone : (x : Buffered S) (course : Course) (ot : Bool) (o : List ℕ)
-      → ThroughSome course.steps (outputs ot o of.tells (took x)) (outputs ot o of.tells (took x))
-  err_gone x course ot o = none_gone course _ _ (through_none {ot = ot} {et = of.tells} o (took x))
-
-  pub out_gone : (x : Buffered S) (course : Course) (et : Bool) (e : List ℕ)
-      → ThroughSome course.steps (outputs of.tells (took x) et e) (outputs of.tells (took x) et e)
-  out_gone x course et e = none_gone course _ _ (through_none {ot = of.tells} {et = et} (took x) e)
-
-  -- and a change was refused
-  pub err_refused : (x : Buffered S) (course : Course) (f : ChangeFault) (s t : State) → EndedOnErr of x x course s t (Err (halt_of f))
-  err_refused x course f s t = λ ot o. stopped_ended course s t f _ _ (err_gone x course ot o)
-
-  pub out_refused : (x : Buffered S) (course : Course) (f : ChangeFault) (s t : State) → EndedOnOut of x x course s t (Err (halt_of f))
-  out_refused x course f s t = λ et e. stopped_ended course s t f _ _ (out_gone x course et e)
-
-  -- what a part before a call kept of it
-  pub hand_then : {fails now : Type 0} → ((x y z : S) → of.follows x y → of.follows y z → of.follows x z) → (x y z : Buffered S)
-      → of.faults (inner x) ≤ of.faults (inner y) → of.follows (inner x) (inner y) → (now → fails) → Hand of fails y z → Hand of now x z
-  hand_then joins x y z later on same hand = record {
-    cause = record {
-      later = omega (arith, later, hand.cause.later);
-      rose = λ is. (let rose : Rose (of.faults (inner y)) (of.faults (inner z)) = hand.cause.rose (same is) in omega (arith, later, rose));
-    };
-    goes_on = joins (inner x) (inner y) (inner z) on hand.goes_on;
-  }
-
-  pub err_none : (x : Buffered S) (s : State) → EndedOnErr of x x idle s s (Ok uncounted)
-  err_none x s = λ ot o. ended_none ot of.tells o (took x) s
-
-  pub out_none : (x : Buffered S) (s : State) → EndedOnOut of x x idle s s (Ok uncounted)
-  out_none x s = λ et e. ended_none of.tells et (took x) e s
-
--- on no sink
-pub quiet_joins : Joins EndedQuietly EndedQuietly EndedQuietly
-quiet_joins = record {
-  state_is = λ a s t one ends. (ends true true [] []).state_is;
-  next_is = λ b t u one ends. (ends true true [] []).state_is;
-  both = λ a b s t u one r first second. λ ot et o e. ended_then ot et o o o e e e a b s t u one (first ot et o e) r (second ot et o e);
-  ahead = λ a b s t h ends. λ ot et o e. ended_ahead a b _ _ s t h (ends ot et o e);
-}
-
-pub quiet_none : (s : State) → EndedQuietly idle s s (Ok uncounted)
-quiet_none s = λ ot et o e. ended_none ot et o e s
+use Rattle.rpm_change.specs.inner.Courses.{plus, joined_idle, idle_joined, joined_assoc}
+use Rattle.rpm_change.specs.inner.Joins.{Joins, err_gone, uncounted}
+use Rattle.rpm_db.specs.Frame.{room}
 
 -- ---- lines
 
@@ -149,7 +69,7 @@ module _ {D : Type 0} (d : disk.Ghosts D) where
         subst (λ (x : Course). F x (state_in d old before) (state_in d new after) r) (same u)
         (ends (state_in d old before) (state_in d new after) (w.ended (told u)));
     limits = λ u i rows.
-        subst (λ (x : Course). LimitsTurn i (state_in d old before) before.store after.store from to x.changes r) (same u) (w.limits (told u) i rows);
+        subst (λ (x : Course). LimitsTurn i (state_in d old before) (room before) (room after) from to x.changes r) (same u) (w.limits (told u) i rows);
     whole = w.whole;
     left = w.left;
   }
@@ -161,7 +81,7 @@ module _ {D : Type 0} (d : disk.Ghosts D) where
       → LeftBy d C old new after (Err h) → WentBy d C A T from to old new before after (Err h) E course
   stopped_went {old = old} {new = new} {before = before} {after = after} course h ends other whole left = record {
     ended = λ told. ends (state_in d old before) (state_in d new after);
-    limits = λ told i rows. other_stop i (state_in d old before) before.store after.store course.changes h (other i);
+    limits = λ told i rows. other_stop i (state_in d old before) (room before) (room after) course.changes h (other i);
     whole = λ told was. whole;
     left = left;
   }
@@ -172,26 +92,27 @@ module _ {D : Type 0} (d : disk.Ghosts D) where
         → WentBy d C A T from from at at db db (Ok uncounted) E idle
     none_went ends = record {
       ended = λ told. ends;
-      limits = λ told i rows. none_made i (state_in d at db) db.store db.store db.store.spare uncounted refl;
+      limits = λ told i rows. none_made i (state_in d at db) (room db) (room db) (room db).spare uncounted refl;
       whole = λ told whole. whole;
       left = none_by d stays C carried at db indexed (Ok uncounted) (λ is. cc);
     }
 
   -- but for a line
   pub line_by : {S C A T : Type 0} {from to : Files} {old new : D} {before after : Database} (e : sink.Ghosts S) {line : List ℕ} {x y : Buffered S}
-      (r : Result Tally Halt) (for : Bearer) → (T → state_in d new after ≡ state_in d old before) → after.store ≡ before.store → (T → to ≡ from)
+      (r : Result Tally Halt) (for : Bearer) → (T → state_in d new after ≡ state_in d old before) → (room after) ≡ (room before) → (T → to ≡ from)
       → (IsTrue d.tells → (d.files new).idx ≡ (d.files old).idx) → ((r ≡ Err halt.DiskFault → ⊥) → LeftBy d C old new after r) → Fails e line x y r
       → WentBy d C A T from to old new before after r (EndedOnErr e x y) (failing (ToErr for line))
-  line_by {from = from} {old = old} {new = new} {before = before} {after = after} e {line = line} {x = x} {y = y} r for state store files idx left fails = record {
-    ended = λ told.
-        subst (λ (t : State). EndedOnErr e x y (failing (ToErr for line)) (state_in d old before) t r) (sym (state told))
-        (fails.ended for (state_in d old before));
-    limits = λ told i rows.
-        subst (λ (f : Files). LimitsTurn i (state_in d old before) before.store after.store from f [] r) (sym (files told))
-        (line_limits i (state_in d old before) before.store after.store before.store.spare r store fails.kinds);
-    whole = λ told was. line_whole (d.files new).idx r fails.kinds (subst IsWholeIndex (sym (idx told)) was);
-    left = left (line_disk r fails.kinds);
-  }
+  line_by {from = from} {old = old} {new = new} {before = before} {after = after} e {line = line} {x = x} {y = y} r for state store files idx left
+      fails = record {
+        ended = λ told.
+            subst (λ (t : State). EndedOnErr e x y (failing (ToErr for line)) (state_in d old before) t r) (sym (state told))
+            (fails.ended for (state_in d old before));
+        limits = λ told i rows.
+            subst (λ (f : Files). LimitsTurn i (state_in d old before) (room before) (room after) from f [] r) (sym (files told))
+            (line_limits i (state_in d old before) (room before) (room after) (room before).spare r store fails.kinds);
+        whole = λ told was. line_whole (d.files new).idx r fails.kinds (subst IsWholeIndex (sym (idx told)) was);
+        left = left (line_disk r fails.kinds);
+      }
 
   module _ (stays : (x : D) → d.follows x x) {S C A T : Type 0} {from : Files} (carried : C) (at : D) (db : Database) (indexed : is_indexed db ≡ true)
       (e : sink.Ghosts S) where
@@ -201,7 +122,8 @@ module _ {D : Type 0} (d : disk.Ghosts D) where
         line_by e r for (λ told. refl) refl (λ told. refl) (λ told. refl) (λ other. none_by d stays C carried at db indexed r other)
 
     -- or for a read that fails
-    pub reading_went : (x : Buffered S) (course : Course) (h : Halt) → (h ≡ halt.ShelfFault) ⊎ (h ≡ halt.NoMemory) → WentBy d C A T from from at at db db (Err h) (EndedOnErr e x x) course
+    pub reading_went : (x : Buffered S) (course : Course) (h : Halt) → (h ≡ halt.ShelfFault) ⊎ (h ≡ halt.NoMemory) → WentBy d C A T from from at at db db
+        (Err h) (EndedOnErr e x x) course
     reading_went x course h kind = elim kind [
       | inl is ↦ rw is (stopped_went course halt.ShelfFault (λ s t. err_gone e x course) (λ i. refl) tt
           (none_by d stays C carried at db indexed (Err halt.ShelfFault) (λ same. cc)))
@@ -214,7 +136,7 @@ module _ {D : Type 0} (d : disk.Ghosts D) where
       {E : Course → State → State → Result Tally Halt → Type 0} (course : Course) (f : ChangeFault) (h : Halt) → h ≡ halt_of f
       → ((s t : State) → E course s t (Err (halt_of f)))
       → (T → (i : Bool) → (i ≡ true → A)
-      → LimitsTurn i (state_in d old before) before.store after.store from to course.changes (Err (halt_of f)))
+      → LimitsTurn i (state_in d old before) (room before) (room after) from to course.changes (Err (halt_of f)))
       → (IsTrue d.tells → IsWholeIndex (d.files old).idx → WholeCause f) → is_indexed after ≡ true → Runs d SameLog old new
       → HasCauseAt X (d.faults old) (d.faults new) → (f ≡ fault.DiskFault → X)
       → WentBy d C A T from to old new before after (Err h) E course
@@ -244,7 +166,7 @@ module _ {D : Type 0} (d : disk.Ghosts D) where
       ended = λ told.
           ends.both a b (state_in d old before) (state_in d at db) (state_in d new after) one r (first.ended told) (second.ended told);
       limits = λ told i rows.
-          limits_then i a.changes b.changes (state_in d old before) (state_in d at db) before.store db.store after.store one
+          limits_then i a.changes b.changes (state_in d old before) (state_in d at db) (room before) (room db) (room after) one
           (ends.state_is a (state_in d old before) (state_in d at db) one (first.ended told)) (first.limits told i rows) r
           (second.limits told i (λ is. asks first.left.carried told (rows is)));
       whole = λ told was. whole_plus (d.files new).idx one r (second.whole told (first.whole told was));
@@ -279,8 +201,8 @@ module _ {D : Type 0} (d : disk.Ghosts D) where
   went_ahead {from = from} {old = old} {new = new} {before = before} {after = after} {h = h} ahead a b w = record {
     ended = λ told. ahead a b (state_in d old before) (state_in d new after) h (w.ended told);
     limits = λ told i rows.
-        limits_stop i [] a.changes (state_in d old before) (state_in d old before) before.store before.store after.store uncounted refl
-        (limits_none {files = from} i (state_in d old before) before.store uncounted) b.changes h (w.limits told i rows);
+        limits_stop i [] a.changes (state_in d old before) (state_in d old before) (room before) (room before) (room after) uncounted refl
+        (limits_none {files = from} i (state_in d old before) (room before) uncounted) b.changes h (w.limits told i rows);
     whole = w.whole;
     left = w.left;
   }
@@ -292,7 +214,7 @@ module _ {D : Type 0} (d : disk.Ghosts D) where
   counted_went {C = C} {old = old} {new = new} {before = before} {after = after} {E = E} course a b same w = record {
     ended = λ told. subst (λ (tally : Tally). E course (state_in d old before) (state_in d new after) (Ok tally)) (same told) (w.ended told);
     limits = λ told i rows.
-        limits_counted i (state_in d old before) before.store after.store course.changes a b (w.limits told i rows);
+        limits_counted i (state_in d old before) (room before) (room after) course.changes a b (w.limits told i rows);
     whole = w.whole;
     left = after_by d C old new after a w.left (Ok b) (λ is. absurd cc);
   }

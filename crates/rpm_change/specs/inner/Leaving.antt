@@ -1,52 +1,61 @@
 -- What is left of a database where nothing was done, where a change was made or refused, and after one call and then another.
-use Rattle.std.proofs.Common.{◌≡◌, ◌≤◌, true, false, Result, Ok, Err, inl, inr, refl, ◌∙◌, arith}
+use Rattle.std.proofs.Common.{◌≡◌, ℕ, ◌≤◌, true, false, Result, Ok, Err, inl, inr, refl, ap, ◌∙◌, arith}
 use Rattle.std.proofs.lemmas.Bool.{cases_Bool}
 use Rattle.std.specs.Prelude.{IsTrue, IfOk}
 use Rattle.rpm_outside.specs.declared.disk.Disk as disk
-use Rattle.rpm_outside.specs.Causes.{Rose}
+use Rattle.rpm_outside.specs.Causes.{HasCauseAt, Rose}
 use Rattle.rpm_db.specs.declared.change_fault.ChangeFault.{ChangeFault}
 use Rattle.rpm_db.specs.declared.change_fault.ChangeFault.TheVariants as fault
 use Rattle.rpm_db.specs.Changed.{IsReady, IsLeft}
 use Rattle.rpm_db.specs.Database.{Database, is_indexed}
 use Rattle.rpm_db.specs.Frame.{IsIndexed, Runs}
-use Rattle.rpm_db.specs.inner.Running.{runs_none, runs_then}
-use Rattle.rpm_db.specs.inner.Writes.{SameLog}
+use Rattle.rpm_db.specs.Running.{runs_none, runs_then}
+use Rattle.rpm_db.specs.Runs.{SameLog}
 use Rattle.rpm_change.specs.declared.tally.Tally.{Tally}
 use Rattle.rpm_change.specs.declared.tally.Halt.{Halt}
 use Rattle.rpm_change.specs.declared.tally.Halt.TheVariants as halt
-use Rattle.rpm_outside.specs.Files.{Units}
+use Rattle.rpm_outside.specs.Files.{Files, Units}
+use Rattle.rpm_db.specs.Lawful.{Remade}
+use Rattle.rpm_db.specs.State.{state}
 use Rattle.rpm_db.specs.Refusals.{WholeCause}
 use Rattle.rpm_change.specs.Endings.{WholeTurn, halt_of}
 use Rattle.rpm_change.specs.Went.{CarriedOn, IsCurrent, LeftBy, LeftOn}
+use Rattle.rpm_db.specs.Frame.{room}
 
 of_disk : (f : ChangeFault) → halt_of f ≡ halt.DiskFault → f ≡ fault.DiskFault
-of_disk fault.NumbersSpent is = absurd cc
-of_disk fault.GenerationSpent is = absurd cc
-of_disk fault.StoreFull is = absurd cc
-of_disk (fault.IndexFull needed) is = absurd cc
-of_disk (fault.BadIndex unit) is = absurd cc
 of_disk fault.DiskFault is = refl
-of_disk fault.NoMemory is = absurd cc
-of_disk (fault.BadHeader why) is = absurd cc
-of_disk fault.NoSuch is = absurd cc
-of_disk fault.Stopped is = absurd cc
+of_disk others is = absurd cc
 
 -- a change was refused
 pub whole_halt : (idx : Units) (f : ChangeFault) → WholeCause f → WholeTurn idx (Err (halt_of f))
 whole_halt idx (fault.BadIndex unit) cause = cause
-whole_halt idx (fault.IndexFull needed) cause = tt
-whole_halt idx fault.NumbersSpent cause = tt
-whole_halt idx fault.GenerationSpent cause = tt
-whole_halt idx fault.StoreFull cause = tt
-whole_halt idx fault.DiskFault cause = tt
-whole_halt idx fault.NoMemory cause = tt
-whole_halt idx (fault.BadHeader why) cause = tt
-whole_halt idx fault.NoSuch cause = tt
-whole_halt idx fault.Stopped cause = tt
+whole_halt idx others cause = tt
+
+-- something that comes only where a later call has its cause
+pub cause_then : {X : Type 0} {x y z : ℕ} → x ≤ y → HasCauseAt X y z → HasCauseAt X x z
+cause_then {x = x} {y = y} {z = z} le cause = record {
+  later = omega (arith, le, cause.later);
+  rose = λ is. (let rose : Rose y z = cause.rose is in omega (arith, le, rose));
+}
+
+-- once the index was rebuilt the files say the same state
+pub state_remade : (old new : Files) (before after : Database) → Remade old new → (room after) ≡ (room before)
+    → state new.pkg (room after) ≡ state old.pkg (room before)
+state_remade old new before after made store = ap (λ (u : Units). state u (room after)) made.pkg ∙ ap (state old.pkg) store
 
 module _ {D : Type 0} (d : disk.Ghosts D) where
   abbrev Ran : D → D → Type 0
   Ran = Runs d SameLog
+
+  -- after the index was rebuilt, and where it was
+  pub remade_then : ((x y z : D) → d.follows x y → d.follows y z → d.follows x z) → (a b c : D) → Runs d Remade a b → Ran b c → Ran a c
+  remade_then joins a b c =
+      runs_then d joins Remade SameLog SameLog a b c (λ x y made. made.log)
+      (λ x y z made log. log ∙ made.log)
+
+  pub remade_log : ((x : D) → d.follows x x) → ((x y z : D) → d.follows x y → d.follows y z → d.follows x z) → (a b : D) → Runs d Remade a b → Ran a b
+  remade_log stays joins a b run =
+      remade_then joins a b b run (runs_none d stays SameLog (λ f. refl) b)
 
   -- ---- whatever is left where it was done
 
@@ -60,7 +69,7 @@ module _ {D : Type 0} (d : disk.Ghosts D) where
   none_by stays C carried at db indexed r other = record {
     carried = done_any C carried r;
     indexed = indexed;
-    runs = runs_none d.tells d.files d.left_since d.moment d.bytes_read d.follows stays SameLog (λ f. refl) at;
+    runs = runs_none d stays SameLog (λ f. refl) at;
     disk = record { later = omega arith; rose = λ is. absurd (other is) };
   }
 
@@ -85,12 +94,9 @@ module _ {D : Type 0} (d : disk.Ghosts D) where
   then_by joins A B C join old mid new before after tally r first second = record {
     carried = both_by A B C join first.carried r second.carried;
     indexed = second.indexed;
-    runs = runs_then d.tells d.files d.left_since d.moment d.bytes_read d.follows joins SameLog SameLog SameLog old mid new (λ x y log. log)
+    runs = runs_then d joins SameLog SameLog SameLog old mid new (λ x y log. log)
         (λ x y z one two. two ∙ one) first.runs second.runs;
-    disk = record {
-      later = omega (arith, first.disk.later, second.disk.later);
-      rose = λ is. (let rose : Rose (d.faults mid) (d.faults new) = second.disk.rose is in omega (arith, first.disk.later, rose));
-    };
+    disk = cause_then first.disk.later second.disk;
   }
 
   -- stopped by a fault of a change

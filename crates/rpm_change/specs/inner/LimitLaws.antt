@@ -11,7 +11,7 @@ use Rattle.rpm_db.specs.Changes.{Change, apply}
 use Rattle.rpm_db.specs.Room.{next_store}
 use Rattle.rpm_db.specs.Rows.{rows}
 use Rattle.rpm_db.specs.State.{State}
-use Rattle.rpm_db.specs.inner.RoomLaws.{next_spare}
+use Rattle.rpm_db.specs.RoomLaws.{next_spare}
 use Rattle.rpm_change.specs.declared.tally.Tally.{Tally}
 use Rattle.rpm_change.specs.declared.tally.Halt.{Halt}
 use Rattle.rpm_change.specs.declared.tally.Halt.TheVariants as halt
@@ -110,7 +110,8 @@ module _ {old mid : Files} (i : Bool) (xs ys : List Change) (s t : State) (v w x
   }
 
   -- and then it was stopped among these others
-  pub limits_stop : {new : Files} (zs : List Change) (h : Halt) → LimitsTurn i t w x mid new ys (Err h) → LimitsTurn i s v x old new (xs ++ (ys ++ zs)) (Err h)
+  pub limits_stop : {new : Files} (zs : List Change) (h : Halt) → LimitsTurn i t w x mid new ys (Err h) → LimitsTurn i s v x old new (xs ++ (ys ++ zs))
+      (Err h)
   limits_stop zs h p = record {
     first = λ limit. behind (ys ++ zs) ∙ first_before i ys zs t w h (p.first limit);
     stores = tt;
@@ -220,16 +221,9 @@ unasked_some (c ∷ cs) s v h limit is =
     ]
 
 limit_more : (h : Halt) → is_limit false h ≡ true → is_limit true h ≡ true
-limit_more halt.NumbersSpent is = refl
-limit_more halt.GenerationSpent is = refl
-limit_more halt.StoreFull is = refl
 limit_more (halt.IndexFull told) is = refl
 limit_more (halt.BadIndex unit) is = refl
-limit_more halt.DiskFault is = is
-limit_more halt.ShelfFault is = is
-limit_more halt.OutFault is = is
-limit_more halt.ErrFault is = is
-limit_more halt.NoMemory is = is
+limit_more others is = is
 
 -- the limits after which the index comes are met as if it were not asked
 pub stops_unasked : (s : State) (v : Store) (changes : List Change) (r : Result Tally Halt) → StopsAt true (first_refusal true s v changes) r

@@ -12,7 +12,7 @@ use Rattle.rpm_db.specs.Reaches.{Reaches, ReachesMade, added, needed}
 use Rattle.rpm_db.specs.Room.{next_store}
 use Rattle.rpm_db.specs.Rows.{rows}
 use Rattle.rpm_db.specs.State.{State}
-use Rattle.rpm_db.specs.inner.RoomLaws.{next_spare}
+use Rattle.rpm_db.specs.RoomLaws.{next_spare}
 use Rattle.rpm_change.specs.Limits.{next_stores}
 use Rattle.rpm_change.specs.Reaches.{pkg_reach, idx_reach, Reached, ReachedAnew}
 use Rattle.rpm_change.specs.Steps.{apply_all}

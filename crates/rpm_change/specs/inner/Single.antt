@@ -12,7 +12,7 @@ use Rattle.rpm_db.specs.declared.change_fault.ChangeFault.TheVariants as fault
 use Rattle.rpm_db.specs.Changes.{Change, Add, Put, Erase, next}
 use Rattle.rpm_db.specs.Database.{Database, next_number}
 use Rattle.rpm_db.specs.Reaches.{Reaches}
-use Rattle.rpm_db.specs.Refusals.{AddIs, PutIs, EraseCause, FullCause}
+use Rattle.rpm_db.specs.Refusals.{AddIs, PutIs, EraseCause, FullCause, IsRefusal}
 use Rattle.rpm_db.specs.Room.{RoomCause, next_store}
 use Rattle.rpm_db.specs.State.{State}
 use Rattle.rpm_change.specs.declared.tally.Tally.{Tally}
@@ -20,7 +20,9 @@ use Rattle.rpm_change.specs.declared.tally.Halt.{Halt}
 use Rattle.rpm_change.specs.declared.tally.Halt.TheVariants as halt
 use Rattle.rpm_change.specs.Endings.{halt_of}
 use Rattle.rpm_change.specs.Limits.{is_spent, is_large, needed, refusal, next_stores, is_limit, LimitsTurn}
+use Rattle.rpm_change.specs.Singles.{IsOfChange, IsRefusing, IsSpent}
 use Rattle.rpm_change.specs.inner.ReachLaws.{reached_none, reached_one}
+use Rattle.rpm_db.specs.Frame.{room}
 
 -- a number is left for a change that needs a new one
 abbrev pub HasNumber : State → Change → Type 0
@@ -43,6 +45,17 @@ is_left s (Erase n) number = refl
 some_place : (o : Option Store) → IsSome o → is_none o ≡ false
 some_place None some = absurd cc
 some_place (Some w) some = refl
+
+-- no number is told to be spent, and no room, where it takes none
+no_number : (s : State) (c : Change) → is_spent s c ≡ true → IsRefusing halt.NumbersSpent c
+no_number s (Add bytes) is = tt
+no_number s (Put n bytes) is = absurd cc
+no_number s (Erase n) is = absurd cc
+
+no_room : (c : Change) (v : Store) → next_store c v ≡ None → IsRefusing halt.StoreFull c
+no_room (Add bytes) v none = tt
+no_room (Put n bytes) v none = tt
+no_room (Erase n) v none = absurd cc
 
 -- by what each of them says, one after the other
 abbrev chosen : Bool → Bool → Bool → Bool → ℕ → Option Halt
@@ -93,11 +106,13 @@ module _ (i : Bool) (s : State) (c : Change) (v : Store) where
       (is_left s c is.0) (not_last v.generation is.1) (some_place (next_store c v) is.2) (rw (limit, large) refl)
       ∙ ap (λ (n : ℕ). Some (halt.IndexFull n)) (sym full.1)
   fault_refuses (fault.BadIndex unit) is limit = absurd (is limit)
-  fault_refuses fault.DiskFault is limit = absurd cc
-  fault_refuses fault.NoMemory is limit = absurd cc
-  fault_refuses (fault.BadHeader why) is limit = absurd cc
-  fault_refuses fault.NoSuch is limit = absurd cc
-  fault_refuses fault.Stopped is limit = absurd cc
+  fault_refuses others is limit = absurd cc
+
+  -- what it is never stopped for
+  pub fault_kind : (f : ChangeFault) → FaultIs f → IsOfChange c (halt_of f)
+  fault_kind fault.NumbersSpent is = (λ same. cc, λ same. cc, λ same. cc, no_number s c is)
+  fault_kind fault.StoreFull is = (λ same. cc, λ same. cc, λ same. cc, no_room c v is.2)
+  fault_kind others is = (λ same. cc, λ same. cc, λ same. cc, tt)
 
   -- ---- a change
 
@@ -124,45 +139,49 @@ pub other_stop : {old new : Files} (i : Bool) (s : State) (v w : Store) (changes
     → LimitsTurn i s v w old new changes (Err h)
 other_stop i s v w changes h other = record { first = λ limit. absurd cc; stores = tt; raised = tt; reached = tt }
 
+-- a fault of a call that makes it
 pub add_fault : (i : Bool) (A : Type 0) (db : Database) (s : State) (bytes blob : List ℕ) (f : ChangeFault) → next s ≡ next_number db
-    → AddIs {A = A} db bytes (Err f) → RoomCause (next_store (Add blob) db.store) f → (i ≡ true → FullCause (needed s (Add blob)) f)
-    → FaultIs i s (Add blob) db.store f
+    → AddIs {A = A} db bytes (Err f) → RoomCause (next_store (Add blob) (room db)) f → (i ≡ true → FullCause (needed s (Add blob)) f)
+    → FaultIs i s (Add blob) (room db) f
 add_fault i A db s bytes blob fault.NumbersSpent law cause room full = is_last (next s) (law ∙ cause.1)
 add_fault i A db s bytes blob fault.GenerationSpent law cause room full = (λ is. cause.0 (sym law ∙ is), cause.1.later)
 add_fault i A db s bytes blob fault.StoreFull law cause room full = (λ is. cause.0 (sym law ∙ is), cause.1.later.0, room)
 add_fault i A db s bytes blob (fault.IndexFull told) law cause room full = (λ is. cause.0 (sym law ∙ is), cause.1.later.0, room, full)
 add_fault i A db s bytes blob (fault.BadIndex unit) law cause room full = full
-add_fault i A db s bytes blob fault.DiskFault law cause room full = tt
-add_fault i A db s bytes blob fault.NoMemory law cause room full = tt
-add_fault i A db s bytes blob (fault.BadHeader why) law cause room full = tt
-add_fault i A db s bytes blob fault.NoSuch law cause room full = tt
-add_fault i A db s bytes blob fault.Stopped law cause room full = tt
+add_fault i A db s bytes blob others law cause room full = tt
 
 pub put_fault : (i : Bool) (A : Type 0) (db : Database) (s : State) (n : ℕ) (bytes blob : List ℕ) (f : ChangeFault) → PutIs {A = A} db n bytes (Err f)
-    → RoomCause (next_store (Put n blob) db.store) f → (i ≡ true → FullCause (needed s (Put n blob)) f) → FaultIs i s (Put n blob) db.store f
+    → RoomCause (next_store (Put n blob) (room db)) f → (i ≡ true → FullCause (needed s (Put n blob)) f) → FaultIs i s (Put n blob) (room db) f
 put_fault i A db s n bytes blob fault.NumbersSpent cause room full = absurd cause.1.later
 put_fault i A db s n bytes blob fault.GenerationSpent cause room full = (tt, cause.1.later)
 put_fault i A db s n bytes blob fault.StoreFull cause room full = (tt, cause.1.later.0, room)
 put_fault i A db s n bytes blob (fault.IndexFull told) cause room full = (tt, cause.1.later.0, room, full)
 put_fault i A db s n bytes blob (fault.BadIndex unit) cause room full = full
-put_fault i A db s n bytes blob fault.DiskFault cause room full = tt
-put_fault i A db s n bytes blob fault.NoMemory cause room full = tt
-put_fault i A db s n bytes blob (fault.BadHeader why) cause room full = tt
-put_fault i A db s n bytes blob fault.NoSuch cause room full = tt
-put_fault i A db s n bytes blob fault.Stopped cause room full = tt
+put_fault i A db s n bytes blob others cause room full = tt
 
 pub erase_fault : (i : Bool) (db : Database) (s : State) (n : ℕ) (f : ChangeFault) → EraseCause db n f → (i ≡ true → FullCause (needed s (Erase n)) f)
-    → FaultIs i s (Erase n) db.store f
+    → FaultIs i s (Erase n) (room db) f
 erase_fault i db s n fault.NumbersSpent cause full = absurd cause.2
 erase_fault i db s n fault.GenerationSpent cause full = (tt, cause.2)
 erase_fault i db s n fault.StoreFull cause full = absurd cause.2.1
 erase_fault i db s n (fault.IndexFull told) cause full = (tt, cause.2.0, refl, full)
 erase_fault i db s n (fault.BadIndex unit) cause full = full
-erase_fault i db s n fault.DiskFault cause full = tt
-erase_fault i db s n fault.NoMemory cause full = tt
-erase_fault i db s n (fault.BadHeader why) cause full = tt
-erase_fault i db s n fault.NoSuch cause full = tt
-erase_fault i db s n fault.Stopped cause full = tt
+erase_fault i db s n others cause full = tt
+
+-- what it says to be spent is
+spent_number : (s : State) (c : Change) → is_spent s c ≡ true → next s ≡ 4294967295
+spent_number s (Add bytes) is = grind (arith, nat_tests, is)
+spent_number s (Put n bytes) is = absurd cc
+spent_number s (Erase n) is = absurd cc
+
+pub fault_spent : (i : Bool) (s : State) (c : Change) (db after kept : Database) (f : ChangeFault) → next s ≡ next_number db
+    → next_number kept ≡ next_number db → (room kept).generation ≡ (room db).generation → (IsRefusal f → after ≡ kept) → FaultIs i s c (room db) f
+    → IsSpent after (halt_of f)
+fault_spent i s c db after kept fault.NumbersSpent law number generation same is =
+    ap next_number (same tt) ∙ number ∙ sym law ∙ spent_number s c is
+fault_spent i s c db after kept fault.GenerationSpent law number generation same is =
+    ap (λ (x : Database). (room x).generation) (same tt) ∙ generation ∙ is.1
+fault_spent i s c db after kept others law number generation same is = tt
 
 -- ---- no change
 

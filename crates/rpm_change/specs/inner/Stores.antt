@@ -1,14 +1,14 @@
 -- Several changes of a store, some of them and then the others.
 use Rattle.std.proofs.Common.{◌≡◌, ℕ, ◌≤◌, List, [], ◌∷◌, ◌++◌, length, Option, Some, None, refl, ap, ◌∙◌, subst, arith}
 use Rattle.std.specs.Option.{option_map, option_and_then}
-use Rattle.rpm_pkgdb.specs.declared.moved_blocks.Move.{Move}
+use Rattle.rpm_pkgdb.specs.declared.added_page.Move.{Move}
 use Rattle.rpm_pkgdb.specs.Growing.{pages_after}
 use Rattle.rpm_pkgdb.specs.Placing.{Placement, placed, with_placed}
 use Rattle.rpm_pkgdb.specs.Store.{Store}
 use Rattle.rpm_pkgdb.specs.Written.{with_spare, erased}
 use Rattle.rpm_db.specs.Changes.{Change, Add, Put, Erase}
 use Rattle.rpm_db.specs.Room.{next_store, raised}
-use Rattle.rpm_db.specs.inner.RoomLaws.{next_spare}
+use Rattle.rpm_db.specs.RoomLaws.{next_spare}
 use Rattle.rpm_change.specs.Limits.{next_stores}
 
 -- ---- places

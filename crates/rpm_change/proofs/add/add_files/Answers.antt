@@ -1,13 +1,7 @@
 use Rattle.std.proofs.Common.{◌+◌, map, get_or, drop, refl, ap, ◌∙◌, arith}
-use Rattle.std.proofs.lemmas.Result.{err_from_is_err_and}
-use Rattle.rpm_outside.specs.Buffered.{inner}
-use Rattle.rpm_outside.specs.Shelves.{Paths}
-use Rattle.rpm_db.specs.Frame.{state_in}
-use Rattle.rpm_change.specs.Adding.{add_file, add_files}
-use Rattle.rpm_change.specs.Steps.{in_turn, apply_all}
-use Rattle.rpm_change.specs.inner.Leaving.{unchanged, carried_then, ready_left}
+use Rattle.rpm_change.proofs.Vocabulary.{add_file, add_files, apply_all, err_is, err_joins, err_none, going_end, going_start, in_turn, inner, on_more}
+use Rattle.rpm_change.proofs.Vocabulary.{on_stop, Paths, ready_none, state_in, went_as}
 use Rattle.rpm_change.proofs.Filed.{bytes, nothing, path_next, path_none}
-use Rattle.rpm_change.specs.inner.Going.{err_joins, err_none, none_went, went_as, going_start, going_more, going_stop, going_end}
 use Rattle.rpm_change.proofs.add.add_files.Goals as goal
 
 pub loop-path-init : goal.loop-path-init
@@ -15,8 +9,7 @@ loop-path-init g c =
     let s = state_in g.D.Disk c.args.disk.now c.args.db.now in
     record {
       goes = going_start g.D.Disk (add_files (g.S.Shelf.paths c.args.shelf.now) c.args.now s (map bytes c.args.paths.now))
-          (none_went g.D.Disk g.met.D.Disk.follows_refl (unchanged g.D.Disk c.args.disk.now c.args.db.now c.requires.ready) c.args.disk.now c.args.db.now
-          c.requires.ready.indexed (err_none g.E.Sink c.args.err.now s));
+          (ready_none g.D.Disk g.met.D.Disk.follows_refl c.requires.ready (err_none g.E.Sink c.args.err.now s));
       few = refl;
       paths = λ shelf_told. refl;
       shelf = omega arith;
@@ -38,9 +31,8 @@ loop-path-preserved g c =
     let went = went_as g.D.Disk (turn (g.S.Shelf.paths c.loop-path.shelf)) (each t k path) (λ both. both) (λ both. ap turn (inv.paths both.1)) (λ s t e. e)
     (done.went k) in
     record {
-      goes = going_more g.D.Disk g.met.D.Disk.follows_trans (err_joins g.E.Sink c.args.err.now c.loop-path.err c.put_file.new.err)
-          (carried_then g.D.Disk c.args.disk.now c.loop-path.disk c.put_file.new.disk c.args.db.now c.loop-path.db c.put_file.new.db)
-          (λ carried both rows. carried.index both.0 rows) (each t k path) (in_turn each u (k + 1) (map bytes (drop (k + 1) xs)))
+      goes = on_more g.D.Disk g.met.D.Disk.follows_trans (λ both. both.0) (err_joins g.E.Sink c.args.err.now c.loop-path.err c.put_file.new.err)
+          (each t k path) (in_turn each u (k + 1) (map bytes (drop (k + 1) xs)))
           inv.goes (λ both after. path_next each xs k t u (omega arith) after) went;
       few = omega (arith, inv.few, done.one);
       paths = λ shelf_told. done.shelf.paths shelf_told ∙ inv.paths shelf_told;
@@ -48,10 +40,6 @@ loop-path-preserved g c =
       err = omega (arith, inv.err, done.err.cause.later);
       err_rest = g.met.E.Sink.follows_trans (inner c.args.err.now) (inner c.loop-path.err) (inner c.put_file.new.err) inv.err_rest done.err.goes_on;
     }
-
-pub put_file-requires-clause-ready : goal.put_file-requires-clause-ready
-put_file-requires-clause-ready g c =
-    ready_left g.D.Disk c.args.disk.now c.loop-path.disk c.args.db.now c.loop-path.db _ c.loop-path.invariant.goes.went.left
 
 pub returns-in_err-tally-clause-went : goal.returns-in_err-tally-clause-went
 returns-in_err-tally-clause-went g c =
@@ -63,10 +51,9 @@ returns-in_err-tally-clause-went g c =
     let path = bytes (get_or xs k nothing) in
     let u = apply_all (each t k path).changes t in
     let turn = λ (qs : Paths). add_file c.args.now qs t k path in
-    let p = err_from_is_err_and c.from_residual.result c.from_residual.ensures.1 in
-    rw (p.1, p.2) (going_stop g.D.Disk g.met.D.Disk.follows_trans (err_joins g.E.Sink c.args.err.now c.loop-path.err c.put_file.new.err)
-    (carried_then g.D.Disk c.args.disk.now c.loop-path.disk c.put_file.new.disk c.args.db.now c.loop-path.db c.put_file.new.db)
-    (λ carried both rows. carried.index both.0 rows) (each t k path) (in_turn each u (k + 1) (map bytes (drop (k + 1) xs)))
+    rw (err_is c.from_residual.result c.from_residual.ensures)
+    (on_stop g.D.Disk g.met.D.Disk.follows_trans (λ both. both.0) (err_joins g.E.Sink c.args.err.now c.loop-path.err c.put_file.new.err)
+    (each t k path) (in_turn each u (k + 1) (map bytes (drop (k + 1) xs)))
     inv.goes (λ both. path_next each xs k t u (omega arith) refl)
     (went_as g.D.Disk (turn (g.S.Shelf.paths c.loop-path.shelf)) (each t k path) (λ both. both) (λ both. ap turn (inv.paths both.1)) (λ s t e. e)
     (c.in_err-tally.ensures.went k)))

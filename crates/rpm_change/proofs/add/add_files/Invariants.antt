@@ -1,18 +1,12 @@
 use Rattle.std.proofs.Common.{◌≡◌, ◌+◌, ◌≤◌, map, drop}
 use Rattle.std.specs.Prelude.{IsTrue}
-use Rattle.rpm_outside.specs.Buffered.{inner}
-use Rattle.rpm_db.specs.Frame.{IsIndexed, state_in}
-use Rattle.rpm_change.specs.Adding.{add_file, add_files}
-use Rattle.rpm_change.specs.Steps.{in_turn}
-use Rattle.rpm_change.specs.Went.{CarriedOn, EndedOnErr}
+use Rattle.rpm_change.proofs.Vocabulary.{add_file, add_files, EndedOnErr, GoingOn, in_turn, inner, state_in}
 use Rattle.rpm_change.proofs.Filed.{bytes}
-use Rattle.rpm_change.specs.inner.Going.{Going}
 use Rattle.rpm_change.proofs.add.add_files.Given as goal
 
 abbrev pub invariant-loop-path : goal.invariant-loop-path
 invariant-loop-path g l = record {
-  goes : Going g.D.Disk (CarriedOn g.D.Disk l.initial.disk l.disk l.initial.db l.db) (IsIndexed g.D.Disk l.initial.disk l.initial.db)
-      (IsTrue g.D.Disk.tells × IsTrue g.S.Shelf.tells) (g.D.Disk.files l.initial.disk) (g.D.Disk.files l.disk) l.initial.disk l.disk l.initial.db l.db
+  goes : GoingOn g.D.Disk (IsTrue g.D.Disk.tells × IsTrue g.S.Shelf.tells) l.initial.disk l.disk l.initial.db l.db
       (record { failed = l.failed; changes = l.changes }) (EndedOnErr g.E.Sink l.initial.err l.err)
       (add_files (g.S.Shelf.paths l.initial.shelf) l.fn.now (state_in g.D.Disk l.initial.disk l.initial.db) (map bytes l.paths))
       (in_turn (add_file l.fn.now (g.S.Shelf.paths l.initial.shelf)) (state_in g.D.Disk l.disk l.db) l.path-index (map bytes (drop l.path-index l.paths)));

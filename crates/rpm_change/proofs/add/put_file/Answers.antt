@@ -1,13 +1,6 @@
 use Rattle.std.proofs.Common.{ℕ, List, sym, ap, ◌∙◌}
-use Rattle.rpm_outside.specs.Browses.{left}
-use Rattle.rpm_outside.specs.Shelves.{bytes_at}
-use Rattle.rpm_change.specs.Adding.{put_file, put_found, put_read}
-use Rattle.rpm_change.specs.Steps.{ToErr, whole, failing}
-use Rattle.rpm_change.specs.Texts.{absent_line}
-use Rattle.rpm_change.specs.inner.Leaving.{unchanged}
+use Rattle.rpm_change.proofs.Vocabulary.{absent_line, bytes_at, failing, left, put_file, put_found, put_read, ready_line, ToErr, went_as, whole}
 use Rattle.rpm_change.proofs.Filed.{opened_is}
-use Rattle.rpm_change.specs.inner.Going.{went_as, line_went}
-use Rattle.rpm_change.proofs.Stops.{lines_putting}
 use Rattle.rpm_change.proofs.add.put_file.Goals as goal
 
 pub returns-in-Ok-clause-went : goal.returns-in-Ok-clause-went
@@ -28,8 +21,4 @@ returns-in-Err-clause-went g c = λ j.
     let line = λ (p : List ℕ). failing (ToErr (whole j) (absent_line p)) in
     went_as g.D.Disk (line c.as_bytes-in-Err.result.now) (put_file how (g.S.Shelf.paths c.args.shelf.now) j path) (λ both. both)
     (λ both. ap line c.as_bytes-in-Err.ensures.value ∙ sym (ap (put_found how j path) (c.in-Err.ensures.opened both.1).1)) (λ s t e. e)
-    (line_went g.D.Disk g.met.D.Disk.follows_refl (unchanged g.D.Disk c.args.disk.now c.args.db.now c.requires.ready) c.args.disk.now c.args.db.now
-    c.requires.ready.indexed g.E.Sink c.put_absent.result (whole j) c.put_absent.ensures)
-
-pub returns-in-Err-clause-kinds : goal.returns-in-Err-clause-kinds
-returns-in-Err-clause-kinds g c = lines_putting c.args.how.number c.put_absent.result c.put_absent.ensures.kinds
+    (ready_line g.D.Disk g.met.D.Disk.follows_refl c.requires.ready g.E.Sink c.put_absent.result (whole j) c.put_absent.ensures)

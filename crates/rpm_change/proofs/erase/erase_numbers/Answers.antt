@@ -1,12 +1,7 @@
 use Rattle.std.proofs.Common.{◌+◌, get_or, drop, refl, arith}
-use Rattle.std.proofs.lemmas.Result.{err_from_is_err_and}
-use Rattle.rpm_outside.specs.Buffered.{inner}
-use Rattle.rpm_db.specs.Frame.{state_in}
-use Rattle.rpm_change.specs.Erasing.{erase_one, erase}
-use Rattle.rpm_change.specs.Steps.{in_turn, apply_all}
-use Rattle.rpm_change.specs.inner.Leaving.{unchanged, carried_then, ready_left}
+use Rattle.rpm_change.proofs.Vocabulary.{apply_all, erase, erase_one, err_is, err_joins, err_none, going_end, going_start, in_turn, inner, on_more, on_stop}
+use Rattle.rpm_change.proofs.Vocabulary.{ready_none, state_in}
 use Rattle.rpm_change.proofs.Arguments.{turn_next, turn_none}
-use Rattle.rpm_change.specs.inner.Going.{err_joins, err_none, none_went, going_start, going_more, going_stop, going_end}
 use Rattle.rpm_change.proofs.erase.erase_numbers.Goals as goal
 
 pub loop-number-init : goal.loop-number-init
@@ -14,8 +9,7 @@ loop-number-init g c =
     let s = state_in g.D.Disk c.args.disk.now c.args.db.now in
     record {
       goes = going_start g.D.Disk (erase s c.args.numbers.now)
-          (none_went g.D.Disk g.met.D.Disk.follows_refl (unchanged g.D.Disk c.args.disk.now c.args.db.now c.requires.ready) c.args.disk.now c.args.db.now
-          c.requires.ready.indexed (err_none g.E.Sink c.args.err.now s));
+          (ready_none g.D.Disk g.met.D.Disk.follows_refl c.requires.ready (err_none g.E.Sink c.args.err.now s));
       few = refl;
       err = omega arith;
       err_rest = g.met.E.Sink.follows_refl (inner c.args.err.now);
@@ -31,19 +25,13 @@ loop-number-preserved g c =
     let u = state_in g.D.Disk c.erase_one.new.disk c.erase_one.new.db in
     let turn = erase_one t k (get_or xs k 0) in
     record {
-      goes = going_more g.D.Disk g.met.D.Disk.follows_trans (err_joins g.E.Sink c.args.err.now c.loop-number.err c.erase_one.new.err)
-          (carried_then g.D.Disk c.args.disk.now c.loop-number.disk c.erase_one.new.disk c.args.db.now c.loop-number.db c.erase_one.new.db)
-          (λ carried told rows. carried.index told rows) turn (in_turn erase_one u (k + 1) (drop (k + 1) xs))
+      goes = on_more g.D.Disk g.met.D.Disk.follows_trans (λ told. told) (err_joins g.E.Sink c.args.err.now c.loop-number.err c.erase_one.new.err)
+          turn (in_turn erase_one u (k + 1) (drop (k + 1) xs))
           inv.goes (λ told after. turn_next erase_one xs k 0 t u (omega arith) after) (done.went k);
       few = omega (arith, inv.few, done.one);
       err = omega (arith, inv.err, done.err.cause.later);
       err_rest = g.met.E.Sink.follows_trans (inner c.args.err.now) (inner c.loop-number.err) (inner c.erase_one.new.err) inv.err_rest done.err.goes_on;
     }
-
-pub erase_one-requires : goal.erase_one-requires
-erase_one-requires g c = record {
-  ready = ready_left g.D.Disk c.args.disk.now c.loop-number.disk c.args.db.now c.loop-number.db _ c.loop-number.invariant.goes.went.left;
-}
 
 pub returns-in_err-tally-clause-went : goal.returns-in_err-tally-clause-went
 returns-in_err-tally-clause-went g c =
@@ -52,10 +40,9 @@ returns-in_err-tally-clause-went g c =
     let t = state_in g.D.Disk c.loop-number.disk c.loop-number.db in
     let turn = erase_one t k (get_or xs k 0) in
     let u = apply_all turn.changes t in
-    let p = err_from_is_err_and c.from_residual.result c.from_residual.ensures.1 in
-    rw (p.1, p.2) (going_stop g.D.Disk g.met.D.Disk.follows_trans (err_joins g.E.Sink c.args.err.now c.loop-number.err c.erase_one.new.err)
-    (carried_then g.D.Disk c.args.disk.now c.loop-number.disk c.erase_one.new.disk c.args.db.now c.loop-number.db c.erase_one.new.db)
-    (λ carried told rows. carried.index told rows) turn (in_turn erase_one u (k + 1) (drop (k + 1) xs))
+    rw (err_is c.from_residual.result c.from_residual.ensures)
+    (on_stop g.D.Disk g.met.D.Disk.follows_trans (λ told. told) (err_joins g.E.Sink c.args.err.now c.loop-number.err c.erase_one.new.err)
+    turn (in_turn erase_one u (k + 1) (drop (k + 1) xs))
     c.loop-number.invariant.goes (λ told. turn_next erase_one xs k 0 t u (omega arith) refl) (c.in_err-tally.ensures.went k))
 
 pub returns-clause-went : goal.returns-clause-went

@@ -1,18 +1,12 @@
 use Rattle.std.proofs.Common.{◌≡◌, ◌+◌, ◌≤◌, drop}
 use Rattle.std.specs.Prelude.{IsTrue}
-use Rattle.rpm_outside.specs.Buffered.{inner}
-use Rattle.rpm_db.specs.Frame.{IsIndexed, state_in}
-use Rattle.rpm_change.specs.Erasing.{erase_one, erase}
-use Rattle.rpm_change.specs.Steps.{in_turn}
-use Rattle.rpm_change.specs.Went.{CarriedOn, EndedOnErr}
-use Rattle.rpm_change.specs.inner.Going.{Going}
+use Rattle.rpm_change.proofs.Vocabulary.{EndedOnErr, erase, erase_one, GoingOn, in_turn, inner, state_in}
 use Rattle.rpm_change.proofs.erase.erase_numbers.Given as goal
 
 abbrev pub invariant-loop-number : goal.invariant-loop-number
 invariant-loop-number g l = record {
-  goes : Going g.D.Disk (CarriedOn g.D.Disk l.initial.disk l.disk l.initial.db l.db) (IsIndexed g.D.Disk l.initial.disk l.initial.db)
-      (IsTrue g.D.Disk.tells) (g.D.Disk.files l.initial.disk) (g.D.Disk.files l.disk) l.initial.disk l.disk l.initial.db l.db
-      (record { failed = l.failed; changes = l.changes }) (EndedOnErr g.E.Sink l.initial.err l.err)
+  goes : GoingOn g.D.Disk (IsTrue g.D.Disk.tells) l.initial.disk l.disk l.initial.db l.db (record { failed = l.failed; changes = l.changes })
+      (EndedOnErr g.E.Sink l.initial.err l.err)
       (erase (state_in g.D.Disk l.initial.disk l.initial.db) l.numbers)
       (in_turn erase_one (state_in g.D.Disk l.disk l.db) l.number-index (drop l.number-index l.numbers));
   few : l.failed + l.changes ≡ l.number-index;

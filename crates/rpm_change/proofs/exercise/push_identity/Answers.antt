@@ -1,5 +1,5 @@
 use Rattle.std.proofs.Common.{◌≡◌, List, [], ◌∷◌, ◌++◌, append_assoc}
-use Rattle.rpm_header.specs.Header.{Item}
+use Rattle.rpm_change.proofs.Vocabulary.{Item}
 use Rattle.rpm_change.proofs.exercise.push_identity.Goals as goal
 
 four : (b b1 b2 b3 b4 : List Item) (w x y z : Item) → b1 ≡ b ++ w ∷ [] → b2 ≡ b1 ++ x ∷ [] → b3 ≡ b2 ++ y ∷ [] → b4 ≡ b3 ++ z ∷ []

@@ -1,5 +1,5 @@
 use Rattle.std.proofs.Common.{◌≡◌, ℕ, List, ◌++◌, codes, if◌then◌else◌, is_ok, Result, Ok, Err, IfOk, ap, ◌∙◌, append_assoc}
-use Rattle.rpm_change.specs.Texts.{header_text, file_text}
+use Rattle.rpm_change.proofs.Vocabulary.{file_text, header_text}
 use Rattle.rpm_change.proofs.faults.push_file_text.Goals as goal
 
 pushed : {T E : Type 0} (r : Result T E) (old new front : List ℕ) → new ≡ (if is_ok r then old ++ front else old) → IfOk r (λ done. new ≡ old ++ front)

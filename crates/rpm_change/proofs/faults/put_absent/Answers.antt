@@ -1,10 +1,7 @@
 use Rattle.std.proofs.Common.{◌∙◌}
-use Rattle.rpm_change.specs.Texts.{absent_line}
-use Rattle.rpm_change.proofs.Told.{of_line, unwritten}
+use Rattle.rpm_change.proofs.Vocabulary.{absent_line}
+use Rattle.rpm_change.proofs.Told.{of_line}
 use Rattle.rpm_change.proofs.faults.put_absent.Goals as goal
 
-pub returns-in-Ok : goal.returns-in-Ok
-returns-in-Ok g c = of_line g.E.Sink _ (absent_line c.args.path.now) (c.deref.ensures.value ∙ c.in-Ok.ensures) c.put_failing.ensures
-
-pub returns-in-Err : goal.returns-in-Err
-returns-in-Err g c = unwritten g.E.Sink g.met.E.Sink.follows_refl (absent_line c.args.path.now) c.args.err.now
+pub returns : goal.returns
+returns g c = of_line g.E.Sink _ (absent_line c.args.path.now) (c.deref.ensures.value ∙ c.in_ok-line.ensures) c.put_failing.ensures

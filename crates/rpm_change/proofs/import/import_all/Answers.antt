@@ -1,22 +1,15 @@
 use Rattle.std.proofs.Common.{◌≡◌, ◌+◌, true, false, refl, arith, ◌∙◌}
-use Rattle.std.proofs.lemmas.Result.{err_from_is_err_and}
-use Rattle.rpm_outside.specs.Browses.{left}
-use Rattle.rpm_outside.specs.Buffered.{inner}
-use Rattle.rpm_file.specs.List.{list_head}
-use Rattle.rpm_db.specs.Frame.{state_in}
-use Rattle.rpm_change.specs.Importing.{import_listed, listed}
-use Rattle.rpm_change.specs.Turns.{turn, from_place}
-use Rattle.rpm_change.specs.inner.Going.{hand_then, err_joins, err_none, none_went, going_start, going_more, going_stop, going_end}
+use Rattle.rpm_change.proofs.Vocabulary.{err_is, err_joins, err_none, from_place, going_end, going_more, going_start, going_stop, hand_then, import_listed}
+use Rattle.rpm_change.proofs.Vocabulary.{inner, left, list_head, listed, none_went, state_in, turn}
 use Rattle.rpm_change.proofs.Listed.{turn_splits, turn_ahead, within_next}
 use Rattle.rpm_change.proofs.Owing.{owing_none, owing_then}
 use Rattle.rpm_change.proofs.import.import_all.Goals as goal
 
 pub loop-is_last-init : goal.loop-is_last-init
 loop-is_last-init g c =
-    let owing = owing_none g.D.Disk c.args.disk.now c.args.db.now c.args.additions.now c.requires.gathering in
     record {
       goes = going_start g.D.Disk (import_listed c.args.most (listed (left (g.S.Shelf.rest c.args.shelf.now))))
-          (none_went g.D.Disk g.met.D.Disk.follows_refl owing c.args.disk.now c.args.db.now c.requires.gathering.indexed
+          (none_went g.D.Disk g.met.D.Disk.follows_refl (owing_none g.D.Disk c.requires.gathering) _ _ c.requires.gathering.indexed
           (err_none g.E.Sink c.args.err.now (state_in g.D.Disk c.args.disk.now c.args.db.now)));
       few = omega arith;
       within = λ going. omega arith;
@@ -39,8 +32,7 @@ loop-is_last-preserved g c =
     let is_last = c.in_ok-turn.turn.is_last in
     record {
       goes = going_more g.D.Disk g.met.D.Disk.follows_trans (err_joins g.E.Sink c.args.err.now c.loop-is_last.err c.import_next.new.err)
-          (owing_then g.D.Disk c.loop-is_last.disk c.import_next.new.disk c.loop-is_last.db c.import_next.new.db c.loop-is_last.additions
-          c.import_next.new.additions) (λ owing both rows. owing.owes both.0 rows) (turn most k (list_head bytes))
+          (owing_then g.D.Disk) (λ owing both rows. owing.owes both.0 rows) (turn most k (list_head bytes))
           (from_place is_last most (k + 1) (listed behind)) (rw going at inv.goes)
           (λ both after. turn_splits most k bytes is_last behind (done.leaves both.1)) done.went;
       few = omega (arith, inv.few, done.one);
@@ -52,9 +44,6 @@ loop-is_last-preserved g c =
       err_rest = g.met.E.Sink.follows_trans (inner c.args.err.now) (inner c.loop-is_last.err) (inner c.import_next.new.err) inv.err_rest done.err.goes_on;
     }
 
-pub import_next-requires : goal.import_next-requires
-import_next-requires g c = record { gathering = c.loop-is_last.invariant.goes.went.left.carried.gathering }
-
 pub returns-in_err-turn-clause-went : goal.returns-in_err-turn-clause-went
 returns-in_err-turn-clause-went g c =
     let most = c.args.most in
@@ -62,18 +51,17 @@ returns-in_err-turn-clause-went g c =
     let going : c.loop-is_last.is_last ≡ false = cc in
     let bytes = left (g.S.Shelf.rest c.loop-is_last.shelf) in
     let split = turn_ahead most k (list_head bytes) in
-    let p = err_from_is_err_and c.from_residual.result c.from_residual.ensures.1 in
-    rw (p.1, p.2) (going_stop g.D.Disk g.met.D.Disk.follows_trans (err_joins g.E.Sink c.args.err.now c.loop-is_last.err c.import_next.new.err)
-    (owing_then g.D.Disk c.loop-is_last.disk c.import_next.new.disk c.loop-is_last.db c.import_next.new.db c.loop-is_last.additions
-    c.import_next.new.additions) (λ owing both rows. owing.owes both.0 rows) (turn most k (list_head bytes))
+    rw (err_is c.from_residual.result c.from_residual.ensures)
+    (going_stop g.D.Disk g.met.D.Disk.follows_trans (err_joins g.E.Sink c.args.err.now c.loop-is_last.err c.import_next.new.err)
+    (owing_then g.D.Disk) (λ owing both rows. owing.owes both.0 rows) (turn most k (list_head bytes))
     (from_place split.0 most (k + 1) (listed split.1.0)) (rw going at c.loop-is_last.invariant.goes)
     (λ both. turn_splits most k bytes split.0 split.1.0 split.1.1) c.in_err-turn.ensures.went)
 
 pub returns-in_err-turn-clause-err : goal.returns-in_err-turn-clause-err
 returns-in_err-turn-clause-err g c =
     let inv = c.loop-is_last.invariant in
-    let p = err_from_is_err_and c.from_residual.result c.from_residual.ensures.1 in
-    rw (p.1, p.2) (hand_then g.E.Sink g.met.E.Sink.follows_trans c.args.err.now c.loop-is_last.err c.import_next.new.err inv.err inv.err_rest
+    rw (err_is c.from_residual.result c.from_residual.ensures)
+    (hand_then g.E.Sink g.met.E.Sink.follows_trans c.args.err.now c.loop-is_last.err c.import_next.new.err inv.err inv.err_rest
     (λ is. cc) c.in_err-turn.ensures.err)
 
 pub returns-clause-went : goal.returns-clause-went

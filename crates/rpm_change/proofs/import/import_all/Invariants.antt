@@ -1,12 +1,6 @@
 use Rattle.std.proofs.Common.{◌≡◌, ◌+◌, ◌-◌, ◌≤◌, false}
 use Rattle.std.specs.Prelude.{IsTrue}
-use Rattle.rpm_outside.specs.Browses.{left}
-use Rattle.rpm_outside.specs.Buffered.{inner}
-use Rattle.rpm_db.specs.Gathering.{OwesOn, due}
-use Rattle.rpm_change.specs.Importing.{import_listed, listed}
-use Rattle.rpm_change.specs.Turns.{from_place}
-use Rattle.rpm_change.specs.Went.{EndedOnErr, IsOwing}
-use Rattle.rpm_change.specs.inner.Going.{Going}
+use Rattle.rpm_change.proofs.Vocabulary.{due, EndedOnErr, from_place, Going, import_listed, inner, IsOwing, left, listed, OwesOn}
 use Rattle.rpm_change.proofs.import.import_all.Given as goal
 
 abbrev pub invariant-loop-is_last : goal.invariant-loop-is_last

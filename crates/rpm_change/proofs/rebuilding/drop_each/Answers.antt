@@ -1,14 +1,9 @@
 use Rattle.std.proofs.Common.{true, [], refl, arith}
-use Rattle.std.proofs.lemmas.Result.{err_from_is_err_and}
 use Rattle.std.specs.Prelude.{IsTrue}
 use Rattle.std.specs.FinMap as finite
-use Rattle.rpm_outside.specs.Buffered.{inner}
-use Rattle.rpm_db.specs.Frame.{packages_in, state_in}
-use Rattle.rpm_db.specs.State.{above}
-use Rattle.rpm_change.specs.Rebuilding.{dropped, drop_each, rebuild}
-use Rattle.rpm_change.specs.inner.Leaving.{unchanged, carried_then, ready_left}
+use Rattle.rpm_change.proofs.Vocabulary.{above, drop_each, dropped, err_is, going_end, going_start, inner, on_more, on_stop, out_joins, out_none, packages_in}
+use Rattle.rpm_change.proofs.Vocabulary.{ready_none, rebuild, state_in, went_as}
 use Rattle.rpm_change.proofs.Dropped.{package_or, drop_next, drop_none, same_dropped}
-use Rattle.rpm_change.specs.inner.Going.{out_joins, out_none, none_went, went_as, going_start, going_more, going_stop, going_end}
 use Rattle.rpm_change.proofs.rebuilding.drop_each.Goals as goal
 
 pub loop-next-init : goal.loop-next-init
@@ -16,8 +11,7 @@ loop-next-init g c =
     let s = state_in g.D.Disk c.args.disk.now c.args.db.now in
     record {
       goes = going_start g.D.Disk (rebuild s)
-          (none_went g.D.Disk g.met.D.Disk.follows_refl (unchanged g.D.Disk c.args.disk.now c.args.db.now c.requires.ready) c.args.disk.now c.args.db.now
-          c.requires.ready.indexed (out_none g.O.Sink c.args.out.now s));
+          (ready_none g.D.Disk g.met.D.Disk.follows_refl c.requires.ready (out_none g.O.Sink c.args.out.now s));
       same = λ told k over. refl;
       few = omega arith;
       out = omega arith;
@@ -35,21 +29,17 @@ loop-next-preserved g c =
     let u = state_in g.D.Disk c.drop_one.new.disk c.drop_one.new.db in
     let es = finite.entries (packages_in g.D.Disk c.args.disk.now c.args.db.now) in
     let p = package_or (finite.get t.packages m) in
-    let next = λ (told : IsTrue g.D.Disk.tells). drop_next s.packages t.packages n m (inv.same told) (c.in-Some.ensures.told (g.D.Disk.files c.loop-next.disk).pkg) in
+    let next = λ (told : IsTrue g.D.Disk.tells). drop_next s.packages t.packages n m (inv.same told)
+    (c.in-Some.ensures.told (g.D.Disk.files c.loop-next.disk).pkg) in
     let went = went_as g.D.Disk (dropped m p) (dropped m p) (λ told. (told, (next told).0)) (λ told. refl) (λ s t e. e) (done.went p) in
     record {
-      goes = going_more g.D.Disk g.met.D.Disk.follows_trans (out_joins g.O.Sink c.args.out.now c.loop-next.out c.drop_one.new.out)
-          (carried_then g.D.Disk c.args.disk.now c.loop-next.disk c.drop_one.new.disk c.args.db.now c.loop-next.db c.drop_one.new.db)
-          (λ carried told rows. carried.index told rows) (dropped m p) (drop_each (above m es)) inv.goes (λ told after. (next told).1) went;
+      goes = on_more g.D.Disk g.met.D.Disk.follows_trans (λ told. told) (out_joins g.O.Sink c.args.out.now c.loop-next.out c.drop_one.new.out)
+          (dropped m p) (drop_each (above m es)) inv.goes (λ told after. (next told).1) went;
       same = λ told. same_dropped p n m s t u (inv.same told) c.in-Some.ensures.next.0 (went.ended told true []).state_is;
       few = omega (arith, inv.few, done.one, c.in-Some.ensures.next.0);
       out = omega (arith, inv.out, done.out.cause.later);
       out_rest = g.met.O.Sink.follows_trans (inner c.args.out.now) (inner c.loop-next.out) (inner c.drop_one.new.out) inv.out_rest done.out.goes_on;
     }
-
-pub drop_one-requires-clause-ready : goal.drop_one-requires-clause-ready
-drop_one-requires-clause-ready g c =
-    ready_left g.D.Disk c.args.disk.now c.loop-next.disk c.args.db.now c.loop-next.db _ c.loop-next.invariant.goes.went.left
 
 pub returns-in_err-tally-clause-went : goal.returns-in_err-tally-clause-went
 returns-in_err-tally-clause-went g c =
@@ -60,10 +50,9 @@ returns-in_err-tally-clause-went g c =
     let t = packages_in g.D.Disk c.loop-next.disk c.loop-next.db in
     let p = package_or (finite.get t m) in
     let next = λ (told : IsTrue g.D.Disk.tells). drop_next s t n m (inv.same told) (c.in-Some.ensures.told (g.D.Disk.files c.loop-next.disk).pkg) in
-    let e = err_from_is_err_and c.from_residual.result c.from_residual.ensures.1 in
-    rw (e.1, e.2) (going_stop g.D.Disk g.met.D.Disk.follows_trans (out_joins g.O.Sink c.args.out.now c.loop-next.out c.drop_one.new.out)
-    (carried_then g.D.Disk c.args.disk.now c.loop-next.disk c.drop_one.new.disk c.args.db.now c.loop-next.db c.drop_one.new.db)
-    (λ carried told rows. carried.index told rows) (dropped m p) (drop_each (above m (finite.entries s))) inv.goes (λ told. (next told).1)
+    rw (err_is c.from_residual.result c.from_residual.ensures)
+    (on_stop g.D.Disk g.met.D.Disk.follows_trans (λ told. told) (out_joins g.O.Sink c.args.out.now c.loop-next.out c.drop_one.new.out)
+    (dropped m p) (drop_each (above m (finite.entries s))) inv.goes (λ told. (next told).1)
     (went_as g.D.Disk (dropped m p) (dropped m p) (λ told. (told, (next told).0)) (λ told. refl) (λ s t e. e) (c.in_err-tally.ensures.went p)))
 
 pub returns-clause-went : goal.returns-clause-went

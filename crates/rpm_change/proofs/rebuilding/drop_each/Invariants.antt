@@ -1,20 +1,14 @@
 use Rattle.std.proofs.Common.{◌+◌, ◌-◌, ◌^◌, ◌≤◌}
 use Rattle.std.specs.Prelude.{IsTrue}
 use Rattle.std.specs.FinMap as finite
-use Rattle.rpm_outside.specs.Buffered.{inner}
-use Rattle.rpm_db.specs.Frame.{IsIndexed, packages_in, state_in}
-use Rattle.rpm_db.specs.State.{above}
-use Rattle.rpm_change.specs.Rebuilding.{drop_each, rebuild}
-use Rattle.rpm_change.specs.Went.{CarriedOn, EndedOnOut}
+use Rattle.rpm_change.proofs.Vocabulary.{above, drop_each, EndedOnOut, GoingOn, inner, packages_in, rebuild, state_in}
 use Rattle.rpm_change.proofs.Dropped.{SameAbove}
-use Rattle.rpm_change.specs.inner.Going.{Going}
 use Rattle.rpm_change.proofs.rebuilding.drop_each.Given as goal
 
 abbrev pub invariant-loop-next : goal.invariant-loop-next
 invariant-loop-next g l = record {
-  goes : Going g.D.Disk (CarriedOn g.D.Disk l.initial.disk l.disk l.initial.db l.db) (IsIndexed g.D.Disk l.initial.disk l.initial.db)
-      (IsTrue g.D.Disk.tells) (g.D.Disk.files l.initial.disk) (g.D.Disk.files l.disk) l.initial.disk l.disk l.initial.db l.db
-      (record { failed = l.failed; changes = l.changes }) (EndedOnOut g.O.Sink l.initial.out l.out)
+  goes : GoingOn g.D.Disk (IsTrue g.D.Disk.tells) l.initial.disk l.disk l.initial.db l.db (record { failed = l.failed; changes = l.changes })
+      (EndedOnOut g.O.Sink l.initial.out l.out)
       (rebuild (state_in g.D.Disk l.initial.disk l.initial.db))
       (drop_each (above l.number (finite.entries (packages_in g.D.Disk l.initial.disk l.initial.db))));
   same : IsTrue g.D.Disk.tells → SameAbove l.number (packages_in g.D.Disk l.initial.disk l.initial.db) (packages_in g.D.Disk l.disk l.db);

@@ -1,34 +1,21 @@
-use Rattle.std.proofs.Common.{Ok, refl, sym, ap, Err}
+use Rattle.std.proofs.Common.{refl, sym, ap, Err}
 use Rattle.std.specs.FinMap as finite
-use Rattle.rpm_db.specs.Database.{cost}
-use Rattle.rpm_db.specs.Frame.{packages_in}
-use Rattle.rpm_db.specs.State.{Bad}
+use Rattle.rpm_change.proofs.Vocabulary.{Bad, carried_then, dropped, EndedOnOut, idle, out_gone, out_joins, out_none, packages_in, stopped_went, went_as}
+use Rattle.rpm_change.proofs.Vocabulary.{went_behind}
 use Rattle.rpm_change.specs.declared.tally.Halt.TheVariants as halt
-use Rattle.rpm_change.specs.Rebuilding.{dropped}
-use Rattle.rpm_change.specs.Steps.{idle}
-use Rattle.rpm_change.specs.Went.{EndedOnOut}
-use Rattle.rpm_change.specs.inner.Leaving.{carried_then, ready_left}
 use Rattle.rpm_change.proofs.Dropped.{left_looked, looked_went}
 use Rattle.rpm_change.proofs.Drops.{bad_is, good_is}
-use Rattle.rpm_change.specs.inner.Going.{out_gone, out_joins, out_none, stopped_went, went_as, went_behind}
 use Rattle.rpm_change.proofs.rebuilding.drop_one.Goals as goal
 
 pub returns-in-Ok-clause-went : goal.returns-in-Ok-clause-went
 returns-in-Ok-clause-went g c = λ p.
     let n = c.args.number in
-    let db = c.args.db.now in
     let said = c.in-Ok.ensures in
-    let found = finite.get (packages_in g.D.Disk c.args.disk.now db) n in
+    let found = finite.get (packages_in g.D.Disk c.args.disk.now c.args.db.now) n in
     went_as g.D.Disk {E = EndedOnOut g.O.Sink c.args.out.now c.args.out.now} idle (dropped n p) (λ both. both)
     (λ both. sym (ap (dropped n) (good_is found p c.in-Ok.good.items (said.told both.0) both.1))) (λ s t e. e)
-    (looked_went g.D.Disk (cost n db) c.args.disk.now c.get_in.new.disk db c.requires.ready said.looks said.cause.later (λ both. both.0)
+    (looked_went g.D.Disk g.met.D.Disk.follows_refl g.met.D.Disk.follows_trans c.requires.ready said.looks said.cause.later (λ both. both.0)
     (out_none g.O.Sink c.args.out.now))
-
-pub drop_bad-requires-clause-ready : goal.drop_bad-requires-clause-ready
-drop_bad-requires-clause-ready g c =
-    ready_left g.D.Disk c.args.disk.now c.get_in.new.disk c.args.db.now c.args.db.now (record { failed = 0; changes = 0 })
-    (left_looked g.D.Disk (cost c.args.number c.args.db.now) c.args.disk.now c.get_in.new.disk c.args.db.now c.requires.ready c.get_in.ensures.looks
-    (Ok (record { failed = 0; changes = 0 })) (record { later = c.get_in.ensures.cause.later; rose = λ is. absurd cc }))
 
 pub returns-in-Err-Bad-clause-went : goal.returns-in-Err-Bad-clause-went
 returns-in-Err-Bad-clause-went g c = λ p.
@@ -41,18 +28,18 @@ returns-in-Err-Bad-clause-went g c = λ p.
     (went_behind g.D.Disk g.met.D.Disk.follows_trans (out_joins g.O.Sink c.args.out.now c.args.out.now c.drop_bad.new.out)
     (carried_then g.D.Disk c.args.disk.now c.get_in.new.disk c.drop_bad.new.disk db db c.drop_bad.new.db) (λ carried told rows. carried.index told rows)
     (dropped n Bad) c.drop_bad.result
-    (looked_went g.D.Disk (cost n db) c.args.disk.now c.get_in.new.disk db c.requires.ready look.looks look.cause.later (λ told. told)
+    (looked_went g.D.Disk g.met.D.Disk.follows_refl g.met.D.Disk.follows_trans c.requires.ready look.looks look.cause.later (λ told. told)
     (out_none g.O.Sink c.args.out.now)) c.drop_bad.ensures.went)
 
 pub returns-in-Err-DiskFault-clause-went : goal.returns-in-Err-DiskFault-clause-went
 returns-in-Err-DiskFault-clause-went g c = λ p.
     let said = rw c.in-Err-DiskFault.field-0-is at c.in-Err-DiskFault.ensures in
     stopped_went g.D.Disk (dropped c.args.number p) halt.DiskFault (λ s t. out_gone g.O.Sink c.args.out.now (dropped c.args.number p)) (λ i. refl) tt
-    (left_looked g.D.Disk (cost c.args.number c.args.db.now) c.args.disk.now c.get_in.new.disk c.args.db.now c.requires.ready c.get_in.ensures.looks
-    (Err halt.DiskFault) (record { later = c.get_in.ensures.cause.later; rose = λ is. said.cause.rose refl }))
+    (left_looked g.D.Disk g.met.D.Disk.follows_refl g.met.D.Disk.follows_trans c.requires.ready c.get_in.ensures.looks (Err halt.DiskFault)
+    (record { later = c.get_in.ensures.cause.later; rose = λ is. said.cause.rose refl }))
 
 pub returns-in-Err-NoMemory-clause-went : goal.returns-in-Err-NoMemory-clause-went
 returns-in-Err-NoMemory-clause-went g c = λ p.
     stopped_went g.D.Disk (dropped c.args.number p) halt.NoMemory (λ s t. out_gone g.O.Sink c.args.out.now (dropped c.args.number p)) (λ i. refl) tt
-    (left_looked g.D.Disk (cost c.args.number c.args.db.now) c.args.disk.now c.get_in.new.disk c.args.db.now c.requires.ready c.get_in.ensures.looks
-    (Err halt.NoMemory) (record { later = c.get_in.ensures.cause.later; rose = λ is. absurd cc }))
+    (left_looked g.D.Disk g.met.D.Disk.follows_refl g.met.D.Disk.follows_trans c.requires.ready c.get_in.ensures.looks (Err halt.NoMemory)
+    (record { later = c.get_in.ensures.cause.later; rose = λ is. absurd cc }))

@@ -1,20 +1,8 @@
 use Rattle.std.proofs.Common.{refl, sym, subst, ap, ◌∙◌}
-use Rattle.rpm_header.specs.Header.{header}
-use Rattle.rpm_db.specs.Changes.{Add}
-use Rattle.rpm_db.specs.Frame.{state_in}
-use Rattle.rpm_db.specs.Gathering.{resumed}
-use Rattle.rpm_db.specs.Lawful.{IsWholeIndex}
-use Rattle.rpm_db.specs.inner.States.{next-state}
-use Rattle.rpm_change.specs.Importing.{imported, place_fails}
-use Rattle.rpm_change.specs.Steps.{changing, whole}
-use Rattle.rpm_change.specs.Texts.{header_text}
-use Rattle.rpm_change.specs.inner.Single.{one_made}
-use Rattle.rpm_change.specs.Went.{EndedOnErr}
-use Rattle.rpm_change.specs.inner.Courses.{through_none}
-use Rattle.rpm_change.specs.inner.Going.{took, err_refused, went_as, line_went, halted_went}
+use Rattle.rpm_change.proofs.Vocabulary.{Add, changing, EndedOnErr, err_refused, halted_went, header, header_text, imported, IsWholeIndex, line_went}
+use Rattle.rpm_change.proofs.Vocabulary.{next-state, one_made, place_fails, resumed, room, state_in, through_none, took, went_as, whole}
 use Rattle.rpm_change.proofs.Imported.{imported_good, add_limits}
 use Rattle.rpm_change.proofs.Owing.{owing_none, owing_same}
-use Rattle.rpm_change.proofs.Placed.{header_kinds}
 use Rattle.rpm_change.proofs.turn.import_header.Goals as goal
 
 pub returns-in-Ok-clause-went : goal.returns-in-Ok-clause-went
@@ -24,9 +12,10 @@ returns-in-Ok-clause-went g c =
     let put = done.causes.1 in
     let gathers = done.gathers put.own put.read in
     let made = gathers.gathered in
-    let v = c.args.db.now.store in
+    let v = (room c.args.db.now) in
     let law = next-state (g.D.Disk.files c.args.disk.now).pkg v in
-    went_as g.D.Disk {E = EndedOnErr g.E.Sink c.args.err.now c.args.err.now} (changing (Add put.own.blob)) (imported k (header c.args.blob.now)) (λ told. told)
+    went_as g.D.Disk {E = EndedOnErr g.E.Sink c.args.err.now c.args.err.now} (changing (Add put.own.blob)) (imported k (header c.args.blob.now))
+    (λ told. told)
     (λ told. sym (imported_good k c.args.blob.now put.own put.read)) (λ s t e. e)
     (record {
       ended = λ told ot o. record {
@@ -36,7 +25,7 @@ returns-in-Ok-clause-went g c =
         state_is = made.state_is told;
       };
       limits = λ told i rows.
-          one_made i (state_in g.D.Disk c.args.disk.now c.args.db.now) (Add put.own.blob) v c.add.new.db.store (record { failed = 0; changes = 1 })
+          one_made i (state_in g.D.Disk c.args.disk.now c.args.db.now) (Add put.own.blob) v (room c.add.new.db) (record { failed = 0; changes = 1 })
           (λ is. done.causes.0 (sym law ∙ is)) put.later.0 gathers.room made.generation
           (λ is. gathers.full told (rows is)) (done.end told) (λ is. made.reach told (rows is));
       whole = λ told whole. subst IsWholeIndex (sym (done.index told)) whole;
@@ -55,12 +44,11 @@ returns-in-Err-BadHeader-clause-went g c =
     let fault = c.in-Err-BadHeader.fault in
     let said = rw c.in-Err-BadHeader.field-0-is at c.in-Err-BadHeader.ensures in
     let same = said.refused fault refl in
-    let owing = owing_none D c.args.disk.now c.args.db.now c.args.additions.now c.requires.gathering in
     owing_same D _ c.args.disk.now c.add.new.disk c.args.db.now c.add.new.db c.args.additions.now c.add.new.self c.put_bad_header.result _ _
     same.0 same.1 same.2
     (went_as D (place_fails k (header_text fault)) (imported k (header c.args.blob.now)) (λ told. told)
     (λ told. sym (ap (imported k) said.causes.1)) (λ s t e. e)
-    (line_went D g.met.D.Disk.follows_refl owing c.args.disk.now c.args.db.now c.requires.gathering.indexed g.E.Sink c.put_bad_header.result (whole 0)
+    (line_went D g.met.D.Disk.follows_refl (owing_none D c.requires.gathering) _ _ c.requires.gathering.indexed g.E.Sink c.put_bad_header.result (whole 0)
     c.put_bad_header.ensures))
 
 pub returns-in-Err-clause-went : goal.returns-in-Err-clause-went
@@ -68,12 +56,9 @@ returns-in-Err-clause-went g c =
     let said = c.in-Err.ensures in
     let f = c.in-Err.fault in
     let db = c.args.db.now in
-    let law = next-state (g.D.Disk.files c.args.disk.now).pkg db.store in
+    let law = next-state (g.D.Disk.files c.args.disk.now).pkg (room db) in
     let course = imported c.args.place (header c.args.blob.now) in
-    halted_went g.D.Disk course f c.halt_of.result c.halt_of.ensures (err_refused g.E.Sink c.args.err.now course f)
-    (λ told i rows. add_limits i (resumed db) (state_in g.D.Disk c.args.disk.now db) c.add.new.db.store c.args.place c.args.blob.now law f said.causes
+    halted_went g.D.Disk course f c.from.result c.from.ensures (err_refused g.E.Sink c.args.err.now course f)
+    (λ told i rows. add_limits i (resumed db) (state_in g.D.Disk c.args.disk.now db) (room c.add.new.db) c.args.place c.args.blob.now law f said.causes
     (λ h read. (said.gathers h read).room) (λ is h read. (said.gathers h read).full told (rows is)))
     (λ told whole. said.whole told whole) said.left.indexed said.runs said.cause (λ is. cc)
-
-pub returns-in-Err-clause-kinds : goal.returns-in-Err-clause-kinds
-returns-in-Err-clause-kinds g c = rw c.halt_of.ensures (header_kinds c.in-Err.fault)

@@ -1,15 +1,8 @@
 use Rattle.std.proofs.Common.{ℕ, List, take, sym, ap, ◌∙◌}
-use Rattle.std.proofs.lemmas.Result.{err_from_is_err_and}
-use Rattle.rpm_outside.specs.Browses.{left}
-use Rattle.rpm_file.specs.List.{list_head}
-use Rattle.rpm_db.specs.Frame.{state_in}
-use Rattle.rpm_change.specs.Importing.{place_fails}
-use Rattle.rpm_change.specs.Steps.{idle, whole}
-use Rattle.rpm_change.specs.Turns.{turn, turn_found}
-use Rattle.rpm_change.specs.Went.{EndedOnErr}
-use Rattle.rpm_change.specs.inner.Going.{err_none, none_went, went_as, line_went, reading_went}
+use Rattle.rpm_change.proofs.Vocabulary.{EndedOnErr, err_is, err_none, idle, left, line_went, list_head, none_went, place_fails, reading_went, state_in, turn}
+use Rattle.rpm_change.proofs.Vocabulary.{turn_found, went_as, whole}
 use Rattle.rpm_change.proofs.Owing.{owing_none}
-use Rattle.rpm_change.proofs.Turned.{of_list, stop_is, reading_importing}
+use Rattle.rpm_change.proofs.Turned.{of_list, stop_is}
 use Rattle.rpm_change.proofs.turn.import_next.Goals as goal
 
 -- a header stands in front
@@ -31,8 +24,8 @@ returns-in_err-tally-in-Ok-Some-clause-went g c =
     let head = list_head (left (g.S.Shelf.rest c.args.shelf.now)) in
     let said = rw c.in-Ok-Some.field-0-is at c.in-Ok-Some.ensures in
     let room = ap (take c.in-Ok-Some.size) c.deref.ensures.value in
-    let p = err_from_is_err_and c.from_residual.result c.from_residual.ensures.1 in
-    rw (p.1, p.2) (went_as g.D.Disk (found (take c.in-Ok-Some.size c.deref.result.now)) (turns head) (λ both. both.0)
+    rw (err_is c.from_residual.result c.from_residual.ensures)
+    (went_as g.D.Disk (found (take c.in-Ok-Some.size c.deref.result.now)) (turns head) (λ both. both.0)
     (λ both. ap found room ∙ sym (ap turns (said.answers both.1))) (λ s t e. e) c.in_err-tally-in-Ok-Some.ensures.went)
 
 -- the list is at its end
@@ -41,34 +34,29 @@ pub returns-in-Ok-None-clause-went : goal.returns-in-Ok-None-clause-went
 returns-in-Ok-None-clause-went g c =
     let turns = turn c.args.most c.args.place in
     let said = rw c.in-Ok-None.field-0-is at c.in-Ok-None.ensures in
-    let owing = owing_none g.D.Disk c.args.disk.now c.args.db.now c.args.additions.now c.requires.gathering in
-    went_as g.D.Disk {E = EndedOnErr g.E.Sink c.args.err.now c.args.err.now} idle (turns (list_head (left (g.S.Shelf.rest c.args.shelf.now)))) (λ both. both) (λ both. sym (ap turns (said.answers both.1).0))
+    went_as g.D.Disk {E = EndedOnErr g.E.Sink c.args.err.now c.args.err.now} idle (turns (list_head (left (g.S.Shelf.rest c.args.shelf.now))))
+    (λ both. both) (λ both. sym (ap turns (said.answers both.1).0))
     (λ s t e. e)
-    (none_went g.D.Disk g.met.D.Disk.follows_refl owing c.args.disk.now c.args.db.now c.requires.gathering.indexed
+    (none_went g.D.Disk g.met.D.Disk.follows_refl (owing_none g.D.Disk c.requires.gathering) _ _ c.requires.gathering.indexed
     (err_none g.E.Sink c.args.err.now (state_in g.D.Disk c.args.disk.now c.args.db.now)))
 
 -- a fault of the list
 
 pub returns-in-Some-clause-went : goal.returns-in-Some-clause-went
 returns-in-Some-clause-went g c =
-    let owing = owing_none g.D.Disk c.args.disk.now c.args.db.now c.args.additions.now c.requires.gathering in
-    reading_went g.D.Disk g.met.D.Disk.follows_refl owing c.args.disk.now c.args.db.now c.requires.gathering.indexed g.E.Sink c.args.err.now
+    reading_went g.D.Disk g.met.D.Disk.follows_refl (owing_none g.D.Disk c.requires.gathering) _ _ c.requires.gathering.indexed g.E.Sink c.args.err.now
     (turn c.args.most c.args.place (list_head (left (g.S.Shelf.rest c.args.shelf.now)))) c.in-Some.halt
     (stop_is c.in-Err.fault c.in-Some.halt c.in-Some.ensures).0
-
-pub returns-in-Some-clause-kinds : goal.returns-in-Some-clause-kinds
-returns-in-Some-clause-kinds g c = reading_importing c.in-Some.halt (stop_is c.in-Err.fault c.in-Some.halt c.in-Some.ensures).0
 
 pub returns-in_ok-tally-in-None-clause-went : goal.returns-in_ok-tally-in-None-clause-went
 returns-in_ok-tally-in-None-clause-went g c =
     let turns = turn c.args.most c.args.place in
     let fails = place_fails c.args.place in
     let head = list_head (left (g.S.Shelf.rest c.args.shelf.now)) in
-    let owing = owing_none g.D.Disk c.args.disk.now c.args.db.now c.args.additions.now c.requires.gathering in
     went_as g.D.Disk (fails c.list_text.result.now) (turns head) (λ both. both)
     (λ both. ap fails c.list_text.ensures ∙ sym (ap turns (of_list head c.in-Err.fault c.in-None.ensures (c.in-Err.ensures.answers both.1))))
     (λ s t e. e)
-    (line_went g.D.Disk g.met.D.Disk.follows_refl owing c.args.disk.now c.args.db.now c.requires.gathering.indexed g.E.Sink _
+    (line_went g.D.Disk g.met.D.Disk.follows_refl (owing_none g.D.Disk c.requires.gathering) _ _ c.requires.gathering.indexed g.E.Sink _
     (whole 0) c.in_ok-tally-in-None.ensures)
 
 pub returns-in_err-tally-in-None-clause-went : goal.returns-in_err-tally-in-None-clause-went
@@ -76,10 +64,9 @@ returns-in_err-tally-in-None-clause-went g c =
     let turns = turn c.args.most c.args.place in
     let fails = place_fails c.args.place in
     let head = list_head (left (g.S.Shelf.rest c.args.shelf.now)) in
-    let owing = owing_none g.D.Disk c.args.disk.now c.args.db.now c.args.additions.now c.requires.gathering in
-    let p = err_from_is_err_and c.from_residual-in_err-tally-in-None.result c.from_residual-in_err-tally-in-None.ensures.1 in
-    rw (p.1, p.2) (went_as g.D.Disk (fails c.list_text.result.now) (turns head) (λ both. both)
+    rw (err_is c.from_residual-in_err-tally-in-None.result c.from_residual-in_err-tally-in-None.ensures)
+    (went_as g.D.Disk (fails c.list_text.result.now) (turns head) (λ both. both)
     (λ both. ap fails c.list_text.ensures ∙ sym (ap turns (of_list head c.in-Err.fault c.in-None.ensures (c.in-Err.ensures.answers both.1))))
     (λ s t e. e)
-    (line_went g.D.Disk g.met.D.Disk.follows_refl owing c.args.disk.now c.args.db.now c.requires.gathering.indexed g.E.Sink _
+    (line_went g.D.Disk g.met.D.Disk.follows_refl (owing_none g.D.Disk c.requires.gathering) _ _ c.requires.gathering.indexed g.E.Sink _
     (whole 0) c.in_err-tally-in-None.ensures))

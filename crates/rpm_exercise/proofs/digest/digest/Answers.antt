@@ -1,13 +1,8 @@
-use Rattle.std.proofs.Common.{Err, refl, sym, ap, ◌∙◌, subst}
-use Rattle.rpm_outside.specs.Files.{Files}
-use Rattle.rpm_db.specs.Database.{Keeps}
-use Rattle.rpm_db.specs.State.{packages}
-use Rattle.rpm_db.specs.inner.FromOne.{from_one}
+use Rattle.std.proofs.Common.{Err, refl, sym, ap, subst}
+use Rattle.rpm_exercise.proofs.Vocabulary.{Files, Keeps}
 use Rattle.rpm_select.specs.declared.selection.Selection.TheVariants as question
-use Rattle.rpm_select.specs.Selections.{picks}
-use Rattle.rpm_select.specs.inner.Rising.{picks_from_one}
 use Rattle.rpm_exercise.proofs.Asking.{asks_served, asks_unserved}
-use Rattle.rpm_exercise.proofs.Walked.{served}
+use Rattle.rpm_exercise.proofs.Walked.{from_start, served}
 use Rattle.rpm_exercise.proofs.digest.digest.Goals as goal
 
 pub digest_served-requires-clause-keeps : goal.digest_served-requires-clause-keeps
@@ -16,14 +11,9 @@ digest_served-requires-clause-keeps g c = λ told.
 
 pub returns-in-Ok-clause-told : goal.returns-in-Ok-clause-told
 returns-in-Ok-clause-told g c = λ told rows.
-    let db = c.args.db.now in
-    let sel = question.All in
-    let start = g.D.Disk.files c.args.disk.now in
-    let mid = g.D.Disk.files c.new.new.disk in
     let same = (c.in-Ok.ensures.asks.looks.untouched told).same in
-    let serves = served sel db c.in-Ok.picker c.in-Ok.picker mid start refl same (c.in-Ok.ensures.serves told rows) in
-    let whole = picks_from_one mid.pkg db sel (from_one start.pkg db (c.requires.asked.keeps told)) ∙ ap (λ (f : Files). picks (packages f.pkg db.store) sel) same in
-    rw (← whole) (c.digest_served.ensures.told told serves)
+    rw (← from_start g.D.Disk question.All c.args.db.now same (c.requires.asked.keeps told)) (c.digest_served.ensures.told told
+    (served g.D.Disk question.All c.args.db.now (λ tells. same) refl told (c.in-Ok.ensures.serves told rows)))
 
 pub returns-in-Ok-clause-asks : goal.returns-in-Ok-clause-asks
 returns-in-Ok-clause-asks g c =
@@ -33,5 +23,5 @@ returns-in-Ok-clause-asks g c =
 pub returns-in-Err-clause-asks : goal.returns-in-Err-clause-asks
 returns-in-Err-clause-asks g c =
     let said = c.in-Err.ensures in
-    rw c.halt_of.ensures (asks_unserved g.D.Disk g.met.D.Disk.follows_trans _ c.in-Err.fault c.args.disk.now c.new.new.disk c.args.db.now said.asks.looks said.asks.lawful
+    rw c.halt_of.ensures (asks_unserved g.D.Disk _ c.in-Err.fault c.args.disk.now c.new.new.disk c.args.db.now said.asks.looks said.asks.lawful
     (record { later = said.asks.cause.later; rose = λ is. said.asks.cause.rose (ap Err is) }))

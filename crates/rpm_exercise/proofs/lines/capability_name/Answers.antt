@@ -1,4 +1,4 @@
-use Rattle.std.specs.String.{string_bytes}
+use Rattle.rpm_exercise.proofs.Vocabulary.{string_bytes}
 use Rattle.rpm_exercise.proofs.Named.{all_named}
 use Rattle.rpm_exercise.proofs.lines.capability_name.Goals as goal
 

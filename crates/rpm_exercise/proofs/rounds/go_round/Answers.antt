@@ -1,12 +1,8 @@
 use Rattle.std.proofs.Common.{◌+◌, ◌-◌, arith, ap}
-use Rattle.std.proofs.lemmas.Result.{err_from_is_err_and}
-use Rattle.std.specs.List.{flat_map, range_with_len}
-use Rattle.rpm_db.specs.Frame.{state_in}
-use Rattle.rpm_exercise.specs.Rounds.{making, turn, round_changes}
+use Rattle.rpm_exercise.proofs.Vocabulary.{carried_then, err_is, flat_map, going_begin, going_end, going_more, going_stop, making, none_went, quiet_joins}
+use Rattle.rpm_exercise.proofs.Vocabulary.{quiet_none, range_with_len, ready_left, round_changes, state_in, turn, unchanged}
 use Rattle.rpm_exercise.proofs.Parts.{each_next, each_none, each_all}
 use Rattle.rpm_exercise.proofs.Through.{none_failed}
-use Rattle.rpm_change.specs.inner.Going.{none_went, quiet_joins, quiet_none, going_begin, going_more, going_stop, going_end}
-use Rattle.rpm_change.specs.inner.Leaving.{unchanged, carried_then, ready_left}
 use Rattle.rpm_exercise.proofs.rounds.go_round.Goals as goal
 
 pub loop-done-init : goal.loop-done-init
@@ -46,8 +42,7 @@ returns-in_err-tally-clause-went g c =
     let n = c.args.n in
     let f = turn c.args.round c.args.b in
     let said = c.in_err-tally.ensures.went in
-    let p = err_from_is_err_and c.from_residual.result c.from_residual.ensures.1 in
-    rw (p.1, p.2) (record {
+    rw (err_is c.from_residual.result c.from_residual.ensures) (record {
       course = going_stop g.D.Disk g.met.D.Disk.follows_trans quiet_joins
           (carried_then g.D.Disk c.args.disk.now c.loop-done.disk c.take_turn.new.disk c.args.db.now c.loop-done.db c.take_turn.new.db)
           (λ carried told rows. carried.index told rows) (making (f (k + 1))) (making (flat_map f (range_with_len (k + 1 + 1) (n - (k + 1)))))

@@ -1,10 +1,6 @@
 use Rattle.std.proofs.Common.{◌+◌, ◌-◌, ◌≤◌}
 use Rattle.std.specs.Prelude.{IsTrue}
-use Rattle.std.specs.List.{flat_map, range_with_len}
-use Rattle.rpm_db.specs.Frame.{IsIndexed}
-use Rattle.rpm_change.specs.Went.{CarriedOn, EndedQuietly}
-use Rattle.rpm_change.specs.inner.Going.{Going}
-use Rattle.rpm_exercise.specs.Rounds.{making, turn, round_changes}
+use Rattle.rpm_exercise.proofs.Vocabulary.{CarriedOn, EndedQuietly, flat_map, Going, IsIndexed, making, range_with_len, round_changes, turn}
 use Rattle.rpm_exercise.proofs.rounds.go_round.Given as goal
 
 abbrev pub invariant-loop-done : goal.invariant-loop-done

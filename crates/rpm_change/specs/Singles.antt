@@ -1,0 +1,36 @@
+-- One change of the database by its answer: what it is never stopped for, and what is left.
+use Rattle.std.specs.Prelude.{◌≡◌, ◌≢◌, ℕ, List, IsTrue, IfOk, IfErr, Result}
+use Rattle.rpm_outside.specs.declared.disk.Disk as disk
+use Rattle.rpm_db.specs.Changes.{Change, Put, Erase}
+use Rattle.rpm_db.specs.Database.{Database, next_number}
+use Rattle.rpm_change.specs.declared.tally.Tally.{Tally}
+use Rattle.rpm_change.specs.declared.tally.Halt.{Halt}
+use Rattle.rpm_change.specs.declared.tally.Halt.TheVariants as halt
+use Rattle.rpm_change.specs.Steps.{changing}
+use Rattle.rpm_change.specs.Went.{EndedQuietly, Went}
+use Rattle.rpm_db.specs.Frame.{room}
+
+-- no number, no generation is left in this value
+abbrev pub IsSpent : Database → Halt → Type 0
+IsSpent db halt.NumbersSpent = next_number db ≡ 4294967295
+IsSpent db halt.GenerationSpent = (room db).generation ≡ 4294967295
+IsSpent db others = Unit {0}
+
+-- only a header under a new number takes a number, and only a header takes room in the store
+abbrev pub IsRefusing : Halt → Change → Type 0
+IsRefusing halt.NumbersSpent (Put n bytes) = ⊥
+IsRefusing halt.NumbersSpent (Erase n) = ⊥
+IsRefusing halt.StoreFull (Erase n) = ⊥
+IsRefusing others change = Unit {0}
+
+-- a change reads no shelf and writes no line
+abbrev pub IsOfChange : Change → Halt → Type 0
+IsOfChange change h = (h ≢ halt.ShelfFault) × (h ≢ halt.OutFault) × (h ≢ halt.ErrFault) × IsRefusing h change
+
+module _ {D : Type 0} (d : disk.Ghosts D) where
+  -- it was made, or what refuses it stopped it: numbers or generations are said to be spent only where they are
+  pub record MakesOne (change : Change) (old new : D) (before after : Database) (r : Result Tally Halt) : Type 0 where
+    pub went : Went d (IsTrue d.tells) old new before after r EndedQuietly (changing change)
+    pub one : IfOk r (λ tally. tally ≡ record { failed = 0; changes = 1 })
+    pub kinds : IfErr r (IsOfChange change)
+    pub spent : IfErr r (IsSpent after)

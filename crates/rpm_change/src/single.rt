@@ -1,0 +1,57 @@
+//! One change of the database.
+
+ghost use Rattle.std.specs.Prelude.{◌≡◌, Ok};
+ghost use Rattle.rpm_change.specs.Prelude.{change_at, Erase, header, IsReady, MakesOne, read_again};
+
+use crate::tally::{CHANGED, Halt, Tally};
+use rpm_db::Db;
+use rpm_outside::Disk;
+use std::alloc::Global;
+
+/// Puts a header under a new number, or in place of the package that a number has. Counts one change.
+///
+/// # Errors
+///
+/// The first of these limits that it meets: `NumbersSpent`, under a new number alone; `GenerationSpent`; `StoreFull`;
+/// `IndexFull`. Besides `BadIndex` and `DiskFault`; and `NoMemory`, also where the number has no package.
+pub fn put_blob<D: Disk>(
+    alloc: Global,
+    db: &mut Db,
+    disk: &mut D,
+    number: Option<u32>,
+    blob: &[u8],
+) -> Result<Tally, Halt>
+    requires ready { IsReady D.Disk disk.old db.old }
+    requires own { header blob.now ≡ Ok (read_again blob.now) }
+    ensures { MakesOne D.Disk (change_at number blob.now) disk.old disk.new db.old db.new result }
+{
+    match number {
+        None => {
+            db.add(alloc, disk, blob)?;
+            Ok(CHANGED)
+        }
+        Some(n) => {
+            db.put(alloc, disk, n, blob)?;
+            Ok(CHANGED)
+        }
+    }
+}
+
+/// Takes the package of a number out, Good or Bad. Counts one change.
+///
+/// # Errors
+///
+/// The first of these limits that it meets: `GenerationSpent`; `IndexFull`. Besides `BadIndex` and `DiskFault`; and
+/// `NoMemory`, also where the number has no package.
+pub fn take_out<D: Disk>(
+    alloc: Global,
+    db: &mut Db,
+    disk: &mut D,
+    number: u32,
+) -> Result<Tally, Halt>
+    requires ready { IsReady D.Disk disk.old db.old }
+    ensures { MakesOne D.Disk (Erase number) disk.old disk.new db.old db.new result }
+{
+    db.erase(alloc, disk, number)?;
+    Ok(CHANGED)
+}
