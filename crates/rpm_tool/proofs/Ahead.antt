@@ -1,9 +1,6 @@
 -- Changes that put no package under a new number of their own: then the field goes on above each number, and the numbers that are given rise.
 use Rattle.std.proofs.Common.{◌≡◌, ℕ, ◌+◌, ◌≤◌, ◌<◌, List, [], ◌∷◌, ◌++◌, sym, subst, arith}
-use Rattle.rpm_db.specs.Changes.{Change, Add, Put, Erase, apply, next}
-use Rattle.rpm_db.specs.State.{State, Good}
-use Rattle.rpm_change.specs.Steps.{apply_all}
-use Rattle.rpm_tool.specs.Given.{IsAhead, numbers_given, RiseWithin}
+use Rattle.rpm_tool.proofs.Vocabulary.{Add, apply, apply_all, Change, Erase, Good, IsAhead, next, numbers_given, Put, RiseWithin, State}
 use Rattle.rpm_tool.proofs.Greatest.{HeldBelow, held_below, greatest_below, insert_below, remove_below, later_below}
 
 -- ---- one change

@@ -1,25 +1,18 @@
 -- What is said of a whole argument, and of all of them.
 use Rattle.std.proofs.Common.{◌≡◌, ℕ, zero, suc, ◌+◌, ◌≤◌, ◌≢◌, Bool, true, false, if◌then◌else◌, List, [], ◌∷◌, ◌++◌, map, drop, length, Result, Ok, Err, Some, refl, sym, ap, ◌∙◌, subst, add-one, arith}
 use Rattle.std.specs.Prelude.{slice_get}
-use Rattle.std.specs.Ordering.{nat_cmp}
-use Rattle.std.specs.FinMap.{FinMap}
-use Rattle.rpm_words.specs.declared.switch.Chosen.{Chosen}
-use Rattle.rpm_qfparse.specs.Tree.{Tree}
-use Rattle.rpm_db.specs.State.{Package, above}
+use Rattle.rpm_tool.proofs.Vocabulary.{above, answered, argument_part, Bearer, before, Chosen, Course, Everything, FinMap, idle, is_some_of, missing_part}
+use Rattle.rpm_tool.proofs.Vocabulary.{nat_cmp, Outputs, outputs, Package, packages_part, PartIs, picks, Portion, query_of, Reach, Reached, reaches_by, Step}
+use Rattle.rpm_tool.proofs.Vocabulary.{step_of, Stop, Through, Tree, Went, whole, why_of_report}
 use Rattle.rpm_select.specs.declared.selection.Selection.TheVariants as question
-use Rattle.rpm_select.specs.Selections.{picks}
-use Rattle.rpm_select.specs.Reach.{Reach, Everything}
-use Rattle.rpm_tool.specs.declared.step.Stop.{Stop}
 use Rattle.rpm_tool.specs.declared.step.Stop.TheVariants as stop
 use Rattle.std.proofs.Math.Seq.{drop-nil}
+use Rattle.std.proofs.lemmas.List.{append-nil}
 use Rattle.rpm_tool.specs.declared.answer.Why.TheVariants as why
-use Rattle.rpm_change.specs.Steps.{Bearer, whole, Course, idle}
-use Rattle.rpm_tool.specs.Steps.{Portion, before, in_turn}
-use Rattle.rpm_tool.specs.Reads.{reaches_by}
-use Rattle.rpm_tool.specs.Queries.{step_of, packages_part, missing_part, answered, argument_part, query_of}
-use Rattle.rpm_change.specs.Endings.{Outputs, outputs, Through}
-use Rattle.rpm_tool.specs.Answers.{Reached, PartIs, Went, why_of, is_some_of}
+use Rattle.rpm_tool.specs.Steps.{in_turn}
+use Rattle.rpm_tool.specs.Answers.{why_of}
 use Rattle.rpm_tool.proofs.Reaching.{Goes, goes_end}
+use Rattle.rpm_tool.proofs.Verified.{went_failing, went_sound}
 use Rattle.rpm_tool.proofs.Stopping.{reached_reads, reached_empty, reached_later}
 
 pub part_reads : (part : Portion) (r : Result Bool Stop) (old new : Outputs) (P Q : Bearer → Type 0) → ((b : Bearer) → P b → Q b) → PartIs part r old new P
@@ -61,6 +54,14 @@ went_stop T c (stop.BadIndex unit) old new reads_to r = r
 went_stop T c stop.OutFault old new reads_to r = r
 went_stop T c stop.ErrFault old new reads_to r = r
 went_stop T c stop.NoMemory old new reads_to r = r
+
+-- a report of one part
+pub went_report : (p : Portion) (told : Result Bool Stop) (old new : Outputs) (reads_to : Bearer → Type 0) → PartIs p told old new reads_to
+    → Went (before p idle) (why_of_report told) old new reads_to
+went_report p (Ok true) old new reads_to part = went_failing p old new reads_to part
+went_report p (Ok false) old new reads_to part = went_sound p old new reads_to part
+went_report p (Err what) old new reads_to part = went_stop Bool (before p idle) what old new reads_to
+    (subst (λ (ss : List Step). Reached {T = Bool} ss (Err what) old new reads_to) (sym (append-nil p.steps)) part.steps)
 
 pub some_above : (n : ℕ) (es : List (ℕ × Package)) → is_some_of (above n es) ≡ true → is_some_of es ≡ true
 some_above n [] some = some

@@ -1,22 +1,10 @@
 -- Words that break no rule: each argument of a query is a question.
 use Rattle.std.proofs.Common.{◌≡◌, ℕ, Bool, ◌&&◌, true, false, subst, if◌then◌else◌, List, [], ◌∷◌, Option, Some, None, is_some, Result, Ok, Err, refl}
-use Rattle.std.specs.Option.{option_map, is_none}
-use Rattle.std.specs.Result.{is_err}
-use Rattle.std.specs.List.{AllByRecursion}
-use Rattle.rpm_version.specs.declared.capability.BadCapability.{BadCapability}
-use Rattle.rpm_version.specs.Capability.{CapabilityParts, capability}
-use Rattle.rpm_words.specs.declared.switch.Chosen.{Chosen}
+use Rattle.rpm_tool.proofs.Vocabulary.{AllByRecursion, AreQuestions, ask, AskParts, BadCapability, capability, capability_in, CapabilityParts, Chosen}
+use Rattle.rpm_tool.proofs.Vocabulary.{fit_arguments, is_err, is_none, is_package, is_query, is_question, IsFit, Mode, number, of_files, option_map}
+use Rattle.rpm_tool.proofs.Vocabulary.{Selection, text_at, WordsFault}
 use Rattle.rpm_words.specs.declared.switch.Chosen.TheVariants as by
-use Rattle.rpm_words.specs.declared.fault.WordsFault.{WordsFault}
-use Rattle.rpm_words.specs.declared.ask.Mode.{Mode}
 use Rattle.rpm_words.specs.declared.ask.Mode.TheVariants as mode
-use Rattle.rpm_words.specs.Words.{text_at}
-use Rattle.rpm_words.specs.Number.{number}
-use Rattle.rpm_words.specs.Ask.{AskParts, ask, IsFit}
-use Rattle.rpm_words.specs.inner.Given.{fit_arguments}
-use Rattle.rpm_select.specs.declared.selection.Selection.{Selection}
-use Rattle.rpm_tool.specs.Asked.{is_query, is_package, of_files}
-use Rattle.rpm_tool.specs.Queries.{capability_in, is_question, AreQuestions}
 
 each_then : {P Q : ℕ → Type 0} → ((x : ℕ) → P x → Q x) → (xs : List ℕ) → AllByRecursion P xs → AllByRecursion Q xs
 each_then so [] t = tt
@@ -33,35 +21,19 @@ a_number of None f none = absurd cc
 
 question_here : (words : List (List ℕ)) (c : Chosen) (w : ℕ) → (c ≡ by.Package → ⊥) → IsFit words c w
     → is_question c (text_at words w) ≡ true
-question_here words by.Label w other none = refl
-question_here words by.All w other none = refl
-question_here words by.Path w other none = refl
-question_here words by.Group w other none = refl
 question_here words by.Package w other none = absurd (other refl)
 question_here words by.Provides w other none = a_capability _ (capability (text_at words w)) _ none
 question_here words by.Requires w other none = a_capability _ (capability (text_at words w)) _ none
 question_here words by.Conflicts w other none = a_capability _ (capability (text_at words w)) _ none
 question_here words by.Obsoletes w other none = a_capability _ (capability (text_at words w)) _ none
-question_here words by.Trigger w other none = refl
 question_here words by.Number w other none = a_number _ (number (text_at words w)) _ none
-question_here words by.Directory w other none = refl
 question_here words by.Tid w other none = a_number _ (number (text_at words w)) _ none
 question_here words by.Recommends w other none = a_capability _ (capability (text_at words w)) _ none
+question_here words others w other none = refl
 
 query_mode : (m : Mode) → is_query m ≡ true → m ≡ mode.Query
 query_mode mode.Query is = refl
-query_mode mode.Addpkg is = absurd cc
-query_mode mode.Replacepkg is = absurd cc
-query_mode mode.Erasepkg is = absurd cc
-query_mode mode.Verify is = absurd cc
-query_mode mode.Initdb is = absurd cc
-query_mode mode.Rebuilddb is = absurd cc
-query_mode mode.Verifydb is = absurd cc
-query_mode mode.Exportdb is = absurd cc
-query_mode mode.Importdb is = absurd cc
-query_mode (mode.Exercise n) is = absurd cc
-query_mode mode.Order is = absurd cc
-query_mode mode.Checkfiles is = absurd cc
+query_mode others is = absurd cc
 
 no_package : (m : Mode) (c : Chosen) → is_query m ≡ true → (is_query m && is_package c) ≡ false → c ≡ by.Package → ⊥
 no_package m c query none same =

@@ -2,11 +2,8 @@
 use Rattle.std.proofs.Common.{◌≡◌, false, Option, Some, None, is_some, sym, subst}
 use Rattle.std.specs.Prelude.{IsTrue}
 use Rattle.rpm_outside.specs.declared.disk.Disk as disk
-use Rattle.rpm_outside.specs.Crash.{Untouched}
-use Rattle.rpm_outside.specs.Files.{Units, Files}
+use Rattle.rpm_tool.proofs.Vocabulary.{Database, Files, IsAskable, Keeps, KeepsIndex, KeepsUnits, Units, Untouched}
 use Rattle.rpm_hindex.specs.State.{State}
-use Rattle.rpm_db.specs.Database.{Database, Keeps, KeepsIndex, KeepsUnits}
-use Rattle.rpm_tool.specs.Frame.{IsAskable}
 
 module _ {D : Type 0} (d : disk.Ghosts D) (old new : D) (db : Database) where
   pub asked_still : (IsTrue d.tells → Untouched (d.files old) (d.files new) (d.left_since old) (d.left_since new)) → IsAskable d old db

@@ -1,21 +1,9 @@
 -- What a few words ask for, and the lines of a rule that they break and of a format's fault: computed, without the code.
 use Rattle.std.specs.Prelude.{◌≡◌, ℕ, List, [], ◌∷◌, Some, Err, codes, refl}
-use Rattle.std.specs.Fmt.{digits}
-use Rattle.rpm_words.specs.declared.fault.WordsKind.TheVariants.{NoMode, UnknownOption}
-use Rattle.rpm_words.specs.Switch.{short_switch, long_switch, rpm_switch}
-use Rattle.rpm_words.specs.Purpose.{is_cluster, long_purpose, own_purpose, purpose_behind}
-use Rattle.rpm_words.specs.Token.{said, said_behind}
-use Rattle.rpm_words.specs.Seen.{seen}
-use Rattle.rpm_words.specs.Fault.{fault}
-use Rattle.rpm_words.specs.Broken.{early_fault, misplaced, bad_argument, first_broken}
-use Rattle.rpm_words.specs.Place.{program_of}
-use Rattle.rpm_words.specs.Ask.{arguments, ask, asked_by}
-use Rattle.rpm_qfparse.specs.declared.fault.FormatKind.TheVariants.{MissingClose}
-use Rattle.rpm_qfparse.specs.Tag.{tag_part, number_of, after_number}
-use Rattle.rpm_qfparse.specs.Moves.{move_of}
-use Rattle.rpm_qfparse.specs.Format.{format, reading}
-use Rattle.rpm_tool.specs.Asked.{asks_format, list_format}
-use Rattle.rpm_tool.specs.Closing.{rule_text, usage_line, fault_text, format_line}
+use Rattle.rpm_tool.proofs.Vocabulary.{after_number, arguments, ask, asked_by, asks_format, bad_argument, digits, early_fault, fault, fault_text}
+use Rattle.rpm_tool.proofs.Vocabulary.{first_broken, format, format_line, is_cluster, list_format, long_purpose, long_switch, misplaced, MissingClose}
+use Rattle.rpm_tool.proofs.Vocabulary.{move_of, NoMode, number_of, own_purpose, program_of, purpose_behind, reading, rpm_switch, rule_text, said, said_behind}
+use Rattle.rpm_tool.proofs.Vocabulary.{seen, short_switch, tag_part, UnknownOption, usage_line}
 
 -- the line names the word that breaks the rule, and none where something is missing
 told : (usage_line (codes "rpm" ∷ codes "-qz" ∷ []) (fault UnknownOption 1) ≡ codes "rpm: unknown option: -qz\n")

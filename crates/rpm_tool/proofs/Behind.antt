@@ -1,11 +1,6 @@
 -- One part of a report after another.
 use Rattle.std.proofs.Common.{◌≡◌, ℕ, Bool, true, false, ◌||◌, List, [], ◌∷◌, ◌++◌, Result, Ok, Err, refl, sym, ap, ◌∙◌}
-use Rattle.rpm_tool.specs.declared.step.Stop.{Stop}
-use Rattle.rpm_change.specs.Steps.{Step}
-use Rattle.rpm_change.specs.Endings.{outputs, Through}
-use Rattle.rpm_tool.specs.Steps.{Portion}
-use Rattle.rpm_tool.specs.Answers.{Reached, PartIs, Anywhere}
-use Rattle.rpm_tool.specs.Requirements.{behind}
+use Rattle.rpm_tool.proofs.Vocabulary.{Anywhere, behind, outputs, PartIs, Portion, Reached, Step, Stop, Through}
 use Rattle.std.proofs.lemmas.List.{append-nil}
 use Rattle.rpm_tool.proofs.Reaching.{through_more, goes_start, goes_more, goes_stop}
 

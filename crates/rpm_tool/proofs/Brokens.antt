@@ -1,27 +1,15 @@
 -- A command that finds the index bad: it was broken when the command found it.
+use Rattle.rpm_tool.proofs.Vocabulary.{BadBy, Damage, Database, done_why, EndsAs, Files, Halt, is_blank, is_current_at, IsBroken, IsOpened, IsUncommitted}
+use Rattle.rpm_tool.proofs.Vocabulary.{IsWholeIndex, must_make, OpensBy, room, Store, store, Tally, Units, WholeTurn, Why, why_of, why_of_halt}
 use Rattle.std.proofs.Common.{◌≡◌, ℕ, Bool, ◌&&◌, true, false, not, Result, Ok, Err, refl, sym, ◌∙◌, subst, inl, inr, ⊎_elim}
-use Rattle.rpm_outside.specs.Files.{Units, Files}
-use Rattle.rpm_pkgdb.specs.declared.slot.Damage.{Damage}
-use Rattle.rpm_pkgdb.specs.Store.{Store, store}
-use Rattle.rpm_db.specs.Database.{Database, is_blank}
-use Rattle.rpm_db.specs.Lawful.{IsWholeIndex, is_current_at}
-use Rattle.rpm_db.specs.Openings.{IsOpened, must_make}
-use Rattle.rpm_change.specs.declared.tally.Halt.{Halt}
 use Rattle.rpm_change.specs.declared.tally.Halt.TheVariants as halt
-use Rattle.rpm_change.specs.declared.tally.Tally.{Tally}
-use Rattle.rpm_change.specs.Endings.{WholeTurn}
-use Rattle.rpm_tool.specs.declared.answer.Why.{Why}
 use Rattle.rpm_tool.specs.declared.answer.Why.TheVariants as why
-use Rattle.rpm_tool.specs.Changing.{IsBroken, BadBy}
-use Rattle.rpm_tool.specs.Working.{OpensBy, IsUncommitted, EndsAs, done_why, why_of, why_of_halt}
-use Rattle.rpm_tool.proofs.Outcomes.{done_is}
+use Rattle.rpm_tool.proofs.Outcomes.{by_done_why}
 
 -- ---- it isn't bad
 
 pub done_unbroken : (n unit : ℕ) → done_why n ≡ why.BadIndex unit → ⊥
-done_unbroken n unit is =
-    ⊎_elim (λ none. (let wrong : why.Done ≡ why.BadIndex unit = sym none.1 ∙ is in cc))
-    (λ some. (let wrong : why.Failed n ≡ why.BadIndex unit = sym some.1 ∙ is in cc)) (done_is n)
+done_unbroken n unit = by_done_why (λ (w : Why). w ≡ why.BadIndex unit → ⊥) n (λ none is. cc) (λ some is. cc)
 
 pub open_unbroken : (old new : Files) (sr : Result Store Damage) (w : Why) (unit : ℕ) → OpensBy old sr new (Err w) → w ≡ why.BadIndex unit → ⊥
 open_unbroken old new (Ok s) w unit opens is = subst (λ (v : Why). OpensBy old (Ok s) new (Err v)) is opens
@@ -29,15 +17,7 @@ open_unbroken old new (Err d) w unit opens is = subst (λ (v : Why). OpensBy old
 
 pub halt_unbroken : (idx : Units) (h : Halt) (unit : ℕ) → WholeTurn idx (Err h) → why_of_halt h ≡ why.BadIndex unit → ⊥
 halt_unbroken idx (halt.BadIndex u) unit turn is = turn
-halt_unbroken idx (halt.IndexFull n) unit turn is = cc
-halt_unbroken idx halt.NumbersSpent unit turn is = cc
-halt_unbroken idx halt.GenerationSpent unit turn is = cc
-halt_unbroken idx halt.StoreFull unit turn is = cc
-halt_unbroken idx halt.DiskFault unit turn is = cc
-halt_unbroken idx halt.ShelfFault unit turn is = cc
-halt_unbroken idx halt.OutFault unit turn is = cc
-halt_unbroken idx halt.ErrFault unit turn is = cc
-halt_unbroken idx halt.NoMemory unit turn is = cc
+halt_unbroken idx others unit turn is = cc
 
 -- ---- it ends as it was worked
 
@@ -69,9 +49,9 @@ open_broken old mid new db opened goes broken =
     by_bool (must (store old.pkg)) (λ making. absurd (broken (goes (λ some. (opened.made making).rows_are.whole))))
     (λ making. by_bool (is_blank db) (λ blank. absurd (broken (goes (λ some. absurd (let wrong : true ≡ false = sym blank ∙ some in cc)))))
     (λ some. record {
-      value = db.store;
+      value = (room db);
       undamaged = says;
       current =
-          kept (is_blank db) (is_current_at db.store.generation old.idx) (subst (λ (x : Result Store Damage). must x ≡ false) says making) some;
+          kept (is_blank db) (is_current_at (room db).generation old.idx) (subst (λ (x : Result Store Damage). must x ≡ false) says making) some;
       broken = λ whole. broken (goes (λ _. subst (λ (f : Files). IsWholeIndex f.idx) (sym (opened.same making)) whole));
     }))

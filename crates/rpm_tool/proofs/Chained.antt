@@ -3,22 +3,9 @@ use Rattle.std.proofs.Common.{◌≡◌, ℕ, ◌≤◌, Bool, true, false, List
 use Rattle.std.specs.Prelude.{Option, Some, None, IsTrue}
 use Rattle.std.proofs.lemmas.List.{append-nil}
 use Rattle.rpm_outside.specs.declared.disk.Disk as disk
-use Rattle.rpm_outside.specs.Files.{Files}
-use Rattle.rpm_outside.specs.Logs.{reopened}
-use Rattle.rpm_outside.specs.Shelves.{Paths}
-use Rattle.rpm_pkgdb.specs.Store.{store}
-use Rattle.rpm_db.specs.Changes.{Says}
-use Rattle.rpm_db.specs.State.{State, state}
-use Rattle.rpm_words.specs.Ask.{AskParts}
-use Rattle.rpm_qfparse.specs.Tree.{Tree}
-use Rattle.rpm_change.specs.Steps.{Course, apply_all}
-use Rattle.rpm_tool.specs.Asked.{is_changing, asks}
-use Rattle.rpm_tool.specs.Changing.{HasState, after}
-use Rattle.rpm_tool.specs.Given.{numbers_given, given_on}
-use Rattle.rpm_tool.specs.History.{RunCall, Moves, StandsIn, AllStand, TellsCalls, course_of, uses_shelf}
-use Rattle.rpm_tool.specs.Keyed.{is_done}
-use Rattle.rpm_tool.specs.Lines.{Between, LineIs, InTurn}
-use Rattle.rpm_tool.specs.Tasks.{asked_course}
+use Rattle.rpm_tool.proofs.Vocabulary.{after, AllStand, apply_all, asked_course, AskParts, asks, Between, Course, course_of, Files, given_on, HasState}
+use Rattle.rpm_tool.proofs.Vocabulary.{InTurn, is_changing, is_done, LineIs, Moves, numbers_given, Paths, reopened, RunCall, Says, StandsIn, State, state}
+use Rattle.rpm_tool.proofs.Vocabulary.{store, TellsCalls, Tree, uses_shelf}
 use Rattle.rpm_tool.proofs.Fitting.{course_fits}
 use Rattle.rpm_tool.proofs.Standing.{if_ok_at}
 use Rattle.rpm_tool.proofs.Brokens.{by_bool}
@@ -55,7 +42,7 @@ module _ {D : Type 0} (d : disk.Ghosts D) (told : IsTrue d.tells) (shelf : Bool)
 
     behind : (image : Files) → Images new.disk image → StandsIn Next image
     behind image left =
-        let both = line_both d.tells d.files d.left_since d.moment d.bytes_read d.follows told paths now call.words call.outcome.why call.outcome.changes
+        let both = line_both d told paths now call.words call.outcome.why call.outcome.changes
         old.disk new.disk (Numbered from old.given) all (as_read old.disk) line.unread line.looks line.stops
         (λ a tree asked changing. line.changed a tree asked changing (λ reads. tells (uses_reads call.words a tree asked reads))) in
         both.0 image (earlier new.disk (d.moment old.disk) (d.moment new.disk) image both.1.later (omega arith) left) left

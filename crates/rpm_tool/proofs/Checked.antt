@@ -1,16 +1,13 @@
 -- What stops a report.
-use Rattle.std.proofs.Common.{◌≡◌, ℕ, Bool, true, false, Ok, Err, Result, refl, ap}
+use Rattle.std.proofs.Common.{◌≡◌, ℕ, Bool, true, false, List, Ok, Err, Result, refl, ap}
 use Rattle.std.specs.Prelude.{IfErr, is_ok}
-use Rattle.rpm_outside.specs.Files.{Units}
-use Rattle.rpm_check.specs.declared.faults.CheckFault.{CheckFault}
+use Rattle.rpm_tool.proofs.Vocabulary.{Bearer, CheckFault, is_done, is_of_index, is_of_sink, IsOfSome, Outputs, PartIs, Portion, Reached, Step, Stop}
+use Rattle.rpm_tool.proofs.Vocabulary.{stop_of_check, StopsOfSome, Units, why_of_report}
 use Rattle.rpm_check.specs.declared.faults.CheckFault.TheVariants as check
-use Rattle.rpm_check.specs.Answers.{IsBroken, is_of_index}
-use Rattle.rpm_tool.specs.declared.step.Stop.{Stop}
+use Rattle.rpm_check.specs.Answers.{IsBroken}
 use Rattle.rpm_tool.specs.declared.step.Stop.TheVariants as stop
 use Rattle.rpm_tool.specs.declared.answer.Why.TheVariants as why
-use Rattle.rpm_tool.specs.Answers.{is_of_sink, why_of}
-use Rattle.rpm_tool.specs.Keyed.{is_done}
-use Rattle.rpm_tool.specs.Requirements.{StopsOfSome, IsOfSome, stop_of_check, why_of_report}
+use Rattle.rpm_tool.specs.Answers.{why_of}
 
 pub broken_stops : (idx : Units) (f : CheckFault) → IsBroken idx f → StopsOfSome idx (stop_of_check f)
 broken_stops idx (check.BadIndex unit) is = is
@@ -37,25 +34,20 @@ checks_read (check.BadIndex unit) is = absurd cc
 checks_read check.DiskFault is = refl
 checks_read check.NoMemory is = absurd cc
 
--- a stop that isn't of the index is of no chain
-pub unbroken_stops : (idx : Units) (s : Stop) → ((unit : ℕ) → s ≡ stop.BadIndex unit → ⊥) → StopsOfSome idx s
-unbroken_stops idx stop.ReadFault none = tt
-unbroken_stops idx (stop.BadIndex unit) none = absurd (none unit refl)
-unbroken_stops idx stop.OutFault none = tt
-unbroken_stops idx stop.ErrFault none = tt
-unbroken_stops idx stop.NoMemory none = tt
+-- what was stopped within steps was stopped by no index
+pub reached_unbroken : (T : Type 0) (steps : List Step) (idx : Units) (s : Stop) (old new : Outputs) (reads_to : Bearer → Type 0)
+    → Reached {T = T} steps (Err s) old new reads_to → StopsOfSome idx s
+reached_unbroken T steps idx (stop.BadIndex unit) old new reads_to r = absurd r
+reached_unbroken T steps idx others old new reads_to r = tt
 
-pub unbroken_result : (idx : Units) (r : Result (Unit {0}) Stop) → ((unit : ℕ) → r ≡ Err (stop.BadIndex unit) → ⊥) → IfErr r (StopsOfSome idx)
-unbroken_result idx (Ok done) none = tt
-unbroken_result idx (Err s) none = unbroken_stops idx s (λ unit is. none unit (ap Err is))
+pub part_unbroken : {p : Portion} {s : Stop} {old new : Outputs} {reads_to : Bearer → Type 0} (idx : Units) → PartIs p (Err s) old new reads_to
+    → StopsOfSome idx s
+part_unbroken {p = p} {s = s} {old = old} {new = new} {reads_to = reads_to} idx part = reached_unbroken Bool p.steps idx s old new reads_to part.steps
 
 -- the ending of a report that was stopped
 pub stops_some : (idx : Units) (s : Stop) → StopsOfSome idx s → IsOfSome idx (why_of s)
-stops_some idx stop.ReadFault is = tt
 stops_some idx (stop.BadIndex unit) is = is
-stops_some idx stop.OutFault is = tt
-stops_some idx stop.ErrFault is = tt
-stops_some idx stop.NoMemory is = tt
+stops_some idx others is = tt
 
 pub report_some : (idx : Units) (told : Result Bool Stop) → IfErr told (StopsOfSome idx) → IsOfSome idx (why_of_report told)
 report_some idx (Ok true) is = tt
@@ -66,33 +58,21 @@ pub report_read : (told : Result Bool Stop) → why_of_report told ≡ why.DiskF
 report_read (Ok true) is = absurd cc
 report_read (Ok false) is = absurd cc
 report_read (Err stop.ReadFault) is = refl
-report_read (Err (stop.BadIndex unit)) is = absurd cc
-report_read (Err stop.OutFault) is = absurd cc
-report_read (Err stop.ErrFault) is = absurd cc
-report_read (Err stop.NoMemory) is = absurd cc
+report_read (Err others) is = absurd cc
 
 pub report_out : (told : Result Bool Stop) → why_of_report told ≡ why.OutFault → told ≡ Err stop.OutFault
 report_out (Ok true) is = absurd cc
 report_out (Ok false) is = absurd cc
-report_out (Err stop.ReadFault) is = absurd cc
-report_out (Err (stop.BadIndex unit)) is = absurd cc
 report_out (Err stop.OutFault) is = refl
-report_out (Err stop.ErrFault) is = absurd cc
-report_out (Err stop.NoMemory) is = absurd cc
+report_out (Err others) is = absurd cc
 
 pub report_err : (told : Result Bool Stop) → why_of_report told ≡ why.ErrFault → told ≡ Err stop.ErrFault
 report_err (Ok true) is = absurd cc
 report_err (Ok false) is = absurd cc
-report_err (Err stop.ReadFault) is = absurd cc
-report_err (Err (stop.BadIndex unit)) is = absurd cc
-report_err (Err stop.OutFault) is = absurd cc
 report_err (Err stop.ErrFault) is = refl
-report_err (Err stop.NoMemory) is = absurd cc
+report_err (Err others) is = absurd cc
 
 pub report_done : (told : Result Bool Stop) → is_done (why_of_report told) ≡ true → is_ok told ≡ true
 report_done (Ok fails) is = refl
 report_done (Err stop.ReadFault) is = absurd cc
-report_done (Err (stop.BadIndex unit)) is = absurd cc
-report_done (Err stop.OutFault) is = absurd cc
-report_done (Err stop.ErrFault) is = absurd cc
-report_done (Err stop.NoMemory) is = absurd cc
+report_done (Err others) is = absurd cc

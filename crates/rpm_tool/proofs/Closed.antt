@@ -1,10 +1,7 @@
 -- A run that ends, by the sinks as it hands them back.
 use Rattle.std.proofs.Common.{◌≡◌, ℕ, ◌≤◌, Bool, List, Result, sym, ◌∙◌, subst}
 use Rattle.std.proofs.Math.Nat.{le_trans}
-use Rattle.rpm_outside.specs.Causes.{HasCauseAt}
-use Rattle.rpm_outside.specs.Sinks.{Writes}
-use Rattle.rpm_change.specs.Endings.{Outputs, outputs}
-use Rattle.rpm_tool.specs.Answers.{Closes, Ends}
+use Rattle.rpm_tool.proofs.Vocabulary.{Closes, Ends, HasCauseAt, Outputs, outputs, Writes}
 use Rattle.rpm_tool.proofs.Printing.{closes_of}
 
 module _ {S T F O E : Type 0} {follows : S → S → Type 0} (ot et : Bool) (gained : O → List ℕ) (taken : E → List ℕ) (faults : E → ℕ) (sink : S → E)

@@ -1,24 +1,23 @@
--- What a command by key does: where nothing was done, and how it ends.
+-- What a command does with the database that it opens: where nothing was done, and how it ends.
 use Rattle.std.proofs.Common.{◌≡◌, ℕ, Bool, true, false, List, [], refl, arith}
-use Rattle.std.specs.Ordering.{nat_cmp}
-use Rattle.std.specs.FinMap.{FinMap}
-use Rattle.rpm_db.specs.State.{Package}
-use Rattle.rpm_graph.specs.Networks.{Network}
-use Rattle.rpm_graph.specs.Orders.{IsOrder}
-use Rattle.rpm_check.specs.Edges.{graph_of}
-use Rattle.rpm_qfparse.specs.Tree.{Tree}
-use Rattle.rpm_words.specs.Ask.{AskParts}
-use Rattle.rpm_tool.specs.declared.answer.Why.{Why}
+use Rattle.rpm_tool.proofs.Vocabulary.{always_keyed, Anywhere, AskParts, Bearer, check_files, Course, Deed, deed_of, DoesBy, export, graph_of}
+use Rattle.rpm_tool.proofs.Vocabulary.{is_done_or_outside, is_foreign, is_query, IsListed, IsOrder, Mode, Network, opens_index, ordering, Outputs, packages}
+use Rattle.rpm_tool.proofs.Vocabulary.{query, Store, Through, Tree, Units, unless_starved, unsatisfied, verify, Went, Why}
+use Rattle.rpm_words.specs.declared.ask.Mode.TheVariants as mode
 use Rattle.rpm_tool.specs.declared.answer.Why.TheVariants as why
-use Rattle.rpm_tool.specs.declared.asked.Inquiry.{Inquiry}
-use Rattle.rpm_tool.specs.declared.asked.Inquiry.TheVariants as inquiry
-use Rattle.rpm_change.specs.Steps.{Bearer, Course}
-use Rattle.rpm_change.specs.Endings.{Outputs, Through}
-use Rattle.rpm_tool.specs.Queries.{query}
-use Rattle.rpm_tool.specs.Answers.{Went, Anywhere, is_foreign}
-use Rattle.rpm_tool.specs.Requirements.{unsatisfied, ordering, IsListed}
-use Rattle.rpm_tool.specs.Keyed.{DoesBy, is_done_or_outside}
+use Rattle.rpm_tool.specs.declared.asked.Deed.TheVariants as deed
+use Rattle.rpm_tool.proofs.ByEnding.{by_starved}
 use Rattle.rpm_tool.proofs.Loading.{went_reads}
+
+-- a command that opens the database without its index is no report on requirements
+pub plain_deed : (m : Mode) (asked : Bool) → opens_index m asked ≡ false → always_keyed (deed_of m) ≡ false
+plain_deed mode.Query asked is = refl
+plain_deed others asked is = is
+
+-- and neither is a query
+pub query_deed : (m : Mode) → is_query m ≡ true → always_keyed (deed_of m) ≡ false
+query_deed mode.Query is = refl
+query_deed others is = absurd cc
 
 -- no class was told
 pub none_listed : (g : Network) → IsListed g false []
@@ -34,47 +33,56 @@ went_outside c why.Done old new reads_to own went = refl
 went_outside c (why.Failed n) old new reads_to own went = refl
 went_outside c (why.Usage f) old new reads_to own went = absurd cc
 went_outside c (why.BadFormat f) old new reads_to own went = absurd cc
-went_outside c (why.BadLog u) old new reads_to own went = absurd went
-went_outside c (why.Damaged d) old new reads_to own went = absurd went
-went_outside c (why.BadIndex u) old new reads_to own went = absurd went
-went_outside c (why.IndexFull u) old new reads_to own went = absurd went
-went_outside c why.NumbersSpent old new reads_to own went = absurd went
-went_outside c why.GenerationSpent old new reads_to own went = absurd went
-went_outside c why.StoreFull old new reads_to own went = absurd went
-went_outside c (why.NotEmpty held) old new reads_to own went = absurd went
-went_outside c (why.LogFull u) old new reads_to own went = absurd went
 went_outside c why.DiskFault old new reads_to own went = refl
 went_outside c why.ShelfFault old new reads_to own went = absurd cc
 went_outside c why.OutFault old new reads_to own went = refl
 went_outside c why.ErrFault old new reads_to own went = refl
 went_outside c why.NoMemory old new reads_to own went = refl
+went_outside c others old new reads_to own went = absurd went
 
-module _ (tree : Tree) (words : List (List ℕ)) (a : AskParts) (packages : FinMap nat_cmp Package) where
+module _ (tree : Tree) (file : Units) (s : Store) (words : List (List ℕ)) (a : AskParts) where
   -- where nothing was done
   module _ (reads_to : Bearer → Type 0) (x : Outputs) (none : Through [] x x) where
-    pub does_fault : (i : Inquiry) → DoesBy i tree words a packages reads_to why.DiskFault x x
-    does_fault inquiry.Query = ([], (query tree packages words a).steps, refl, none)
-    does_fault inquiry.Unmet = ([], (unsatisfied packages).steps, refl, none)
-    does_fault inquiry.Order = ([], none_listed (graph_of packages), ([], (ordering packages []).steps, refl, none))
-
-    pub does_memory : (i : Inquiry) → DoesBy i tree words a packages reads_to why.NoMemory x x
-    does_memory inquiry.Query = ([], (query tree packages words a).steps, refl, none)
-    does_memory inquiry.Unmet = ([], (unsatisfied packages).steps, refl, none)
-    does_memory inquiry.Order = ([], none_listed (graph_of packages), ([], (ordering packages []).steps, refl, none))
-
-  pub does_reads : (i : Inquiry) (P Q : Bearer → Type 0) → ((for : Bearer) → P for → Q for) → (w : Why) (old new : Outputs)
-      → DoesBy i tree words a packages P w old new → DoesBy i tree words a packages Q w old new
-  does_reads inquiry.Query P Q so w old new does = went_reads (query tree packages words a) w old new P Q so does
-  does_reads inquiry.Unmet P Q so w old new does = does
-  does_reads inquiry.Order P Q so w old new does = does
+    pub does_fault : (d : Deed) → DoesBy d tree file s words a reads_to why.DiskFault x x
+    does_fault deed.Print = ([], (query tree (packages file s) words a).steps, refl, none)
+    does_fault deed.Export = ([], (export (packages file s)).steps, refl, none)
+    does_fault deed.Verify = ([], (verify file s).steps, refl, none)
+    does_fault deed.CheckFiles = ([], (check_files (packages file s)).steps, refl, none)
+    does_fault deed.Unmet = ([], (unsatisfied (packages file s)).steps, refl, none)
+    does_fault deed.Order = ([], none_listed (graph_of (packages file s)), ([], (ordering (packages file s) []).steps, refl, none))
 
   module _ (reads_to : Bearer → Type 0) (old new : Outputs) where
-    pub does_unbroken : (i : Inquiry) (unit : ℕ) → DoesBy i tree words a packages reads_to (why.BadIndex unit) old new → ⊥
-    does_unbroken inquiry.Query unit does = does
-    does_unbroken inquiry.Unmet unit does = does
-    does_unbroken inquiry.Order unit does = does.2
+    -- want of memory says the same as a fault of the disk
+    memory_does : (d : Deed) → DoesBy d tree file s words a reads_to why.DiskFault old new → DoesBy d tree file s words a reads_to why.NoMemory old new
+    memory_does deed.Print does = does
+    memory_does others does = does
 
-    pub does_outside : (i : Inquiry) (w : Why) → is_foreign w ≡ false → DoesBy i tree words a packages reads_to w old new → is_done_or_outside w ≡ true
-    does_outside inquiry.Query w own does = went_outside (query tree packages words a) w old new reads_to own does
-    does_outside inquiry.Unmet w own does = went_outside (unsatisfied packages) w old new Anywhere own does
-    does_outside inquiry.Order w own does = went_outside (ordering packages does.0) w old new Anywhere own does.2
+    pub does_starved : (d : Deed) (starved : Bool) (w : Why) → DoesBy d tree file s words a reads_to w old new
+        → DoesBy d tree file s words a reads_to (unless_starved starved w) old new
+    does_starved d starved w = by_starved
+        (λ (was given : Why). DoesBy d tree file s words a reads_to was old new → DoesBy d tree file s words a reads_to given old new) (λ was does. does)
+        (memory_does d) starved w
+
+    pub does_unbroken : (d : Deed) (unit : ℕ) → DoesBy d tree file s words a reads_to (why.BadIndex unit) old new → ⊥
+    does_unbroken deed.Order unit does = does.2
+    does_unbroken others unit does = does
+
+    pub does_outside : (d : Deed) (w : Why) → is_foreign w ≡ false → DoesBy d tree file s words a reads_to w old new → is_done_or_outside w ≡ true
+    does_outside deed.Print w own does = went_outside (query tree (packages file s) words a) w old new reads_to own does
+    does_outside deed.Export w own does = went_outside (export (packages file s)) w old new reads_to own does
+    does_outside deed.Verify w own does = went_outside (verify file s) w old new reads_to own does
+    does_outside deed.CheckFiles w own does = went_outside (check_files (packages file s)) w old new reads_to own does
+    does_outside deed.Unmet w own does = went_outside (unsatisfied (packages file s)) w old new Anywhere own does
+    does_outside deed.Order w own does = went_outside (ordering (packages file s) does.0) w old new Anywhere own does.2
+
+  pub does_memory : (reads_to : Bearer → Type 0) (x : Outputs) → Through [] x x → (d : Deed) → DoesBy d tree file s words a reads_to why.NoMemory x x
+  does_memory reads_to x none d = memory_does reads_to x x d (does_fault reads_to x none d)
+
+  pub does_reads : (d : Deed) (P Q : Bearer → Type 0) → ((for : Bearer) → P for → Q for) → (w : Why) (old new : Outputs)
+      → DoesBy d tree file s words a P w old new → DoesBy d tree file s words a Q w old new
+  does_reads deed.Print P Q so w old new does = went_reads (query tree (packages file s) words a) w old new P Q so does
+  does_reads deed.Export P Q so w old new does = went_reads (export (packages file s)) w old new P Q so does
+  does_reads deed.Verify P Q so w old new does = went_reads (verify file s) w old new P Q so does
+  does_reads deed.CheckFiles P Q so w old new does = went_reads (check_files (packages file s)) w old new P Q so does
+  does_reads deed.Unmet P Q so w old new does = does
+  does_reads deed.Order P Q so w old new does = does

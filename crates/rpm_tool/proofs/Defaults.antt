@@ -1,25 +1,13 @@
 -- The formats that are taken where none is given, and for `-l`: what they are read as, and what they mean for a small package;
 -- and a format that means two counts for one. All is computed, without the code.
 use Rattle.std.specs.Prelude.{◌≡◌, [], ◌∷◌, codes, false, Ok, Err, refl}
-use Rattle.rpm_header.specs.Bytes.{number_at, numbers, texts, are_ended}
-use Rattle.rpm_header.specs.Header.{Header, Texts, header, header_of, entries, entry_of, entry_fault, fault_at}
+use Rattle.rpm_tool.proofs.Vocabulary.{after_number, are_ended, bearer, Bracket, bytes, Condition, condition, Element, End, entry_fault, entry_of, fault_at}
+use Rattle.rpm_tool.proofs.Vocabulary.{Filenames, first_text, format, Good, Header, header, header_of, label_format, list_format, meaning, move_of, number_at}
+use Rattle.rpm_tool.proofs.Vocabulary.{number_of, numbers, numbers_in, Nvra, Plain, printed, reading, show_in, sizes, sizes_line, step_of, Stored, stored}
+use Rattle.rpm_tool.proofs.Vocabulary.{table, Tag, tag_part, Tagged, TagPart, Text, Texts, texts, texts_in, ToErr, ToOut, Tree}
+use Rattle.rpm_header.specs.Header.{entries}
 use Rattle.rpm_header.specs.declared.form.Form.TheVariants as form
-use Rattle.rpm_tags.specs.declared.tag.Tag.{Tag}
-use Rattle.rpm_tags.specs.declared.tag.Tag.TheVariants.{Stored, Nvra, Filenames}
 use Rattle.rpm_tags.specs.Table as name
-use Rattle.rpm_tags.specs.Value.{stored, texts_in, numbers_in, first_text}
-use Rattle.rpm_qfparse.specs.declared.tree.Role.TheVariants.{Element}
-use Rattle.rpm_qfparse.specs.declared.tree.Show.TheVariants.{Plain}
-use Rattle.rpm_qfparse.specs.declared.tree.TagPart.{TagPart}
-use Rattle.rpm_qfparse.specs.Tree.{Tree, End, Text, Tagged, Bracket, Condition}
-use Rattle.rpm_qfparse.specs.Tag.{number_of, after_number, table, show_in, tag_part}
-use Rattle.rpm_qfparse.specs.Moves.{condition, move_of}
-use Rattle.rpm_qfparse.specs.Format.{format, reading}
-use Rattle.rpm_qfeval.specs.Meaning.{sizes, bytes, meaning}
-use Rattle.rpm_tool.specs.Asked.{label_format, list_format}
-use Rattle.rpm_db.specs.State.{Good}
-use Rattle.rpm_change.specs.Steps.{ToOut, ToErr, bearer}
-use Rattle.rpm_tool.specs.Queries.{sizes_line, printed, step_of}
 use Rattle.rpm_tool.proofs.Fixtures.{small}
 
 -- a tag, as it is

@@ -1,32 +1,16 @@
 -- Whether a command found packages where it asks for none, up to its ending.
 use Rattle.std.proofs.Common.{◌≡◌, ℕ, Bool, true, false, Result, Ok, Err, refl, sym, ap, subst, inl, inr}
 use Rattle.std.specs.Prelude.{IfOk, IfErr}
-use Rattle.std.specs.Ordering.{nat_cmp}
-use Rattle.std.specs.FinMap.{FinMap}
-use Rattle.rpm_outside.specs.Files.{Units, Files}
-use Rattle.rpm_group.specs.declared.load.LoadFault.{LoadFault}
-use Rattle.rpm_group.specs.declared.load.LoadFault.TheVariants as load
-use Rattle.rpm_group.specs.declared.recovery.RecoverFault.{RecoverFault}
-use Rattle.rpm_group.specs.declared.recovery.RecoverFault.TheVariants as recover
-use Rattle.rpm_pkgdb.specs.Store.{Store, store}
-use Rattle.rpm_db.specs.State.{Package, packages}
-use Rattle.rpm_change.specs.declared.tally.Tally.{Tally}
-use Rattle.rpm_tool.specs.declared.answer.Why.{Why}
+use Rattle.rpm_tool.proofs.Vocabulary.{done_why, EmptyBy, EmptyIs, EndsAs, Files, FinMap, is_held, IsUncommitted, nat_cmp, Package, packages, Store, store}
+use Rattle.rpm_tool.proofs.Vocabulary.{Tally, Units, Why, why_of}
 use Rattle.rpm_tool.specs.declared.answer.Why.TheVariants as why
-use Rattle.rpm_tool.specs.Answers.{why_of_load}
-use Rattle.rpm_tool.specs.Keyed.{why_of_recover}
-use Rattle.rpm_tool.specs.Changing.{EmptyIs, EmptyBy, is_held}
-use Rattle.rpm_tool.specs.Working.{EndsAs, IsUncommitted, done_why, why_of}
 use Rattle.rpm_tool.proofs.Standing.{if_ok, if_ok_at}
-use Rattle.rpm_tool.proofs.Outcomes.{done_is}
+use Rattle.rpm_tool.proofs.Outcomes.{by_done_why}
 use Rattle.rpm_tool.proofs.ByEnding.{by_uncommitted}
 
 -- a command that was done isn't refused so
 done_unheld : (k : ℕ) → is_held (done_why k) ≡ false
-done_unheld k = elim (done_is k) [
-  | inl zero ↦ ap is_held zero.1
-  | inr some ↦ ap is_held some.1
-]
+done_unheld k = by_done_why (λ (w : Why). is_held w ≡ false) k (λ zero. refl) (λ some. refl)
 
 pub unheld : (files : Files) (r : Result Tally Why) → IfErr r (λ w. is_held w ≡ false) → EmptyBy false files (why_of r)
 unheld files (Ok tally) is = done_unheld tally.failed
@@ -47,23 +31,11 @@ outside_empty files w each other false = other
 pub memory_empty : (asks : Bool) (files : Files) → EmptyBy asks files why.NoMemory
 memory_empty asks files = outside_empty files why.NoMemory (λ value. tt) refl asks
 
-pub load_empty : (asks : Bool) (files : Files) (fault : LoadFault) → EmptyBy asks files (why_of_load fault)
-load_empty asks files (load.BadLog unit) = outside_empty files (why.BadLog unit) (λ value. tt) refl asks
-load_empty asks files load.DiskFault = outside_empty files why.DiskFault (λ value. tt) refl asks
-load_empty asks files load.NoMemory = memory_empty asks files
-
-pub recover_empty : (asks : Bool) (files : Files) (fault : RecoverFault) → EmptyBy asks files (why_of_recover fault)
-recover_empty asks files (recover.BadLog unit) = outside_empty files (why.BadLog unit) (λ value. tt) refl asks
-recover_empty asks files recover.DiskFault = outside_empty files why.DiskFault (λ value. tt) refl asks
-
 -- ---- how the group ends
 
 -- a log that is full is told of one that was done
 full_empty : (map : FinMap nat_cmp Package) (k : ℕ) (units : ℕ) → EmptyIs map (done_why k) → EmptyIs map (why.LogFull units)
-full_empty map k units done = elim (done_is k) [
-  | inl zero ↦ subst (λ (w : Why). EmptyIs map w) zero.1 done
-  | inr some ↦ subst (λ (w : Why). EmptyIs map w) some.1 done
-]
+full_empty map k units = by_done_why (λ (w : Why). EmptyIs map w → EmptyIs map (why.LogFull units)) k (λ zero done. done) (λ some done. done)
 
 full_by : (asks : Bool) (files : Files) (k u : ℕ) → EmptyBy asks files (done_why k) → EmptyBy asks files (why.LogFull u)
 full_by true files k u done =

@@ -1,20 +1,9 @@
 -- How a command that changes packages ends, once it was worked out.
 use Rattle.std.proofs.Common.{◌≡◌, ℕ, true, false, [], Result, Ok, Err, refl, sym, ap, ◌∙◌, subst, inl, inr, ⊎_elim}
-use Rattle.rpm_outside.specs.Files.{Units, Files}
-use Rattle.rpm_outside.specs.Logs.{reopened, unlogged}
-use Rattle.rpm_pkgdb.specs.declared.slot.Damage.{Damage}
-use Rattle.rpm_pkgdb.specs.Store.{Store}
-use Rattle.rpm_db.specs.Changes.{Says}
-use Rattle.rpm_db.specs.State.{State, state}
-use Rattle.rpm_change.specs.declared.tally.Tally.{Tally}
-use Rattle.rpm_change.specs.Steps.{Course}
-use Rattle.rpm_change.specs.Endings.{Outputs, Through}
-use Rattle.rpm_tool.specs.declared.answer.Why.{Why}
+use Rattle.rpm_tool.proofs.Vocabulary.{after, Course, Damage, Did, DidOpened, EndsAs, Files, GroupLeaves, HasState, is_done, is_done_or_fault, LeavesState}
+use Rattle.rpm_tool.proofs.Vocabulary.{Outputs, Refused, reopened, Says, State, state, Stopped, Store, Tally, Through, Units, unlogged, Why, WorkedBy}
+use Rattle.rpm_tool.proofs.Vocabulary.{WorkedOn}
 use Rattle.rpm_tool.specs.declared.answer.Why.TheVariants as why
-use Rattle.rpm_tool.specs.Answers.{Refused}
-use Rattle.rpm_tool.specs.Keyed.{is_done}
-use Rattle.rpm_tool.specs.Changing.{Did, DidOpened, LeavesState, HasState, after, is_done_or_fault}
-use Rattle.rpm_tool.specs.Working.{Stopped, WorkedOn, WorkedBy, EndsAs, GroupLeaves}
 use Rattle.rpm_tool.proofs.Leavings.{leaves_start, uncommitted_leaves, leaves_done}
 use Rattle.rpm_tool.proofs.Outcomes.{stopped_did, uncommitted_did, done_did, is_done_why, stopped_undone, refused_undone}
 

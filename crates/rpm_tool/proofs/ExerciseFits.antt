@@ -1,12 +1,8 @@
 -- What the exercise puts goes under a number that the field has passed.
 use Rattle.std.proofs.Common.{◌≡◌, ℕ, ◌+◌, ◌-◌, ◌≤◌, Bool, true, false, ◌==◌, ◌%◌, zero, suc, List, [], ◌∷◌, ◌++◌, arith}
 use Rattle.std.specs.Prelude.{if◌then◌else◌}
-use Rattle.std.specs.List.{flat_map, range_with_len}
-use Rattle.rpm_db.specs.Changes.{Change, Add, Put, Erase, apply, next}
-use Rattle.rpm_db.specs.State.{State}
-use Rattle.rpm_change.specs.Steps.{apply_all}
+use Rattle.rpm_tool.proofs.Vocabulary.{Add, apply, apply_all, Change, changes, Erase, flat_map, made, next, Put, range_with_len, round_changes, State, turn}
 use Rattle.rpm_exercise.specs.declared.rounds.Round.TheVariants as round
-use Rattle.rpm_exercise.specs.Rounds.{made, turn, round_changes, changes}
 use Rattle.rpm_tool.proofs.Ahead.{Ahead, Fits, PutsUnder, is_ahead, fits_then, under_then, under_fits}
 
 if_under : (f : ℕ) (changes : List Change) (some : Bool) → PutsUnder f changes → PutsUnder f (if some then changes else [])

@@ -2,24 +2,11 @@
 use Rattle.std.proofs.Common.{◌≡◌, ℕ, ◌+◌, ◌<◌, Bool, true, false, List, [], ◌∷◌, refl, arith, nat_lt}
 use Rattle.std.specs.Prelude.{Option, Some, None, Result, Ok, Err, codes, is_some, if◌then◌else◌}
 use Rattle.std.specs.FinMap as finite
-use Rattle.rpm_outside.specs.Shelves.{Paths, bytes_at}
-use Rattle.rpm_header.specs.declared.form.HeaderFault.{HeaderFault}
-use Rattle.rpm_header.specs.Header.{Header, header}
-use Rattle.rpm_file.specs.declared.fault.FileFault.{FileFault}
-use Rattle.rpm_file.specs.declared.fault.ListFault.{ListFault}
-use Rattle.rpm_file.specs.Package.{package_header}
-use Rattle.rpm_db.specs.State.{State, Package, Good, Bad, above}
-use Rattle.rpm_words.specs.Ask.{AskParts}
-use Rattle.rpm_qfparse.specs.Tree.{Tree}
-use Rattle.rpm_change.specs.declared.add.Placing.{Placing}
-use Rattle.rpm_change.specs.Steps.{Course, apply_all, idle, in_turn}
-use Rattle.rpm_change.specs.Adding.{as_installed, put_installed, put_found, add_file, replaced}
-use Rattle.rpm_change.specs.Erasing.{erase_one, erased}
-use Rattle.rpm_change.specs.Importing.{imported, import_end, place_fails, import_from, import_list, max_headers, listed}
-use Rattle.rpm_change.specs.Rebuilding.{drop_each}
-use Rattle.rpm_tool.specs.Asked.{is_changing}
-use Rattle.rpm_tool.specs.History.{course_of}
-use Rattle.rpm_tool.specs.Tasks.{TaskParts, Making, Adding, Replacing, Erasing, Importing, Rebuilding, Exercising, task_course, asked_task}
+use Rattle.rpm_tool.proofs.Vocabulary.{above, add_file, Adding, apply_all, as_installed, asked_task, AskParts, Bad, bytes_at, Course, course_of, drop_each}
+use Rattle.rpm_tool.proofs.Vocabulary.{erase_one, erased, Erasing, Exercising, FileFault, Good, Header, header, HeaderFault, idle, import_end, import_from}
+use Rattle.rpm_tool.proofs.Vocabulary.{import_list, imported, Importing, in_turn, is_changing, listed, ListFault, Making, max_headers, Package}
+use Rattle.rpm_tool.proofs.Vocabulary.{package_header, Paths, place_fails, Placing, put_found, put_installed, Rebuilding, replaced, Replacing, State}
+use Rattle.rpm_tool.proofs.Vocabulary.{task_course, TaskParts, Tree}
 use Rattle.rpm_tool.proofs.Ahead.{Ahead, Fits, PutsUnder, under_then, under_fits}
 use Rattle.rpm_tool.proofs.ExerciseFits.{exercise_fits}
 

@@ -1,17 +1,9 @@
 -- The definitions, computed on a small package and its blocks: what they say doesn't come from the code.
 use Rattle.std.specs.Prelude.{◌≡◌, ℕ, List, [], ◌∷◌, ◌++◌, replicate, Option, Some, None, Err, codes, refl}
-use Rattle.std.specs.Option.{option_map}
-use Rattle.rpm_outside.specs.Files.{Units, units_of}
-use Rattle.rpm_header.specs.declared.form.HeaderFault.TheVariants.{BadType}
-use Rattle.rpm_header.specs.Bytes.{number_at, numbers, texts, are_ended}
-use Rattle.rpm_header.specs.Header.{header, header_of, entries, entry_of, entry_fault, fault_at}
-use Rattle.rpm_pkgdb.specs.declared.slot.Reason.{Reason}
-use Rattle.rpm_pkgdb.specs.declared.slot.Reason.TheVariants.{BadMagic, BadPages, BadSlot, BadRange, SameNumber, Overlap}
-use Rattle.rpm_pkgdb.specs.Words.{word}
-use Rattle.rpm_pkgdb.specs.Slots.{slot_of}
-use Rattle.rpm_pkgdb.specs.Damages.{head_reason, own_reason, shared_reason}
-use Rattle.rpm_pkgdb.specs.Blobs.{frame_of, blob_in, is_head, is_tail}
-use Rattle.rpm_db.specs.State.{Bad, package_of, read_as}
+use Rattle.rpm_tool.proofs.Vocabulary.{are_ended, Bad, BadMagic, BadPages, BadRange, BadSlot, BadType, blob_in, entry_fault, entry_of, fault_at, frame_of}
+use Rattle.rpm_tool.proofs.Vocabulary.{head_reason, header, header_of, is_head, is_tail, number_at, numbers, option_map, Overlap, own_reason, package_of}
+use Rattle.rpm_tool.proofs.Vocabulary.{read_as, Reason, SameNumber, shared_reason, slot_of, texts, Units, units_of, word}
+use Rattle.rpm_header.specs.Header.{entries}
 
 -- the name a, the version 1, the release 2 and the architecture x; the first entry has this type
 unfoldable pub small : ℕ → List ℕ

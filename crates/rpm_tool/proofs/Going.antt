@@ -3,14 +3,7 @@ use Rattle.std.proofs.Common.{◌≡◌, ℕ, ◌++◌, Bool, List, [], Result, 
 use Rattle.std.specs.Prelude.{IsTrue}
 use Rattle.rpm_outside.specs.declared.disk.Disk as disk
 use Rattle.rpm_outside.specs.declared.sink.Sink as sink
-use Rattle.rpm_outside.specs.declared.buffered.Buffered.{Buffered}
-use Rattle.rpm_outside.specs.Buffered.{inner}
-use Rattle.rpm_outside.specs.Files.{Files}
-use Rattle.rpm_change.specs.Endings.{outputs, Through}
-use Rattle.rpm_change.specs.Steps.{Step}
-use Rattle.rpm_tool.specs.declared.step.Stop.{Stop}
-use Rattle.rpm_tool.specs.Answers.{Reached, Anywhere}
-use Rattle.rpm_tool.specs.Frame.{OutTakes, TellsOut}
+use Rattle.rpm_tool.proofs.Vocabulary.{Anywhere, Buffered, Files, inner, outputs, OutTakes, Reached, Step, Stop, TellsOut, Through}
 use Rattle.rpm_tool.proofs.Reaching.{Goes, goes_start, goes_more, goes_stop, goes_end}
 use Rattle.rpm_tool.proofs.SoFar.{SoFar, so_far_none, more_out}
 
@@ -28,13 +21,14 @@ module _ {D S : Type 0} (d : disk.Ghosts D) (s : sink.Ghosts S) where
   }
 
   module _ (goes : (x y z : D) → d.follows x y → d.follows y z → d.follows x z) (joins : (x y z : S) → s.follows x y → s.follows y z → s.follows x z)
-      (all left front rest : Files → List Step) (is : (f : Files) → left f ≡ front f ++ rest f) (a b c : D) (x y z : Buffered S)
-      (g : Going all left a b x y) where
+      {all left : Files → List Step} (front : Files → List Step) (rest : Files → List Step) (is : (f : Files) → left f ≡ front f ++ rest f) {a b : D} {x y
+      : Buffered S}
+      (g : Going all left a b x y) (c : D) (z : Buffered S) where
     -- one call more
-    pub going_more : (T : Type 0) (r : Result T Stop) → TellsOut d s r b c y z → (IsTrue d.tells → OutTakes s (Through (front (d.files b))) y z)
+    pub going_more : {T : Type 0} {r : Result T Stop} → TellsOut d s r b c y z → (IsTrue d.tells → OutTakes s (Through (front (d.files b))) y z)
         → Going all rest a c x z
-    going_more T r more went = record {
-      far = more_out d s goes joins a b c x y z g.far T r more;
+    going_more more went = record {
+      far = more_out d s goes joins g.far more;
       goes = λ told et e.
           let f = d.files a in
           let old = outputs s.tells (s.taken (inner y)) et e in
@@ -56,8 +50,8 @@ module _ {D S : Type 0} (d : disk.Ghosts D) (s : sink.Ghosts S) where
         (subst (λ (h : Files). Reached {T = T} (front h) (Err what) old new Anywhere) (g.far.looks.untouched told).same (went told et e))
 
   -- all were made
-  pub going_end : (all left : Files → List Step) (a b : D) (x y : Buffered S) → ((f : Files) → left f ≡ []) → Going all left a b x y
+  pub going_end : {all left : Files → List Step} {a b : D} {x y : Buffered S} → ((f : Files) → left f ≡ []) → Going all left a b x y
       → IsTrue d.tells → OutTakes s (Through (all (d.files a))) x y
-  going_end all left a b x y none g = λ told et e.
+  going_end {all = all} {left = left} {a = a} {x = x} {y = y} none g = λ told et e.
       let f = d.files a in
       goes_end s.tells et (all f) (left f) (s.taken (inner x)) (s.taken (inner y)) e e (none f) (g.goes told et e)

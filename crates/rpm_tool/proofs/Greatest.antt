@@ -1,14 +1,10 @@
 -- The numbers of the packages that are there, all below a number.
 use Rattle.std.proofs.Common.{◌≡◌, ℕ, ◌+◌, ◌≤◌, ◌<◌, true, false, ◌==◌, List, [], ◌∷◌, max, None, is_some, refl, sym, ap, ◌∙◌, inl, inr, arith}
-use Rattle.std.specs.Ordering.{nat_cmp, eq_by_cmp}
-use Rattle.std.specs.Cmp.{unsigned_tied}
+use Rattle.rpm_tool.proofs.Vocabulary.{eq_by_cmp, FinMap, greatest_in, nat_cmp, Package, unsigned_tied}
 use Rattle.std.specs.FinMap as finite
-use Rattle.std.specs.FinMap.{FinMap}
 use Rattle.std.proofs.lemmas.Bool.{cases_Bool}
 use Rattle.std.proofs.lemmas.Bool.Decides.{nat_tests}
 use Rattle.std.proofs.lemmas.Cmp.{nat_cmp_total}
-use Rattle.rpm_db.specs.Changes.{greatest_in}
-use Rattle.rpm_db.specs.State.{Package}
 
 module _ {X : Type 0} where
   below_greatest : (es : List (ℕ × X)) (n : ℕ) → is_some (finite.find nat_cmp n es) ≡ true → n ≤ greatest_in es

@@ -1,25 +1,13 @@
 -- One command line more: what the database stands for after it, given what it stood for before.
 use Rattle.std.proofs.Common.{◌≡◌, ◌⊎◌, ℕ, Bool, false, refl, sym, subst, inl, inr, ⊎_elim}
-use Rattle.rpm_outside.specs.Crash.{LeavesOnly}
-use Rattle.rpm_outside.specs.Files.{Units, Files}
-use Rattle.rpm_outside.specs.Logs.{reopened}
-use Rattle.rpm_outside.specs.inner.Moments.{leaves_weaker}
-use Rattle.rpm_pkgdb.specs.Store.{store}
-use Rattle.rpm_db.specs.Changes.{Says}
-use Rattle.rpm_db.specs.State.{State, state}
-use Rattle.rpm_change.specs.Steps.{Course}
-use Rattle.rpm_tool.specs.declared.answer.Why.{Why}
-use Rattle.rpm_tool.specs.Keyed.{AreLawfulGroups, StandsStill, is_done}
-use Rattle.rpm_tool.specs.Changing.{HasState, StandsStillOr, ChangesWith, after, is_done_or_fault}
-use Rattle.rpm_tool.specs.History.{Moves, StandsIn, AllStand}
+use Rattle.rpm_outside.specs.declared.disk.Disk as disk
+use Rattle.rpm_tool.proofs.Vocabulary.{after, AllStand, AreLawfulGroups, ChangesWith, Course, Files, HasState, images, is_done, is_done_or_fault}
+use Rattle.rpm_tool.proofs.Vocabulary.{leaves_weaker, LeavesIn, Moves, reopened, Says, StandsIn, StandsStill, StandsStillOr, State, state, store, Units, Why}
 use Rattle.rpm_tool.proofs.Brokens.{by_bool}
 use Rattle.rpm_tool.proofs.Standing.{if_ok_at}
 use Rattle.rpm_tool.proofs.MovesTo.{moves_done, moves_fault, moves_idle, moves_none}
 
 -- ---- what images stand for
-
-pub all_lawful : (P : State → Type 0) (images : Files → Type 0) → AllStand P images → AreLawfulGroups images
-all_lawful P images all image is = (all image is).lawful
 
 pub says_weaker : (P Q : State → Type 0) (pkg : Units) → ((s : State) → P s → Q s) → Says P pkg → Says Q pkg
 says_weaker P Q pkg weaker says = record { value = says.value; undamaged = says.undamaged; is = weaker (state pkg says.value) says.is }
@@ -34,10 +22,9 @@ still_stands P images image all still = record {
   says = subst (λ (pkg : Units). Says P pkg) (sym still.pkg) (all still.from still.was).says;
 }
 
-module _ {D : Type 0} (files : D → Files) (left_since : D → ℕ → Files → Type 0) (moment : D → ℕ) (given : Why) (old new : D) (P : State → Type 0)
-    (all : AllStand P (left_since old (moment old))) where
+module _ {D : Type 0} (d : disk.Ghosts D) (given : Why) (old new : D) (P : State → Type 0) (all : AllStand P (images d old)) where
   abbrev past : Files → Type 0
-  past = left_since old (moment old)
+  past = images d old
 
   lawful : AreLawfulGroups past
   lawful image is = (all image is).lawful
@@ -55,28 +42,28 @@ module _ {D : Type 0} (files : D → Files) (left_since : D → ℕ → Files �
 
   -- ---- a command that leaves the packages as they are
 
-  module _ (stands : AreLawfulGroups past → LeavesOnly moment left_since old new (StandsStill past)) (made : State → State)
+  module _ (stands : AreLawfulGroups past → LeavesIn d old new (StandsStill past)) (made : State → State)
       (nothing : (m : State) → made m ≡ m) where
-    pub still_next : (image : Files) → left_since new (moment old) image → StandsIn (Next made) image
+    pub still_next : (image : Files) → d.left_since new (d.moment old) image → StandsIn (Next made) image
     still_next image since = stands_weaker P (Next made) image
         (λ t p. (t, p, subst (λ (u : State). Moves given u t t) (sym (nothing t)) (moves_idle given t)))
         (still_stands P past image all ((stands lawful).each image since))
 
-    pub still_cut : LeavesOnly moment left_since old new (StandsIn (Cut made))
-    still_cut = leaves_weaker moment left_since old new (StandsStill past) (StandsIn (Cut made)) (cut_still made) (stands lawful)
+    pub still_cut : LeavesIn d old new (StandsIn (Cut made))
+    still_cut = leaves_weaker d.moment d.left_since old new (StandsStill past) (StandsIn (Cut made)) (cut_still made) (stands lawful)
 
   -- ---- a command that changes packages
 
-  module _ {anew changing : Bool} (course : State → Course) (n : ℕ) (here : past (files old))
-      (did : ChangesWith anew changing files left_since moment course given n old new) where
-    first : Says P (reopened (files old)).pkg
-    first = (all (files old) here).says
+  module _ {anew changing : Bool} (course : State → Course) (n : ℕ) (here : past (d.files old))
+      (did : ChangesWith d anew changing course given n old new) where
+    first : Says P (reopened (d.files old)).pkg
+    first = (all (d.files old) here).says
 
     abbrev s0 : State
-    s0 = state (reopened (files old)).pkg first.value
+    s0 = state (reopened (d.files old)).pkg first.value
 
-    stops : LeavesOnly moment left_since old new (StandsStillOr past (after course s0))
-    stops = if_ok_at _ (store (reopened (files old)).pkg) first.value first.undamaged (did.stops lawful)
+    stops : LeavesIn d old new (StandsStillOr past (after course s0))
+    stops = if_ok_at _ (store (reopened (d.files old)).pkg) first.value first.undamaged (did.stops lawful)
 
     made_next : (image : Files) → HasState (after course s0) image → Moves given (after course s0) s0 (after course s0)
         → Says (Next (after course)) (reopened image).pkg
@@ -90,11 +77,11 @@ module _ {D : Type 0} (files : D → Files) (left_since : D → ℕ → Files �
     kept_next image still undone = stands_weaker P (Next (after course)) image (λ t p. (t, p, moves_none given t (after course t) undone))
         (still_stands P past image all still)
 
-    pub changed_next : (image : Files) → left_since new (moment old) image → left_since new (moment new) image → StandsIn (Next (after course)) image
+    pub changed_next : (image : Files) → d.left_since new (d.moment old) image → images d new image → StandsIn (Next (after course)) image
     changed_next image since left = by_bool (is_done given)
         (λ done. record {
           lawful = ⊎_elim (λ still. still.lawful) (λ both. both.0) (stops.each image since);
-          says = made_next image (if_ok_at _ (store (reopened (files old)).pkg) first.value first.undamaged (did.held done) image left)
+          says = made_next image (if_ok_at _ (store (reopened (d.files old)).pkg) first.value first.undamaged (did.held done) image left)
               (moves_done given s0 (after course s0) done);
         })
         (λ undone. by_bool (is_done_or_fault given)
@@ -103,8 +90,8 @@ module _ {D : Type 0} (files : D → Files) (left_since : D → ℕ → Files �
         (stops.each image since))
         (λ refused. kept_next image ((did.unmade refused lawful).each image since) undone))
 
-    pub changed_cut : LeavesOnly moment left_since old new (StandsIn (Cut (after course)))
-    changed_cut = leaves_weaker moment left_since old new (StandsStillOr past (after course s0)) (StandsIn (Cut (after course)))
+    pub changed_cut : LeavesIn d old new (StandsIn (Cut (after course)))
+    changed_cut = leaves_weaker d.moment d.left_since old new (StandsStillOr past (after course s0)) (StandsIn (Cut (after course)))
         (λ image. ⊎_elim (cut_still (after course) image)
         (λ both. record {
           lawful = both.0;

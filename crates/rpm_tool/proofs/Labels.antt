@@ -1,34 +1,15 @@
 -- The labels that the reports tell are what the format of labels means.
 use Rattle.std.proofs.Common.{◌≡◌, ℕ, ◌-◌, ◌++◌, List, [], Option, Some, None, Result, Ok, Err, length, replicate, refl, sym, ap, ◌∙◌, arith}
 use Rattle.std.specs.Prelude.{false, unwrap_or}
-use Rattle.std.specs.Option.{option_and_then}
-use Rattle.std.specs.Ordering.{nat_cmp}
-use Rattle.std.specs.FinMap.{FinMap, get}
+use Rattle.rpm_tool.proofs.Vocabulary.{after_number, ARCH, as_text, Bad, bearer, bytes, condition, Conflict, Element, End, FinMap, first_text, format, get}
+use Rattle.rpm_tool.proofs.Vocabulary.{Good, Header, header, header_label, header_step, HeaderFault, IsReport, label, label_in, label_told, label_tree}
+use Rattle.rpm_tool.proofs.Vocabulary.{meaning, move_of, NAME, nat_cmp, number_of, Nvra, option_and_then, out_bytes, Package, padded, Plain, printed, reading}
+use Rattle.rpm_tool.proofs.Vocabulary.{RELEASE, Report, report_steps, show_in, sizes, table, tag_part, Tagged, TagPart, text_or_none, told_steps, Tree, value}
+use Rattle.rpm_tool.proofs.Vocabulary.{VERSION}
 use Rattle.std.proofs.lemmas.List.{append-nil}
-use Rattle.rpm_header.specs.declared.form.HeaderFault.{HeaderFault}
-use Rattle.rpm_header.specs.Header.{Header, header}
-use Rattle.rpm_tags.specs.declared.tag.Tag.TheVariants.{Nvra}
-use Rattle.rpm_tags.specs.Numbers.{NAME, VERSION, RELEASE, ARCH}
 use Rattle.rpm_tags.specs.Table as name
-use Rattle.rpm_tags.specs.Value.{as_text, label, first_text, value}
-use Rattle.rpm_qfparse.specs.declared.tree.Role.TheVariants.{Element}
-use Rattle.rpm_qfparse.specs.declared.tree.Show.TheVariants.{Plain}
-use Rattle.rpm_qfparse.specs.declared.tree.TagPart.{TagPart}
-use Rattle.rpm_qfparse.specs.Tree.{Tree, End, Tagged}
-use Rattle.rpm_qfparse.specs.Tag.{number_of, after_number, table, show_in, tag_part}
-use Rattle.rpm_qfparse.specs.Moves.{condition, move_of}
-use Rattle.rpm_qfparse.specs.Format.{format, reading}
-use Rattle.rpm_qfeval.specs.Meaning.{sizes, bytes, text_or_none, meaning}
-use Rattle.rpm_qfeval.specs.Padded.{padded}
-use Rattle.rpm_db.specs.State.{Package, Good, Bad}
-use Rattle.rpm_filecheck.specs.Owners.{Conflict}
 use Rattle.rpm_filecheck.specs.Conflicts as check
-use Rattle.rpm_filecheck.specs.Conflicts.{Report, IsReport}
-use Rattle.rpm_change.specs.Steps.{bearer, out_bytes}
-use Rattle.rpm_tool.specs.Queries.{printed, header_step}
 use Rattle.rpm_tool.specs.Labels as report
-use Rattle.rpm_tool.specs.Labels.{label_tree, header_label, label_in}
-use Rattle.rpm_tool.specs.FileReport.{label_told, report_steps, told_steps}
 
 -- ---- a label is what the format means
 

@@ -2,19 +2,9 @@
 use Rattle.std.proofs.Common.{◌≡◌, ◌⊎◌, ℕ, zero, suc, ◌<◌, length, get_or, Bool, true, false, List, [], ◌∷◌, ◌++◌, refl, ap, ◌∙◌, subst, inl, inr, arith}
 use Rattle.std.specs.Prelude.{IsTrue, Some}
 use Rattle.std.proofs.lemmas.Bool.{or_right}
-use Rattle.rpm_outside.specs.Files.{Files}
-use Rattle.rpm_outside.specs.Logs.{reopened}
-use Rattle.rpm_outside.specs.Shelves.{Paths}
-use Rattle.rpm_db.specs.State.{State, state}
-use Rattle.rpm_words.specs.Ask.{AskParts}
-use Rattle.rpm_qfparse.specs.Tree.{Tree}
-use Rattle.rpm_change.specs.Steps.{Course}
-use Rattle.rpm_tool.specs.declared.answer.Outcome.{Outcome}
-use Rattle.rpm_tool.specs.declared.several.Line.{Line}
-use Rattle.rpm_tool.specs.Asked.{of_files, asks}
-use Rattle.rpm_tool.specs.History.{RunCall, Moves, Leads, Cuts, FromOneOf, StandsIn, TellsLines, TellsCalls, made_by, calls_of, uses_in, uses_shelf}
-use Rattle.rpm_tool.specs.Keyed.{IsLawfulGroup}
-use Rattle.rpm_tool.specs.Tasks.{TaskParts, Making, Adding, Replacing, Erasing, Importing, Rebuilding, Exercising, asked_task, task_course, reads_shelf}
+use Rattle.rpm_tool.proofs.Vocabulary.{Adding, asked_task, AskParts, asks, calls_of, Course, Cuts, Erasing, Exercising, Files, FromOneOf, Importing}
+use Rattle.rpm_tool.proofs.Vocabulary.{IsLawfulGroup, Leads, Line, made_by, Making, Moves, of_files, Outcome, Paths, reads_shelf, Rebuilding, reopened}
+use Rattle.rpm_tool.proofs.Vocabulary.{Replacing, RunCall, StandsIn, State, state, task_course, TaskParts, TellsCalls, TellsLines, Tree, uses_in, uses_shelf}
 use Rattle.rpm_tool.proofs.Standing.{lawful_store}
 
 module _ (paths : Paths) where
@@ -80,10 +70,7 @@ uses_reads words a tree asked reads =
 -- one that reads none goes the same course, whatever there is
 pub unread_course : (P : (State → Course) → Type 0) (p q : Paths) (now : ℕ) (t : TaskParts) → reads_shelf t ≡ false → P (task_course p now t)
     → P (task_course q now t)
-unread_course P p q now Making unread x = x
 unread_course P p q now (Adding files) unread x = absurd cc
 unread_course P p q now (Replacing n path) unread x = absurd cc
-unread_course P p q now (Erasing numbers) unread x = x
 unread_course P p q now Importing unread x = absurd cc
-unread_course P p q now Rebuilding unread x = x
-unread_course P p q now (Exercising n) unread x = x
+unread_course P p q now others unread x = x

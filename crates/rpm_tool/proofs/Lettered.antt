@@ -2,7 +2,7 @@
 use Rattle.std.proofs.Common.{◌≡◌, ℕ, [], ◌++◌, if◌then◌else◌, refl, inl, inr}
 use Rattle.std.specs.Prelude.{codes}
 use Rattle.std.proofs.lemmas.Bool.{cases_Bool}
-use Rattle.rpm_qfeval.specs.Numbers.{has, letters, depflags}
+use Rattle.rpm_tool.proofs.Vocabulary.{depflags, has, letters}
 
 -- a letter for each bit
 pub letters_are : (n : ℕ) → letters depflags n

@@ -18,7 +18,6 @@ mod Defaults
 mod Emptied
 mod Ended
 mod Endings
-mod EndingKinds
 mod Ends
 mod ExerciseEmpty
 mod ExerciseFits
@@ -48,7 +47,6 @@ mod MovesTo
 mod Nexts
 mod Numbered
 mod Numbering
-mod Opened
 mod OpeningLaws
 mod Page
 mod Paged
@@ -73,12 +71,10 @@ mod Telling
 mod Turns
 mod Unbroken
 mod Undone
-mod Unloaded
 mod Unmade
 mod Unopened
 mod Unrecovered
-mod Unstarted
-mod Unworked
 mod Verified
 mod Wanting
 mod Works
+pub mod Vocabulary

@@ -1,21 +1,6 @@
--- The limits of a command as its group ends, and where it did not begin.
+-- The limits of a command as its group ends.
 use Rattle.std.proofs.Common.{◌≡◌, ℕ, Bool, Option, None, Result, Ok, Err, sym, subst, inl, inr}
-use Rattle.rpm_outside.specs.Files.{Files}
-use Rattle.rpm_group.specs.declared.load.LoadFault.{LoadFault}
-use Rattle.rpm_group.specs.declared.load.LoadFault.TheVariants as load
-use Rattle.rpm_group.specs.declared.recovery.RecoverFault.{RecoverFault}
-use Rattle.rpm_group.specs.declared.recovery.RecoverFault.TheVariants as recover
-use Rattle.rpm_pkgdb.specs.Store.{store}
-use Rattle.rpm_db.specs.State.{State}
-use Rattle.rpm_change.specs.declared.tally.Halt.{Halt}
-use Rattle.rpm_change.specs.declared.tally.Tally.{Tally}
-use Rattle.rpm_change.specs.Steps.{Course}
-use Rattle.rpm_tool.specs.declared.answer.Why.{Why}
-use Rattle.rpm_tool.specs.declared.answer.Why.TheVariants as why
-use Rattle.rpm_tool.specs.Answers.{why_of_load}
-use Rattle.rpm_tool.specs.Keyed.{why_of_recover}
-use Rattle.rpm_tool.specs.Limits.{MeetsFirst, LimitsOn}
-use Rattle.rpm_tool.specs.Working.{EndsAs, IsUncommitted, why_of}
+use Rattle.rpm_tool.proofs.Vocabulary.{Course, EndsAs, Files, Halt, IsUncommitted, LimitsOn, MeetsFirst, State, store, Tally, Why, why_of}
 use Rattle.rpm_tool.proofs.Standing.{if_ok, if_ok_at}
 use Rattle.rpm_tool.proofs.Limited.{none_done}
 use Rattle.rpm_tool.proofs.ByEnding.{by_uncommitted}
@@ -36,17 +21,3 @@ pub limits_grouped : (indexed anew : Bool) (course : State → Course) (files : 
     → LimitsOn indexed anew course files (why_of ended) → LimitsOn indexed anew course files given
 limits_grouped indexed anew course files ended given n ends all = if_ok (store files.pkg) (λ s is.
     limits_ended indexed _ ended given n ends (if_ok_at _ (store files.pkg) s is all))
-
-pub limits_starved : (indexed anew : Bool) (course : State → Course) (files : Files) → LimitsOn indexed anew course files why.NoMemory
-limits_starved indexed anew course files = if_ok (store files.pkg) (λ s is. tt)
-
-pub limits_unloaded : (indexed anew : Bool) (course : State → Course) (files : Files) (fault : LoadFault)
-    → LimitsOn indexed anew course files (why_of_load fault)
-limits_unloaded indexed anew course files (load.BadLog unit) = if_ok (store files.pkg) (λ s is. tt)
-limits_unloaded indexed anew course files load.DiskFault = if_ok (store files.pkg) (λ s is. tt)
-limits_unloaded indexed anew course files load.NoMemory = if_ok (store files.pkg) (λ s is. tt)
-
-pub limits_unrecovered : (indexed anew : Bool) (course : State → Course) (files : Files) (fault : RecoverFault)
-    → LimitsOn indexed anew course files (why_of_recover fault)
-limits_unrecovered indexed anew course files (recover.BadLog unit) = if_ok (store files.pkg) (λ s is. tt)
-limits_unrecovered indexed anew course files recover.DiskFault = if_ok (store files.pkg) (λ s is. tt)

@@ -1,37 +1,14 @@
 -- The limits of a command that changes packages, from the opening to its end.
+use Rattle.rpm_tool.proofs.Vocabulary.{begun, Change, command_limit, Course, Damage, Database, done_why, ended_as, Files, first_limit, first_refusal, Halt}
+use Rattle.rpm_tool.proofs.Vocabulary.{is_limit, LimitsOn, made_new, makes, makes_large, makes_small, MeetsFirst, must_make, never_bad_made, OpensBy, OpensIn}
+use Rattle.rpm_tool.proofs.Vocabulary.{room, rows, State, state, stops_unasked, StopsAt, Store, store, Tally, Units, units_for, Why, why_of, why_of_halt}
 use Rattle.std.proofs.Common.{◌≡◌, ℕ, ◌^◌, ◌<◌, ◌≤◌, ◌==◌, ◌&&◌, if◌then◌else◌, Bool, true, false, List, Option, Some, None, Result, Ok, Err, refl, sym, ap, ◌∙◌, subst, inl, inr}
 use Rattle.std.specs.Prelude.{IfOk, nat_lt}
-use Rattle.rpm_outside.specs.Files.{Units, Files}
-use Rattle.rpm_hindex.specs.Sizes.{units_for}
-use Rattle.rpm_pkgdb.specs.declared.slot.Damage.{Damage}
-use Rattle.rpm_pkgdb.specs.Store.{Store, store}
-use Rattle.rpm_pkgdb.specs.Written.{made_new}
-use Rattle.rpm_db.specs.Changes.{Change}
-use Rattle.rpm_db.specs.Database.{Database}
-use Rattle.rpm_db.specs.Openings.{must_make}
-use Rattle.rpm_db.specs.Rows.{rows}
-use Rattle.rpm_db.specs.State.{State, state}
-use Rattle.rpm_change.specs.declared.tally.Halt.{Halt}
 use Rattle.rpm_change.specs.declared.tally.Halt.TheVariants as halt
-use Rattle.rpm_change.specs.declared.tally.Tally.{Tally}
-use Rattle.rpm_change.specs.Limits.{first_refusal, first_limit, is_limit, StopsAt}
-use Rattle.rpm_change.specs.Steps.{Course}
-use Rattle.rpm_change.specs.inner.LimitLaws.{makes_large, makes_small, never_bad_made, stops_unasked}
-use Rattle.rpm_tool.specs.declared.answer.Why.{Why}
 use Rattle.rpm_tool.specs.declared.answer.Why.TheVariants as why
-use Rattle.rpm_tool.specs.Changing.{makes}
-use Rattle.rpm_tool.specs.Limits.{begun, command_limit, MeetsFirst, LimitsOn}
-use Rattle.rpm_tool.specs.Working.{OpensIn, OpensBy, done_why, why_of_halt}
 use Rattle.rpm_tool.proofs.Standing.{if_ok, if_ok_at}
-use Rattle.rpm_tool.proofs.Outcomes.{done_is}
+use Rattle.rpm_tool.proofs.Outcomes.{by_done_why}
 use Rattle.rpm_tool.proofs.ByEnding.{by_opening}
-
--- a blank database is made, and any other stays
-pub begun_blank : (value : Store) → (value.pages == 0) ≡ true → made_new value ≡ begun value
-begun_blank value is = sym (ap (λ (b : Bool). if b then made_new value else value) is)
-
-pub begun_made : (value : Store) → (value.pages == 0) ≡ false → value ≡ begun value
-begun_made value is = sym (ap (λ (b : Bool). if b then made_new value else value) is)
 
 -- a store is read as one value
 pub stored_one : (x : Result Store Damage) (value other : Store) → x ≡ Ok value → x ≡ Ok other → other ≡ value
@@ -81,23 +58,13 @@ module _ (indexed made : Bool) (s : State) (v : Store) (changes : List Change) w
   limits_halt halt.StoreFull stops = stops refl
   limits_halt (halt.IndexFull u) stops = stops
   limits_halt (halt.BadIndex u) stops = bad_command indexed made s v changes u stops
-  limits_halt halt.DiskFault stops = tt
-  limits_halt halt.ShelfFault stops = tt
-  limits_halt halt.OutFault stops = tt
-  limits_halt halt.ErrFault stops = tt
-  limits_halt halt.NoMemory stops = tt
+  limits_halt others stops = tt
 
 limits_done : (indexed : Bool) (first : Option Halt) (k : ℕ) → first ≡ None → MeetsFirst indexed first (done_why k)
-limits_done indexed first k none = elim (done_is k) [
-  | inl zero ↦ subst (λ (w : Why). MeetsFirst indexed first w) (sym zero.1) none
-  | inr some ↦ subst (λ (w : Why). MeetsFirst indexed first w) (sym some.1) none
-]
+limits_done indexed first k none = by_done_why (MeetsFirst indexed first) k (λ zero. none) (λ some. none)
 
 pub none_done : (indexed : Bool) (first : Option Halt) (k : ℕ) → MeetsFirst indexed first (done_why k) → first ≡ None
-none_done indexed first k meets = elim (done_is k) [
-  | inl zero ↦ subst (λ (w : Why). MeetsFirst indexed first w) zero.1 meets
-  | inr some ↦ subst (λ (w : Why). MeetsFirst indexed first w) some.1 meets
-]
+none_done indexed first k = by_done_why (λ (w : Why). MeetsFirst indexed first w → first ≡ None) k (λ zero meets. meets) (λ some meets. meets)
 
 -- an index that is made has room, so the first change that is refused decides
 small_command : (indexed made : Bool) (s : State) (v : Store) (changes : List Change) → (made ≡ true → units_for (rows s.packages) ≤ 2 ^ 28)
@@ -108,16 +75,12 @@ small_command false made s v changes fits = refl
 -- ---- an index that is rebuilt
 
 limit_asked : (h : Halt) → is_limit false h ≡ true → is_limit true h ≡ true
-limit_asked halt.NumbersSpent is = refl
-limit_asked halt.GenerationSpent is = refl
-limit_asked halt.StoreFull is = refl
-limit_asked (halt.IndexFull told) is = refl
-limit_asked (halt.BadIndex unit) is = refl
 limit_asked halt.DiskFault is = is
 limit_asked halt.ShelfFault is = is
 limit_asked halt.OutFault is = is
 limit_asked halt.ErrFault is = is
 limit_asked halt.NoMemory is = is
+limit_asked others is = refl
 
 unasked_by : (b : Bool) (n : ℕ) (s : State) (v : Store) (changes : List Change) (r : Result Tally Halt)
     → StopsAt true (if b then Some (halt.IndexFull n) else first_refusal true s v changes) r → StopsAt false (first_refusal false s v changes) r
@@ -137,28 +100,26 @@ made_stops false made s v changes r stops =
 -- ---- a database that was opened
 
 module _ (indexed anew : Bool) (course : State → Course) (old mid : Files) (db : Database) (opens : OpensBy old (store old.pkg) mid (Ok db))
-    (begins : IfOk (store old.pkg) (λ value. db.store ≡ begun value)) where
+    (begins : IfOk (store old.pkg) (λ value. (room db) ≡ begun value)) where
   -- the state that was found
   abbrev found : State
-  found = state mid.pkg db.store
+  found = state mid.pkg (room db)
 
   -- what its command meets first
   abbrev Meets : (Option Halt → Type 0) → Type 0
-  Meets P = (s : Store) → store old.pkg ≡ Ok s → P (command_limit indexed (makes anew old.idx s) found db.store (course found).changes)
+  Meets P = (s : Store) → store old.pkg ≡ Ok s → P (command_limit indexed (makes anew old.idx s) found (room db) (course found).changes)
 
   limits_at : (w : Why) → Meets (λ first. MeetsFirst indexed first w) → LimitsOn indexed anew course old w
   limits_at w is = if_ok (store old.pkg) (λ s stored.
       (let same = (subst (λ (sr : Result Store Damage). OpensBy old sr mid (Ok db)) stored opens).0 in
-      let from = if_ok_at (λ (value : Store). db.store ≡ begun value) (store old.pkg) s stored begins in
+      let from = if_ok_at (λ (value : Store). (room db) ≡ begun value) (store old.pkg) s stored begins in
       subst (λ (x : State). MeetsFirst indexed (command_limit indexed (makes anew old.idx s) x (begun s) (course x).changes) w) same
       (subst (λ (v : Store). MeetsFirst indexed (command_limit indexed (makes anew old.idx s) found v (course found).changes) w) from (is s stored))))
 
-  pub limits_halted : (h : Halt) → Meets (λ first. StopsAt indexed first (Err h)) → LimitsOn indexed anew course old (why_of_halt h)
-  limits_halted h stops = limits_at (why_of_halt h) (λ s stored.
-      limits_halt indexed (makes anew old.idx s) found db.store (course found).changes h (stops s stored))
-
-  pub limits_worked : (tally : Tally) → Meets (λ first. StopsAt indexed first (Ok tally)) → LimitsOn indexed anew course old (done_why tally.failed)
-  limits_worked tally stops = limits_at (done_why tally.failed) (λ s stored. limits_done indexed _ tally.failed (stops s stored))
+  pub limits_went : (r : Result Tally Halt) → Meets (λ first. StopsAt indexed first r) → LimitsOn indexed anew course old (why_of (ended_as r))
+  limits_went (Ok tally) stops = limits_at (done_why tally.failed) (λ s stored. limits_done indexed _ tally.failed (stops s stored))
+  limits_went (Err h) stops = limits_at (why_of_halt h) (λ s stored.
+      limits_halt indexed (makes anew old.idx s) found (room db) (course found).changes h (stops s stored))
 
   -- an exercise that was refused meets no limit
   pub limits_refused : (held : ℕ) → LimitsOn indexed anew course old (why.NotEmpty held)
@@ -166,11 +127,11 @@ module _ (indexed anew : Bool) (course : State → Course) (old mid : Files) (db
 
 -- of a command that makes no index anew: where opening made one it had room
 pub plain_stops : (indexed : Bool) (course : State → Course) (old mid : Files) (db : Database) (opens : OpensBy old (store old.pkg) mid (Ok db))
-    (r : Result Tally Halt) → StopsAt indexed (first_refusal indexed (state mid.pkg db.store) db.store (course (state mid.pkg db.store)).changes) r
+    (r : Result Tally Halt) → StopsAt indexed (first_refusal indexed (state mid.pkg (room db)) (room db) (course (state mid.pkg (room db))).changes) r
     → (s : Store) → store old.pkg ≡ Ok s
-    → StopsAt indexed (command_limit indexed (makes false old.idx s) (state mid.pkg db.store) db.store (course (state mid.pkg db.store)).changes) r
+    → StopsAt indexed (command_limit indexed (makes false old.idx s) (state mid.pkg (room db)) (room db) (course (state mid.pkg (room db))).changes) r
 plain_stops indexed course old mid db opens r stops s stored =
     let opened = subst (λ (sr : Result Store Damage). OpensBy old sr mid (Ok db)) stored opens in
     subst (λ (first : Option Halt). StopsAt indexed first r)
-    (sym (small_command indexed (makes false old.idx s) (state mid.pkg db.store) db.store (course (state mid.pkg db.store)).changes
+    (sym (small_command indexed (makes false old.idx s) (state mid.pkg (room db)) (room db) (course (state mid.pkg (room db))).changes
     (λ made. subst (λ (x : State). units_for (rows x.packages) ≤ 2 ^ 28) (sym opened.0) (opened.1 made)))) stops

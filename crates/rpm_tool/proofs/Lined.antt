@@ -1,25 +1,12 @@
 -- A command line more, by what `run` says of it.
 use Rattle.std.proofs.Common.{◌≡◌, ◌⊎◌, ℕ, Bool, true, false, List, [], ◌∷◌, ◌++◌, length, ◌<◌, get_or, refl, sym, ap, subst, inl, arith}
 use Rattle.std.specs.Prelude.{Option, Some, None, IsTrue, if◌then◌else◌}
-use Rattle.rpm_outside.specs.declared.disk.File.{File}
-use Rattle.rpm_outside.specs.Crash.{LeavesOnly}
-use Rattle.rpm_outside.specs.Files.{Files}
-use Rattle.rpm_outside.specs.Shelves.{Paths}
-use Rattle.rpm_db.specs.State.{State}
-use Rattle.rpm_words.specs.Ask.{AskParts}
-use Rattle.rpm_qfparse.specs.Tree.{Tree}
-use Rattle.rpm_change.specs.Steps.{idle, apply_all}
-use Rattle.rpm_tool.specs.declared.answer.Outcome.{Outcome}
-use Rattle.rpm_tool.specs.declared.answer.Why.{Why}
-use Rattle.rpm_tool.specs.declared.several.Line.{Line}
-use Rattle.rpm_tool.specs.Answers.{Leaves}
-use Rattle.rpm_tool.specs.Asked.{by_key, is_changing, asks}
-use Rattle.rpm_tool.specs.Changing.{ChangesWith, RowsFit, AllFit, after}
-use Rattle.rpm_tool.specs.History.{RunCall, Moves, StandsIn, AllStand, course_of, made_by, calls_of}
-use Rattle.rpm_tool.specs.Keyed.{AreLawfulGroups, StandsStill}
-use Rattle.rpm_tool.specs.Tasks.{asked_task, asked_course, is_anew, changes_index}
+use Rattle.rpm_outside.specs.declared.disk.Disk as disk
+use Rattle.rpm_tool.proofs.Vocabulary.{after, AllFit, AllStand, apply_all, AreLawfulGroups, asked_course, asked_task, AskParts, asks, by_key, calls_of}
+use Rattle.rpm_tool.proofs.Vocabulary.{changes_index, ChangesWith, course_of, Files, idle, is_anew, is_changing, Leaves, leaves_weaker, Line, made_by, Moves}
+use Rattle.rpm_tool.proofs.Vocabulary.{Outcome, Paths, RowsFit, RunCall, StandsIn, StandsStill, State, Tree, Why}
+use Rattle.rpm_tool.specs.Frame.{images, LeavesIn}
 use Rattle.rpm_tool.proofs.Brokens.{by_bool}
-use Rattle.rpm_outside.specs.inner.Moments.{leaves_weaker}
 use Rattle.rpm_tool.proofs.Regrouped.{still_fits}
 use Rattle.rpm_tool.proofs.Histories.{still_next, still_cut, changed_next, changed_cut}
 
@@ -39,19 +26,18 @@ pub by_asked : {X : Type 0} (read : Option (AskParts × Tree)) → (read ≡ Non
 by_asked None nothing command = nothing refl
 by_asked (Some asked) nothing command = command asked.0 asked.1 refl
 
-module _ {D : Type 0} (tells : Bool) (files : D → Files) (left_since : D → ℕ → Files → Type 0) (moment : D → ℕ) (bytes_read : D → File → ℕ)
-    (follows : D → D → Type 0) (told : IsTrue tells) (paths : Paths) (now : ℕ) (words : List (List ℕ)) (given : Why) (changes : ℕ) (old new : D)
-    (P : State → Type 0) (all : AllStand P (left_since old (moment old))) (here : left_since old (moment old) (files old))
+module _ {D : Type 0} (d : disk.Ghosts D) (told : IsTrue d.tells) (paths : Paths) (now : ℕ) (words : List (List ℕ)) (given : Why) (changes : ℕ) (old new : D)
+    (P : State → Type 0) (all : AllStand P (images d old)) (here : images d old (d.files old))
     (unread : asks words ≡ None → new ≡ old)
     (looks : (a : AskParts) (tree : Tree) → asks words ≡ Some (a, tree) → by_key a ≡ false → is_changing a ≡ false
-    → Leaves tells files left_since moment bytes_read follows old new)
-    (stops : (a : AskParts) (tree : Tree) → asks words ≡ Some (a, tree) → by_key a ≡ true → AreLawfulGroups (left_since old (moment old))
-    → LeavesOnly moment left_since old new (StandsStill (left_since old (moment old))))
+    → Leaves d old new)
+    (stops : (a : AskParts) (tree : Tree) → asks words ≡ Some (a, tree) → by_key a ≡ true → AreLawfulGroups (images d old)
+    → LeavesIn d old new (StandsStill (images d old)))
     (changed : (a : AskParts) (tree : Tree) → asks words ≡ Some (a, tree) → is_changing a ≡ true
-    → ChangesWith (is_anew (asked_task words a)) (changes_index (asked_task words a)) files left_since moment (asked_course paths now words a) given changes
+    → ChangesWith d (is_anew (asked_task words a)) (changes_index (asked_task words a)) (asked_course paths now words a) given changes
     old new) where
   abbrev past : Files → Type 0
-  past = left_since old (moment old)
+  past = images d old
 
   abbrev Next : (State → State) → State → Type 0
   Next made t = (m : State) × P m × Moves given (made m) m t
@@ -64,28 +50,28 @@ module _ {D : Type 0} (tells : Bool) (files : D → Files) (left_since : D → �
   made_if a b m = apply_all (if b then asked_course paths now words a m else idle).changes m
 
   abbrev Both : (State → State) → Type 0
-  Both made = ((image : Files) → left_since new (moment old) image → left_since new (moment new) image → StandsIn (Next made) image)
-      × LeavesOnly moment left_since old new (StandsIn (Cut made))
+  Both made = ((image : Files) → d.left_since new (d.moment old) image → images d new image → StandsIn (Next made) image)
+      × LeavesIn d old new (StandsIn (Cut made))
 
-  still_both : (AreLawfulGroups past → LeavesOnly moment left_since old new (StandsStill past)) → (made : State → State) → ((m : State) → made m ≡ m)
+  still_both : (AreLawfulGroups past → LeavesIn d old new (StandsStill past)) → (made : State → State) → ((m : State) → made m ≡ m)
       → Both made
   still_both stands made nothing = (
-    λ image since left. still_next files left_since moment given old new P all stands made nothing image since,
-    still_cut files left_since moment given old new P all stands made nothing,
+    λ image since left. still_next d given old new P all stands made nothing image since,
+    still_cut d given old new P all stands made nothing,
   )
 
-  same_still : new ≡ old → AreLawfulGroups past → LeavesOnly moment left_since old new (StandsStill past)
-  same_still same lawful = subst (λ (d : D). LeavesOnly moment left_since old d (StandsStill past)) (sym same) (record {
+  same_still : new ≡ old → AreLawfulGroups past → LeavesIn d old new (StandsStill past)
+  same_still same lawful = subst (λ (it : D). LeavesIn d old it (StandsStill past)) (sym same) (record {
     later = omega arith;
     each = λ image left. record { from = image; was = left; pkg = refl; lawful = lawful image left };
     before = λ t image le left. inl left;
   })
 
-  looked_still : Leaves tells files left_since moment bytes_read follows old new → AreLawfulGroups past
-      → LeavesOnly moment left_since old new (StandsStill past)
+  looked_still : Leaves d old new → AreLawfulGroups past
+      → LeavesIn d old new (StandsStill past)
   looked_still leaves lawful = record {
     later = omega (arith, leaves.moment_stays);
-    each = λ image left. (let was = (leaves.untouched told).images (moment old) image left in
+    each = λ image left. (let was = (leaves.untouched told).images (d.moment old) image left in
         record { from = image; was = was; pkg = refl; lawful = lawful image was });
     before = λ t image le left. inl ((leaves.untouched told).images t image left);
   }
@@ -93,8 +79,8 @@ module _ {D : Type 0} (tells : Bool) (files : D → Files) (left_since : D → �
   both_of : (a : AskParts) (tree : Tree) → asks words ≡ Some (a, tree) → Both (made_if a (is_changing a))
   both_of a tree asked = by_bool (is_changing a)
       (λ changes_any. subst (λ (b : Bool). Both (made_if a b)) (sym changes_any) (
-        changed_next files left_since moment given old new P all (asked_course paths now words a) changes here (changed a tree asked changes_any),
-        changed_cut files left_since moment given old new P all (asked_course paths now words a) changes here (changed a tree asked changes_any),
+        changed_next d given old new P all (asked_course paths now words a) changes here (changed a tree asked changes_any),
+        changed_cut d given old new P all (asked_course paths now words a) changes here (changed a tree asked changes_any),
       ))
       (λ none. subst (λ (b : Bool). Both (made_if a b)) (sym none) (by_bool (by_key a)
       (λ keyed. still_both (stops a tree asked keyed) (made_if a false) (λ m. refl))
@@ -107,11 +93,11 @@ module _ {D : Type 0} (tells : Bool) (files : D → Files) (left_since : D → �
       (λ a tree asked. subst (λ (read : Option (AskParts × Tree)). Both (after (course_of paths now words read))) (sym asked) (both_of a tree asked))
 
   -- the rows fit after it, whatever stops it
-  pub line_fits : AllFit past → LeavesOnly moment left_since old new RowsFit
+  pub line_fits : AllFit past → LeavesIn d old new RowsFit
   line_fits fit =
       let lawful : AreLawfulGroups past = λ image is. (all image is).lawful in
-      let kept : LeavesOnly moment left_since old new (StandsStill past) → LeavesOnly moment left_since old new RowsFit =
-      λ still. leaves_weaker moment left_since old new (StandsStill past) RowsFit (still_fits past fit) still in
+      let kept : LeavesIn d old new (StandsStill past) → LeavesIn d old new RowsFit =
+      λ still. leaves_weaker d.moment d.left_since old new (StandsStill past) RowsFit (still_fits past fit) still in
       by_asked (asks words)
       (λ none. kept (same_still (unread none) lawful))
       (λ a tree asked. by_bool (is_changing a)

@@ -1,14 +1,9 @@
 -- Lines of a report: how far they were gone through, one after the other.
 use Rattle.std.proofs.Common.{◌≡◌, ℕ, ◌+◌, ◌≤◌, ◌++◌, Bool, List, [], ◌∷◌, map, drop, Ok, Err, length, refl, sym, ap, ◌∙◌, subst}
 use Rattle.std.proofs.lemmas.List.{append-nil}
-use Rattle.rpm_change.specs.Steps.{Bearer, Step}
-use Rattle.rpm_change.specs.Endings.{Outputs, outputs, Through}
-use Rattle.rpm_tool.specs.declared.step.Stop.{Stop}
-use Rattle.rpm_tool.specs.Steps.{Portion, bearer_of, fails, together}
-use Rattle.rpm_tool.specs.Answers.{StepIs, Reached, PartIs, is_some_of}
+use Rattle.rpm_tool.proofs.Vocabulary.{Bearer, fails, is_some_of, Outputs, outputs, PartIs, Portion, Reached, Step, Stop, Through, together}
 use Rattle.rpm_tool.proofs.Answering.{none_left}
 use Rattle.rpm_tool.proofs.Reaching.{Goes, through_more, goes_start, goes_more, goes_stop, goes_end}
-use Rattle.rpm_tool.proofs.Stopping.{reached_first}
 
 -- ---- lines for each of which the argument fails
 
@@ -22,26 +17,22 @@ failing_any (s ∷ steps) = refl
 
 -- ---- a line more
 
-module _ {X : Type 0} (step : X → Step) (xs : List X) (i : ℕ) (x : X) (here : drop i xs ≡ x ∷ drop (i + 1) xs) (ot et : Bool)
-    (o o' o'' e e' e'' : List ℕ) (goes : Goes ot et (map step xs) (map step (drop i xs)) o e o' e') where
-  split : map step (drop i xs) ≡ (step x ∷ []) ++ map step (drop (i + 1) xs)
-  split = ap (map step) here
+module _ {X : Type 0} (step : X → Step) (xs : List X) (i : ℕ) (x : X) (here : drop i xs ≡ x ∷ drop (i + 1) xs) {ot et : Bool}
+    {o o' e e' : List ℕ} (goes : Goes ot et (map step xs) (map step (drop i xs)) o e o' e') (o'' e'' : List ℕ) where
+  pub line_more : Through (step x ∷ []) (outputs ot o' et e') (outputs ot o'' et e'') → Goes ot et (map step xs) (map step (drop (i + 1) xs)) o e o'' e''
+  line_more one =
+      goes_more ot et (map step xs) (map step (drop i xs)) (step x ∷ []) (map step (drop (i + 1) xs)) o o' o'' e e' e'' (ap (map step) here) goes one
 
-  pub line_more : (to_out : Bool) → StepIs (step x) (Ok to_out) (outputs ot o' et e') (outputs ot o'' et e'')
-      → Goes ot et (map step xs) (map step (drop (i + 1) xs)) o e o'' e''
-  line_more to_out one =
-      goes_more ot et (map step xs) (map step (drop i xs)) (step x ∷ []) (map step (drop (i + 1) xs)) o o' o'' e e' e'' split goes one.1
+  pub line_stop : (T T' : Type 0) (what : Stop) (reads_to : Bearer → Type 0)
+      → Reached {T = T} (step x ∷ []) (Err what) (outputs ot o' et e') (outputs ot o'' et e'') reads_to
+      → Reached {T = T'} (map step xs) (Err what) (outputs ot o et e) (outputs ot o'' et e'') reads_to
+  line_stop T T' what reads_to one =
+      goes_stop ot et (map step xs) (map step (drop i xs)) (step x ∷ []) (map step (drop (i + 1) xs)) o o' o'' e e' e'' (ap (map step) here) goes T T' what
+      reads_to one
 
-  pub line_stop : (T : Type 0) (what : Stop) (reads_to : Bearer → Type 0) → reads_to (bearer_of (step x))
-      → StepIs (step x) (Err what) (outputs ot o' et e') (outputs ot o'' et e'')
-      → Reached {T = T} (map step xs) (Err what) (outputs ot o et e) (outputs ot o'' et e'') reads_to
-  line_stop T what reads_to reads one =
-      goes_stop ot et (map step xs) (map step (drop i xs)) (step x ∷ []) (map step (drop (i + 1) xs)) o o' o'' e e' e'' split goes Bool T what reads_to
-      (reached_first Bool (step x) [] what (outputs ot o' et e') (outputs ot o'' et e'') reads_to reads one)
-
-pub line_end : {X : Type 0} (step : X → Step) (xs : List X) (i : ℕ) (ot et : Bool) (o o' e e' : List ℕ) → length xs ≤ i
+pub line_end : {X : Type 0} (step : X → Step) (xs : List X) (i : ℕ) {ot et : Bool} {o o' e e' : List ℕ} → length xs ≤ i
     → Goes ot et (map step xs) (map step (drop i xs)) o e o' e' → Through (map step xs) (outputs ot o et e) (outputs ot o' et e')
-line_end step xs i ot et o o' e e' past goes =
+line_end step xs i {ot = ot} {et = et} {o = o} {o' = o'} {e = e} {e' = e'} past goes =
     goes_end ot et (map step xs) (map step (drop i xs)) o o' e e' (ap (map step) (none_left xs i past)) goes
 
 -- ---- lines on err, and then lines on out

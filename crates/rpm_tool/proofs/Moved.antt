@@ -2,22 +2,10 @@
 use Rattle.std.proofs.Common.{◌≡◌, ℕ, Bool, true, List, [], ◌∷◌, refl, sym, ap, subst, inl, inr, ⊎_elim}
 use Rattle.std.specs.Prelude.{Option, Some, IsTrue}
 use Rattle.rpm_outside.specs.declared.disk.Disk as disk
-use Rattle.rpm_outside.specs.Files.{Units, Files}
-use Rattle.rpm_outside.specs.Logs.{reopened}
-use Rattle.rpm_outside.specs.Shelves.{Paths}
-use Rattle.rpm_pkgdb.specs.Store.{store}
-use Rattle.rpm_db.specs.Changes.{Says}
-use Rattle.rpm_db.specs.State.{State}
-use Rattle.rpm_words.specs.Ask.{AskParts}
-use Rattle.rpm_qfparse.specs.Tree.{Tree}
-use Rattle.rpm_change.specs.Steps.{Course}
-use Rattle.rpm_tool.specs.declared.answer.Why.{Why}
+use Rattle.rpm_tool.proofs.Vocabulary.{after, asked_course, AskParts, asks, Between, by_key, Course, course_of, Files, HasState, InTurn, is_changing, Leads}
+use Rattle.rpm_tool.proofs.Vocabulary.{LeavesState, LineIs, made_by, Moves, Paths, reopened, RunCall, Says, State, store, TellsCalls, Tree, Units, uses_shelf}
+use Rattle.rpm_tool.proofs.Vocabulary.{Why}
 use Rattle.rpm_tool.specs.declared.answer.Why.TheVariants as why
-use Rattle.rpm_tool.specs.Asked.{by_key, is_changing, asks}
-use Rattle.rpm_tool.specs.Changing.{HasState, LeavesState, after}
-use Rattle.rpm_tool.specs.History.{RunCall, Moves, Leads, TellsCalls, course_of, made_by, uses_shelf}
-use Rattle.rpm_tool.specs.Lines.{Between, LineIs, InTurn}
-use Rattle.rpm_tool.specs.Tasks.{asked_course}
 use Rattle.rpm_tool.proofs.Standing.{if_ok_at}
 use Rattle.rpm_tool.proofs.Brokens.{by_bool}
 use Rattle.rpm_tool.proofs.MovesTo.{moves_idle}
@@ -33,21 +21,7 @@ module _ (course : State → Course) (s : State) (n : ℕ) (files : Files) where
   left_moves why.Done left = (after course s, left.1, refl)
   left_moves (why.Failed k) left = (after course s, left.1, refl)
   left_moves why.DiskFault left = ⊎_elim (λ was. (s, was, inl refl)) (λ made. (after course s, made, inr refl)) left.1
-  left_moves (why.Usage f) left = (s, left.1, refl)
-  left_moves (why.BadFormat f) left = (s, left.1, refl)
-  left_moves (why.BadLog u) left = (s, left.1, refl)
-  left_moves (why.Damaged d) left = (s, left.1, refl)
-  left_moves why.NumbersSpent left = (s, left.1, refl)
-  left_moves why.GenerationSpent left = (s, left.1, refl)
-  left_moves why.StoreFull left = (s, left.1, refl)
-  left_moves (why.BadIndex u) left = (s, left.1, refl)
-  left_moves (why.NotEmpty k) left = (s, left.1, refl)
-  left_moves (why.IndexFull u) left = (s, left.1, refl)
-  left_moves (why.LogFull u) left = (s, left.1, refl)
-  left_moves why.ShelfFault left = (s, left.1, refl)
-  left_moves why.OutFault left = (s, left.1, refl)
-  left_moves why.ErrFault left = (s, left.1, refl)
-  left_moves why.NoMemory left = (s, left.1, refl)
+  left_moves others left = (s, left.1, refl)
 
 module _ {D : Type 0} (d : disk.Ghosts D) (told : IsTrue d.tells) (shelf : Bool) (paths : Paths) where
   abbrev files : D → Files

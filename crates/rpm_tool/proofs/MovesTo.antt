@@ -1,11 +1,7 @@
 -- To which state a call moves, by its ending.
 use Rattle.std.proofs.Common.{◌≡◌, ◌⊎◌, true, false, refl, inl, inr}
-use Rattle.rpm_db.specs.State.{State}
-use Rattle.rpm_tool.specs.declared.answer.Why.{Why}
+use Rattle.rpm_tool.proofs.Vocabulary.{is_done, is_done_or_fault, Moves, State, Why}
 use Rattle.rpm_tool.specs.declared.answer.Why.TheVariants as why
-use Rattle.rpm_tool.specs.Keyed.{is_done}
-use Rattle.rpm_tool.specs.Changing.{is_done_or_fault}
-use Rattle.rpm_tool.specs.History.{Moves}
 use Rattle.rpm_tool.proofs.Brokens.{by_bool}
 use Rattle.rpm_tool.proofs.ByEnding.{by_done}
 
@@ -14,22 +10,8 @@ moves_are : (w : Why) (s made : State) → (is_done_or_fault w ≡ true → Move
     × ((t : State) → Moves w made s t → (t ≡ s) ⊎ (t ≡ made))
 moves_are why.Done s made = (λ is. refl, λ is. absurd cc, λ t is. inr is)
 moves_are (why.Failed n) s made = (λ is. refl, λ is. absurd cc, λ t is. inr is)
-moves_are (why.Usage f) s made = (λ is. absurd cc, λ is. refl, λ t is. inl is)
-moves_are (why.BadFormat f) s made = (λ is. absurd cc, λ is. refl, λ t is. inl is)
-moves_are (why.BadLog u) s made = (λ is. absurd cc, λ is. refl, λ t is. inl is)
-moves_are (why.Damaged d) s made = (λ is. absurd cc, λ is. refl, λ t is. inl is)
-moves_are why.NumbersSpent s made = (λ is. absurd cc, λ is. refl, λ t is. inl is)
-moves_are why.GenerationSpent s made = (λ is. absurd cc, λ is. refl, λ t is. inl is)
-moves_are why.StoreFull s made = (λ is. absurd cc, λ is. refl, λ t is. inl is)
-moves_are (why.NotEmpty held) s made = (λ is. absurd cc, λ is. refl, λ t is. inl is)
-moves_are (why.BadIndex u) s made = (λ is. absurd cc, λ is. refl, λ t is. inl is)
-moves_are (why.IndexFull u) s made = (λ is. absurd cc, λ is. refl, λ t is. inl is)
-moves_are (why.LogFull u) s made = (λ is. absurd cc, λ is. refl, λ t is. inl is)
 moves_are why.DiskFault s made = (λ is. inr refl, λ is. inl refl, λ t is. is)
-moves_are why.ShelfFault s made = (λ is. absurd cc, λ is. refl, λ t is. inl is)
-moves_are why.OutFault s made = (λ is. absurd cc, λ is. refl, λ t is. inl is)
-moves_are why.ErrFault s made = (λ is. absurd cc, λ is. refl, λ t is. inl is)
-moves_are why.NoMemory s made = (λ is. absurd cc, λ is. refl, λ t is. inl is)
+moves_are others s made = (λ is. absurd cc, λ is. refl, λ t is. inl is)
 
 pub moves_done : (w : Why) (s made : State) → is_done w ≡ true → Moves w made s made
 moves_done w s made is = by_done (λ (given : Why). Moves given made s made) refl (λ n. refl) w is

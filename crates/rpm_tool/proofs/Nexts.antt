@@ -1,30 +1,19 @@
--- The packages that are left, of which the next is printed.
-use Rattle.std.proofs.Common.{◌≡◌, ℕ, ◌||◌, Bool, true, not, List, [], ◌∷◌, map, Option, Some, None, Result, Ok, Err, refl, sym, ap, ◌∙◌, subst}
-use Rattle.std.proofs.lemmas.List.{append-nil}
-use Rattle.std.specs.List.{list_any}
-use Rattle.rpm_db.specs.State.{Package, packages, above}
-use Rattle.rpm_outside.specs.Files.{Files}
-use Rattle.rpm_pkgdb.specs.Store.{Store}
-use Rattle.rpm_select.specs.declared.selection.Selection.{Selection}
-use Rattle.rpm_select.specs.Selections.{picks}
-use Rattle.rpm_select.specs.Reach.{Reach, Serves}
-use Rattle.rpm_tool.specs.declared.step.Stop.{Stop}
-use Rattle.rpm_change.specs.Steps.{Bearer, Step}
-use Rattle.rpm_tool.specs.Steps.{is_bad}
-use Rattle.rpm_change.specs.Endings.{Outputs, outputs, Through}
-use Rattle.rpm_tool.specs.Answers.{Reached, NextIs, is_some_of}
+-- How far the packages of an argument were printed, one after the other.
+use Rattle.std.proofs.Common.{◌≡◌, ℕ, ◌||◌, Bool, true, false, not, List, [], ◌∷◌, map, Option, Result, Ok, Err, refl, sym, ap, ◌∙◌, subst}
+use Rattle.rpm_tool.proofs.Vocabulary.{above, Bearer, bearer_of, Files, is_bad, is_of_sink, is_some_of, list_any, NextIs, outputs, Package, packages}
+use Rattle.rpm_tool.proofs.Vocabulary.{packages_part, PartIs, Picked, PickFault, picks, Reach, Reached, Selection, Serves, Step, StepIs, Stop, Store}
+use Rattle.rpm_tool.specs.declared.step.Stop.TheVariants as stop
 use Rattle.rpm_tool.proofs.Printed.{fails_more, some_more, none_more}
 use Rattle.rpm_tool.proofs.Reached.{served}
-use Rattle.rpm_tool.proofs.Reaching.{Goes, goes_more, goes_stop, goes_end}
-use Rattle.rpm_tool.proofs.Stopping.{reached_reads}
+use Rattle.rpm_tool.proofs.Reaching.{Goes, goes_start, goes_more, goes_stop, goes_end}
+use Rattle.rpm_tool.proofs.Stopping.{reached_first}
 
 -- what is next of the files as they read is next of the files as they were
-pub next_here : (sel : Selection) (s : Store) (p q : Reach) (f f' : Files) → p ≡ q → f ≡ f' → (step : ℕ × Package → Step) (n : ℕ)
-    (r : Result (Option (ℕ × Bool)) Stop) (old new : Outputs) (reads_to : Bearer → Type 0)
-    → (Serves p (packages f.pkg s) sel → NextIs step n (picks (packages f.pkg s) sel) r old new reads_to) → Serves q (packages f'.pkg s) sel
-    → NextIs step n (picks (packages f'.pkg s) sel) r old new reads_to
-next_here sel s p q f f' same files step n r old new reads_to next serves =
-    subst (λ (g : Files). NextIs step n (picks (packages g.pkg s) sel) r old new reads_to) files (next (served sel s p q f f' same files serves))
+pub next_here : (sel : Selection) (s : Store) (p q : Reach) (f f' : Files) → p ≡ q → f ≡ f' → (n : ℕ) (r : Result (Option Picked) PickFault)
+    → (Serves p (packages f.pkg s) sel → NextIs (above n (picks (packages f.pkg s) sel)) r) → Serves q (packages f'.pkg s) sel
+    → NextIs (above n (picks (packages f'.pkg s) sel)) r
+next_here sel s p q f f' same files n r next serves =
+    subst (λ (g : Files). NextIs (above n (picks (packages g.pkg s) sel)) r) files (next (served sel s p q f f' same files serves))
 
 -- and so is what was passed
 pub passed_here : (sel : Selection) (s : Store) (p q : Reach) (f f' : Files) → p ≡ q → f ≡ f' → (n : ℕ) (any : Bool)
@@ -34,44 +23,69 @@ passed_here sel s p q f f' same files n any passed serves =
     subst (λ (g : Files). above n (picks (packages g.pkg s) sel) ≡ [] → any ≡ is_some_of (picks (packages g.pkg s) sel)) files
     (passed (served sel s p q f f' same files serves))
 
-module _ (step : ℕ × Package → Step) (n : ℕ) (es : List (ℕ × Package)) (old new : Outputs) (reads_to : Bearer → Type 0) where
-  -- one more, and whether it fails
-  pub fails_next : (m : ℕ) (fails to_out all : Bool) → all ≡ (fails || list_any is_bad (map step (above n es)))
-      → NextIs step n es (Ok (Some (m, to_out))) old new reads_to → all ≡ ((fails || not to_out) || list_any is_bad (map step (above m es)))
-  fails_next m fails to_out all is x =
-      fails_more fails to_out (step (m, x.0)) (map step (above m es)) all x.2.0
-      (is ∙ ap (λ (xs : List (ℕ × Package)). fails || list_any is_bad (map step xs)) x.1)
+-- those up to a number were printed: the steps so far, whether there were some, and whether the argument fails for them
+pub record PrintedTo (step : ℕ → ℕ × Package → Step) (es : List (ℕ × Package)) (after n : ℕ) (some fails ot et : Bool) (o e o' e' : List ℕ) : Type 0 where
+  pub goes : (j : ℕ) → Goes ot et (map (step j) (above after es)) (map (step j) (above n es)) o e o' e'
+  pub bad : (j : ℕ) → list_any is_bad (map (step j) (above after es)) ≡ (fails || list_any is_bad (map (step j) (above n es)))
+  pub there : is_some_of (above after es) ≡ (some || is_some_of (above n es))
 
-  pub some_next : (m : ℕ) (some to_out all : Bool) → all ≡ (some || is_some_of (above n es)) → NextIs step n es (Ok (Some (m, to_out))) old new reads_to
-      → all ≡ true
-  some_next m some to_out all is x = some_more some all (is ∙ ap (λ (xs : List (ℕ × Package)). some || is_some_of xs) x.1)
+goes_halts : (ot et : Bool) (all left : List Step) (o e o' e' : List ℕ) → Goes ot et all left o e o' e' → (what : Stop) (reads_to : Bearer → Type 0)
+    → is_of_sink what ≡ false → Reached {T = Bool} all (Err what) (outputs ot o et e) (outputs ot o' et e') reads_to
+goes_halts ot et all left o e o' e' g stop.ReadFault reads_to is = (g.done, left, g.parts, g.went)
+goes_halts ot et all left o e o' e' g stop.NoMemory reads_to is = (g.done, left, g.parts, g.went)
+goes_halts ot et all left o e o' e' g others reads_to is = absurd cc
 
-  -- none is left
-  pub fails_last : (fails all : Bool) → all ≡ (fails || list_any is_bad (map step (above n es))) → NextIs step n es (Ok None) old new reads_to → fails ≡ all
-  fails_last fails all is x = none_more fails all (is ∙ ap (λ (xs : List (ℕ × Package)). fails || list_any is_bad (map step xs)) x.0)
+module _ (step : ℕ → ℕ × Package → Step) (es : List (ℕ × Package)) (after : ℕ) (ot et : Bool) (o e : List ℕ) where
+  pub printed_none : PrintedTo step es after after false false ot et o e o e
+  printed_none = record {
+    goes = λ j. goes_start ot et (map (step j) (above after es)) (map (step j) (above after es)) o e refl;
+    bad = λ j. refl;
+    there = refl;
+  }
 
-  pub some_last : (some all : Bool) → all ≡ (some || is_some_of (above n es)) → NextIs step n es (Ok None) old new reads_to → some ≡ all
-  some_last some all is x = none_more some all (is ∙ ap (λ (xs : List (ℕ × Package)). some || is_some_of xs) x.0)
+  module _ (n : ℕ) (some fails : Bool) (o' e' : List ℕ) (printed : PrintedTo step es after n some fails ot et o e o' e') where
+    -- one more
+    pub printed_next : (entry : ℕ × Package) (m : ℕ) (to_out : Bool) (o'' e'' : List ℕ) → entry.0 ≡ m → above n es ≡ entry ∷ above entry.0 es
+        → ((j : ℕ) → StepIs (step j entry) (Ok to_out) (outputs ot o' et e') (outputs ot o'' et e''))
+        → PrintedTo step es after m true (fails || not to_out) ot et o e o'' e''
+    printed_next entry m to_out o'' e'' same split one =
+        subst (λ (k : ℕ). PrintedTo step es after k true (fails || not to_out) ot et o e o'' e'') same (record {
+          goes = λ j. goes_more ot et (map (step j) (above after es)) (map (step j) (above n es)) (step j entry ∷ []) (map (step j) (above entry.0 es))
+              o o' o'' e e' e'' (ap (λ (xs : List (ℕ × Package)). map (step j) xs) split) (printed.goes j) (one j).1;
+          bad = λ j. fails_more fails to_out (step j entry) (map (step j) (above entry.0 es)) (list_any is_bad (map (step j) (above after es))) (one j).0
+              (printed.bad j ∙ ap (λ (xs : List (ℕ × Package)). fails || list_any is_bad (map (step j) xs)) split);
+          there = some_more some (is_some_of (above after es)) (printed.there ∙ ap (λ (xs : List (ℕ × Package)). some || is_some_of xs) split);
+        })
 
--- how far the steps of all of them were gone through
-module _ (step : ℕ × Package → Step) (n : ℕ) (es : List (ℕ × Package)) (all : List Step) (ot et : Bool) (o o' o'' e e' e'' : List ℕ)
-    (reads_to : Bearer → Type 0) (goes : Goes ot et all (map step (above n es)) o e o' e') where
-  pub goes_next : (m : ℕ) (to_out : Bool) → NextIs step n es (Ok (Some (m, to_out))) (outputs ot o' et e') (outputs ot o'' et e'') reads_to
-      → Goes ot et all (map step (above m es)) o e o'' e''
-  goes_next m to_out x =
-      goes_more ot et all (map step (above n es)) (step (m, x.0) ∷ []) (map step (above m es)) o o' o'' e e' e''
-      (ap (λ (xs : List (ℕ × Package)). map step xs) x.1) goes x.2.1
+    -- none is left
+    pub printed_last : above n es ≡ [] → (j : ℕ) (reads_to : Bearer → Type 0)
+        → PartIs (packages_part (step j) after es) (Ok fails) (outputs ot o et e) (outputs ot o' et e') reads_to
+    printed_last none j reads_to = record {
+      steps = goes_end ot et (map (step j) (above after es)) (map (step j) (above n es)) o o' e e'
+          (ap (λ (xs : List (ℕ × Package)). map (step j) xs) none) (printed.goes j);
+      fails = sym (none_more fails (list_any is_bad (map (step j) (above after es)))
+          (printed.bad j ∙ ap (λ (xs : List (ℕ × Package)). fails || list_any is_bad (map (step j) xs)) none));
+    }
 
-  pub goes_last : NextIs step n es (Ok None) (outputs ot o' et e') (outputs ot o'' et e'') reads_to → Through all (outputs ot o et e) (outputs ot o'' et e'')
-  goes_last x =
-      let left = map step (above n es) in
-      goes_end ot et all left o o'' e e'' (ap (λ (xs : List (ℕ × Package)). map step xs) x.0)
-      (goes_more ot et all left [] left o o' o'' e e' e'' refl goes x.1)
+    pub some_last : above n es ≡ [] → some ≡ is_some_of (above after es)
+    some_last none = none_more some (is_some_of (above after es)) (printed.there ∙ ap (λ (xs : List (ℕ × Package)). some || is_some_of xs) none)
 
-  pub goes_cut : (what : Stop) (to : Bearer → Type 0) → ((b : Bearer) → reads_to b → to b)
-      → NextIs step n es (Err what) (outputs ot o' et e') (outputs ot o'' et e'') reads_to
-      → Reached {T = Bool} all (Err what) (outputs ot o et e) (outputs ot o'' et e'') to
-  goes_cut what to so x =
-      let left = map step (above n es) in
-      goes_stop ot et all left left [] o o' o'' e e' e'' (sym (append-nil left)) goes Bool Bool what to
-      (reached_reads {T = Bool} left (Err what) (outputs ot o' et e') (outputs ot o'' et e'') reads_to to so x)
+    -- the next one isn't found
+    pub printed_halts : (what : Stop) → is_of_sink what ≡ false → (j : ℕ) (reads_to : Bearer → Type 0)
+        → PartIs (packages_part (step j) after es) (Err what) (outputs ot o et e) (outputs ot o' et e') reads_to
+    printed_halts what unsunk j reads_to = record {
+      steps = goes_halts ot et (map (step j) (above after es)) (map (step j) (above n es)) o e o' e' (printed.goes j) what reads_to unsunk;
+      fails = tt;
+    }
+
+    -- or its step stops
+    pub printed_stops : (entry : ℕ × Package) (what : Stop) (o'' e'' : List ℕ) → above n es ≡ entry ∷ above entry.0 es → (j : ℕ)
+        (reads_to : Bearer → Type 0) → reads_to (bearer_of (step j entry))
+        → StepIs (step j entry) (Err what) (outputs ot o' et e') (outputs ot o'' et e'')
+        → PartIs (packages_part (step j) after es) (Err what) (outputs ot o et e) (outputs ot o'' et e'') reads_to
+    printed_stops entry what o'' e'' split j reads_to reads one = record {
+      steps = goes_stop ot et (map (step j) (above after es)) (map (step j) (above n es)) (step j entry ∷ []) (map (step j) (above entry.0 es))
+          o o' o'' e e' e'' (ap (λ (xs : List (ℕ × Package)). map (step j) xs) split) (printed.goes j) Bool Bool what reads_to
+          (reached_first Bool (step j entry) [] what (outputs ot o' et e') (outputs ot o'' et e'') reads_to reads one);
+      fails = tt;
+    }

@@ -1,18 +1,12 @@
 -- The numbers that an argument's steps are for.
 use Rattle.std.proofs.Common.{◌≡◌, ℕ, List, [], ◌∷◌, map, Option, Some, None, refl, ap, ◌∙◌}
 use Rattle.std.proofs.lemmas.List.{append-nil}
-use Rattle.std.specs.Ordering.{nat_cmp}
+use Rattle.rpm_tool.proofs.Vocabulary.{above, answered, argument_part, Bearer, Chosen, is_picked, lent, missing_part, nat_cmp, Package, picked, picked_by}
+use Rattle.rpm_tool.proofs.Vocabulary.{picks, query_of, question_of, RisesFrom, Selection, step_of, Tree, with_number}
 use Rattle.std.specs.FinMap as finite
-use Rattle.rpm_words.specs.declared.switch.Chosen.{Chosen}
 use Rattle.rpm_words.specs.declared.switch.Chosen.TheVariants as by
-use Rattle.rpm_qfparse.specs.Tree.{Tree}
-use Rattle.rpm_db.specs.State.{Package, above}
-use Rattle.rpm_select.specs.declared.selection.Selection.{Selection}
 use Rattle.rpm_select.specs.declared.selection.Selection.TheVariants as question
-use Rattle.rpm_select.specs.Selections.{is_picked, picks}
-use Rattle.rpm_change.specs.Steps.{Bearer}
-use Rattle.rpm_tool.specs.Steps.{with_number, numbers, RisesFrom}
-use Rattle.rpm_tool.specs.Queries.{step_of, lent, question_of, picked_by, picked, missing_part, answered, argument_part, query_of}
+use Rattle.rpm_tool.specs.Steps.{numbers}
 use Rattle.rpm_tool.proofs.Printed.{bearer-step_of}
 use Rattle.rpm_tool.proofs.Rising.{rises_above}
 
@@ -25,19 +19,7 @@ told_numbers tree j (e ∷ es) =
 missing_numbers : (chosen : Chosen) (j : ℕ) (text : List ℕ) → numbers (missing_part chosen j text).steps ≡ []
 unfolding missing_part
 missing_numbers by.Label j text = refl
-missing_numbers by.All j text = refl
-missing_numbers by.Path j text = refl
-missing_numbers by.Group j text = refl
-missing_numbers by.Package j text = refl
-missing_numbers by.Provides j text = refl
-missing_numbers by.Requires j text = refl
-missing_numbers by.Conflicts j text = refl
-missing_numbers by.Obsoletes j text = refl
-missing_numbers by.Trigger j text = refl
-missing_numbers by.Number j text = refl
-missing_numbers by.Directory j text = refl
-missing_numbers by.Tid j text = refl
-missing_numbers by.Recommends j text = refl
+missing_numbers others j text = refl
 
 answered_numbers : (tree : Tree) (chosen : Chosen) (after j : ℕ) (text : List ℕ) (es : List (ℕ × Package))
     → numbers (answered tree chosen after j text es).steps ≡ map (λ e. e.0) (above after es)

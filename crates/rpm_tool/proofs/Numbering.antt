@@ -1,18 +1,8 @@
 -- The numbers that command lines give to new packages rise, and each image that a crash leaves has a next number above them.
 use Rattle.std.proofs.Common.{◌≡◌, ℕ, Bool, true, false, List, [], ◌++◌, refl, sym, subst, ⊎_elim}
 use Rattle.std.specs.Prelude.{Result, Ok, Err, if◌then◌else◌}
-use Rattle.rpm_outside.specs.Files.{Files}
-use Rattle.rpm_outside.specs.Logs.{reopened}
-use Rattle.rpm_pkgdb.specs.declared.slot.Damage.{Damage}
-use Rattle.rpm_pkgdb.specs.Store.{Store, store}
-use Rattle.rpm_db.specs.Changes.{next}
-use Rattle.rpm_db.specs.State.{State, state}
-use Rattle.rpm_change.specs.Steps.{Course, idle}
-use Rattle.rpm_tool.specs.declared.answer.Why.{Why}
-use Rattle.rpm_tool.specs.Changing.{after}
-use Rattle.rpm_tool.specs.Given.{IsAhead, RiseWithin, numbers_given, given_in, given_on}
-use Rattle.rpm_tool.specs.History.{Moves}
-use Rattle.rpm_tool.specs.Keyed.{is_done}
+use Rattle.rpm_tool.proofs.Vocabulary.{after, Course, Damage, Files, given_in, given_on, idle, is_done, IsAhead, Moves, next, numbers_given, reopened}
+use Rattle.rpm_tool.proofs.Vocabulary.{RiseWithin, State, state, Store, store, Why}
 use Rattle.rpm_tool.proofs.Ahead.{Ahead, Fits, ahead_of, changes_rise, rise_least, rise_later, rise_then}
 use Rattle.rpm_tool.proofs.MovesTo.{moves_one}
 

@@ -1,27 +1,12 @@
 -- A database that is opened with its index, and then asked.
-use Rattle.std.proofs.Common.{◌≡◌, ℕ, ◌≤◌, Bool, true, false, not, ◌&&◌, List, map, Result, Ok, refl, sym, ap, ◌∙◌, subst, inl, inr, arith}
+use Rattle.rpm_tool.proofs.Vocabulary.{asked_reaches, AskParts, BadIs, Bearer, CameOf, CauseIs, Damage, Database, File, Files, has_index, HasIndex}
+use Rattle.rpm_tool.proofs.Vocabulary.{HasIndexRows, is_blank, is_current_at, is_indexed, IsLawful, IsOpened, LeavesOnly, must_make, no_index_rows, packages}
+use Rattle.rpm_tool.proofs.Vocabulary.{Peeks, Reach, reach_sum, reached_by, room, Store, store, unindexed, Units, Why}
+use Rattle.std.proofs.Common.{◌≡◌, ℕ, ◌≤◌, Bool, true, false, not, ◌&&◌, List, Result, Ok, refl, sym, ap, ◌∙◌, subst, inl, inr, arith}
 use Rattle.std.specs.Prelude.{IsTrue}
 use Rattle.std.proofs.lemmas.Bool.{cases_Bool, eqb-true}
-use Rattle.rpm_outside.specs.declared.disk.File.{File}
-use Rattle.rpm_outside.specs.Files.{Units, Files}
-use Rattle.rpm_outside.specs.Crash.{LeavesOnly}
-use Rattle.rpm_pkgdb.specs.declared.slot.Damage.{Damage}
-use Rattle.rpm_pkgdb.specs.Store.{Store, store}
-use Rattle.rpm_db.specs.Database.{Database, is_blank, is_indexed}
-use Rattle.rpm_db.specs.Lawful.{IsLawful, is_current_at}
-use Rattle.rpm_db.specs.Openings.{IsOpened, must_make}
-use Rattle.rpm_db.specs.Runs.{CameOf, Runs}
-use Rattle.rpm_db.specs.State.{packages}
-use Rattle.rpm_select.specs.Reach.{HasIndexRows}
-use Rattle.rpm_select.specs.inner.Unindexed.{no_index_rows}
-use Rattle.rpm_words.specs.Words.{text_at}
-use Rattle.rpm_words.specs.Ask.{AskParts}
-use Rattle.rpm_tool.specs.declared.answer.Why.{Why}
+use Rattle.rpm_db.specs.Runs.{Runs}
 use Rattle.rpm_tool.specs.declared.answer.Why.TheVariants as why
-use Rattle.rpm_change.specs.Steps.{Bearer}
-use Rattle.rpm_tool.specs.Keyed.{HasIndex, CauseIs, BadIs, keyed_reaches}
-use Rattle.rpm_tool.specs.Reads.{Peeks, argument_reach, reaches_by, reach_sum, reached_by}
-use Rattle.rpm_tool.specs.Reports.{unindexed}
 use Rattle.rpm_tool.proofs.Sums.{store_by, store_sum}
 
 -- ---- a run of calls that opened the database, and then looked things up
@@ -51,13 +36,14 @@ module _ {D : Type 0} (tells : Bool) (files : D → Files) (left_since : D → �
 
 -- up to a step of an argument, and of all arguments: what a question by key goes over
 module _ (file : Units) (db : Database) (indexed : is_indexed db ≡ not (is_blank db)) (words : List (List ℕ)) (a : AskParts) where
-  pub keyed_by : (for : Bearer) → reached_by (reaches_by (argument_reach (is_indexed db) (packages file db.store) a.chosen) (map (text_at words) a.arguments))
-      db for ≤ reached_by (keyed_reaches file db.store words a) (unindexed db.store) for
-  keyed_by for = rw indexed (omega (arith, store_by (keyed_reaches file db.store words a) db for))
+  abbrev over : List Reach
+  over = asked_reaches (has_index (room db)) file (room db) words a
 
-  pub keyed_sum : reach_sum (reaches_by (argument_reach (is_indexed db) (packages file db.store) a.chosen) (map (text_at words) a.arguments)) db
-      ≤ reach_sum (keyed_reaches file db.store words a) (unindexed db.store)
-  keyed_sum = rw indexed (omega (arith, store_sum (keyed_reaches file db.store words a) db))
+  pub keyed_by : (for : Bearer) → reached_by (asked_reaches (is_indexed db) file (room db) words a) db for ≤ reached_by over (unindexed (room db)) for
+  keyed_by for = rw indexed (omega (arith, store_by over db for))
+
+  pub keyed_sum : reach_sum (asked_reaches (is_indexed db) file (room db) words a) db ≤ reach_sum over (unindexed (room db))
+  keyed_sum = rw indexed (omega (arith, store_sum over db))
 
 -- ---- what opening says of the index
 
@@ -80,10 +66,10 @@ module _ (old new : Files) (db : Database) (opened : IsOpened old new (Ok db)) (
   -- it is there, and holds the rows
   pub opened_index : IsLawful old.pkg old.idx → HasIndex new.pkg new.idx
   opened_index lawful = record {
-    value = db.store;
+    value = (room db);
     undamaged = ap store pkg ∙ opened.store_is;
     index = elim (cases_Bool (is_blank db)) [
-      | inl blank ↦ inl (eqb-true db.store.pages 0 blank)
+      | inl blank ↦ inl (eqb-true (room db).pages 0 blank)
       | inr some ↦ (let is = opened.index some lawful in inr (is.current, is.rows_are))
     ];
   }
@@ -96,9 +82,9 @@ module _ (old new : Files) (db : Database) (opened : IsOpened old new (Ok db)) (
       | inr some ↦ elim (cases_Bool (must_make old.idx (store old.pkg))) [
         | inl making ↦ absurd (lawful (λ is. (opened.made making).rows_are))
         | inr kept ↦ (
-          db.store,
+          (room db),
           opened.store_is,
-          current_of (is_blank db) (is_current_at db.store.generation old.idx) some
+          current_of (is_blank db) (is_current_at (room db).generation old.idx) some
               (subst (λ (s : Result Store Damage). must_make old.idx s ≡ false) opened.store_is kept),
           subst (λ (f : Files). CauseIs words a f.idx (why.BadIndex unit)) (opened.same kept) cause,
         )
@@ -107,20 +93,4 @@ module _ (old new : Files) (db : Database) (opened : IsOpened old new (Ok db)) (
 
     pub bad_opened : (w : Why) → ((unit : ℕ) → w ≡ why.BadIndex unit → HasIndexRows db new.pkg new.idx → ⊥) → CauseIs words a new.idx w → BadIs words a old w
     bad_opened (why.BadIndex unit) lawful cause = broken unit (lawful unit refl) cause
-    bad_opened why.Done lawful cause = tt
-    bad_opened (why.Failed n) lawful cause = tt
-    bad_opened (why.Usage f) lawful cause = tt
-    bad_opened (why.BadFormat f) lawful cause = tt
-    bad_opened (why.BadLog u) lawful cause = tt
-    bad_opened (why.Damaged d) lawful cause = tt
-    bad_opened (why.IndexFull u) lawful cause = tt
-    bad_opened why.NumbersSpent lawful cause = tt
-    bad_opened why.GenerationSpent lawful cause = tt
-    bad_opened why.StoreFull lawful cause = tt
-    bad_opened (why.NotEmpty held) lawful cause = tt
-    bad_opened (why.LogFull u) lawful cause = tt
-    bad_opened why.DiskFault lawful cause = tt
-    bad_opened why.ShelfFault lawful cause = tt
-    bad_opened why.OutFault lawful cause = tt
-    bad_opened why.ErrFault lawful cause = tt
-    bad_opened why.NoMemory lawful cause = tt
+    bad_opened others lawful cause = tt

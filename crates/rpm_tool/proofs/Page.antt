@@ -3,25 +3,15 @@ use Rattle.std.proofs.Common.{◌≡◌, ◌∙◌, ℕ, List, [], Bool, true, f
 use Rattle.std.specs.Prelude.{IsTrue}
 use Rattle.rpm_outside.specs.declared.disk.Disk as disk
 use Rattle.rpm_outside.specs.declared.shelf.Shelf as shelf
-use Rattle.rpm_outside.specs.declared.disk.File.TheVariants.{Pkg}
-use Rattle.rpm_outside.specs.Logs.{reopened}
-use Rattle.rpm_words.specs.Ask.{AskParts}
-use Rattle.rpm_qfparse.specs.Tree.{Tree}
-use Rattle.rpm_change.specs.Endings.{Outputs, outputs}
+use Rattle.rpm_tool.proofs.Vocabulary.{AnswersByKey, AnswersChange, AnswersKeyed, AnswersOfFiles, AnswersPlain, asked_course, asked_task, AskParts, by_key}
+use Rattle.rpm_tool.proofs.Vocabulary.{Does, EmptyBy, is_changing, Leaves, needs_none, of_files, OneChange, Outputs, outputs, Pkg, query_files, ran}
+use Rattle.rpm_tool.proofs.Vocabulary.{reads_shelf, reopened, Run, task_course, Tree}
 use Rattle.rpm_tool.specs.declared.answer.Why.TheVariants as why
-use Rattle.rpm_tool.specs.Asked.{of_files, by_key, is_changing}
-use Rattle.rpm_tool.specs.Changing.{EmptyBy}
-use Rattle.rpm_tool.specs.Frame.{Leaves}
-use Rattle.rpm_tool.specs.Keyed.{AnswersByKey}
-use Rattle.rpm_tool.specs.PackageFiles.{query_files}
-use Rattle.rpm_tool.specs.Tasks.{asked_task, asked_course, reads_shelf, needs_none}
-use Rattle.rpm_tool.specs.Theorem.{Run, ran, AnswersPlain, AnswersOfFiles, AnswersKeyed, AnswersChange, Does}
-use Rattle.rpm_tool.specs.inner.OneChange.{OneChange}
-use Rattle.rpm_tool.proofs.Begun.{files_unkeyed, not_begun}
+use Rattle.rpm_tool.proofs.Begun.{files_unchanging, files_unkeyed, keyed_unchanging, not_begun}
 use Rattle.rpm_tool.proofs.Emptied.{memory_empty}
 use Rattle.rpm_tool.proofs.Reaching.{through_none}
 use Rattle.rpm_tool.proofs.Recovered.{unbegun}
-use Rattle.rpm_tool.proofs.Unstarted.{files_unchanging, keyed_unchanging, unstarted_one}
+use Rattle.rpm_tool.proofs.Unmade.{idle_run, unmade_one}
 
 clash : {P : Type 0} {b : _} → b ≡ true → b ≡ false → P
 clash is not = let both : true ≡ false = sym is ∙ not in absurd cc
@@ -40,8 +30,8 @@ module _ {D S : Type 0} {d : disk.Ghosts D} {s : shelf.Ghosts S} (r : Run d s) (
     stops = k.stops;
   }
 
-  change_of : OneChange d.files d.left_since d.moment (s.paths r.shelf_found) r.moment (asked_task r.words a) r.why r.changes r.found r.left r.before mid
-      → AnswersChange r a (asked_course (s.paths r.shelf_found) r.moment r.words a) mid
+  change_of : OneChange d (asked_task r.words a) (task_course (s.paths r.shelf_found) r.moment (asked_task r.words a)) r.why r.changes r.found r.left
+      r.before mid → AnswersChange r a (asked_course (s.paths r.shelf_found) r.moment r.words a) mid
   change_of one = record { did = one.did; changed = one.changed; limits = one.limits; fault = one.fault; log = one.log }
 
   pub does_plain : of_files a ≡ false → by_key a ≡ false → is_changing a ≡ false → (IsTrue d.tells → AnswersPlain r a tree mid)
@@ -82,7 +72,8 @@ module _ {D S : Type 0} {d : disk.Ghosts D} {s : shelf.Ghosts S} (r : Run d s) (
 
   pub does_change : is_changing a ≡ true
       → (IsTrue d.tells → (reads_shelf (asked_task r.words a) ≡ true → IsTrue s.tells)
-      → OneChange d.files d.left_since d.moment (s.paths r.shelf_found) r.moment (asked_task r.words a) r.why r.changes r.found r.left r.before mid)
+      → OneChange d (asked_task r.words a) (task_course (s.paths r.shelf_found) r.moment (asked_task r.words a)) r.why r.changes r.found r.left r.before
+      mid)
       → (IsTrue d.tells → EmptyBy (needs_none (asked_task r.words a)) (reopened (d.files r.found)) r.why)
       → (reads_shelf (asked_task r.words a) ≡ false → r.shelf_left ≡ r.shelf_found) → Does r a tree mid
   does_change changing went empty shelf = record {
@@ -111,7 +102,8 @@ module _ {D S : Type 0} {d : disk.Ghosts D} {s : shelf.Ghosts S} (words : List (
     keyed = λ is told. keyed_of (ran d s words now why.NoMemory 0 (it, at) (outputs ot o et e) (it, at)) a tree (outputs ot o et e)
         (unbegun d.files d.left_since d.moment d.bytes_read tree words a ot et o e it);
     changes = λ is told reads. change_of (ran d s words now why.NoMemory 0 (it, at) (outputs ot o et e) (it, at)) a tree (outputs ot o et e)
-        (unstarted_one d.files d.left_since d.moment (s.paths at) now (asked_task words a) it (outputs ot o et e));
+        (unmade_one d it it refl (idle_run d it) why.NoMemory tt (asked_task words a) (task_course (s.paths at) now (asked_task words a))
+        (outputs ot o et e));
     empty = λ is told. memory_empty (needs_none (asked_task words a)) (reopened (d.files it));
     looks = λ _k _c. record {
       untouched = λ told. record { same = refl; images = λ t image is. is; kept = λ t image is. is };

@@ -1,11 +1,8 @@
 -- Runs of calls that read packages, and may ask an index.
 use Rattle.std.proofs.Common.{◌≡◌, ℕ, Bool, true, false, refl, ◌∙◌, arith}
-use Rattle.rpm_outside.specs.declared.disk.File.{File}
-use Rattle.rpm_outside.specs.declared.disk.File.TheVariants.{Pkg, Idx}
-use Rattle.rpm_outside.specs.Files.{Files}
+use Rattle.rpm_tool.proofs.Vocabulary.{File, Files, Idx, Peeks, Pkg}
 use Rattle.rpm_outside.specs.Looks.{Looks, LooksAt}
 use Rattle.rpm_check.specs.Answers.{Glances}
-use Rattle.rpm_tool.specs.Reads.{Peeks}
 
 module _ {D : Type 0} (tells : Bool) (files : D → Files) (left_since : D → ℕ → Files → Type 0) (moment : D → ℕ)
     (bytes_read : D → File → ℕ) (follows : D → D → Type 0) (indexed : Bool) where
@@ -83,15 +80,4 @@ module _ {D : Type 0} (tells : Bool) (files : D → Files) (left_since : D → �
     idx = λ none. absurd cc;
     log = glances.log;
     goes_on = glances.goes_on;
-  }
-
-  pub peeks_any : (indexed : Bool) (a b : D) → Peeks tells files left_since moment bytes_read follows indexed a b
-      → Peeks tells files left_since moment bytes_read follows true a b
-  peeks_any indexed a b peeks = record {
-    untouched = peeks.untouched;
-    moment_stays = peeks.moment_stays;
-    no_less = peeks.no_less;
-    idx = λ none. absurd cc;
-    log = peeks.log;
-    goes_on = peeks.goes_on;
   }

@@ -1,15 +1,10 @@
 -- What the calls that print say.
 use Rattle.std.proofs.Common.{◌≡◌, ℕ, ◌≤◌, Bool, List, Result, Ok, Err, refl, ap, inl, inr, arith}
 use Rattle.std.specs.Prelude.{IsTrue, []}
-use Rattle.rpm_outside.specs.declared.buffered.Buffered.{Buffered}
-use Rattle.rpm_outside.specs.Sinks.{Begins, Writes}
-use Rattle.rpm_outside.specs.Buffered.{inner, holds, all_taken, GoesOn, Flushes}
-use Rattle.rpm_outside.specs.inner.Flushed.{stopped, flushed}
-use Rattle.rpm_qfeval.specs.declared.printing.DirectFault.{DirectFault}
-use Rattle.rpm_qfeval.specs.declared.printing.DirectFault.TheVariants.{SizesDiffer, OutFault}
-use Rattle.rpm_qfeval.specs.Printed.{Done, Differs, Fails, EndsSo, Prints, ending}
-use Rattle.rpm_change.specs.Endings.{outputs}
-use Rattle.rpm_tool.specs.Answers.{Closes}
+use Rattle.rpm_tool.proofs.Vocabulary.{all_taken, Begins, Buffered, Closes, Differs, DirectFault, ending, EndsSo, Fails, flushed, Flushes, GoesOn, inner}
+use Rattle.rpm_tool.proofs.Vocabulary.{OutFault, outputs, Prints, SizesDiffer, stopped, Writes}
+use Rattle.rpm_outside.specs.Buffered.{holds}
+use Rattle.rpm_qfeval.specs.Printed.{Done}
 
 -- two counts that are told are those of the meaning, and nothing was written
 pub told_counts : {S : Type 0} (tells : Bool) (taken : S → List ℕ) (faults : S → ℕ) (meaning : Result (List ℕ) (ℕ × ℕ)) (old new : S)

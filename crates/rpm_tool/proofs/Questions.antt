@@ -1,25 +1,13 @@
 -- A question picks by its text, wherever the text lies.
 use Rattle.std.proofs.Common.{◌≡◌, ℕ, Bool, true, false, List, [], ◌∷◌, map, Bor, Result, Ok, Err, refl, ap}
-use Rattle.std.specs.Ordering.{nat_cmp}
-use Rattle.std.specs.List.{filter, list_any}
+use Rattle.rpm_tool.proofs.Vocabulary.{argument_reach, Bad, candidates, Chosen, filter, Good, has_key, has_key_in, Header, header, HeaderFault, is_candidate}
+use Rattle.rpm_tool.proofs.Vocabulary.{is_picked, IsFaultOf, IsOfChain, keys_asked, Kind, lent, list_any, nat_cmp, Package, picked, picked_by, picks}
+use Rattle.rpm_tool.proofs.Vocabulary.{question_of, reach, reach_of, Selection, Stop, takes_bad, takes_header, takes_read, These, unasked, Units}
 use Rattle.std.specs.Prelude.{IfErr}
-use Rattle.rpm_outside.specs.Files.{Units}
-use Rattle.rpm_tags.specs.declared.kind.Kind.{Kind}
 use Rattle.std.specs.FinMap as finite
-use Rattle.rpm_header.specs.declared.form.HeaderFault.{HeaderFault}
-use Rattle.rpm_header.specs.Header.{Header, header}
-use Rattle.rpm_words.specs.declared.switch.Chosen.{Chosen}
 use Rattle.rpm_words.specs.declared.switch.Chosen.TheVariants as by
-use Rattle.rpm_db.specs.State.{Package, Good, Bad}
-use Rattle.rpm_select.specs.declared.selection.Selection.{Selection}
 use Rattle.rpm_select.specs.declared.selection.Selection.TheVariants as question
-use Rattle.rpm_select.specs.Selections.{takes_header, takes_bad, takes_read, is_picked, picks}
-use Rattle.rpm_select.specs.Candidates.{keys_asked, has_key, has_key_in, is_candidate, candidates}
-use Rattle.rpm_select.specs.Reach.{These, unasked, reach}
-use Rattle.rpm_tool.specs.declared.step.Stop.{Stop}
 use Rattle.rpm_tool.specs.declared.step.Stop.TheVariants as stop
-use Rattle.rpm_tool.specs.Reads.{reach_of, argument_reach, IsFaultOf, IsOfChain}
-use Rattle.rpm_tool.specs.Queries.{lent, question_of, picked_by, picked}
 
 filter_same : {X : Type 0} (p q : X → Bool) → ((x : X) → p x ≡ q x) → (xs : List X) → filter p xs ≡ filter q xs
 filter_same p q same [] = refl
@@ -45,16 +33,9 @@ picked_same map by.Label x = picks_same (question.Label (lent x.now)) (question.
 picked_same map by.All x = picks_same (question.Pattern (lent x.now)) (question.Pattern x) (λ n h. refl) (λ n. refl) map
 picked_same map by.Path x = picks_same (question.Path (lent x.now)) (question.Path x) (λ n h. refl) (λ n. refl) map
 picked_same map by.Group x = picks_same (question.Group (lent x.now)) (question.Group x) (λ n h. refl) (λ n. refl) map
-picked_same map by.Package x = refl
-picked_same map by.Provides x = refl
-picked_same map by.Requires x = refl
-picked_same map by.Conflicts x = refl
-picked_same map by.Obsoletes x = refl
 picked_same map by.Trigger x = picks_same (question.Trigger (lent x.now)) (question.Trigger x) (λ n h. refl) (λ n. refl) map
-picked_same map by.Number x = refl
 picked_same map by.Directory x = picks_same (question.Directory (lent x.now)) (question.Directory x) (λ n h. refl) (λ n. refl) map
-picked_same map by.Tid x = refl
-picked_same map by.Recommends x = refl
+picked_same map others x = refl
 
 -- ---- and asks an index so
 
@@ -82,43 +63,20 @@ pub reach_same : (indexed : Bool) (map : finite.FinMap nat_cmp Package) (chosen 
     → argument_reach indexed map chosen x.now ≡ reach_of indexed map (question_of chosen x)
 unfolding argument_reach keys_asked
 reach_same indexed map by.Label x = reach_alike (question.Label (lent x.now)) (question.Label x) refl refl indexed map
-reach_same indexed map by.All x = refl
 reach_same indexed map by.Path x = reach_alike (question.Path (lent x.now)) (question.Path x) refl refl indexed map
 reach_same indexed map by.Group x = reach_alike (question.Group (lent x.now)) (question.Group x) refl refl indexed map
-reach_same indexed map by.Package x = refl
-reach_same indexed map by.Provides x = refl
-reach_same indexed map by.Requires x = refl
-reach_same indexed map by.Conflicts x = refl
-reach_same indexed map by.Obsoletes x = refl
 reach_same indexed map by.Trigger x = reach_alike (question.Trigger (lent x.now)) (question.Trigger x) refl refl indexed map
-reach_same indexed map by.Number x = refl
 reach_same indexed map by.Directory x = reach_alike (question.Directory (lent x.now)) (question.Directory x) refl refl indexed map
-reach_same indexed map by.Tid x = refl
-reach_same indexed map by.Recommends x = refl
+reach_same indexed map others x = refl
 
 pub fault_same : (chosen : Chosen) (x : Bor (List ℕ)) (idx : Units) (unit : ℕ) → IsFaultOf (question_of chosen x) idx unit
     → IsFaultOf (question_of chosen (lent x.now)) idx unit
 unfolding keys_asked
 fault_same by.Label x idx unit is = is
-fault_same by.All x idx unit is = is
-fault_same by.Path x idx unit is = is
-fault_same by.Group x idx unit is = is
-fault_same by.Package x idx unit is = is
-fault_same by.Provides x idx unit is = is
-fault_same by.Requires x idx unit is = is
-fault_same by.Conflicts x idx unit is = is
-fault_same by.Obsoletes x idx unit is = is
-fault_same by.Trigger x idx unit is = is
-fault_same by.Number x idx unit is = is
-fault_same by.Directory x idx unit is = is
-fault_same by.Tid x idx unit is = is
-fault_same by.Recommends x idx unit is = is
+fault_same others x idx unit is = is
 
 pub chain_same : (chosen : Chosen) (x : Bor (List ℕ)) (idx : Units) (r : Result Bool Stop) → IfErr r (IsOfChain (question_of chosen x) idx)
     → IfErr r (IsOfChain (question_of chosen (lent x.now)) idx)
 chain_same chosen x idx (Ok o) is = tt
-chain_same chosen x idx (Err stop.ReadFault) is = tt
 chain_same chosen x idx (Err (stop.BadIndex unit)) is = fault_same chosen x idx unit is
-chain_same chosen x idx (Err stop.OutFault) is = tt
-chain_same chosen x idx (Err stop.ErrFault) is = tt
-chain_same chosen x idx (Err stop.NoMemory) is = tt
+chain_same chosen x idx (Err others) is = tt

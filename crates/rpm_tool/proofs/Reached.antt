@@ -1,35 +1,20 @@
 -- What is read of the numbers that a picker goes over.
-use Rattle.std.proofs.Common.{◌≡◌, ℕ, ◌+◌, ◌-◌, ◌<◌, ◌≤◌, Bool, Result, Ok, Err, Option, Some, None, sym, subst, arith}
-use Rattle.std.specs.Prelude.{IfOk, IfSome}
-use Rattle.rpm_db.specs.State.{packages}
-use Rattle.rpm_db.specs.Database.{Database}
-use Rattle.rpm_select.specs.declared.picked.Picked.{Picked}
+use Rattle.std.proofs.Common.{◌≡◌, ℕ, ◌+◌, ◌-◌, ◌<◌, ◌≤◌, sym, subst, arith}
+use Rattle.rpm_tool.proofs.Vocabulary.{Database, entry_in, Files, HasIndexRows, number_in, packages, Picked, Reach, reach_all, reach_some, reach_to, reach_up}
+use Rattle.rpm_tool.proofs.Vocabulary.{Selection, Serves, Store}
 use Rattle.rpm_select.specs.declared.picked.Picked.TheVariants as pick
-use Rattle.rpm_select.specs.Picks.{entry_in, number_in}
-use Rattle.rpm_select.specs.inner.Costing.{reach_up, reach_some}
-use Rattle.rpm_select.specs.Reach.{Reach, Serves, HasIndexRows, reach_to, reach_all}
-use Rattle.rpm_select.specs.declared.selection.Selection.{Selection}
-use Rattle.rpm_pkgdb.specs.Store.{Store}
-use Rattle.rpm_outside.specs.Files.{Files}
-use Rattle.rpm_tool.specs.declared.step.Stop.{Stop}
-use Rattle.rpm_tool.specs.Reads.{reach_until}
-
--- up to the package that was picked
-pub entry_reach : (r : Reach) (db : Database) (n : ℕ) (p : Picked) (before now : ℕ) → n < number_in p
-    → now ≤ before + (reach_to (number_in p) r db - reach_to n r db) → now + reach_to n r db ≤ before + reach_to (entry_in p).0 r db
-entry_reach r db n (pick.Good number blob) before now lt le = omega (arith, le, reach_up r db n number (omega (arith, lt)))
-entry_reach r db n (pick.Bad number) before now lt le = omega (arith, le, reach_up r db n number (omega (arith, lt)))
-
-pub reach_one : (r : Reach) (db : Database) (n m : ℕ) (done : Result (Option (ℕ × Bool)) Stop) → IfOk done (λ o. IfSome o (λ e. e.0 ≡ m))
-    → reach_to m r db - reach_to n r db ≤ reach_until n r db done
-reach_one r db n m (Ok None) same = omega (arith, reach_some r db m)
-reach_one r db n m (Ok (Some e)) same = rw same (omega arith)
-reach_one r db n m (Err what) same = omega (arith, reach_some r db m)
 
 -- one more of them
 pub reach_then : (r : Reach) (db : Database) (low n m before between now : ℕ) → n ≤ m → between + reach_to low r db ≤ before + reach_to n r db
     → now ≤ between + (reach_to m r db - reach_to n r db) → now + reach_to low r db ≤ before + reach_to m r db
 reach_then r db low n m before between now le first second = omega (arith, reach_up r db n m le, first, second)
+
+-- up to the package that was picked
+pub entry_reach : (r : Reach) (db : Database) (low n : ℕ) (p : Picked) (before between now : ℕ) → n < number_in p
+    → between + reach_to low r db ≤ before + reach_to n r db → now ≤ between + (reach_to (number_in p) r db - reach_to n r db)
+    → now + reach_to low r db ≤ before + reach_to (entry_in p).0 r db
+entry_reach r db low n (pick.Good number blob) before between now lt le first = reach_then r db low n number before between now (omega (arith, lt)) le first
+entry_reach r db low n (pick.Bad number) before between now lt le first = reach_then r db low n number before between now (omega (arith, lt)) le first
 
 -- the rest of them
 pub reach_rest : (r : Reach) (db : Database) (low n before between now : ℕ) → between + reach_to low r db ≤ before + reach_to n r db

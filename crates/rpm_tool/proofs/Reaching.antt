@@ -1,14 +1,10 @@
 -- How far a list of steps was gone through.
 use Rattle.std.proofs.Common.{◌≡◌, ℕ, Bool, true, false, List, [], ◌∷◌, ◌++◌, Err, sym, ap, ◌∙◌, subst, append_assoc}
 use Rattle.std.proofs.lemmas.List.{append-nil}
-use Rattle.std.specs.List.{flat_map}
+use Rattle.rpm_tool.proofs.Vocabulary.{Bearer, cut, err_bytes, flat_map, gained_more, gained_none, out_bytes, outputs, Reached, Step, Stop, StoppedWithin}
+use Rattle.rpm_tool.proofs.Vocabulary.{Through, ThroughSome}
 use Rattle.std.proofs.lemmas.Grind.{flat_map-append}
-use Rattle.rpm_outside.specs.inner.Taken.{gained_none, gained_more}
-use Rattle.rpm_tool.specs.declared.step.Stop.{Stop}
 use Rattle.rpm_tool.specs.declared.step.Stop.TheVariants as stop
-use Rattle.rpm_change.specs.Steps.{Bearer, Step, out_bytes, err_bytes, cut}
-use Rattle.rpm_change.specs.Endings.{outputs, Through}
-use Rattle.rpm_tool.specs.Answers.{ThroughSome, StoppedWithin, Reached}
 
 module _ {ot et : Bool} where
   pub through_none : (o e : List ℕ) → Through [] (outputs ot o et e) (outputs ot o et e)

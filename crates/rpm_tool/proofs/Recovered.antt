@@ -1,27 +1,15 @@
 -- A database that is recovered, and then opened.
 use Rattle.std.proofs.Common.{◌≡◌, ℕ, ◌+◌, ◌≤◌, Bool, List, [], Ok, refl, sym, ap, ◌∙◌, subst, arith}
-use Rattle.rpm_outside.specs.declared.disk.File.{File}
-use Rattle.rpm_outside.specs.declared.disk.File.TheVariants.{Pkg}
-use Rattle.rpm_outside.specs.Changes.{AreSettled}
-use Rattle.rpm_outside.specs.Crash.{LeavesOnly}
-use Rattle.rpm_outside.specs.Files.{Files}
-use Rattle.rpm_outside.specs.Logs.{LogState, Closed, log_state, reopened, unlogged, with_state}
-use Rattle.rpm_outside.specs.inner.Moments.{started, leaves_then, leaves_weaker}
-use Rattle.rpm_group.specs.Loads.{IsSound}
-use Rattle.rpm_group.specs.Settled.{ReopensAsOneOf, RecoverSays}
-use Rattle.rpm_pkgdb.specs.Store.{store}
-use Rattle.rpm_db.specs.Lawful.{IsLawful, AreLawful, IsLawfulStill}
-use Rattle.rpm_db.specs.State.{packages}
-use Rattle.rpm_qfparse.specs.Tree.{Tree}
-use Rattle.rpm_words.specs.Ask.{AskParts}
-use Rattle.rpm_tool.specs.declared.answer.Why.{Why}
+use Rattle.rpm_tool.proofs.Vocabulary.{AnswersByKey, AreLawful, AreLawfulGroups, AreSettled, AskParts, Closed, deed_of, DidByKey, File, Files, IsLawful}
+use Rattle.rpm_tool.proofs.Vocabulary.{IsLawfulGroup, IsLawfulStill, IsSound, keyed_to, KeyedIs, leaves_then, leaves_weaker, LeavesOnly, log_state, LogState}
+use Rattle.rpm_tool.proofs.Vocabulary.{OnLawful, Opened, Outputs, outputs, Pkg, RecoverSays, reopened, ReopensAsOneOf, StandsStill, started, store, Through}
+use Rattle.rpm_tool.proofs.Vocabulary.{Tree, unlogged, Why, with_state}
 use Rattle.rpm_tool.specs.declared.answer.Why.TheVariants as why
-use Rattle.rpm_tool.specs.Asked.{inquiry_of}
-use Rattle.rpm_change.specs.Endings.{Outputs, outputs, Through}
-use Rattle.rpm_tool.specs.Keyed.{IsLawfulGroup, AreLawfulGroups, StandsStill, OpenedBy, DidByKey, KeyedIs, AnswersByKey, keyed_to}
 use Rattle.rpm_tool.proofs.Deeds.{does_memory}
 use Rattle.rpm_tool.proofs.Reaching.{through_none}
-use Rattle.rpm_tool.proofs.Unrecovered.{loaded_by, loaded_memory}
+use Rattle.rpm_tool.proofs.Regrouped.{recovered_still}
+use Rattle.rpm_tool.proofs.Loading.{loaded_memory}
+use Rattle.rpm_tool.proofs.Unrecovered.{loaded_by}
 
 -- ---- the log
 
@@ -33,27 +21,15 @@ closed_stands files closed = ap (λ (l : LogState). with_state l (unlogged files
 
 pub opened_keyed : (tree : Tree) (words : List (List ℕ)) (a : AskParts) (old mid : Files) (given : Why) (before after : Outputs) (first between now : ℕ)
     (finished : Bool) → unlogged mid ≡ reopened old → between ≡ first → RecoverSays (log_state old.log) (Ok finished)
-    → OpenedBy (IsLawful mid.pkg mid.idx) (DidByKey tree words a mid between now) (store mid.pkg) given before after
+    → Opened (OnLawful (IsLawful mid.pkg mid.idx) (DidByKey tree words a mid between now)) (store mid.pkg) given before after
     → KeyedIs tree words a old given before after first now
 opened_keyed tree words a old mid given before after first between now finished stand same says opened =
     let r = reopened old in
-    loaded_by (IsLawful r.pkg r.idx) (DidByKey tree words a r first now) (store r.pkg) (log_state old.log) finished given before after says
-    (subst (λ (n : ℕ). OpenedBy (IsLawful r.pkg r.idx) (DidByKey tree words a r n now) (store r.pkg) given before after) same
-    (subst (λ (f : Files). OpenedBy (IsLawful f.pkg f.idx) (DidByKey tree words a f between now) (store f.pkg) given before after) stand opened))
+    loaded_by (OnLawful (IsLawful r.pkg r.idx) (DidByKey tree words a r first now)) (store r.pkg) (log_state old.log) finished given before after says
+    (subst (λ (n : ℕ). Opened (OnLawful (IsLawful r.pkg r.idx) (DidByKey tree words a r n now)) (store r.pkg) given before after) same
+    (subst (λ (f : Files). Opened (OnLawful (IsLawful f.pkg f.idx) (DidByKey tree words a f between now)) (store f.pkg) given before after) stand opened))
 
 -- ---- what a crash leaves
-
--- an image stands still that stands for what one of these stands for
-recovered_still : (images : Files → Type 0) → AreLawfulGroups images → (image : Files) → ReopensAsOneOf images image → StandsStill images image
-recovered_still images lawful image (from, was, stands) = record {
-  from = from;
-  was = was;
-  pkg = ap (λ (f : Files). f.pkg) stands.same;
-  lawful = record {
-    sound = stands.sound (lawful from was).sound;
-    lawful = subst (λ (f : Files). IsLawful f.pkg f.idx) (sym stands.same) (lawful from was).lawful;
-  };
-}
 
 -- with a closed log
 closed_lawful : (image : Files) → log_state image.log ≡ Closed → IsLawful image.pkg image.idx → IsLawfulGroup image
@@ -107,8 +83,8 @@ unbegun files left_since moment bytes_read tree words a ot et o e disk = record 
       let n = bytes_read disk Pkg in
       let x = outputs ot o et e in
       let none : Through [] x x = through_none {ot = ot} {et = et} o e in
-      loaded_memory (IsLawful r.pkg r.idx) (DidByKey tree words a r n n) (store r.pkg) x none
-      (λ s. does_memory tree words a (packages r.pkg s) (λ for. n ≤ n + keyed_to r words a s for) x none (inquiry_of a.mode)) (log_state (files disk).log));
+      loaded_memory (OnLawful (IsLawful r.pkg r.idx) (DidByKey tree words a r n n)) (store r.pkg) x none
+      (λ s. (refl, λ lawful. does_memory tree r.pkg s words a (λ for. n ≤ n + keyed_to r words a s for) x none (deed_of a.mode))) (log_state (files disk).log));
   reads = λ query lawful. omega arith;
   kind = refl;
   full = tt;

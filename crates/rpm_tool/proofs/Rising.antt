@@ -1,17 +1,10 @@
 -- The numbers of packages that are picked rise.
 use Rattle.std.proofs.Common.{◌≡◌, ℕ, ◌<◌, Bool, true, false, List, [], ◌∷◌, map, refl, sym, ap, ◌∙◌, subst, inl, inr, arith, nat_lt}
 use Rattle.std.specs.Prelude.{T, nat_le}
-use Rattle.std.specs.Ordering.{nat_cmp}
-use Rattle.std.specs.List.{filter, list_any}
+use Rattle.rpm_tool.proofs.Vocabulary.{above, below_all, both_true, filter, is_some_of, kept_above, list_any, nat_cmp, Package, RisesFrom}
 use Rattle.std.specs.FinMap as finite
-use Rattle.std.specs.FinMap.Entries.{below_all}
 use Rattle.std.proofs.lemmas.Bool.{cases_Bool}
 use Rattle.std.proofs.lemmas.Bool.Decides.{nat_tests}
-use Rattle.rpm_db.specs.State.{Package, above}
-use Rattle.rpm_db.specs.inner.Above.{both_true}
-use Rattle.rpm_db.specs.inner.Kept.{kept_above}
-use Rattle.rpm_tool.specs.Steps.{RisesFrom}
-use Rattle.rpm_tool.specs.Answers.{is_some_of}
 
 module _ {X : Type 0} (p : ℕ × X → Bool) where
   -- those above a number rise

@@ -1,8 +1,8 @@
 -- Requirements of one package that stand in a row, whose lines are written in one piece.
 use Rattle.std.proofs.Common.{◌≡◌, ℕ, ◌+◌, ◌-◌, ◌<◌, ◌≤◌, ◌==◌, ◌⊎◌, suc, Bool, true, List, [], ◌∷◌, ◌++◌, map, take, length, get_or, Option, Some, None, Result, Ok, Err, refl, sym, ap, ◌∙◌, subst, append_assoc, add-one, inl, inr, arith}
-use Rattle.std.specs.List.{All, flat_map, prefix_len}
-use Rattle.std.specs.Ordering.{nat_cmp}
-use Rattle.std.specs.FinMap.{FinMap, get}
+use Rattle.rpm_tool.proofs.Vocabulary.{All, Anywhere, Bad, Bearer, bearer, err_bytes, FinMap, flat_map, Gained, get, Good, Header, header, HeaderFault}
+use Rattle.rpm_tool.proofs.Vocabulary.{nat_cmp, out_bytes, Outputs, Package, package_text, prefix_len, Reached, read_text, Step, StepIs, Stop, StoppedWithin}
+use Rattle.rpm_tool.proofs.Vocabulary.{Through, ToOut, Unmet, unmet_lines, unmet_step, unmet_text}
 use Rattle.std.specs.Prelude.{slice_get}
 use Rattle.std.proofs.Math.Seq.{take-append-add, take-suc}
 use Rattle.std.proofs.lemmas.Bool.{cases_lt}
@@ -11,17 +11,7 @@ use Rattle.std.proofs.lemmas.Grind.{flat_map-append}
 use Rattle.std.proofs.lemmas.List.{append-nil, get_or-take, map-append, take-append-le}
 use Rattle.std.proofs.lemmas.List.Folds.{length-prefix_len}
 use Rattle.std.proofs.lemmas.List.Sums.{prefix_len_passes}
-use Rattle.rpm_header.specs.declared.form.HeaderFault.{HeaderFault}
-use Rattle.rpm_header.specs.Header.{Header, header}
-use Rattle.rpm_outside.specs.Sinks.{Gained}
-use Rattle.rpm_db.specs.State.{Package, Good, Bad}
-use Rattle.rpm_check.specs.declared.list.Unmet.{Unmet}
-use Rattle.rpm_change.specs.Endings.{Outputs, Through}
-use Rattle.rpm_change.specs.Steps.{Bearer, Step, ToOut, bearer, out_bytes, err_bytes}
-use Rattle.rpm_tool.specs.declared.step.Stop.{Stop}
 use Rattle.rpm_tool.specs.declared.step.Stop.TheVariants as stop
-use Rattle.rpm_tool.specs.Answers.{StepIs, StoppedWithin, Reached, Anywhere}
-use Rattle.rpm_tool.specs.Requirements.{package_text, read_text, unmet_lines, unmet_step, unmet_text}
 
 -- ---- lines in one piece
 

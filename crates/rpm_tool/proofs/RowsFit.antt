@@ -1,18 +1,10 @@
 -- Where no change of several is refused, the rows of the packages after them fit into an index.
 use Rattle.std.proofs.Common.{◌≡◌, ◌^◌, ◌≤◌, Bool, true, false, List, [], ◌∷◌, Option, Some, None, refl, arith}
 use Rattle.std.specs.Prelude.{◌==◌, ◌&&◌, if◌then◌else◌, is_none, unwrap_or, nat_lt}
-use Rattle.std.specs.Option.{option_or}
+use Rattle.rpm_tool.proofs.Vocabulary.{apply, apply_all, Change, first_limit, first_refusal, Halt, is_large, is_spent, needed, next_store, option_or, refusal}
+use Rattle.rpm_tool.proofs.Vocabulary.{rows, State, Store, units_for}
 use Rattle.std.proofs.lemmas.Bool.Decides.{nat_tests}
-use Rattle.rpm_hindex.specs.Sizes.{units_for}
-use Rattle.rpm_pkgdb.specs.Store.{Store}
-use Rattle.rpm_db.specs.Changes.{Change, apply}
-use Rattle.rpm_db.specs.Room.{next_store}
-use Rattle.rpm_db.specs.Rows.{rows}
-use Rattle.rpm_db.specs.State.{State}
-use Rattle.rpm_change.specs.declared.tally.Halt.{Halt}
 use Rattle.rpm_change.specs.declared.tally.Halt.TheVariants as halt
-use Rattle.rpm_change.specs.Limits.{is_spent, is_large, needed, refusal, first_refusal, first_limit}
-use Rattle.rpm_change.specs.Steps.{apply_all}
 
 abbrev Fits : State → Type 0
 Fits s = units_for (rows s.packages) ≤ 2 ^ 28

@@ -2,14 +2,8 @@
 use Rattle.std.proofs.Common.{◌≡◌, Bool, true, false, eqb, Result, Ok, Err, refl, sym, ap, subst, inl, inr, arith}
 use Rattle.std.specs.Prelude.{IfOk}
 use Rattle.std.proofs.lemmas.Bool.{and_parts, eqb-true}
-use Rattle.rpm_outside.specs.Files.{Units, Files, unit_at}
-use Rattle.rpm_outside.specs.Logs.{LogState, Closed, log_state, reopened, unlogged, with_state}
-use Rattle.rpm_hindex.specs.State.{state_of, sealed, is_in_order, is_current}
-use Rattle.rpm_group.specs.Settled.{ReopensAs}
-use Rattle.rpm_pkgdb.specs.Store.{Store, store, blank_store}
-use Rattle.rpm_db.specs.Lawful.{IsLawful}
-use Rattle.rpm_tool.specs.Keyed.{IsLawfulGroup}
-use Rattle.rpm_tool.specs.Changing.{HasCurrent, MayBegin}
+use Rattle.rpm_tool.proofs.Vocabulary.{blank_store, Closed, Files, HasCurrent, is_current, is_in_order, IsLawful, IsLawfulGroup, log_state, LogState}
+use Rattle.rpm_tool.proofs.Vocabulary.{MayBegin, reopened, ReopensAs, sealed, state_of, Store, store, unit_at, Units, unlogged, with_state}
 
 pub if_ok : {T E : Type 0} {P : T → Type 0} (x : Result T E) → ((t : T) → x ≡ Ok t → P t) → IfOk x P
 if_ok (Ok t) each = each t refl

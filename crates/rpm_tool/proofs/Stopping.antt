@@ -1,14 +1,9 @@
 -- Where a list of steps stops.
 use Rattle.std.proofs.Common.{◌≡◌, ℕ, Bool, true, false, List, [], ◌∷◌, ◌++◌, Result, Ok, Err, take, refl, sym, ap, ◌∙◌, subst}
 use Rattle.std.proofs.lemmas.List.{append-nil}
-use Rattle.rpm_outside.specs.Sinks.{GainedPart}
-use Rattle.rpm_outside.specs.inner.Taken.{gained_none}
-use Rattle.rpm_tool.specs.declared.step.Stop.{Stop}
+use Rattle.rpm_tool.proofs.Vocabulary.{Bearer, bearer_of, gained_none, GainedPart, is_of_sink, Outputs, outputs, Reached, Step, StepIs, Stop, StoppedWithin}
+use Rattle.rpm_tool.proofs.Vocabulary.{Through, ToErr, ToOut}
 use Rattle.rpm_tool.specs.declared.step.Stop.TheVariants as stop
-use Rattle.rpm_change.specs.Steps.{Bearer, Step, ToOut, ToErr}
-use Rattle.rpm_tool.specs.Steps.{bearer_of}
-use Rattle.rpm_change.specs.Endings.{Outputs, outputs, Through}
-use Rattle.rpm_tool.specs.Answers.{StepIs, StoppedWithin, Reached, is_of_sink}
 use Rattle.rpm_tool.proofs.Reaching.{through_more, goes_stop}
 
 -- one step that stops is the first of some
@@ -38,11 +33,9 @@ within_reads all at old new P Q so s = record {
 pub reached_reads : {T : Type 0} (all : List Step) (r : Result T Stop) (old new : Outputs) (P Q : Bearer → Type 0) → ((b : Bearer) → P b → Q b)
     → Reached all r old new P → Reached all r old new Q
 reached_reads all (Ok t) old new P Q so s = s
-reached_reads all (Err stop.ReadFault) old new P Q so s = s
-reached_reads all (Err (stop.BadIndex unit)) old new P Q so s = s
 reached_reads all (Err stop.OutFault) old new P Q so s = within_reads all true old new P Q so s
 reached_reads all (Err stop.ErrFault) old new P Q so s = within_reads all false old new P Q so s
-reached_reads all (Err stop.NoMemory) old new P Q so s = s
+reached_reads all (Err others) old new P Q so s = s
 
 -- no step at all
 pub reached_none : (T : Type 0) (all : List Step) (what : Stop) (old new : Outputs) (reads_to : Bearer → Type 0)
@@ -103,10 +96,8 @@ pub reached_unsunk : (T : Type 0) (all : List Step) (what : Stop) (old new : Out
     → Through [] old new
     → Reached {T = T} all (Err what) old new reads_to
 reached_unsunk T all stop.ReadFault old new reads_to is t = ([], all, refl, t)
-reached_unsunk T all (stop.BadIndex unit) old new reads_to is t = absurd cc
-reached_unsunk T all stop.OutFault old new reads_to is t = absurd cc
-reached_unsunk T all stop.ErrFault old new reads_to is t = absurd cc
 reached_unsunk T all stop.NoMemory old new reads_to is t = ([], all, refl, t)
+reached_unsunk T all others old new reads_to is t = absurd cc
 
 -- where nothing was gone through before
 pub reached_later : (T : Type 0) (ot et : Bool) (all : List Step) (r : Result T Stop) (o o' o'' e e' e'' : List ℕ) (reads_to : Bearer → Type 0)
@@ -120,7 +111,4 @@ reached_later T ot et all (Err what) o o' o'' e e' e'' reads_to none some =
 pub reached_as : (T T' : Type 0) (all : List Step) (what : Stop) (old new : Outputs) (reads_to : Bearer → Type 0)
     → Reached {T = T} all (Err what) old new reads_to → Reached {T = T'} all (Err what) old new reads_to
 reached_as T T' all stop.ReadFault old new reads_to r = r
-reached_as T T' all (stop.BadIndex unit) old new reads_to r = r
-reached_as T T' all stop.OutFault old new reads_to r = r
-reached_as T T' all stop.ErrFault old new reads_to r = r
-reached_as T T' all stop.NoMemory old new reads_to r = r
+reached_as T T' all others old new reads_to r = r

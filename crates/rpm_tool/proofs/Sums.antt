@@ -1,11 +1,8 @@
 -- What is read for several arguments.
+use Rattle.rpm_tool.proofs.Vocabulary.{Bearer, Database, Everything, Reach, reach_all, reach_before, reach_sum, reached, reached_by, reached_in, ReadsIn}
+use Rattle.rpm_tool.proofs.Vocabulary.{ReadsOf, room, These, unindexed}
 use Rattle.std.proofs.Common.{◌≡◌, ℕ, zero, suc, ◌+◌, ◌≤◌, List, [], ◌∷◌, map, Option, Some, None, refl, add-one, ap, ◌∙◌, arith}
 use Rattle.std.specs.Prelude.{slice_get}
-use Rattle.rpm_db.specs.Database.{Database}
-use Rattle.rpm_select.specs.Reach.{Reach, Everything, These, reach_all}
-use Rattle.rpm_change.specs.Steps.{Bearer}
-use Rattle.rpm_tool.specs.Reads.{ReadsIn, ReadsOf, reached, reach_sum, reach_before, reached_in, reached_by}
-use Rattle.rpm_tool.specs.Reports.{unindexed}
 
 before_none : (rs : List Reach) (db : Database) → reach_before rs db 0 ≡ 0
 before_none [] db = refl
@@ -51,27 +48,27 @@ get_map f (y ∷ xs) (suc i) x is = get_map f xs i x is
 
 -- ---- what is read, told by the store alone
 
-store_all : (r : Reach) (db : Database) → reach_all r db ≡ reach_all r (unindexed db.store)
+store_all : (r : Reach) (db : Database) → reach_all r db ≡ reach_all r (unindexed (room db))
 store_all Everything db = refl
 store_all (These ns) db = refl
 
-store_to : (r : Reach) (db : Database) (number : Option ℕ) → reached r db number ≡ reached r (unindexed db.store) number
+store_to : (r : Reach) (db : Database) (number : Option ℕ) → reached r db number ≡ reached r (unindexed (room db)) number
 store_to r db None = store_all r db
 store_to Everything db (Some n) = refl
 store_to (These ns) db (Some n) = refl
 
-store_in : (r : Option Reach) (db : Database) (number : Option ℕ) → reached_in r db number ≡ reached_in r (unindexed db.store) number
+store_in : (r : Option Reach) (db : Database) (number : Option ℕ) → reached_in r db number ≡ reached_in r (unindexed (room db)) number
 store_in None db number = refl
 store_in (Some r) db number = store_to r db number
 
-store_before : (rs : List Reach) (db : Database) (j : ℕ) → reach_before rs db j ≡ reach_before rs (unindexed db.store) j
+store_before : (rs : List Reach) (db : Database) (j : ℕ) → reach_before rs db j ≡ reach_before rs (unindexed (room db)) j
 store_before [] db j = refl
 store_before (r ∷ rs) db zero = refl
 store_before (r ∷ rs) db (suc j) = omega (arith, store_all r db, store_before rs db j)
 
-pub store_by : (rs : List Reach) (db : Database) (for : Bearer) → reached_by rs db for ≡ reached_by rs (unindexed db.store) for
+pub store_by : (rs : List Reach) (db : Database) (for : Bearer) → reached_by rs db for ≡ reached_by rs (unindexed (room db)) for
 store_by rs db for = omega (arith, store_before rs db for.argument, store_in (slice_get rs for.argument) db for.number)
 
-pub store_sum : (rs : List Reach) (db : Database) → reach_sum rs db ≡ reach_sum rs (unindexed db.store)
+pub store_sum : (rs : List Reach) (db : Database) → reach_sum rs db ≡ reach_sum rs (unindexed (room db))
 store_sum [] db = refl
 store_sum (r ∷ rs) db = omega (arith, store_all r db, store_sum rs db)

@@ -1,26 +1,13 @@
 -- What the reports tell, one thing after the other.
 use Rattle.std.proofs.Common.{◌≡◌, ℕ, ◌+◌, ◌<◌, Bool, true, false, ◌==◌, List, [], ◌∷◌, ◌++◌, map, drop, length, get_or, Option, Some, None, Result, Ok, Err, is_some, refl, sym, ap, ◌∙◌, subst, add-one, drop-cons, arith}
 use Rattle.std.specs.Prelude.{codes, slice_index_or}
-use Rattle.std.specs.List.{flat_map}
-use Rattle.std.specs.Ordering.{nat_cmp}
+use Rattle.rpm_tool.proofs.Vocabulary.{above, Anywhere, bad_at, bad_part, class_steps, cycle_line, Database, Files, flat_map, from_one, Header, header}
+use Rattle.rpm_tool.proofs.Vocabulary.{header-own, HeaderFault, is_there, IsNext, IsRead, Keeps, label_step, nat_cmp, next_above, Outputs, Package}
+use Rattle.rpm_tool.proofs.Vocabulary.{package_of, package_text, packages, PartIs, Reached, read_as, read_text, Step, StepIs, Stop, Store, Through, ToOut}
+use Rattle.rpm_tool.proofs.Vocabulary.{Units, whole}
 use Rattle.std.proofs.lemmas.Bool.Decides.{nat_tests}
 use Rattle.std.specs.FinMap as finite
-use Rattle.rpm_header.specs.declared.form.HeaderFault.{HeaderFault}
-use Rattle.rpm_header.specs.Header.{Header, header}
-use Rattle.rpm_outside.specs.Files.{Units, Files}
-use Rattle.rpm_pkgdb.specs.Store.{Store}
-use Rattle.rpm_db.specs.State.{Package, packages, package_of, read_as, above}
-use Rattle.rpm_db.specs.Database.{Database, IsNext, Keeps}
-use Rattle.rpm_db.specs.inner.Above.{next_above}
-use Rattle.rpm_db.specs.inner.FromOne.{from_one}
-use Rattle.rpm_db.specs.inner.Laws.{is_there}
-use Rattle.rpm_db.specs.inner.Own.{header-own}
-use Rattle.rpm_tool.specs.declared.step.Stop.{Stop}
 use Rattle.rpm_tool.specs.declared.step.Stop.TheVariants as stop
-use Rattle.rpm_change.specs.Steps.{whole, Step, ToOut}
-use Rattle.rpm_change.specs.Endings.{Outputs, Through}
-use Rattle.rpm_tool.specs.Answers.{StepIs, Reached, PartIs, Anywhere}
-use Rattle.rpm_tool.specs.Requirements.{IsRead, read_text, package_text, bad_at, bad_part, label_step, cycle_line, class_steps}
 use Rattle.rpm_tool.proofs.Stopping.{reached_first}
 
 -- ---- a package
@@ -50,11 +37,6 @@ first_package packages n m None there lt some none = absurd cc
 first_package packages n m (Some p) there lt some none =
     (p, there, next_above packages n m p lt there (λ k a b. none_is (finite.get packages k) (none k a b)))
 
--- no package has the number 0
-pub none_held : (file : Units) (db : Database) → Keeps file db → IsRead (packages file db.store) 0 []
-none_held file db keeps = λ text.
-    ap (package_text text) (none_is (finite.get (packages file db.store) 0) (is_there file db 0 ∙ from_one file db keeps)) ∙ sym (nothing_read text)
-
 -- the next of the packages above a number
 pub next_package : (packages : finite.FinMap nat_cmp Package) (n m : ℕ) → IsNext (λ k. is_some (finite.get packages k)) n (Some m)
     → (p : Package) × (finite.get packages m ≡ Some p) × (above n (finite.entries packages) ≡ (m, p) ∷ above m (finite.entries packages))
@@ -69,33 +51,22 @@ bad_here f f' s m p r old new same there part =
 
 -- ---- a list
 
--- the step of the element at a place, and those after it
+-- the element at a place, and those after it
+pub rest_at : {X : Type 0} (xs : List X) (i : ℕ) (d : X) → i < length xs → drop i xs ≡ get_or xs i d ∷ drop (i + 1) xs
+rest_at xs i d lt = drop-cons xs i d lt ∙ ap (λ (k : ℕ). get_or xs i d ∷ drop k xs) (sym (add-one i))
+
+-- and of their steps
 pub steps_at : {X : Type 0} (f : X → Step) (xs : List X) (i : ℕ) (d : X) → i < length xs → map f (drop i xs) ≡ (f (get_or xs i d) ∷ []) ++ map f
     (drop (i + 1) xs)
-steps_at f xs i d lt =
-    ap (map f) (drop-cons xs i d lt) ∙ ap (λ (k : ℕ). f (get_or xs i d) ∷ map f (drop k xs)) (sym (add-one i))
+steps_at f xs i d lt = ap (map f) (rest_at xs i d lt)
 
 pub classes_at : (f : List ℕ → List Step) (xs : List (List ℕ)) (k : ℕ) → k < length xs
     → flat_map f (drop k xs) ≡ f (slice_index_or xs k []) ++ flat_map f (drop (k + 1) xs)
-classes_at f xs k lt =
-    ap (flat_map f) (drop-cons xs k [] lt) ∙ ap (λ (j : ℕ). f (get_or xs k []) ++ flat_map f (drop j xs)) (sym (add-one k))
+classes_at f xs k lt = ap (flat_map f) (rest_at xs k [] lt)
 
 -- a step that stops
 pub step_stops : (s : Step) (what : Stop) (old new : Outputs) → StepIs s (Err what) old new → Reached {T = Bool} (s ∷ []) (Err what) old new Anywhere
 step_stops s what old new step = reached_first Bool s [] what old new Anywhere tt step
-
--- a step that wasn't begun
-pub step_none : (s : Step) (what : Stop) (x : Outputs) → ((unit : ℕ) → what ≡ stop.BadIndex unit → ⊥) → (what ≡ stop.OutFault → ⊥)
-    → (what ≡ stop.ErrFault → ⊥) → Through [] x x → StepIs s (Err what) x x
-step_none s stop.ReadFault x index out err none = none
-step_none s (stop.BadIndex unit) x index out err none = absurd (index unit refl)
-step_none s stop.OutFault x index out err none = absurd (out refl)
-step_none s stop.ErrFault x index out err none = absurd (err refl)
-step_none s stop.NoMemory x index out err none = none
-
--- a step says nothing of an index
-pub step_unbroken : (s : Step) (r : Result Bool Stop) (old new : Outputs) → StepIs s r old new → (unit : ℕ) → r ≡ Err (stop.BadIndex unit) → ⊥
-step_unbroken s r old new step unit is = subst (λ (q : Result Bool Stop). StepIs s q old new) is step
 
 -- ---- a class
 

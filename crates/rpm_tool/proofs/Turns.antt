@@ -1,19 +1,9 @@
 -- The argument whose turn it is, among all of them.
+use Rattle.rpm_tool.proofs.Vocabulary.{argument_part, argument_reach, Bearer, Chosen, Database, Files, HasIndexRows, is_indexed, Outputs, outputs, packages}
+use Rattle.rpm_tool.proofs.Vocabulary.{PartIs, Portion, Reach, reach_all, reach_before, reach_sum, reached_by, ReadsOf, room, Stop, Tree, Went}
 use Rattle.std.proofs.Common.{◌≡◌, ℕ, ◌+◌, ◌≤◌, Bool, List, map, Result, Ok, Err, Some, subst, arith}
 use Rattle.std.specs.Prelude.{slice_get}
-use Rattle.rpm_outside.specs.Files.{Files}
-use Rattle.rpm_qfparse.specs.Tree.{Tree}
-use Rattle.rpm_db.specs.State.{packages}
-use Rattle.rpm_db.specs.Database.{Database, is_indexed}
-use Rattle.rpm_select.specs.Reach.{Reach, HasIndexRows, reach_all}
-use Rattle.rpm_words.specs.declared.switch.Chosen.{Chosen}
-use Rattle.rpm_tool.specs.declared.step.Stop.{Stop}
-use Rattle.rpm_change.specs.Steps.{Bearer}
-use Rattle.rpm_tool.specs.Steps.{Portion}
-use Rattle.rpm_tool.specs.Queries.{argument_part}
-use Rattle.rpm_tool.specs.Reads.{ReadsOf, argument_reach, reach_sum, reach_before, reached_by}
-use Rattle.rpm_change.specs.Endings.{Outputs, outputs}
-use Rattle.rpm_tool.specs.Answers.{PartIs, Went, why_of}
+use Rattle.rpm_tool.specs.Answers.{why_of}
 use Rattle.rpm_tool.proofs.Answering.{rest_of, turn_steps, went_stop}
 use Rattle.rpm_tool.proofs.Reached.{rows_at}
 use Rattle.rpm_tool.proofs.Reaching.{Goes, goes_more, goes_stop}
@@ -23,14 +13,14 @@ use Rattle.rpm_tool.proofs.Sums.{reads_by, before_next, before_some, get_map}
 -- what is said of the files as they read is said of the files as they were
 module _ (chosen : Chosen) (text : List ℕ) (db : Database) (f f' : Files) (same : f ≡ f') (between now : ℕ) where
   abbrev over : Files → Reach
-  over g = argument_reach (is_indexed db) (packages g.pkg db.store) chosen text
+  over g = argument_reach (is_indexed db) (packages g.pkg (room db)) chosen text
 
   pub part_here : (tree : Tree) (after k : ℕ) (r : Result Bool Stop) (old new : Outputs)
-      → (HasIndexRows db f.pkg f.idx → PartIs (argument_part tree (packages f.pkg db.store) chosen after k text) r old new (ReadsOf k (over f) db between now))
+      → (HasIndexRows db f.pkg f.idx → PartIs (argument_part tree (packages f.pkg (room db)) chosen after k text) r old new (ReadsOf k (over f) db between now))
       → HasIndexRows db f'.pkg f'.idx
-      → PartIs (argument_part tree (packages f'.pkg db.store) chosen after k text) r old new (ReadsOf k (over f') db between now)
+      → PartIs (argument_part tree (packages f'.pkg (room db)) chosen after k text) r old new (ReadsOf k (over f') db between now)
   part_here tree after k r old new part rows =
-      subst (λ (g : Files). PartIs (argument_part tree (packages g.pkg db.store) chosen after k text) r old new (ReadsOf k (over g) db between now)) same
+      subst (λ (g : Files). PartIs (argument_part tree (packages g.pkg (room db)) chosen after k text) r old new (ReadsOf k (over g) db between now)) same
       (part (rows_at db f f' same rows))
 
   pub reads_here : (HasIndexRows db f.pkg f.idx → now ≤ between + reach_all (over f) db) → HasIndexRows db f'.pkg f'.idx

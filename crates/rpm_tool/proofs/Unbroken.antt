@@ -1,55 +1,30 @@
 -- Answers that don't say that the index is malformed.
 use Rattle.std.proofs.Common.{◌≡◌, ℕ, List, Bool, false, Result, Ok, Err, Option, Some, refl}
-use Rattle.rpm_select.specs.declared.picked.PickFault.{PickFault}
+use Rattle.rpm_tool.proofs.Vocabulary.{Bearer, Chosen, Course, is_of_sink, IsOfChain, IsOfChains, IsOfSome, keys_asked, lent, Outputs, PartIs, PickFault}
+use Rattle.rpm_tool.proofs.Vocabulary.{Portion, question_of, Reached, Selection, Step, StepIs, Stop, stop_of, Units, Went, Why}
 use Rattle.rpm_select.specs.declared.picked.PickFault.TheVariants as pick
 use Rattle.rpm_select.specs.Picks.{is_of_index}
-use Rattle.rpm_select.specs.Candidates.{keys_asked}
 use Rattle.rpm_select.specs.Reach.{IsBroken}
-use Rattle.rpm_select.specs.declared.selection.Selection.{Selection}
-use Rattle.rpm_outside.specs.Files.{Units}
 use Rattle.std.specs.Prelude.{slice_get, IfErr}
-use Rattle.rpm_tool.specs.Reads.{IsOfChain, IsOfChains}
-use Rattle.rpm_tool.specs.Queries.{lent, question_of}
-use Rattle.rpm_words.specs.declared.switch.Chosen.{Chosen}
-use Rattle.rpm_tool.specs.declared.step.Stop.{Stop}
 use Rattle.rpm_tool.specs.declared.step.Stop.TheVariants as stop
-use Rattle.rpm_tool.specs.declared.answer.Why.{Why}
 use Rattle.rpm_tool.specs.declared.answer.Why.TheVariants as why
-use Rattle.rpm_change.specs.Steps.{Bearer, Step}
-use Rattle.rpm_tool.specs.Steps.{Portion}
-use Rattle.rpm_change.specs.Endings.{Outputs}
-use Rattle.rpm_tool.specs.Answers.{OneIs, StepIs, PartIs, Reached, stop_of, why_of, is_of_sink}
+use Rattle.rpm_tool.specs.Answers.{why_of}
 
 pub stop_unsunk : (fault : PickFault) → is_of_index fault ≡ false → is_of_sink (stop_of fault) ≡ false
 stop_unsunk (pick.BadIndex unit) is = absurd cc
 stop_unsunk pick.DiskFault is = refl
 stop_unsunk pick.NoMemory is = refl
 
-pub one_unbroken : (step : Step) (r : Result (Option (ℕ × Bool)) Stop) (old new : Outputs) → OneIs step r old new → (unit : ℕ) → r ≡ Err (stop.BadIndex unit)
-    → ⊥
-one_unbroken step (Ok o) old new one unit is = cc
-one_unbroken step (Err stop.ReadFault) old new one unit is = cc
-one_unbroken step (Err (stop.BadIndex at)) old new one unit is = one
-one_unbroken step (Err stop.OutFault) old new one unit is = cc
-one_unbroken step (Err stop.ErrFault) old new one unit is = cc
-one_unbroken step (Err stop.NoMemory) old new one unit is = cc
-
 pub step_unbroken : (step : Step) (r : Result Bool Stop) (old new : Outputs) → StepIs step r old new → (unit : ℕ) → r ≡ Err (stop.BadIndex unit) → ⊥
 step_unbroken step (Ok o) old new one unit is = cc
-step_unbroken step (Err stop.ReadFault) old new one unit is = cc
 step_unbroken step (Err (stop.BadIndex at)) old new one unit is = one
-step_unbroken step (Err stop.OutFault) old new one unit is = cc
-step_unbroken step (Err stop.ErrFault) old new one unit is = cc
-step_unbroken step (Err stop.NoMemory) old new one unit is = cc
+step_unbroken step (Err others) old new one unit is = cc
 
 reached_unbroken : (all : List Step) (r : Result Bool Stop) (old new : Outputs) (reads_to : Bearer → Type 0) → Reached all r old new reads_to → (unit : ℕ)
     → r ≡ Err (stop.BadIndex unit) → ⊥
 reached_unbroken all (Ok o) old new reads_to one unit is = cc
-reached_unbroken all (Err stop.ReadFault) old new reads_to one unit is = cc
 reached_unbroken all (Err (stop.BadIndex at)) old new reads_to one unit is = one
-reached_unbroken all (Err stop.OutFault) old new reads_to one unit is = cc
-reached_unbroken all (Err stop.ErrFault) old new reads_to one unit is = cc
-reached_unbroken all (Err stop.NoMemory) old new reads_to one unit is = cc
+reached_unbroken all (Err others) old new reads_to one unit is = cc
 
 pub part_unbroken : (part : Portion) (r : Result Bool Stop) (old new : Outputs) (reads_to : Bearer → Type 0) → PartIs part r old new reads_to → (unit : ℕ)
     → r ≡ Err (stop.BadIndex unit) → ⊥
@@ -59,11 +34,8 @@ part_unbroken part r old new reads_to p unit is = reached_unbroken part.steps r 
 pub chain_unbroken : (asked : Option Selection) (idx : Units) (r : Result Bool Stop) → ((unit : ℕ) → r ≡ Err (stop.BadIndex unit) → ⊥)
     → IfErr r (IsOfChain asked idx)
 chain_unbroken asked idx (Ok o) never = tt
-chain_unbroken asked idx (Err stop.ReadFault) never = tt
 chain_unbroken asked idx (Err (stop.BadIndex at)) never = absurd (never at refl)
-chain_unbroken asked idx (Err stop.OutFault) never = tt
-chain_unbroken asked idx (Err stop.ErrFault) never = tt
-chain_unbroken asked idx (Err stop.NoMemory) never = tt
+chain_unbroken asked idx (Err others) never = tt
 
 -- a picker that isn't begun tells the fault of one
 pub chain_of : (sel : Selection) (idx : Units) (fault : PickFault) → IsBroken (keys_asked sel) idx fault → IsOfChain (Some sel) idx (stop_of fault)
@@ -74,36 +46,24 @@ chain_of sel idx pick.NoMemory is = tt
 -- of a command that one of its arguments stopped
 pub chains_of : (chosen : Chosen) (texts : List (List ℕ)) (idx : Units) (j : ℕ) (text : List ℕ) (what : Stop) → slice_get texts j ≡ Some text
     → IsOfChain (question_of chosen (lent text)) idx what → IsOfChains chosen texts idx (why_of what)
-chains_of chosen texts idx j text stop.ReadFault here is = tt
 chains_of chosen texts idx j text (stop.BadIndex unit) here is = (j, text, here, is)
-chains_of chosen texts idx j text stop.OutFault here is = tt
-chains_of chosen texts idx j text stop.ErrFault here is = tt
-chains_of chosen texts idx j text stop.NoMemory here is = tt
+chains_of chosen texts idx j text others here is = tt
 
 pub why_unbroken : (what : Stop) → ((unit : ℕ) → what ≡ stop.BadIndex unit → ⊥) → (unit : ℕ) → why_of what ≡ why.BadIndex unit → ⊥
-why_unbroken stop.ReadFault never unit is = cc
 why_unbroken (stop.BadIndex at) never unit is = never at refl
-why_unbroken stop.OutFault never unit is = cc
-why_unbroken stop.ErrFault never unit is = cc
-why_unbroken stop.NoMemory never unit is = cc
+why_unbroken others never unit is = cc
 
 pub chains_none : (chosen : Chosen) (texts : List (List ℕ)) (idx : Units) (w : Why) → ((unit : ℕ) → w ≡ why.BadIndex unit → ⊥)
     → IsOfChains chosen texts idx w
 chains_none chosen texts idx (why.BadIndex unit) never = absurd (never unit refl)
-chains_none chosen texts idx why.Done never = tt
-chains_none chosen texts idx (why.Failed n) never = tt
-chains_none chosen texts idx (why.Usage f) never = tt
-chains_none chosen texts idx (why.BadFormat f) never = tt
-chains_none chosen texts idx (why.BadLog u) never = tt
-chains_none chosen texts idx (why.Damaged d) never = tt
-chains_none chosen texts idx (why.IndexFull u) never = tt
-chains_none chosen texts idx why.NumbersSpent never = tt
-chains_none chosen texts idx why.GenerationSpent never = tt
-chains_none chosen texts idx why.StoreFull never = tt
-chains_none chosen texts idx (why.NotEmpty held) never = tt
-chains_none chosen texts idx (why.LogFull u) never = tt
-chains_none chosen texts idx why.DiskFault never = tt
-chains_none chosen texts idx why.ShelfFault never = tt
-chains_none chosen texts idx why.OutFault never = tt
-chains_none chosen texts idx why.ErrFault never = tt
-chains_none chosen texts idx why.NoMemory never = tt
+chains_none chosen texts idx others never = tt
+
+-- nor of any chain
+pub some_none : (idx : Units) (w : Why) → ((unit : ℕ) → w ≡ why.BadIndex unit → ⊥) → IsOfSome idx w
+some_none idx (why.BadIndex unit) never = absurd (never unit refl)
+some_none idx others never = tt
+
+-- a command that goes through a course blames no index
+pub some_went : (c : Course) (old new : Outputs) (idx : Units) (w : Why) (reads_to : Bearer → Type 0) → Went c w old new reads_to → IsOfSome idx w
+some_went c old new idx (why.BadIndex unit) reads_to went = absurd went
+some_went c old new idx others reads_to went = tt

@@ -1,16 +1,10 @@
 -- What the answers to words that aren't done say.
 use Rattle.std.proofs.Common.{◌≡◌, ◌∙◌, ℕ, true, false, List, Option, Some, None, Result, Ok, Err, refl, sym, ap, subst, inl, inr}
 use Rattle.std.specs.Prelude.{◌≢◌}
-use Rattle.rpm_words.specs.declared.fault.WordsFault.{WordsFault}
+use Rattle.rpm_tool.proofs.Vocabulary.{AskParts, ComesWhere, command_in, format_in, FormatFault, is_of_words, Tree, Undone, Why, WordsFault}
 use Rattle.rpm_words.specs.declared.fault.WordsKind.TheVariants as kind
 use Rattle.rpm_qfparse.specs.declared.fault.FormatKind.TheVariants as wrong
-use Rattle.rpm_words.specs.Ask.{AskParts}
-use Rattle.rpm_qfparse.specs.declared.fault.FormatFault.{FormatFault}
-use Rattle.rpm_qfparse.specs.Tree.{Tree}
-use Rattle.rpm_tool.specs.declared.answer.Why.{Why}
 use Rattle.rpm_tool.specs.declared.answer.Why.TheVariants as why
-use Rattle.rpm_tool.specs.Asked.{format_in, command_in}
-use Rattle.rpm_tool.specs.Answers.{ComesWhere, Undone, is_of_words}
 
 none_some : (p : AskParts × Tree) (o : Option (AskParts × Tree)) → o ≡ None → o ≡ Some p → ⊥
 none_some p o none some = cc

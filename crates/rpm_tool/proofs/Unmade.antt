@@ -1,132 +1,129 @@
--- A command whose database isn't recovered, or isn't loaded: nothing was changed.
-use Rattle.std.proofs.Common.{◌≡◌, ℕ, Bool, true, false, [], Result, Ok, Err, refl, sym, ap, ◌∙◌, subst, inl, append-nil}
-use Rattle.rpm_outside.specs.Crash.{LeavesOnly}
-use Rattle.rpm_outside.specs.Files.{Files}
-use Rattle.rpm_outside.specs.Logs.{LogState, Closed, Malformed, Open, log_state, reopened}
-use Rattle.rpm_outside.specs.inner.Moments.{leaves_weaker}
-use Rattle.rpm_group.specs.declared.recovery.RecoverFault.{RecoverFault}
+-- A command that changed nothing: it didn't begin, or its database wasn't recovered, or wasn't loaded.
+use Rattle.std.proofs.Common.{◌≡◌, ℕ, Bool, true, false, [], Option, Result, Ok, Err, refl, sym, ap, ◌∙◌, subst, inl, append-nil, arith}
+use Rattle.std.specs.Prelude.{IsTrue}
+use Rattle.rpm_outside.specs.declared.disk.Disk as disk
+use Rattle.rpm_tool.proofs.Vocabulary.{after, Course, Damage, Did, DidLoaded, Files, Halt, images, is_done, is_held, is_of_lawful, IsSound, LeavesIn}
+use Rattle.rpm_tool.proofs.Vocabulary.{LoadFault, LoadSays, Log, log_state, LogOn, LogState, LooksAt, Malformed, MeetsFirst, Misread, none_gone, OneChange}
+use Rattle.rpm_tool.proofs.Vocabulary.{Outputs, RecoverFault, RecoverSays, Refused, reopened, ReopensAsOneOf, started, State, state, Store, store, TaskParts}
+use Rattle.rpm_tool.proofs.Vocabulary.{Through, Why, why_of_load, why_of_recover}
+use Rattle.rpm_group.specs.declared.load.LoadFault.TheVariants as load
 use Rattle.rpm_group.specs.declared.recovery.RecoverFault.TheVariants as recover
-use Rattle.rpm_group.specs.Loads.{IsSound}
-use Rattle.rpm_group.specs.Settled.{ReopensAsOneOf, RecoverSays}
-use Rattle.rpm_pkgdb.specs.declared.slot.Damage.{Damage}
-use Rattle.rpm_pkgdb.specs.Store.{Store, store}
-use Rattle.rpm_db.specs.State.{State, state}
-use Rattle.rpm_change.specs.Steps.{Course}
-use Rattle.rpm_change.specs.Endings.{Outputs, Through}
-use Rattle.rpm_change.specs.inner.Courses.{none_gone}
-use Rattle.rpm_tool.specs.declared.answer.Why.{Why}
 use Rattle.rpm_tool.specs.declared.answer.Why.TheVariants as why
-use Rattle.rpm_tool.specs.Keyed.{StandsStill, why_of_recover}
-use Rattle.rpm_tool.specs.Changing.{DidOpened, DidLoaded, DidOn, ChangesWith, after}
-use Rattle.rpm_tool.specs.Limits.{FaultIs}
+use Rattle.rpm_tool.proofs.Leavings.{leaves_start}
+use Rattle.rpm_tool.proofs.Regrouped.{recovering, recovering_fits, recovering_still}
 use Rattle.rpm_tool.proofs.Standing.{if_ok}
-use Rattle.rpm_tool.proofs.Regrouped.{recovering, recovered_still, recovering_fits}
 
 -- nothing was written
 pub through_none : (x : Outputs) → Through [] x x
 through_none x = record { out = λ told. sym (append-nil x.out); err = λ told. sym (append-nil x.err) }
 
--- ---- a database that isn't recovered
+-- ---- the endings
 
-opened_fault : (course : Store → Course) (sr : Result Store Damage) (old new : Outputs) → Through [] old new → DidOpened course sr why.DiskFault old new
-opened_fault course (Ok s) old new none = none_gone (course s) old new none
-opened_fault course (Err d) old new none = (tt, none)
+-- the log is malformed, or the disk failed, or memory was wanting
+abbrev pub IsEarly : LogState → Why → Type 0
+IsEarly log (why.BadLog unit) = log ≡ Malformed unit
+IsEarly log why.DiskFault = Unit {0}
+IsEarly log why.NoMemory = Unit {0}
+IsEarly log others = ⊥
 
-loaded_fault : (course : Store → Course) (sr : Result Store Damage) (log : LogState) (old new : Outputs) → Through [] old new
-    → DidLoaded course sr log why.DiskFault old new
-loaded_fault course sr Closed old new none = opened_fault course sr old new none
-loaded_fault course sr (Malformed unit) old new none = (tt, none)
-loaded_fault course sr (Open entries) old new none = opened_fault course sr old new none
+pub early_recover : (log : LogState) (fault : RecoverFault) → RecoverSays log (Err fault) → IsEarly log (why_of_recover fault)
+early_recover log (recover.BadLog unit) says = says
+early_recover log recover.DiskFault says = says
 
-pub unrecovered_did : (course : State → Course) (files : Files) (fault : RecoverFault) (old new : Outputs)
-    → RecoverSays (log_state files.log) (Err fault) → Through [] old new → DidOn course files (why_of_recover fault) old new
-unrecovered_did course files (recover.BadLog unit) old new says none =
-    subst (λ (l : LogState). DidLoaded (λ s. course (state (reopened files).pkg s)) (store (reopened files).pkg) l (why.BadLog unit) old new) (sym says)
-    (refl, none)
-unrecovered_did course files recover.DiskFault old new says none =
-    loaded_fault (λ s. course (state (reopened files).pkg s)) (store (reopened files).pkg) (log_state files.log) old new none
+pub early_load : (log : LogState) (fault : LoadFault) → LoadSays log (Err fault) → IsEarly log (why_of_load fault)
+early_load log (load.BadLog unit) says = says
+early_load log others says = says
 
--- a database that is recovered is told as one that was
-recovered_by : (course : Store → Course) (sr : Result Store Damage) (log : LogState) (finished : Bool) (given : Why) (old new : Outputs)
-    → RecoverSays log (Ok finished) → DidOpened course sr given old new → DidLoaded course sr log given old new
-recovered_by course sr log true given old new says did = subst (λ (l : LogState). DidLoaded course sr l given old new) (sym says) did
-recovered_by course sr log false given old new says did = subst (λ (l : LogState). DidLoaded course sr l given old new) (sym says) did
+record Kinds (log : LogState) (w : Why) : Type 0 where
+  undone : is_done w ≡ true → ⊥
+  unheld : is_held w ≡ false
+  sound : IsSound log → is_of_lawful w ≡ true
+  unbroken : (unit : ℕ) → w ≡ why.BadIndex unit → ⊥
 
-pub recovered_did : (course : State → Course) (before mid : Files) (finished : Bool) (given : Why) (old new : Outputs)
-    → RecoverSays (log_state before.log) (Ok finished) → log_state mid.log ≡ Closed → reopened mid ≡ reopened before → DidOn course mid given old new
-    → DidOn course before given old new
-recovered_did course before mid finished given old new says closed stands did =
-    let r = reopened mid in
-    let opened = subst (λ (l : LogState). DidLoaded (λ s. course (state r.pkg s)) (store r.pkg) l given old new) closed did in
-    recovered_by (λ s. course (state (reopened before).pkg s)) (store (reopened before).pkg) (log_state before.log) finished given old new says
-    (subst (λ (f : Files). DidOpened (λ s. course (state f.pkg s)) (store f.pkg) given old new) stands opened)
+module _ (log : LogState) where
+  by_early : (P : Why → Type 0) → ((unit : ℕ) → log ≡ Malformed unit → P (why.BadLog unit)) → P why.DiskFault → P why.NoMemory → (w : Why)
+      → IsEarly log w → P w
+  by_early P bad fault memory (why.BadLog unit) is = bad unit is
+  by_early P bad fault memory why.DiskFault is = fault
+  by_early P bad fault memory why.NoMemory is = memory
+  by_early P bad fault memory others is = absurd is
 
-unlawful_log : (log : LogState) (unit : ℕ) → log ≡ Malformed unit → IsSound log → ⊥
-unlawful_log log unit is sound = subst IsSound is sound
+  early_kinds : (w : Why) → IsEarly log w → Kinds log w
+  early_kinds = by_early (Kinds log)
+      (λ unit is. record {
+        undone = λ done. cc;
+        unheld = refl;
+        sound = λ sound. absurd (subst IsSound is sound);
+        unbroken = λ u bad. cc;
+      })
+      (record { undone = λ done. cc; unheld = refl; sound = λ sound. refl; unbroken = λ u bad. cc })
+      (record { undone = λ done. cc; unheld = refl; sound = λ sound. refl; unbroken = λ u bad. cc })
 
-module _ {D : Type 0} (files : D → Files) (left_since : D → ℕ → Files → Type 0) (moment : D → ℕ) (course : State → Course) (old new : D)
-    (here : left_since old (moment old) (files old)) (stands : reopened (files new) ≡ reopened (files old))
-    (run : LeavesOnly moment left_since old new (ReopensAsOneOf (left_since old (moment old)))) where
+  early_meets : (indexed : Bool) (first : Option Halt) (w : Why) → IsEarly log w → MeetsFirst indexed first w
+  early_meets indexed first = by_early (MeetsFirst indexed first) (λ unit is. tt) tt tt
+
+  module _ (course : Store → Course) (x : Outputs) where
+    early_any : (w : Why) → ((c : Course) → Did c w x x) → ((e : Damage) → Refused e w) → ((unit : ℕ) → Misread unit w) → (l : LogState)
+        (sr : Result Store Damage) → DidLoaded course sr l w x x
+    early_any w did refused misread (Malformed unit) sr = (misread unit, through_none x)
+    early_any w did refused misread others (Ok s) = did (course s)
+    early_any w did refused misread others (Err e) = (refused e, through_none x)
+
+    early_did : (sr : Result Store Damage) (w : Why) → IsEarly log w → DidLoaded course sr log w x x
+    early_did sr = by_early (λ (w : Why). DidLoaded course sr log w x x)
+        (λ unit is. subst (λ (l : LogState). DidLoaded course sr l (why.BadLog unit) x x) (sym is) (refl, through_none x))
+        (early_any why.DiskFault (λ c. none_gone c x x (through_none x)) (λ e. tt) (λ unit. tt) log sr)
+        (early_any why.NoMemory (λ c. none_gone c x x (through_none x)) (λ e. tt) (λ unit. tt) log sr)
+
+-- ---- what is left, and what is said
+
+module _ {D : Type 0} (d : disk.Ghosts D) (old new : D) (stands : reopened (d.files new) ≡ reopened (d.files old))
+    (run : LeavesIn d old new (ReopensAsOneOf (images d old))) (w : Why) (early : IsEarly (log_state (d.files old).log) w) where
   abbrev r : Files
-  r = reopened (files old)
+  r = reopened (d.files old)
 
-  abbrev past : Files → Type 0
-  past = left_since old (moment old)
+  abbrev log : LogState
+  log = log_state (d.files old).log
 
-  pub unrecovered_changes : {anew changing : Bool} (fault : RecoverFault) → RecoverSays (log_state (files old).log) (Err fault)
-      → ChangesWith anew changing files left_since moment course (why_of_recover fault) 0 old new
-  unrecovered_changes (recover.BadLog unit) says = record {
-    counted = λ no. refl;
-    leaves = if_ok (store r.pkg) (λ s is. (
-      refl,
-      record {
-        value = s;
-        undamaged = ap (λ (f : Files). store f.pkg) stands ∙ is;
-        is =
-            ap (λ (f : Files). state f.pkg s) stands;
-      },
-    ));
-    refused = λ no. stands;
-    made = λ done. absurd cc;
-    index = λ lawful done. absurd cc;
-    settled = λ done. absurd cc;
-    lawful = λ may done. absurd cc;
-    bad = λ unit is. absurd cc;
-    complete = λ lawful. absurd (unlawful_log (log_state (files old).log) unit says lawful.sound);
-    stops = λ lawful. if_ok (store r.pkg) (λ s is.
-        recovering files left_since moment course (why.BadLog unit) 0 old new new here stands run lawful (after course (state r.pkg s)));
-    unmade = λ no lawful. leaves_weaker moment left_since old new (ReopensAsOneOf past) (StandsStill past) (recovered_still past lawful) run;
-    fits = λ lawful fit. recovering_fits files left_since moment old new run fit;
-    held = λ done. absurd cc;
-  }
-  unrecovered_changes recover.DiskFault says = record {
-    counted = λ no. refl;
-    leaves = if_ok (store r.pkg) (λ s is. (
-      refl,
-      inl (record {
-        value = s;
-        undamaged = ap (λ (f : Files). store f.pkg) stands ∙ is;
-        is =
-            ap (λ (f : Files). state f.pkg s) stands;
-      }),
-    ));
-    refused = λ no. stands;
-    made = λ done. absurd cc;
-    index = λ lawful done. absurd cc;
-    settled = λ done. absurd cc;
-    lawful = λ may done. absurd cc;
-    bad = λ unit is. absurd cc;
-    complete = λ lawful. refl;
-    stops = λ lawful. if_ok (store r.pkg) (λ s is.
-        recovering files left_since moment course why.DiskFault 0 old new new here stands run lawful (after course (state r.pkg s)));
-    unmade = λ no lawful. absurd cc;
-    fits = λ lawful fit. recovering_fits files left_since moment old new run fit;
-    held = λ done. absurd cc;
+  kinds : Kinds log w
+  kinds = early_kinds log w early
+
+  pub unmade_one : (task : TaskParts) (course : State → Course) (x : Outputs) → OneChange d task course w 0 old new x x
+  unmade_one task course x = record {
+    did = early_did log (λ s. course (state r.pkg s)) x (store r.pkg) w early;
+    changed = record {
+      counted = λ no. refl;
+      leaves = if_ok (store r.pkg) (λ s is. leaves_start course (state r.pkg s) w 0 (d.files new) kinds.undone refl
+          (record { value = s; undamaged = ap (λ (f : Files). store f.pkg) stands ∙ is; is = ap (λ (f : Files). state f.pkg s) stands }));
+      refused = λ no. stands;
+      made = λ done. absurd (kinds.undone done);
+      index = λ may done. absurd (kinds.undone done);
+      settled = λ done. absurd (kinds.undone done);
+      lawful = λ may done. absurd (kinds.undone done);
+      bad = λ unit is. absurd (kinds.unbroken unit is);
+      complete = λ lawful. kinds.sound lawful.sound;
+      stops = λ lawful. if_ok (store r.pkg) (λ s is. recovering d old new run lawful (after course (state r.pkg s)));
+      unmade = λ no lawful. recovering_still d old new run lawful;
+      fits = λ lawful fit. recovering_fits d old new run fit;
+      held = λ done. absurd (kinds.undone done);
+    };
+    limits = λ indexed may. if_ok (store r.pkg) (λ s is. early_meets log indexed _ w early);
+    fault = λ faulted. inl (record { same = stands; stops = recovering_still d old new run });
+    log = λ indexed may. by_early log (LogOn indexed course r) (λ unit is. tt) tt tt w early;
   }
 
-  pub unrecovered_fault : {anew : Bool} (fault : RecoverFault) (x : Outputs)
-      → FaultIs anew files left_since moment course (why_of_recover fault) old new x x
-  unrecovered_fault fault x faulted = inl (record {
-    same = stands;
-    stops = λ lawful. leaves_weaker moment left_since old new (ReopensAsOneOf past) (StandsStill past) (recovered_still past lawful) run;
-  })
+-- ---- such runs
+
+module _ {D : Type 0} (d : disk.Ghosts D) where
+  -- no call at all
+  pub idle_run : (it : D) → LeavesIn d it it (ReopensAsOneOf (images d it))
+  idle_run it = started d.moment d.left_since it (ReopensAsOneOf (images d it))
+      (λ image left. (image, left, record { same = refl; sound = λ sound. sound }))
+
+  -- one that read the log alone
+  pub looked_run : (old new : D) → LooksAt d Log old new → IsTrue d.tells → LeavesIn d old new (ReopensAsOneOf (images d old))
+  looked_run old new looks told = record {
+    later = omega (arith, looks.moment_stays);
+    each = λ image left. (image, (looks.untouched told).images (d.moment old) image left, record { same = refl; sound = λ sound. sound });
+    before = λ t image le left. inl ((looks.untouched told).images t image left);
+  }

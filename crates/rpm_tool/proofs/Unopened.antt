@@ -1,15 +1,7 @@
 -- A command that was stopped before its first change.
 use Rattle.std.proofs.Common.{ℕ, Bool, [], Result, Ok, Err}
-use Rattle.rpm_outside.specs.Files.{Files}
-use Rattle.rpm_pkgdb.specs.declared.slot.Damage.{Damage}
-use Rattle.rpm_pkgdb.specs.Store.{Store, store}
-use Rattle.rpm_db.specs.Openings.{must_make, units_needed}
-use Rattle.rpm_db.specs.State.{State, state}
-use Rattle.rpm_change.specs.Steps.{Course}
-use Rattle.rpm_change.specs.Endings.{Outputs, Through}
-use Rattle.rpm_change.specs.inner.Courses.{none_gone}
-use Rattle.rpm_tool.specs.declared.answer.Why.{Why}
-use Rattle.rpm_tool.specs.Working.{OpensIn, OpensBy, Stopped, WorkedBy, WorkedWith}
+use Rattle.rpm_tool.proofs.Vocabulary.{Course, Damage, Files, must_make, none_gone, OpensBy, OpensIn, Outputs, State, state, Stopped, Store, store, Through}
+use Rattle.rpm_tool.proofs.Vocabulary.{units_needed, Why, WorkedBy, WorkedWith}
 use Rattle.rpm_tool.proofs.Brokens.{open_unbroken}
 use Rattle.rpm_tool.proofs.ByEnding.{by_opening}
 

@@ -1,31 +1,23 @@
 -- How far a command went, and what it answers. On it rest `plain` and `files` of the page (Theorem.antt), and `Ends`, by which `run` puts the
 -- closing line after all of it.
 use Rattle.std.specs.Prelude.{◌≡◌, ◌≢◌, ◌⊎◌, ℕ, ◌+◌, ◌-◌, ◌<◌, ◌≤◌, List, [], ◌∷◌, ◌++◌, map, Bool, true, false, Option, Some, None, Result, Ok, Err, IfOk, IsTrue}
-use Rattle.std.specs.Ordering.{nat_cmp}
-use Rattle.std.specs.FinMap.{FinMap}
 use Rattle.rpm_outside.specs.Causes.{Rose}
 use Rattle.rpm_outside.specs.declared.disk.File.{File}
 use Rattle.rpm_outside.specs.declared.disk.File.TheVariants.{Idx}
 use Rattle.rpm_outside.specs.Crash.{Untouched}
-use Rattle.rpm_outside.specs.Files.{Units, Files}
-use Rattle.rpm_outside.specs.Logs.{LogState, Closed, Malformed, Open, log_state, reopened}
+use Rattle.rpm_outside.specs.Files.{Files}
 use Rattle.rpm_outside.specs.Sinks.{Gained, GainedPart}
 use Rattle.rpm_group.specs.declared.load.LoadFault.{LoadFault}
 use Rattle.rpm_group.specs.declared.load.LoadFault.TheVariants as load
 use Rattle.rpm_pkgdb.specs.declared.slot.Damage.{Damage}
-use Rattle.rpm_pkgdb.specs.Store.{Store, store}
-use Rattle.rpm_pkgdb.specs.Costs.{opening_cost, cost_to, cost_all}
-use Rattle.rpm_db.specs.State.{Package, packages, above}
 use Rattle.rpm_file.specs.declared.fault.FileFault.{FileFault}
 use Rattle.rpm_file.specs.declared.fault.FileFault.TheVariants as file
 use Rattle.rpm_words.specs.declared.fault.WordsFault.{WordsFault}
 use Rattle.rpm_words.specs.declared.fault.WordsKind.TheVariants as kind
-use Rattle.rpm_words.specs.Words.{text_at}
 use Rattle.rpm_words.specs.Ask.{AskParts}
 use Rattle.rpm_qfparse.specs.declared.fault.FormatFault.{FormatFault}
 use Rattle.rpm_qfparse.specs.declared.fault.FormatKind.TheVariants as wrong
 use Rattle.rpm_qfparse.specs.Tree.{Tree}
-use Rattle.rpm_select.specs.Reach.{Reach, Everything}
 use Rattle.rpm_select.specs.declared.picked.PickFault.{PickFault}
 use Rattle.rpm_select.specs.declared.picked.PickFault.TheVariants as pick
 use Rattle.rpm_tool.specs.declared.step.Stop.{Stop}
@@ -33,11 +25,6 @@ use Rattle.rpm_tool.specs.declared.step.Stop.TheVariants as stop
 use Rattle.rpm_tool.specs.declared.picked.PrintedPackages.{PrintedPackages}
 use Rattle.rpm_tool.specs.declared.answer.Why.{Why}
 use Rattle.rpm_tool.specs.declared.answer.Why.TheVariants as why
-use Rattle.rpm_tool.specs.declared.asked.Deed.{Deed}
-use Rattle.rpm_tool.specs.declared.asked.Deed.TheVariants as deed
-use Rattle.rpm_tool.specs.Asked.{deed_of}
-use Rattle.rpm_tool.specs.Reads.{argument_reach, reaches_by, reach_sum, reached_by}
-use Rattle.rpm_tool.specs.Reports.{unindexed, course}
 use Rattle.rpm_change.specs.Endings.{Outputs, Through}
 use Rattle.rpm_change.specs.Steps.{Bearer, Step, Course, is_out, cut}
 use Rattle.rpm_tool.specs.Steps.{Portion, bearer_of}
@@ -79,24 +66,6 @@ StepIs step (Err stop.NoMemory) old new = Through [] old new
 pub record PartIs (part : Portion) (result : Result Bool Stop) (old new : Outputs) (reads_to : Bearer → Type 0) : Type 0 where
   pub steps : Reached part.steps result old new reads_to
   pub fails : IfOk result (λ fails. part.fails ≡ fails)
-
--- the step of one package is gone through, or stops
-abbrev pub OneIs : Step → Result (Option (ℕ × Bool)) Stop → Outputs → Outputs → Type 0
-OneIs step (Ok None) old new = ⊥
-OneIs step (Ok (Some e)) old new = StepIs step (Ok e.1) old new
-OneIs step (Err stop) old new = StepIs step (Err stop) old new
-
--- the next of the packages above n is gone through, or there is none, or something stops
-abbrev pub NextIs : (ℕ × Package → Step) → ℕ → List (ℕ × Package) → Result (Option (ℕ × Bool)) Stop → Outputs → Outputs → (Bearer → Type 0) → Type 0
-NextIs step n es (Ok None) old new reads_to = (above n es ≡ []) × Through [] old new
-NextIs step n es (Ok (Some (m, to_out))) old new reads_to =
-    (p : Package) × (above n es ≡ (m, p) ∷ above m es) × StepIs (step (m, p)) (Ok to_out) old new
-NextIs step n es (Err stop) old new reads_to = Reached {T = Bool} (map step (above n es)) (Err stop) old new reads_to
-
--- the blocks of the numbers above n, up to the one that is gone through
-abbrev pub cost_until : ℕ → Store → Result (Option (ℕ × Bool)) Stop → ℕ
-cost_until n s (Ok (Some e)) = cost_to e.0 s - cost_to n s
-cost_until n s others = cost_all s - cost_to n s
 
 -- whether the argument fails, of what was printed of its packages
 abbrev pub fails_in : Result PrintedPackages Stop → Result Bool Stop
@@ -186,28 +155,24 @@ is_of_opening (why.Damaged damage) = true
 is_of_opening (why.IndexFull needed) = true
 is_of_opening others = false
 
+-- done, with or without arguments that failed
+abbrev pub is_done : Why → Bool
+is_done why.Done = true
+is_done (why.Failed n) = true
+is_done others = false
+
 -- ---- the answers of a command that opens the database, before the closing line
 
 -- where the database is in order
 abbrev pub Went : Course → Why → Outputs → Outputs → (Bearer → Type 0) → Type 0
 Went course why.Done old new reads_to = Through course.steps old new × (course.failed ≡ 0)
 Went course (why.Failed n) old new reads_to = Through course.steps old new × (course.failed ≡ n) × (0 < n)
-Went course (why.Usage fault) old new reads_to = ⊥
-Went course (why.BadFormat fault) old new reads_to = ⊥
-Went course (why.BadLog unit) old new reads_to = ⊥
-Went course (why.Damaged damage) old new reads_to = ⊥
-Went course (why.BadIndex unit) old new reads_to = ⊥
-Went course (why.IndexFull needed) old new reads_to = ⊥
-Went course why.NumbersSpent old new reads_to = ⊥
-Went course why.GenerationSpent old new reads_to = ⊥
-Went course why.StoreFull old new reads_to = ⊥
-Went course (why.NotEmpty held) old new reads_to = ⊥
-Went course (why.LogFull needed) old new reads_to = ⊥
 Went course why.DiskFault old new reads_to = ThroughSome course.steps old new
 Went course why.ShelfFault old new reads_to = ThroughSome course.steps old new
 Went course why.OutFault old new reads_to = StoppedWithin course.steps true old new reads_to
 Went course why.ErrFault old new reads_to = StoppedWithin course.steps false old new reads_to
 Went course why.NoMemory old new reads_to = ThroughSome course.steps old new
+Went course others old new reads_to = ⊥
 
 -- where the log is malformed: that is told, and not a damage
 abbrev pub Misread : ℕ → Why → Type 0
@@ -223,56 +188,7 @@ Refused damage why.DiskFault = Unit {0}
 Refused damage why.NoMemory = Unit {0}
 Refused damage _ = ⊥
 
--- ---- a command that opens the database without its index, as it reads when an open log is gone through
-
--- what each argument goes over, where no index is asked; exports, verdicts and the report on files go over all packages
-abbrev pub unkeyed_reaches : Deed → FinMap nat_cmp Package → List (List ℕ) → AskParts → List Reach
-unkeyed_reaches deed.Print packages words a = reaches_by (argument_reach false packages a.chosen) (map (text_at words) a.arguments)
-unkeyed_reaches deed.Export packages words a = Everything ∷ []
-unkeyed_reaches deed.Verify packages words a = Everything ∷ []
-unkeyed_reaches deed.CheckFiles packages words a = Everything ∷ []
-
--- what is read of packages up to a step: what each argument before goes over, and of this one what it goes over up to its number
-abbrev pub reach_by : Deed → Units → List (List ℕ) → AskParts → Store → Bearer → ℕ
-reach_by what file words a s for = reached_by (unkeyed_reaches what (packages file s) words a) (unindexed s) for
-
--- and in all
-abbrev pub reach_cost : Deed → Units → List (List ℕ) → AskParts → Store → ℕ
-reach_cost what file words a s = reach_sum (unkeyed_reaches what (packages file s) words a) (unindexed s)
-
--- the most that is read of Packages.db up to a step, its pages with it
-abbrev pub read_to : Units → List (List ℕ) → AskParts → Store → Bearer → ℕ
-read_to file words a s for = opening_cost file + reach_by (deed_of a.mode) file words a s for
-
--- of the store at most the bytes that a question asks up to a bearer were read
-abbrev pub ReadsTo : Units → List (List ℕ) → AskParts → Store → ℕ → ℕ → Bearer → Type 0
-ReadsTo file words a s before now for = now ≤ before + read_to file words a s for
-
--- a damaged store is reported and nothing is printed, any other is answered by the course
-abbrev pub Opened : (Store → Course) → Result Store Damage → Why → Outputs → Outputs → (Store → Bearer → Type 0) → Type 0
-Opened course (Ok s) why old new reads_to = Went (course s) why old new (reads_to s)
-Opened course (Err damage) why old new reads_to = Refused damage why × Through [] old new
-
--- a malformed log is reported and nothing is printed, with any other the store is opened
-abbrev pub Loaded : (Store → Course) → Result Store Damage → LogState → Why → Outputs → Outputs → (Store → Bearer → Type 0) → Type 0
-Loaded course s Closed why old new reads_to = Opened course s why old new reads_to
-Loaded course s (Malformed unit) why old new reads_to = Misread unit why × Through [] old new
-Loaded course s (Open entries) why old new reads_to = Opened course s why old new reads_to
-
--- what a question that reads all packages prints, reports and reads
-abbrev pub Queried : Tree → List (List ℕ) → AskParts → Files → Why → Outputs → Outputs → ℕ → ℕ → Type 0
-Queried tree words a files why old new before now =
-    let file = (reopened files).pkg in
-    Loaded (λ s. course tree file s words a) (store file) (log_state files.log) why old new (λ s. ReadsTo file words a s before now)
-
--- the bytes of all blocks that a question may read, none of a damaged store
-abbrev pub blocks_cost : Units → List (List ℕ) → AskParts → Result Store Damage → ℕ
-blocks_cost file words a (Ok s) = reach_cost (deed_of a.mode) file words a s
-blocks_cost file words a (Err damage) = 0
-
--- the most that a command reads
-abbrev pub query_cost : List (List ℕ) → AskParts → Units → ℕ
-query_cost words a file = opening_cost file + blocks_cost file words a (store file)
+-- ---- a command that writes nothing
 
 -- the files, their images and the moment stay, and nothing of Hindex.db is read
 pub record Leaves {D : Type 0} (tells : Bool) (files : D → Files) (left_since : D → ℕ → Files → Type 0) (moment : D → ℕ) (bytes_read : D → File → ℕ)

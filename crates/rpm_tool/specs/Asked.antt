@@ -13,21 +13,21 @@ use Rattle.rpm_qfparse.specs.Tree.{Tree}
 use Rattle.rpm_qfparse.specs.Format.{format}
 use Rattle.rpm_tool.specs.declared.asked.Deed.{Deed}
 use Rattle.rpm_tool.specs.declared.asked.Deed.TheVariants as deed
-use Rattle.rpm_tool.specs.declared.asked.Inquiry.{Inquiry}
-use Rattle.rpm_tool.specs.declared.asked.Inquiry.TheVariants as inquiry
 
 -- what a command does with the database that it opens
 abbrev pub deed_of : Mode → Deed
 deed_of Exportdb = deed.Export
 deed_of Verifydb = deed.Verify
 deed_of Checkfiles = deed.CheckFiles
+deed_of Verify = deed.Unmet
+deed_of Order = deed.Order
 deed_of others = deed.Print
 
--- what a command asks of a database that it opens with its index
-abbrev pub inquiry_of : Mode → Inquiry
-inquiry_of Verify = inquiry.Unmet
-inquiry_of Order = inquiry.Order
-inquiry_of others = inquiry.Query
+-- the reports on requirements open the database with its index, whatever the words say
+abbrev pub always_keyed : Deed → Bool
+always_keyed deed.Unmet = true
+always_keyed deed.Order = true
+always_keyed others = false
 
 -- a query that asks no index: of package files, of all packages, of patterns and of numbers always, else where the words say so
 abbrev pub needs_no_index : Chosen → Bool → Bool

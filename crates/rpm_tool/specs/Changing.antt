@@ -4,9 +4,10 @@ use Rattle.std.specs.Prelude.{◌≡◌, ◌⊎◌, ℕ, ◌^◌, ◌<◌, ◌�
 use Rattle.std.specs.Ordering.{nat_cmp}
 use Rattle.std.specs.FinMap as finite
 use Rattle.std.specs.FinMap.{FinMap}
+use Rattle.rpm_outside.specs.declared.disk.Disk as disk
 use Rattle.rpm_outside.specs.Changes.{AreSettled}
-use Rattle.rpm_outside.specs.Crash.{LeavesOnly}
 use Rattle.rpm_outside.specs.Files.{Units, Files}
+use Rattle.rpm_outside.specs.Frame.{images, LeavesIn}
 use Rattle.rpm_outside.specs.Logs.{LogState, Closed, Malformed, Open, log_state, reopened}
 use Rattle.rpm_pkgdb.specs.declared.slot.Damage.{Damage}
 use Rattle.rpm_pkgdb.specs.Store.{Store, store}
@@ -168,24 +169,22 @@ abbrev pub MayBegin : Bool → Type 0 → Type 0
 MayBegin true Lawful = Unit {0}
 MayBegin false Lawful = Lawful
 
--- all that is said, beside what it answers, on a disk that tells its contents
-pub record ChangesWith {D : Type 0} (anew changing : Bool) (files : D → Files) (left_since : D → ℕ → Files → Type 0) (moment : D → ℕ)
-    (course : State → Course) (given : Why) (changes : ℕ) (old new : D) : Type 0 where
-  pub counted : is_done given ≡ false → changes ≡ 0
-  pub leaves : IfOk (store (reopened (files old)).pkg)
-      (λ s. LeavesState course (state (reopened (files old)).pkg s) given changes (files new))
-  pub refused : is_done_or_fault given ≡ false → reopened (files new) ≡ reopened (files old)
-  pub made : is_done given ≡ true → IsMade (reopened (files new)).pkg
-  pub index : MayBegin anew (IsLawfulGroup (files old)) → is_done given ≡ true → IsSealed (files new)
-  pub settled : is_done given ≡ true → AreSettled (files new) (left_since new (moment new))
-  pub lawful : MayBegin anew (IsLawfulGroup (files old)) → is_done given ≡ true → AreLawfulGroups (left_since new (moment new))
-  pub bad : BadBy changing (reopened (files old)).pkg (reopened (files old)).idx given
-  pub complete : IsLawfulGroup (files old) → is_of_lawful given ≡ true
-  pub stops : AreLawfulGroups (left_since old (moment old)) → IfOk (store (reopened (files old)).pkg)
-      (λ s. LeavesOnly moment left_since old new (StandsStillOr (left_since old (moment old)) (after course (state (reopened (files old)).pkg s))))
-  pub unmade : is_done_or_fault given ≡ false → AreLawfulGroups (left_since old (moment old))
-      → LeavesOnly moment left_since old new (StandsStill (left_since old (moment old)))
-  pub fits : AreLawfulGroups (left_since old (moment old)) → AllFit (left_since old (moment old))
-      → LeavesOnly moment left_since old new RowsFit
-  pub held : is_done given ≡ true → IfOk (store (reopened (files old)).pkg)
-      (λ s. (image : Files) → left_since new (moment new) image → HasState (after course (state (reopened (files old)).pkg s)) image)
+module _ {D : Type 0} (d : disk.Ghosts D) where
+  -- all that is said, beside what it answers, on a disk that tells its contents
+  pub record ChangesWith (anew changing : Bool) (course : State → Course) (given : Why) (changes : ℕ) (old new : D) : Type 0 where
+    pub counted : is_done given ≡ false → changes ≡ 0
+    pub leaves : IfOk (store (reopened (d.files old)).pkg)
+        (λ s. LeavesState course (state (reopened (d.files old)).pkg s) given changes (d.files new))
+    pub refused : is_done_or_fault given ≡ false → reopened (d.files new) ≡ reopened (d.files old)
+    pub made : is_done given ≡ true → IsMade (reopened (d.files new)).pkg
+    pub index : MayBegin anew (IsLawfulGroup (d.files old)) → is_done given ≡ true → IsSealed (d.files new)
+    pub settled : is_done given ≡ true → AreSettled (d.files new) (images d new)
+    pub lawful : MayBegin anew (IsLawfulGroup (d.files old)) → is_done given ≡ true → AreLawfulGroups (images d new)
+    pub bad : BadBy changing (reopened (d.files old)).pkg (reopened (d.files old)).idx given
+    pub complete : IsLawfulGroup (d.files old) → is_of_lawful given ≡ true
+    pub stops : AreLawfulGroups (images d old) → IfOk (store (reopened (d.files old)).pkg)
+        (λ s. LeavesIn d old new (StandsStillOr (images d old) (after course (state (reopened (d.files old)).pkg s))))
+    pub unmade : is_done_or_fault given ≡ false → AreLawfulGroups (images d old) → LeavesIn d old new (StandsStill (images d old))
+    pub fits : AreLawfulGroups (images d old) → AllFit (images d old) → LeavesIn d old new RowsFit
+    pub held : is_done given ≡ true → IfOk (store (reopened (d.files old)).pkg)
+        (λ s. (image : Files) → images d new image → HasState (after course (state (reopened (d.files old)).pkg s)) image)

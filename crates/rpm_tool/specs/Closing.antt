@@ -51,17 +51,9 @@ unfoldable pub damage_line : Damage → List ℕ
 damage_line damage =
     concat (codes "rpm: Packages.db is damaged at byte " ∷ decimal damage.offset ∷ codes ": " ∷ reason_text damage.reason ∷ codes "\n" ∷ [])
 
--- the byte at which the unit begins
-unfoldable pub log_line : ℕ → List ℕ
-log_line unit = concat (codes "rpm: Hlog.db is damaged at byte " ∷ decimal (16 * unit) ∷ codes "\n" ∷ [])
-
--- the line that reports a damaged Hindex.db, by the unit of the fault
-unfoldable pub index_line : ℕ → List ℕ
-index_line unit = concat (codes "rpm: Hindex.db is damaged at byte " ∷ decimal (16 * unit) ∷ codes "\n" ∷ [])
-
--- the database has this package
-unfoldable pub held_line : ℕ → List ℕ
-held_line n = concat (codes "rpm: the database is not empty: package " ∷ decimal n ∷ codes "\n" ∷ [])
+-- a text and a number, as a line
+abbrev pub number_line : List ℕ → ℕ → List ℕ
+number_line text n = concat (text ∷ decimal n ∷ codes "\n" ∷ [])
 
 -- what is told of the rule that the words break
 unfoldable pub rule_text : WordsKind → List ℕ
@@ -110,19 +102,20 @@ unfoldable pub format_line : FormatFault → List ℕ
 format_line fault =
     concat (codes "error: incorrect format: " ∷ fault_text fault.kind ∷ codes " at byte " ∷ decimal fault.at ∷ codes "\n" ∷ [])
 
--- the line that closes an ending of these words; done, failed arguments and a fault of err itself have none
+-- the line that closes an ending of these words; done, failed arguments and a fault of err itself have none. Of a damaged log or index it names the
+-- byte at which the unit of its fault begins
 unfoldable pub closing : List (List ℕ) → Why → List ℕ
 closing words why.Done = []
 closing words (why.Failed n) = []
 closing words (why.Usage fault) = usage_line words fault
 closing words (why.BadFormat fault) = format_line fault
-closing words (why.BadLog unit) = log_line unit
+closing words (why.BadLog unit) = number_line (codes "rpm: Hlog.db is damaged at byte ") (16 * unit)
 closing words (why.Damaged damage) = damage_line damage
 closing words why.NumbersSpent = codes "rpm: no package number is left\n"
 closing words why.GenerationSpent = codes "rpm: no generation is left\n"
 closing words why.StoreFull = codes "rpm: Packages.db is full\n"
-closing words (why.NotEmpty held) = held_line held
-closing words (why.BadIndex unit) = index_line unit
+closing words (why.NotEmpty held) = number_line (codes "rpm: the database is not empty: package ") held
+closing words (why.BadIndex unit) = number_line (codes "rpm: Hindex.db is damaged at byte ") (16 * unit)
 closing words (why.IndexFull needed) = codes "rpm: Hindex.db is full\n"
 closing words (why.LogFull needed) = codes "rpm: Hlog.db is full\n"
 closing words why.DiskFault = codes "rpm: the database could not be read or written\n"

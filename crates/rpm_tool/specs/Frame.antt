@@ -36,14 +36,15 @@ module _ {D : Type 0} (d : disk.Ghosts D) where
   abbrev pub Leaves : D → D → Type 0
   Leaves = tool.Leaves d.tells d.files d.left_since d.moment d.bytes_read d.follows
 
-  -- a call only read the database, with its index: no sink stops it, and a fault has its cause
+  -- a call only read packages: no sink stops it and no index, and a fault has its cause
   pub record ReadsBy {T : Type 0} (result : Result T Stop) (old new : D) : Type 0 where
     pub looks : Peeks true old new
+    pub unbroken : (unit : ℕ) → result ≢ Err (stop.BadIndex unit)
     pub no_out : result ≢ Err stop.OutFault
     pub no_err : result ≢ Err stop.ErrFault
     pub disk : DiskFault d (result ≡ Err stop.ReadFault) old new
 
-  -- and wrote to out alone
+  -- it read the database, with its index, and wrote to out alone
   pub record TellsOut {O T : Type 0} (o : sink.Ghosts O) (result : Result T Stop) (old new : D) (out_old out_new : Buffered O) : Type 0 where
     pub looks : Peeks true old new
     pub no_err : result ≢ Err stop.ErrFault
@@ -80,6 +81,18 @@ OutTakes o Is old new = (err_tells : Bool) (err : List ℕ)
 abbrev pub ErrTakes : {E : Type 0} → sink.Ghosts E → (Outputs → Outputs → Type 0) → Buffered E → Buffered E → Type 0
 ErrTakes e Is old new = (out_tells : Bool) (out : List ℕ)
     → Is (outputs out_tells out e.tells (e.taken (inner old))) (outputs out_tells out e.tells (e.taken (inner new)))
+
+-- a call only wrote to out: nothing else stops it but want of memory
+pub record PutsOut {O T : Type 0} (o : sink.Ghosts O) (result : Result T Stop) (old new : Buffered O) : Type 0 where
+  pub no_read : result ≢ Err stop.ReadFault
+  pub no_err : result ≢ Err stop.ErrFault
+  pub out : Hand o (result ≡ Err stop.OutFault) old new
+
+-- or to err
+pub record PutsErr {E T : Type 0} (e : sink.Ghosts E) (result : Result T Stop) (old new : Buffered E) : Type 0 where
+  pub no_read : result ≢ Err stop.ReadFault
+  pub no_out : result ≢ Err stop.OutFault
+  pub err : Hand e (result ≡ Err stop.ErrFault) old new
 
 -- what a call keeps of both
 pub record Hands {O E : Type 0} (o : sink.Ghosts O) (e : sink.Ghosts E) (out_fails err_fails : Type 0) (out_old : Buffered O) (err_old : Buffered E)

@@ -5,36 +5,32 @@ use Rattle.rpm_outside.specs.Crash.{LeavesOnly}
 use Rattle.rpm_outside.specs.declared.disk.File.{File}
 use Rattle.rpm_outside.specs.declared.disk.File.TheVariants.{Pkg}
 use Rattle.rpm_outside.specs.Files.{Units, Files}
-use Rattle.rpm_outside.specs.Logs.{LogState, Closed, Malformed, Open, log_state, reopened}
+use Rattle.rpm_outside.specs.Logs.{Closed, log_state, reopened}
 use Rattle.rpm_group.specs.declared.recovery.RecoverFault.{RecoverFault}
 use Rattle.rpm_group.specs.declared.recovery.RecoverFault.TheVariants as recover
 use Rattle.rpm_group.specs.Loads.{IsSound}
-use Rattle.rpm_pkgdb.specs.declared.slot.Damage.{Damage}
 use Rattle.rpm_pkgdb.specs.Store.{Store, store}
 use Rattle.rpm_pkgdb.specs.Costs.{opening_cost}
-use Rattle.std.specs.Ordering.{nat_cmp}
-use Rattle.std.specs.FinMap.{FinMap}
 use Rattle.rpm_db.specs.State.{Package, packages}
 use Rattle.rpm_db.specs.Lawful.{IsLawful, HasRows, is_current_at}
 use Rattle.rpm_db.specs.Openings.{must_make, units_needed, making_cost}
-use Rattle.rpm_check.specs.Edges.{graph_of}
 use Rattle.rpm_words.specs.declared.switch.Chosen.{Chosen}
 use Rattle.rpm_words.specs.Words.{text_at}
 use Rattle.rpm_words.specs.Ask.{AskParts}
 use Rattle.rpm_qfparse.specs.Tree.{Tree}
-use Rattle.rpm_select.specs.Reach.{Reach}
 use Rattle.rpm_tool.specs.declared.answer.Why.{Why}
 use Rattle.rpm_tool.specs.declared.answer.Why.TheVariants as why
-use Rattle.rpm_tool.specs.declared.asked.Inquiry.{Inquiry}
-use Rattle.rpm_tool.specs.declared.asked.Inquiry.TheVariants as inquiry
-use Rattle.rpm_tool.specs.Asked.{is_query, inquiry_of}
+use Rattle.rpm_tool.specs.declared.asked.Deed.{Deed}
+use Rattle.rpm_tool.specs.declared.asked.Deed.TheVariants as deed
+use Rattle.rpm_tool.specs.Asked.{is_query, deed_of}
 use Rattle.rpm_change.specs.Steps.{Bearer}
-use Rattle.rpm_tool.specs.Queries.{query}
 use Rattle.rpm_tool.specs.Reports.{unindexed}
-use Rattle.rpm_tool.specs.Requirements.{unsatisfied, ordering, IsListed, IsOfSome}
-use Rattle.rpm_tool.specs.Reads.{argument_reach, reaches_by, reach_sum, reached_by, IsOfChains}
+use Rattle.rpm_tool.specs.Requirements.{IsOfSome}
+use Rattle.rpm_tool.specs.Reads.{reached_by, IsOfChains}
 use Rattle.rpm_change.specs.Endings.{Outputs, Through}
-use Rattle.rpm_tool.specs.Answers.{Went, Misread, Refused, Anywhere, is_foreign}
+use Rattle.rpm_tool.specs.Answers.{is_foreign}
+pub use Rattle.rpm_tool.specs.Answers.{is_done}
+use Rattle.rpm_tool.specs.Deeds.{Deeds, Loaded, DoesBy, asked_reaches, blocks_cost}
 
 -- ---- lawful disks
 
@@ -73,31 +69,14 @@ is_refusal (why.BadLog unit) = true
 is_refusal (why.Damaged damage) = true
 is_refusal others = false
 
--- done, with or without arguments that failed
-abbrev pub is_done : Why → Bool
-is_done why.Done = true
-is_done (why.Failed n) = true
-is_done others = false
-
--- what a command does with the store of a lawful database
-abbrev pub Deeds : Type 1
-Deeds = Store → Why → Outputs → Outputs → Type 0
-
 -- its index may have to be made, and be too large, and then nothing is done
 abbrev pub WentBy : (Why → Outputs → Outputs → Type 0) → Why → Outputs → Outputs → Type 0
 WentBy Do (why.IndexFull needed) old new = Through [] old new
 WentBy Do others old new = Do others old new
 
--- of one that can be read, what was done where it is lawful; of one that can't, its first damage
-abbrev pub OpenedBy : Type 0 → Deeds → Result Store Damage → Why → Outputs → Outputs → Type 0
-OpenedBy Lawful Do (Ok s) given old new = (is_refusal given ≡ false) × (Lawful → WentBy (Do s) given old new)
-OpenedBy Lawful Do (Err damage) given old new = Refused damage given × Through [] old new
-
--- the log is read first
-abbrev pub LoadedBy : Type 0 → Deeds → Result Store Damage → LogState → Why → Outputs → Outputs → Type 0
-LoadedBy Lawful Do s Closed given old new = OpenedBy Lawful Do s given old new
-LoadedBy Lawful Do s (Malformed unit) given old new = Misread unit given × Through [] old new
-LoadedBy Lawful Do s (Open entries) given old new = OpenedBy Lawful Do s given old new
+-- on a lawful database; of any that can be read no damage is told
+abbrev pub OnLawful : Type 0 → Deeds → Deeds
+OnLawful Lawful Do s given old new = (is_refusal given ≡ false) × (Lawful → WentBy (Do s) given old new)
 
 -- what is said where an index must be made, or needn't, that needs so many units
 abbrev pub FullByUnits : Bool → ℕ → Why → Type 0
@@ -112,14 +91,13 @@ abbrev pub FullIs : Files → Why → Type 0
 FullIs files given = FullByUnits (must_make files.idx (store files.pkg)) (units_needed files.pkg (store files.pkg)) given
 
 -- what a malformed index is told with: of a query the fault of the chain of a key that is asked, of a report that of some key
-abbrev pub CauseBy : Inquiry → Chosen → List (List ℕ) → Units → Why → Type 0
-CauseBy inquiry.Query chosen texts idx given = IsOfChains chosen texts idx given
-CauseBy inquiry.Unmet chosen texts idx given = IsOfSome idx given
-CauseBy inquiry.Order chosen texts idx given = IsOfSome idx given
+abbrev pub CauseBy : Deed → Chosen → List (List ℕ) → Units → Why → Type 0
+CauseBy deed.Print chosen texts idx given = IsOfChains chosen texts idx given
+CauseBy others chosen texts idx given = IsOfSome idx given
 
 -- a question by key blames the index only for a chain that it asks
 abbrev pub CauseIs : List (List ℕ) → AskParts → Units → Why → Type 0
-CauseIs words a idx given = CauseBy (inquiry_of a.mode) a.chosen (map (text_at words) a.arguments) idx given
+CauseIs words a idx given = CauseBy (deed_of a.mode) a.chosen (map (text_at words) a.arguments) idx given
 
 -- it is told only where it is current
 abbrev pub BadIs : List (List ℕ) → AskParts → Files → Why → Type 0
@@ -143,47 +121,32 @@ is_done_or_outside others = false
 
 -- ---- what is read
 
--- what the arguments go over: by the index that a database has unless it is blank
-abbrev pub keyed_reaches : Units → Store → List (List ℕ) → AskParts → List Reach
-keyed_reaches file s words a = reaches_by (argument_reach (not (s.pages == 0)) (packages file s) a.chosen) (map (text_at words) a.arguments)
+-- a database has its index unless it is blank
+abbrev pub has_index : Store → Bool
+has_index s = not (s.pages == 0)
 
 -- up to a step: the pages, the packages where the index must be made of them, and those that the arguments go over
 abbrev pub keyed_to : Files → List (List ℕ) → AskParts → Store → Bearer → ℕ
-keyed_to files words a s for =
-    opening_cost files.pkg + making_cost files.idx (store files.pkg) + reached_by (keyed_reaches files.pkg s words a) (unindexed s) for
-
--- the bytes of blocks that a question by key may read, none of a damaged store
-abbrev pub asked_cost : Units → Result Store Damage → List (List ℕ) → AskParts → ℕ
-asked_cost file (Ok s) words a = reach_sum (keyed_reaches file s words a) (unindexed s)
-asked_cost file (Err damage) words a = 0
+keyed_to files words a s for = opening_cost files.pkg + making_cost files.idx (store files.pkg)
+    + reached_by (asked_reaches (has_index s) files.pkg s words a) (unindexed s) for
 
 -- in all
 abbrev pub keyed_cost : Files → List (List ℕ) → AskParts → ℕ
-keyed_cost files words a = opening_cost files.pkg + making_cost files.idx (store files.pkg) + asked_cost files.pkg (store files.pkg) words a
+keyed_cost files words a =
+    opening_cost files.pkg + making_cost files.idx (store files.pkg) + blocks_cost has_index files.pkg (store files.pkg) words a
 
 -- ---- what is answered
-
--- how far the order was told, by the order of the graph
-abbrev pub OrderIs : FinMap nat_cmp Package → Why → Outputs → Outputs → Type 0
-OrderIs packages given old new = (classes : List (List ℕ)) × IsListed (graph_of packages) (is_done given) classes
-    × Went (ordering packages classes) given old new Anywhere
-
--- how far a command went on these packages; how much is read isn't said of a report
-abbrev pub DoesBy : Inquiry → Tree → List (List ℕ) → AskParts → FinMap nat_cmp Package → (Bearer → Type 0) → Why → Outputs → Outputs → Type 0
-DoesBy inquiry.Query tree words a packages reads_to given old new = Went (query tree packages words a) given old new reads_to
-DoesBy inquiry.Unmet tree words a packages reads_to given old new = Went (unsatisfied packages) given old new Anywhere
-DoesBy inquiry.Order tree words a packages reads_to given old new = OrderIs packages given old new
 
 -- on these files, of whose Packages.db so many bytes were read before and then
 abbrev pub DidByKey : Tree → List (List ℕ) → AskParts → Files → ℕ → ℕ → Deeds
 DidByKey tree words a r before now s given old new =
-    DoesBy (inquiry_of a.mode) tree words a (packages r.pkg s) (λ for. now ≤ before + keyed_to r words a s for) given old new
+    DoesBy (deed_of a.mode) tree r.pkg s words a (λ for. now ≤ before + keyed_to r words a s for) given old new
 
 -- what a question by key prints, reports and reads
 abbrev pub KeyedIs : Tree → List (List ℕ) → AskParts → Files → Why → Outputs → Outputs → ℕ → ℕ → Type 0
 KeyedIs tree words a files given old new before now =
     let r = reopened files in
-    LoadedBy (IsLawful r.pkg r.idx) (DidByKey tree words a r before now) (store r.pkg) (log_state files.log) given old new
+    Loaded (OnLawful (IsLawful r.pkg r.idx) (DidByKey tree words a r before now)) (store r.pkg) (log_state files.log) given old new
 
 -- all that is said of it on a disk that tells its contents
 pub record AnswersByKey {D : Type 0} (files : D → Files) (left_since : D → ℕ → Files → Type 0) (moment : D → ℕ) (bytes_read : D → File → ℕ) (tree : Tree)

@@ -2,6 +2,7 @@ pub mod Answers
 pub mod Asked
 pub mod Changing
 pub mod Closing
+pub mod Deeds
 pub mod FileReport
 pub mod Frame
 pub mod Given

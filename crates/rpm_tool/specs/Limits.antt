@@ -1,8 +1,9 @@
 -- The limits of a command that changes packages: the first that it meets is the one that it is answered; and when the disk failed. On it rest
 -- `limits`, `log` and `fault` of `changes` on the page (Theorem.antt).
 use Rattle.std.specs.Prelude.{◌≡◌, ◌⊎◌, ℕ, ◌^◌, ◌<◌, ◌≤◌, ◌==◌, if◌then◌else◌, max, List, length, Bool, true, false, Option, Some, None, IfOk}
-use Rattle.rpm_outside.specs.Crash.{LeavesOnly}
+use Rattle.rpm_outside.specs.declared.disk.Disk as disk
 use Rattle.rpm_outside.specs.Files.{Units, Files}
+use Rattle.rpm_outside.specs.Frame.{images, LeavesIn}
 use Rattle.rpm_outside.specs.Logs.{reopened}
 use Rattle.rpm_hindex.specs.Sizes.{units_for}
 use Rattle.rpm_pkgdb.specs.Reaches.{store_end}
@@ -93,18 +94,18 @@ LogBy anew Lawful course files given = (indexed : Bool) → (indexed ≡ true �
 
 -- ---- a fault of the disk
 
--- it came before the commit: nothing changed, whatever a crash leaves
-pub record StoodStill {D : Type 0} (files : D → Files) (left_since : D → ℕ → Files → Type 0) (moment : D → ℕ) (old new : D) : Type 0 where
-  pub same : reopened (files new) ≡ reopened (files old)
-  pub stops : AreLawfulGroups (left_since old (moment old))
-      → LeavesOnly moment left_since old new (StandsStill (left_since old (moment old)))
-
 -- it came with the commit, or after it: all lines were told, and no change was refused
 pub record ToldAll (anew : Bool) (Lawful : Type 0) (course : State → Course) (files : Files) (before now : Outputs) : Type 0 where
   pub told : Says (λ s. Through (course s).steps before now) files.pkg
   pub limits : LimitsBy anew Lawful course files why.Done
 
--- with a fault of the disk nothing changed, or all lines were printed and no limit was met
-abbrev pub FaultIs : {D : Type 0} → Bool → (D → Files) → (D → ℕ → Files → Type 0) → (D → ℕ) → (State → Course) → Why → D → D → Outputs → Outputs → Type 0
-FaultIs anew files left_since moment course given old new before now = given ≡ why.DiskFault
-    → StoodStill files left_since moment old new ⊎ ToldAll anew (IsLawfulGroup (files old)) course (reopened (files old)) before now
+module _ {D : Type 0} (d : disk.Ghosts D) where
+  -- it came before the commit: nothing changed, whatever a crash leaves
+  pub record StoodStill (old new : D) : Type 0 where
+    pub same : reopened (d.files new) ≡ reopened (d.files old)
+    pub stops : AreLawfulGroups (images d old) → LeavesIn d old new (StandsStill (images d old))
+
+  -- with a fault of the disk nothing changed, or all lines were printed and no limit was met
+  abbrev pub FaultIs : Bool → (State → Course) → Why → D → D → Outputs → Outputs → Type 0
+  FaultIs anew course given old new before now = given ≡ why.DiskFault
+      → StoodStill old new ⊎ ToldAll anew (IsLawfulGroup (d.files old)) course (reopened (d.files old)) before now

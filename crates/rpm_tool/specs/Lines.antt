@@ -10,10 +10,11 @@ use Rattle.rpm_words.specs.Ask.{AskParts, ask}
 use Rattle.rpm_qfparse.specs.declared.fault.FormatFault.{FormatFault}
 use Rattle.rpm_qfparse.specs.Tree.{Tree}
 use Rattle.rpm_tool.specs.declared.answer.Why.TheVariants as why
-use Rattle.rpm_tool.specs.Answers.{ComesWhere, Queried, Anywhere, Went, Closes, Ends, is_foreign}
+use Rattle.rpm_tool.specs.Answers.{ComesWhere, Anywhere, Went, Closes, Ends, is_foreign}
 use Rattle.rpm_tool.specs.Asked.{of_files, by_key, is_changing, asks_change, asks_format, asks}
 use Rattle.rpm_tool.specs.Changing.{DidOn, ChangesWith, EmptyBy}
 use Rattle.rpm_tool.specs.Closing.{status_of, closing}
+use Rattle.rpm_tool.specs.Deeds.{Queried}
 use Rattle.rpm_tool.specs.Frame.{images, pkg_read, Leaves, LeavesIn}
 use Rattle.rpm_tool.specs.Given.{given_on}
 use Rattle.rpm_tool.specs.History.{RunCall, course_of}
@@ -84,13 +85,13 @@ pub record LineIs {D : Type 0} (d : disk.Ghosts D) (shelf : Bool) (paths : Paths
   -- commands that change packages
   pub did : OfChange call.words shelf (λ a. Ends (λ mid. DidOn (asked_course paths call.moment call.words a) (d.files old.disk) call.outcome.why
       old.taken mid) (closing call.words call.outcome.why) new.taken old.err_faults new.err_faults)
-  pub changed : OfChange call.words shelf (λ a. ChangesWith (is_anew (asked_task call.words a)) (changes_index (asked_task call.words a)) d.files
-      d.left_since d.moment (asked_course paths call.moment call.words a) call.outcome.why call.outcome.changes old.disk new.disk)
+  pub changed : OfChange call.words shelf (λ a. ChangesWith d (is_anew (asked_task call.words a)) (changes_index (asked_task call.words a))
+      (asked_course paths call.moment call.words a) call.outcome.why call.outcome.changes old.disk new.disk)
   pub empty : Of call.words (λ a tree. is_changing a ≡ true
       → EmptyBy (needs_none (asked_task call.words a)) (reopened (d.files old.disk)) call.outcome.why)
   pub limits : OfChange call.words shelf (λ a. LimitsBy (is_anew (asked_task call.words a)) (IsLawfulGroup (d.files old.disk))
       (asked_course paths call.moment call.words a) (reopened (d.files old.disk)) call.outcome.why)
-  pub fault : OfChange call.words shelf (λ a. Ends (λ mid. FaultIs (is_anew (asked_task call.words a)) d.files d.left_since d.moment
+  pub fault : OfChange call.words shelf (λ a. Ends (λ mid. FaultIs d (is_anew (asked_task call.words a))
       (asked_course paths call.moment call.words a) call.outcome.why old.disk new.disk old.taken mid)
       (closing call.words call.outcome.why) new.taken old.err_faults new.err_faults)
   pub log : OfChange call.words shelf (λ a. LogBy (is_anew (asked_task call.words a)) (IsLawfulGroup (d.files old.disk))

@@ -34,11 +34,6 @@ ReadsIn j n r db before now for = (for.argument ≡ j) × (now + reach_to n r db
 abbrev pub ReadsOf : ℕ → Reach → Database → ℕ → ℕ → Bearer → Type 0
 ReadsOf j r db before now for = (for.argument ≡ j) × (now ≤ before + reached r db for.number)
 
--- the numbers above n, up to the one that is gone through
-abbrev pub reach_until : ℕ → Reach → Database → Result (Option (ℕ × Bool)) Stop → ℕ
-reach_until n r db (Ok (Some e)) = reach_to e.0 r db - reach_to n r db
-reach_until n r db others = reach_all r db - reach_to n r db
-
 -- ---- several
 
 -- what a question goes over, with an index or without; an argument that is none goes over nothing

@@ -1,5 +1,4 @@
--- What the commands do that go over all packages of the database, and what each command does that asks no index: the courses of `plain` on the
--- page (Theorem.antt).
+-- What the commands do that go over all packages of the database: courses of `plain` on the page (Theorem.antt).
 use Rattle.std.specs.Prelude.{ℕ, List, [], ◌∷◌, ◌++◌, map, false, codes, decimal, Option, Some, None}
 use Rattle.std.specs.List.{concat}
 use Rattle.std.specs.Ordering.{nat_cmp}
@@ -14,17 +13,11 @@ use Rattle.rpm_db.specs.declared.verify.Verdict.TheVariants.{Sound, BadHeader, B
 use Rattle.rpm_db.specs.Verdicts.{verdict}
 use Rattle.rpm_select.specs.declared.selection.Selection.TheVariants as question
 use Rattle.rpm_select.specs.Selections.{picks}
-use Rattle.rpm_words.specs.Ask.{AskParts}
-use Rattle.rpm_qfparse.specs.Tree.{Tree}
 use Rattle.rpm_tool.specs.declared.step.Way.{Way}
 use Rattle.rpm_tool.specs.declared.step.Way.TheVariants as way
-use Rattle.rpm_tool.specs.declared.asked.Deed.{Deed}
-use Rattle.rpm_tool.specs.declared.asked.Deed.TheVariants as deed
-use Rattle.rpm_tool.specs.Asked.{deed_of}
 use Rattle.rpm_change.specs.Steps.{bearer, Step, ToOut, Course, idle}
 use Rattle.rpm_tool.specs.Steps.{Portion, nothing, fails, together, before}
-use Rattle.rpm_tool.specs.Queries.{bad_step, step_of, packages_part, query}
-use Rattle.rpm_tool.specs.FileReport.{check_files}
+use Rattle.rpm_tool.specs.Queries.{bad_step, step_of, packages_part}
 
 -- a header goes out after the magic
 abbrev pub exported : ℕ → ℕ × Package → Step
@@ -67,16 +60,3 @@ entry_verdict file store e = verdict_part e.0 (verdict file (unindexed store) e.
 -- the verdicts of all packages, by rising number
 abbrev pub verify : Units → Store → Course
 verify file store = before (together (map (entry_verdict file store) (entries (packages file store)))) idle
-
--- ---- the commands that open the database without its index
-
--- what a command that reads all packages prints, by its mode
-abbrev pub course_by : Deed → Tree → Units → Store → List (List ℕ) → AskParts → Course
-course_by deed.Print tree file store words a = query tree (packages file store) words a
-course_by deed.Export tree file store words a = export (packages file store)
-course_by deed.Verify tree file store words a = verify file store
-course_by deed.CheckFiles tree file store words a = check_files (packages file store)
-
--- by the words; the tree is the format of a query
-abbrev pub course : Tree → Units → Store → List (List ℕ) → AskParts → Course
-course tree file store words a = course_by (deed_of a.mode) tree file store words a

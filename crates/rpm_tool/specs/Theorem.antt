@@ -25,9 +25,10 @@ use Rattle.rpm_change.specs.Endings.{Outputs}
 use Rattle.rpm_change.specs.Steps.{Course}
 use Rattle.rpm_tool.specs.declared.answer.Why.{Why}
 use Rattle.rpm_tool.specs.declared.answer.Why.TheVariants as why
-use Rattle.rpm_tool.specs.Answers.{ComesWhere, Queried, Anywhere, Went, is_foreign, query_cost}
+use Rattle.rpm_tool.specs.Answers.{ComesWhere, Anywhere, Went, is_foreign}
 use Rattle.rpm_tool.specs.Asked.{is_query, of_files, by_key, is_changing, asks_change, asks_format, asks}
 use Rattle.rpm_tool.specs.Changing.{DidOn, ChangesWith, EmptyBy}
+use Rattle.rpm_tool.specs.Deeds.{Queried, query_cost}
 use Rattle.rpm_tool.specs.Frame.{images, pkg_read, Leaves, LeavesIn}
 use Rattle.rpm_tool.specs.Keyed.{AreLawfulGroups, IsLawfulGroup, StandsStill, IsReady, KeyedIs, FullIs, BadIs, HasRoom, is_done, is_done_or_outside, keyed_cost}
 use Rattle.rpm_tool.specs.Limits.{LimitsBy, LogBy, FaultIs}
@@ -94,12 +95,11 @@ module _ {D S : Type 0} {d : disk.Ghosts D} {s : shelf.Ghosts S} where
   pub record AnswersChange (r : Run d s) (a : AskParts) (course : State → Course)
       (mid : Outputs) : Type 0 where
     pub did : DidOn course (d.files r.found) r.why r.before mid
-    pub changed : ChangesWith (is_anew (asked_task r.words a)) (changes_index (asked_task r.words a)) d.files
-        d.left_since d.moment course r.why r.changes r.found r.left
+    pub changed : ChangesWith d (is_anew (asked_task r.words a)) (changes_index (asked_task r.words a)) course
+        r.why r.changes r.found r.left
     pub limits : LimitsBy (is_anew (asked_task r.words a)) (IsLawfulGroup (d.files r.found)) course
         (reopened (d.files r.found)) r.why
-    pub fault : FaultIs (is_anew (asked_task r.words a)) d.files d.left_since d.moment course r.why
-        r.found r.left r.before mid
+    pub fault : FaultIs d (is_anew (asked_task r.words a)) course r.why r.found r.left r.before mid
     pub log : LogBy (is_anew (asked_task r.words a)) (IsLawfulGroup (d.files r.found)) course
         (reopened (d.files r.found)) r.why
 

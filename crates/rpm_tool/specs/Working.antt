@@ -1,12 +1,12 @@
 -- What a changing command does on the disk over which its changes are held, and how the group ends. No field of the page (Theorem.antt) rests on
 -- it: so the functions below `run` say to each other what becomes `changes` there.
+use Rattle.rpm_db.specs.Frame.{room}
 use Rattle.std.specs.Prelude.{◌≡◌, ◌⊎◌, ℕ, ◌^◌, ◌<◌, ◌≤◌, ◌==◌, if◌then◌else◌, max, [], length, Bool, true, false, Result, Ok, Err, IfOk}
+use Rattle.rpm_outside.specs.declared.disk.Disk as disk
 use Rattle.rpm_outside.specs.Changes.{AreSettled}
-use Rattle.rpm_outside.specs.Crash.{LeavesOnly}
 use Rattle.rpm_outside.specs.Files.{Units, Files}
+use Rattle.rpm_outside.specs.Frame.{images, LeavesIn}
 use Rattle.rpm_outside.specs.Logs.{Closed, log_state, unlogged}
-use Rattle.rpm_group.specs.declared.commit.CommitFault.{CommitFault}
-use Rattle.rpm_group.specs.declared.commit.CommitFault.TheVariants as commit
 use Rattle.rpm_group.specs.Groups.{BeforeOrAfter}
 use Rattle.rpm_group.specs.Settled.{ReopensAs}
 use Rattle.rpm_pkgdb.specs.declared.slot.Damage.{Damage}
@@ -36,7 +36,7 @@ use Rattle.rpm_tool.specs.Keyed.{is_done}
 
 -- the state that is found, with room for an index that must be made; or why it isn't opened
 abbrev pub OpensIn : Bool → ℕ → State → Files → Result Database Why → Type 0
-OpensIn making needed s new (Ok db) = (state new.pkg db.store ≡ s) × (making ≡ true → needed ≤ 2 ^ 28)
+OpensIn making needed s new (Ok db) = (state new.pkg (room db) ≡ s) × (making ≡ true → needed ≤ 2 ^ 28)
 OpensIn making needed s new (Err (why.IndexFull told)) = (making ≡ true) × (2 ^ 28 < needed) × (told ≡ needed)
 OpensIn making needed s new (Err why.DiskFault) = Unit {0}
 OpensIn making needed s new (Err why.NoMemory) = Unit {0}
@@ -50,7 +50,7 @@ OpensBy old (Err damage) new (Err given) = Refused damage given
 
 -- no file is longer than what is found of this store, the store that is opened, or the index that may be made
 pub record OpensWithin (old : Files) (value : Store) (db : Database) (new : Files) : Type 0 where
-  pub pkg : length new.pkg ≤ max (length old.pkg) (store_end db.store)
+  pub pkg : length new.pkg ≤ max (length old.pkg) (store_end (room db))
   pub idx : length new.idx ≤ max (length old.idx) (units_needed old.pkg (Ok value))
 
 -- the answer of a command for each fault of opening
@@ -155,15 +155,6 @@ IsUncommitted why.NoMemory = Unit {0}
 IsUncommitted (why.LogFull units) = Unit {0}
 IsUncommitted others = ⊥
 
--- an ending that a commit makes, or one that is kept from before it
-abbrev pub is_of_commit : Why → Bool
-is_of_commit why.Done = true
-is_of_commit (why.Failed n) = true
-is_of_commit why.DiskFault = true
-is_of_commit why.NoMemory = true
-is_of_commit (why.LogFull units) = true
-is_of_commit others = false
-
 -- a fault of the shelf or of a sink
 abbrev pub is_of_streams : Why → Bool
 is_of_streams why.ShelfFault = true
@@ -171,33 +162,27 @@ is_of_streams why.OutFault = true
 is_of_streams why.ErrFault = true
 is_of_streams others = false
 
--- what a commit answers, once a command was done
-abbrev pub CommittedAs : Tally → Result (Unit {0}) CommitFault → Why → ℕ → Type 0
-CommittedAs tally (Ok done) given changes = (given ≡ done_why tally.failed) × (changes ≡ tally.changes)
-CommittedAs tally (Err (commit.LogFull needed)) given changes = (given ≡ why.LogFull needed) × (changes ≡ 0)
-CommittedAs tally (Err commit.DiskFault) given changes = (given ≡ why.DiskFault) × (changes ≡ 0)
-
 -- the changes count where they are committed; a fault of the disk is want of memory where a write found none
 abbrev pub EndsAs : Result Tally Why → Why → ℕ → Type 0
 EndsAs (Ok tally) given changes = ((given ≡ done_why tally.failed) × (changes ≡ tally.changes)) ⊎ ((changes ≡ 0) × IsUncommitted given)
 EndsAs (Err was) given changes = (changes ≡ 0) × ((given ≡ was) ⊎ ((was ≡ why.DiskFault) × (given ≡ why.NoMemory)))
-
--- the files are those after a group, with a closed log, and no stop from now on leaves others
-pub record IsCommitted (after final : Files) (images : Files → Type 0) : Type 0 where
-  pub same : unlogged final ≡ after
-  pub closed : log_state final.log ≡ Closed
-  pub settled : AreSettled final images
 
 -- what a crash leaves meanwhile: the files before, or those after a group whose changes were all made
 abbrev pub GroupLeaves : Result Tally Why → Files → Files → Files → Type 0
 GroupLeaves (Ok tally) before after = BeforeOrAfter before after
 GroupLeaves (Err given) before after = ReopensAs before
 
--- the group that makes these files of the disk's
-pub record EndsGroup {D : Type 0} (files : D → Files) (left_since : D → ℕ → Files → Type 0) (moment : D → ℕ) (ended : Result Tally Why) (given : Why)
-    (changes : ℕ) (after : Files) (old new : D) : Type 0 where
-  pub says : EndsAs ended given changes
-  pub done : is_done given ≡ true → IsCommitted after (files new) (left_since new (moment new))
-  pub stays : is_done_or_fault given ≡ false → files new ≡ files old
-  pub images : LeavesOnly moment left_since old new (GroupLeaves ended (unlogged (files old)) after)
-  pub unmade : is_done_or_fault given ≡ false → LeavesOnly moment left_since old new (ReopensAs (unlogged (files old)))
+module _ {D : Type 0} (d : disk.Ghosts D) where
+  -- its log is closed, and no stop from now on leaves other files
+  pub record IsShut (it : D) : Type 0 where
+    pub closed : log_state (d.files it).log ≡ Closed
+    pub settled : AreSettled (d.files it) (images d it)
+
+  -- the group that makes these files of the disk's
+  pub record EndsGroup (ended : Result Tally Why) (given : Why) (changes : ℕ) (after : Files) (old new : D) : Type 0 where
+    pub says : EndsAs ended given changes
+    pub done : is_done given ≡ true → unlogged (d.files new) ≡ after
+    pub shut : is_done given ≡ true → IsShut new
+    pub stays : is_done_or_fault given ≡ false → d.files new ≡ d.files old
+    pub leaves : LeavesIn d old new (GroupLeaves ended (unlogged (d.files old)) after)
+    pub unmade : is_done_or_fault given ≡ false → LeavesIn d old new (ReopensAs (unlogged (d.files old)))

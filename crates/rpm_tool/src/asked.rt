@@ -1,7 +1,7 @@
 //! The command that the words ask for, and its format.
 
 ghost use Rattle.std.specs.Prelude.{◌≡◌, true, Some, Ok, IfOk, IfErr};
-ghost use Rattle.rpm_tool.specs.Prelude.{ask, asks_format, by_key, deed_of, format_text, inquiry_of, IsSound, needs_no_index, of_files, Undone};
+ghost use Rattle.rpm_tool.specs.Prelude.{ask, asks_format, by_key, deed_of, format_text, IsSound, needs_no_index, of_files, Undone};
 
 use crate::answer::Why;
 use rpm_qfparse::{Format, FormatKind, parse};
@@ -21,7 +21,7 @@ fn needs_no_index(chosen: Chosen, noindex: bool) -> bool
 /// What a command does with the database that it opens.
 #[derive(Clone, Copy, Debug, PartialEq, Eq)]
 pub enum Deed {
-    /// It prints what arguments pick.
+    /// It prints what its arguments pick.
     Print,
     /// It writes all headers out.
     Export,
@@ -29,6 +29,10 @@ pub enum Deed {
     Verify,
     /// It tells the paths that several packages own and that differ.
     CheckFiles,
+    /// It tells which requirements no package meets.
+    Unmet,
+    /// It tells in which order the packages could be installed.
+    Order,
 }
 
 /// What a command of this mode does.
@@ -39,29 +43,9 @@ pub fn deed_of(mode: Mode) -> Deed
         Mode::Exportdb => Deed::Export,
         Mode::Verifydb => Deed::Verify,
         Mode::Checkfiles => Deed::CheckFiles,
+        Mode::Verify => Deed::Unmet,
+        Mode::Order => Deed::Order,
         _ => Deed::Print,
-    }
-}
-
-/// What a command asks of a database that it opens with its index.
-#[derive(Clone, Copy, Debug, PartialEq, Eq)]
-pub enum Inquiry {
-    /// What its arguments pick.
-    Query,
-    /// Which requirements no package meets.
-    Unmet,
-    /// In which order the packages could be installed.
-    Order,
-}
-
-/// What a command of this mode asks.
-pub fn inquiry_of(mode: Mode) -> Inquiry
-    ensures { result ≡ inquiry_of mode }
-{
-    match mode {
-        Mode::Verify => Inquiry::Unmet,
-        Mode::Order => Inquiry::Order,
-        _ => Inquiry::Query,
     }
 }
 

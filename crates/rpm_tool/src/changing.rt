@@ -1,13 +1,13 @@
 //! Commands that change packages: all changes of a command line are one.
 
-ghost use Rattle.std.specs.Prelude.{◌≡◌, ◌⊎◌, ◌≤◌, true, false, IsTrue, Ok, Err, IfErr};
-ghost use Rattle.rpm_tool.specs.Prelude.{AreSettled, asked_task, Closed, CommittedAs, DiskFault, done_why, EmptyBy, EndsGroup, HasCauseAt, images, is_done, is_halt, is_of_commit, is_of_streams, is_of_words, IsCountable, IsSound, Keeps, laid_files, log_state, LogIs, needs_none, OneChange, overlay_below, overlay_held, overlay_starved, reads_shelf, reopened, Rose, shown, Streams, task_parts, unlogged};
+ghost use Rattle.std.specs.Prelude.{◌≡◌, ◌⊎◌, ◌≤◌, true, false, IsTrue, Err, IfErr};
+ghost use Rattle.rpm_tool.specs.Prelude.{asked_task, done_why, EmptyBy, EndsGroup, is_done, is_halt, is_of_streams, is_of_words, IsShut, IsSound, Keeps, laid_files, LogIs, needs_none, OneChange, overlay_below, overlay_held, overlay_starved, reads_shelf, reopened, Rose, shown, Streams, task_course, unlogged};
 
 use crate::answer::Why;
 use crate::courses::change_on;
 use crate::keyed::why_of_recover;
 use crate::loaded::{unless_starved, why_of_load};
-use crate::task::{Task, task_of};
+use crate::task::task_of;
 use rpm_change::Tally;
 use rpm_group::{CommitFault, Overlay, recover};
 use rpm_outside::{Buffered, Disk, Shelf, Sink};
@@ -40,50 +40,11 @@ fn unchanged(why: Why) -> CommandEnding
     CommandEnding { why, changes: 0 }
 }
 
-/// The ending of a command whose changes were to be committed: they count where they were.
-fn committed(tally: Tally, answer: Result<(), CommitFault>) -> CommandEnding
-    ensures says { CommittedAs tally answer result.why result.changes }
-    ensures counted { is_done result.why ≡ false → result.changes ≡ 0 }
-{
-    match answer {
-        Ok(()) => CommandEnding {
-            why: done_why(tally.failed),
-            changes: tally.changes,
-        },
-        Err(CommitFault::LogFull { needed }) => unchanged(Why::LogFull { needed }),
-        Err(CommitFault::DiskFault) => unchanged(Why::DiskFault),
-    }
-}
-
-/// Commits the changes of a command that was done, which count where that succeeds.
-fn commit_all<D: Disk>(overlay: Overlay<D>, tally: Tally) -> (CommandEnding, D)
-    requires settled { IsTrue D.tells → AreSettled (D.files (overlay_below overlay))
-        (D.left_since (overlay_below overlay) (D.moment (overlay_below overlay))) }
-    requires closed { IsTrue D.tells → log_state (D.files (overlay_below overlay)).log ≡ Closed }
-    ensures ends { IsTrue D.tells → EndsGroup D.files D.left_since D.moment (Ok tally) result.0.why result.0.changes
-        (unlogged (laid_files (overlay_held overlay) (D.files (overlay_below overlay)))) (overlay_below overlay)
-        result.1 }
-    ensures log { IsTrue D.tells → LogIs (laid_files (overlay_held overlay) (D.files (overlay_below overlay)))
-        result.0.why }
-    ensures kinds { is_of_commit result.0.why ≡ true }
-    ensures counted { is_done result.0.why ≡ false → result.0.changes ≡ 0 }
-    ensures goes_on { D.follows (overlay_below overlay) result.1 }
-    ensures disk { HasCauseAt (result.0.why ≡ Why.DiskFault) (D.faults (overlay_below overlay)) (D.faults result.1) }
-{
-    if overlay.is_starved() {
-        return (unchanged(Why::NoMemory), overlay.release());
-    }
-    let (disk, answer) = overlay.commit();
-    (committed(tally, answer), disk)
-}
-
-/// Ends a command on an overlay: its changes are committed where it was done, and else let go.
+/// Ends a command on an overlay: its changes are committed where it was done, and count then; else they are let go.
 fn end_group<D: Disk>(overlay: Overlay<D>, ended: Result<Tally, Why>) -> (CommandEnding, D)
     requires halted { IfErr ended (λ given. is_halt given ≡ true) }
-    requires settled { IsTrue D.tells → AreSettled (D.files (overlay_below overlay))
-        (D.left_since (overlay_below overlay) (D.moment (overlay_below overlay))) }
-    requires closed { IsTrue D.tells → log_state (D.files (overlay_below overlay)).log ≡ Closed }
-    ensures ends { IsTrue D.tells → EndsGroup D.files D.left_since D.moment ended result.0.why result.0.changes
+    requires shut { IsTrue D.tells → IsShut D.Disk (overlay_below overlay) }
+    ensures ends { IsTrue D.tells → EndsGroup D.Disk ended result.0.why result.0.changes
         (unlogged (laid_files (overlay_held overlay) (D.files (overlay_below overlay)))) (overlay_below overlay)
         result.1 }
     ensures log { IsTrue D.tells → LogIs (laid_files (overlay_held overlay) (D.files (overlay_below overlay)))
@@ -97,45 +58,25 @@ fn end_group<D: Disk>(overlay: Overlay<D>, ended: Result<Tally, Why>) -> (Comman
         ⊎ ((ended ≡ Err Why.DiskFault) × (overlay_starved overlay ≡ 0)) }
 {
     match ended {
-        Ok(tally) => commit_all(overlay, tally),
+        Ok(tally) => {
+            if overlay.is_starved() {
+                return (unchanged(Why::NoMemory), overlay.release());
+            }
+            let (disk, answer) = overlay.commit();
+            match answer {
+                Ok(()) => {
+                    let why = done_why(tally.failed);
+                    let changes = tally.changes;
+                    (CommandEnding { why, changes }, disk)
+                }
+                Err(CommitFault::LogFull { needed }) => (unchanged(Why::LogFull { needed }), disk),
+                Err(CommitFault::DiskFault) => (unchanged(Why::DiskFault), disk),
+            }
+        }
         Err(given) => {
             let why = unless_starved(overlay.is_starved(), given);
             (unchanged(why), overlay.release())
         }
-    }
-}
-
-/// Makes the changes of a command on a database that is recovered.
-fn change_recovered<D: Disk, S: Shelf, O: Sink + Drop, E: Sink + Drop>(
-    alloc: Global,
-    disk: D,
-    shelf: &mut S,
-    task: &Task<'_>,
-    now: u32,
-    out: &mut Buffered<O>,
-    err: &mut Buffered<E>,
-) -> (CommandEnding, D)
-    requires countable { IsCountable (task_parts task.now) }
-    requires settled { IsTrue D.tells → AreSettled (D.files disk) (images D.Disk disk) }
-    requires closed { IsTrue D.tells → log_state (D.files disk).log ≡ Closed }
-    ensures one { IsTrue D.tells → (reads_shelf (task_parts task.now) ≡ true → IsTrue S.tells)
-        → OneChange D.files D.left_since D.moment (S.paths shelf.old) now (task_parts task.now) result.0.why
-        result.0.changes disk result.1 (shown O.Sink E.Sink out.old err.old) (shown O.Sink E.Sink out.new err.new) }
-    ensures empty { IsTrue D.tells → EmptyBy (needs_none (task_parts task.now)) (reopened (D.files disk)) result.0.why }
-    ensures counted { is_done result.0.why ≡ false → result.0.changes ≡ 0 }
-    ensures of_words { is_of_words result.0.why ≡ false }
-    ensures goes_on { D.follows disk result.1 }
-    ensures disk { DiskFault D.Disk (result.0.why ≡ Why.DiskFault) disk result.1 }
-    ensures streams { Streams S.Shelf O.Sink E.Sink (reads_shelf (task_parts task.now)) (λ why. result.0.why ≡ why)
-        (shelf.old, out.old, err.old) (shelf.new, out.new, err.new) }
-{
-    match Overlay::load(alloc, disk) {
-        Ok(overlay) => {
-            let mut overlay = overlay;
-            let ended = change_on(alloc, &mut overlay, shelf, task, now, out, err);
-            end_group(overlay, ended)
-        }
-        Err(refused) => (unchanged(why_of_load(refused.why)), refused.disk),
     }
 }
 
@@ -177,8 +118,9 @@ pub fn change_asked<D: Disk, S: Shelf, O: Sink + Drop, E: Sink + Drop>(
 ) -> (CommandEnding, D)
     requires sound { IsSound words.now ask.now }
     ensures one { IsTrue D.tells → (reads_shelf (asked_task words.now ask.now) ≡ true → IsTrue S.tells)
-        → OneChange D.files D.left_since D.moment (S.paths shelf.old) now (asked_task words.now ask.now) result.0.why
-        result.0.changes disk result.1 (shown O.Sink E.Sink out.old err.old) (shown O.Sink E.Sink out.new err.new) }
+        → OneChange D.Disk (asked_task words.now ask.now)
+        (task_course (S.paths shelf.old) now (asked_task words.now ask.now)) result.0.why result.0.changes disk result.1
+        (shown O.Sink E.Sink out.old err.old) (shown O.Sink E.Sink out.new err.new) }
     ensures empty { IsTrue D.tells → EmptyBy (needs_none (asked_task words.now ask.now)) (reopened (D.files disk))
         result.0.why }
     ensures keeps { Keeps D.Disk result.0 disk result.1 }
@@ -192,7 +134,14 @@ pub fn change_asked<D: Disk, S: Shelf, O: Sink + Drop, E: Sink + Drop>(
     };
     let mut disk = disk;
     match recover(&mut disk) {
-        Ok(_) => change_recovered(alloc, disk, shelf, &task, now, out, err),
+        Ok(_) => match Overlay::load(alloc, disk) {
+            Ok(overlay) => {
+                let mut overlay = overlay;
+                let ended = change_on(alloc, &mut overlay, shelf, &task, now, out, err);
+                end_group(overlay, ended)
+            }
+            Err(refused) => (unchanged(why_of_load(refused.why)), refused.disk),
+        },
         Err(fault) => (unchanged(why_of_recover(fault)), disk),
     }
 }

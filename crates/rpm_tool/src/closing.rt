@@ -1,7 +1,7 @@
 //! The line that closes a command on standard error.
 
 ghost use Rattle.std.specs.Prelude.{◌≡◌};
-ghost use Rattle.rpm_tool.specs.Prelude.{closing, damage_line, fault_text, format_line, held_line, index_line, inner, log_line, reason_text, rule_text, text_at, usage_line, word_told, Writes};
+ghost use Rattle.rpm_tool.specs.Prelude.{closing, damage_line, fault_text, format_line, inner, number_line, reason_text, rule_text, text_at, usage_line, word_told, Writes};
 
 use crate::answer::Why;
 use crate::pieces::put_pieces;
@@ -27,6 +27,14 @@ fn reason_text(reason: Reason) -> &'static [u8]
     }
 }
 
+/// Writes the line of a text and a number.
+fn put_number<E: Sink>(err: &mut E, text: &[u8], number: u128) -> Result<(), Failed>
+    ensures { Writes E.tells E.taken E.faults E.follows err.old err.new (number_line text.now number) result }
+{
+    let mut digits = Buffer::new();
+    put_pieces(err, &[text, digits.format(number).as_bytes(), b"\n"])
+}
+
 /// Writes where `Packages.db` is damaged, and how.
 fn put_damage<E: Sink>(err: &mut E, damage: Damage) -> Result<(), Failed>
     ensures { Writes E.tells E.taken E.faults E.follows err.old err.new (damage_line damage) result }
@@ -43,39 +51,6 @@ fn put_damage<E: Sink>(err: &mut E, damage: Damage) -> Result<(), Failed>
             reason,
             b"\n",
         ],
-    )
-}
-
-/// Writes where `Hlog.db` is damaged.
-#[tactic(auto, unfolding(crate::specs::Closing::log_line))]
-fn put_log<E: Sink>(err: &mut E, unit: u64) -> Result<(), Failed>
-    ensures { Writes E.tells E.taken E.faults E.follows err.old err.new (log_line unit) result }
-{
-    let mut digits = Buffer::new();
-    let offset = digits.format(16 * unit as u128).as_bytes();
-    put_pieces(err, &[b"rpm: Hlog.db is damaged at byte ", offset, b"\n"])
-}
-
-/// Writes where `Hindex.db` is damaged.
-#[tactic(auto, unfolding(crate::specs::Closing::index_line))]
-fn put_index<E: Sink>(err: &mut E, unit: u64) -> Result<(), Failed>
-    ensures { Writes E.tells E.taken E.faults E.follows err.old err.new (index_line unit) result }
-{
-    let mut digits = Buffer::new();
-    let offset = digits.format(16 * unit as u128).as_bytes();
-    put_pieces(err, &[b"rpm: Hindex.db is damaged at byte ", offset, b"\n"])
-}
-
-/// Writes that the database has a package, where there was to be none.
-#[tactic(auto, unfolding(crate::specs::Closing::held_line))]
-fn put_held<E: Sink>(err: &mut E, held: u32) -> Result<(), Failed>
-    ensures { Writes E.tells E.taken E.faults E.follows err.old err.new (held_line held) result }
-{
-    let mut digits = Buffer::new();
-    let number = digits.format(held).as_bytes();
-    put_pieces(
-        err,
-        &[b"rpm: the database is not empty: package ", number, b"\n"],
     )
 }
 
@@ -166,12 +141,24 @@ fn put_line<E: Sink>(err: &mut E, words: &Words, why: Why) -> Result<(), Failed>
         Why::Usage(fault) => put_usage(err, words, fault),
         Why::BadFormat(fault) => put_fault(err, fault),
         Why::Damaged(damage) => put_damage(err, damage),
-        Why::BadLog { unit } => put_log(err, unit),
-        Why::BadIndex { unit } => put_index(err, unit),
+        Why::BadLog { unit } => put_number(
+            err,
+            b"rpm: Hlog.db is damaged at byte ",
+            16 * unit as u128,
+        ),
+        Why::BadIndex { unit } => put_number(
+            err,
+            b"rpm: Hindex.db is damaged at byte ",
+            16 * unit as u128,
+        ),
         Why::NumbersSpent => put_all(err, b"rpm: no package number is left\n"),
         Why::GenerationSpent => put_all(err, b"rpm: no generation is left\n"),
         Why::StoreFull => put_all(err, b"rpm: Packages.db is full\n"),
-        Why::NotEmpty(held) => put_held(err, held),
+        Why::NotEmpty(held) => put_number(
+            err,
+            b"rpm: the database is not empty: package ",
+            held as u128,
+        ),
         Why::IndexFull { .. } => put_all(err, b"rpm: Hindex.db is full\n"),
         Why::LogFull { .. } => put_all(err, b"rpm: Hlog.db is full\n"),
         Why::DiskFault => put_all(err, b"rpm: the database could not be read or written\n"),

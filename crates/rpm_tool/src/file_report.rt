@@ -1,12 +1,12 @@
 //! What is told of the paths that several packages own and that differ.
 
-ghost use Rattle.std.specs.Prelude.{◌≡◌, ◌≢◌, ◌+◌, ◌≤◌, ℕ, [], ◌∷◌, map, false, IsTrue, Err};
-ghost use Rattle.rpm_tool.specs.Prelude.{check_files, conflict_step, cost_all, DiskFault, EndHands, ErrTakes, Everything, fails, Hand, holds, if_differs, is_foreign, is_some_of, IsAskable, label_told, Looks, OutTakes, packages_in, PartIs, Pkg, pkg_read, Reached, reached_by, shown, StepIs, StopHands, together, told_steps, unread_step, Went, whole};
+ghost use Rattle.std.specs.Prelude.{◌≡◌, ◌≢◌, ◌+◌, ◌≤◌, [], ◌∷◌, map, false, IsTrue, Err};
+ghost use Rattle.rpm_tool.specs.Prelude.{check_files, conflict_step, cost_all, DiskFault, EndHands, ErrTakes, Everything, fails, holds, if_differs, is_foreign, is_of_opening, IsAskable, label_told, Looks, OutTakes, packages_in, PartIs, Pkg, pkg_read, PutsErr, PutsOut, Reached, reached_by, shown, StopHands, together, told_steps, unread_step, Went, whole};
 
 use crate::answer::Why;
-use crate::pieces::put_line;
 use crate::query::why_of;
 use crate::step::{Stop, put_bad};
+use crate::unreadable::put_out;
 use rpm_db::Db;
 use rpm_filecheck::{Conflict, ConflictList, FileCheckFault, conflicts};
 use rpm_outside::{Buffered, Disk, File, Sink};
@@ -27,9 +27,7 @@ fn put_unread<E: Sink + Drop>(
 ) -> Result<(), Stop>
     ensures went { ErrTakes E.Sink (λ old new. Reached (map unread_step numbers.now) result old new
         (λ for. for ≡ whole 0)) err.old err.new }
-    ensures no_read { result ≢ Err Stop.ReadFault }
-    ensures no_out { result ≢ Err Stop.OutFault }
-    ensures err { Hand E.Sink (result ≡ Err Stop.ErrFault) err.old err.new }
+    ensures puts { PutsErr E.Sink result err.old err.new }
 {
     for number in numbers {
         put_bad(alloc, err, *number)?;
@@ -44,18 +42,16 @@ fn put_conflict<'a, O: Sink + Drop>(
     report: &'a ConflictList,
     conflict: &'a Conflict,
 ) -> Result<bool, Stop>
-    ensures step { OutTakes O.Sink (StepIs (conflict_step (label_told report.now) conflict.now) result) out.old
-        out.new }
-    ensures no_read { result ≢ Err Stop.ReadFault }
-    ensures no_err { result ≢ Err Stop.ErrFault }
-    ensures out { Hand O.Sink (result ≡ Err Stop.OutFault) out.old out.new }
+    ensures part { OutTakes O.Sink (λ old new. PartIs (fails (conflict_step (label_told report.now) conflict.now)) result
+        old new (λ for. for ≡ whole 0)) out.old out.new }
+    ensures puts { PutsOut O.Sink result out.old out.new }
 {
     let first = report.label(conflict.first());
     let second = report.label(conflict.second());
     let digest = if_differs(conflict.digest(), b" digest");
     let mode = if_differs(conflict.mode(), b" mode");
     let link = if_differs(conflict.link(), b" link");
-    match put_line(
+    put_out(
         out,
         &[
             conflict.path(),
@@ -69,31 +65,19 @@ fn put_conflict<'a, O: Sink + Drop>(
             link,
             b"\n",
         ],
-    ) {
-        Ok(()) => Ok(true),
-        Err(_) => Err(Stop::OutFault),
-    }
+    )
 }
 
 /// Writes to out the lines of all conflicts.
 fn put_conflicts<O: Sink + Drop>(out: &mut Buffered<O>, report: &ConflictList) -> Result<(), Stop>
     ensures went { OutTakes O.Sink (λ old new. Reached (map (conflict_step (label_told report.now))
         report.now.conflicts) result old new (λ for. for ≡ whole 0)) out.old out.new }
-    ensures no_read { result ≢ Err Stop.ReadFault }
-    ensures no_err { result ≢ Err Stop.ErrFault }
-    ensures out { Hand O.Sink (result ≡ Err Stop.OutFault) out.old out.new }
+    ensures puts { PutsOut O.Sink result out.old out.new }
 {
     for i in 0..report.len() {
         put_conflict(out, report, report.at(i))?;
     }
     Ok(())
-}
-
-/// Whether a report has a line.
-fn has_lines(report: &ConflictList) -> bool
-    ensures { result ≡ is_some_of (told_steps report.now) }
-{
-    !report.bad().is_empty() || report.len() != 0
 }
 
 /// Tells a report. Says whether the argument fails.
@@ -110,7 +94,7 @@ fn tell_report<O: Sink + Drop, E: Sink + Drop>(
 {
     put_unread(alloc, report.bad(), err)?;
     put_conflicts(out, report)?;
-    Ok(has_lines(report))
+    Ok(!report.bad().is_empty() | (report.len() != 0))
 }
 
 /// Tells the packages that can't be read, and then the paths that several packages own and that differ. Reads all
@@ -128,6 +112,7 @@ pub fn check_files<D: Disk, O: Sink + Drop, E: Sink + Drop>(
         (shown O.Sink E.Sink out.old err.old) (shown O.Sink E.Sink out.new err.new)
         (λ for. pkg_read D.Disk disk.new ≤ pkg_read D.Disk disk.old + reached_by (Everything ∷ []) db.now for) }
     ensures done { is_foreign result ≡ false }
+    ensures opened { is_of_opening result ≡ false }
     ensures looks { Looks D.Disk Pkg (cost_all db.now) disk.old disk.new }
     ensures disk { DiskFault D.Disk (result ≡ Why.DiskFault) disk.old disk.new }
     ensures hands { EndHands O.Sink E.Sink result out.old err.old out.new err.new }

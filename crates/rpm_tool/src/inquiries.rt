@@ -1,14 +1,16 @@
-//! What is asked of a database that was opened with its index.
+//! What a command does with a database that was opened, with its index or without.
 
-ghost use Rattle.std.specs.Prelude.{◌≡◌, ◌+◌, ◌≤◌, [], map, true, false, IsTrue};
-ghost use Rattle.rpm_tool.specs.Prelude.{Anywhere, argument_reach, before, CauseIs, DiskFault, DoesBy, EndHands, HasRows, holds, idle, inquiry_of, is_foreign, is_indexed, is_of_opening, is_query, IsAskable, IsOfSome, OrderIs, Outputs, packages_in, PartIs, Peeks, pkg_read, Portion, reach_sum, reached_by, reaches_by, shown, text_at, unsatisfied, Went, why_of_report};
+ghost use Rattle.std.specs.Prelude.{◌≡◌, ◌+◌, ◌≤◌, ◌||◌, [], false, IsTrue};
+ghost use Rattle.rpm_tool.specs.Prelude.{always_keyed, asked_reaches, CauseIs, deed_of, DiskFault, DoesBy, EndHands, HasRows, is_foreign, is_indexed, is_of_opening, IsAskable, Peeks, pkg_read, reach_sum, reached_by, room, shown, why_of_report};
 
 use crate::answer::Why;
-use crate::asked::{Inquiry, inquiry_of};
+use crate::asked::{Deed, deed_of};
+use crate::file_report::check_files;
 use crate::ordering::report_order;
-use crate::query::{query_opened, why_of};
-use crate::step::Stop;
+use crate::query::{query_all, query_each, why_of};
+use crate::step::{Stop, Way};
 use crate::unsatisfied::report_unmet;
+use crate::verdicts::report;
 use rpm_db::Db;
 use rpm_outside::{Buffered, Disk, File, Sink};
 use rpm_qfparse::Format;
@@ -17,8 +19,6 @@ use std::alloc::Global;
 
 /// The ending of a report, of whether its one argument failed.
 fn why_of_report(told: Result<bool, Stop>) -> Why
-    ensures went { (p : Portion) (old new : Outputs) → PartIs p told old new Anywhere
-        → Went (before p idle) result old new Anywhere }
     ensures value { result ≡ why_of_report told }
     ensures done { is_foreign result ≡ false }
     ensures opened { is_of_opening result ≡ false }
@@ -30,8 +30,8 @@ fn why_of_report(told: Result<bool, Stop>) -> Why
     }
 }
 
-/// Answers what a command asks of a database that was opened with its index.
-pub fn answer_inquiry<D: Disk, O: Sink + Drop, E: Sink + Drop>(
+/// Does with an opened database what the words ask for. What a report on requirements reads, it says itself.
+pub fn answer_opened<D: Disk, O: Sink + Drop, E: Sink + Drop>(
     alloc: Global,
     db: &Db,
     disk: &mut D,
@@ -43,25 +43,33 @@ pub fn answer_inquiry<D: Disk, O: Sink + Drop, E: Sink + Drop>(
 ) -> Why
     requires asked { IsAskable D.Disk disk.old db.now }
     ensures went { IsTrue D.tells → HasRows D.Disk disk.old db.now
-        → DoesBy (inquiry_of ask.now.mode) format.now words.now ask.now (packages_in D.Disk disk.old db.now)
+        → DoesBy (deed_of ask.now.mode) format.now (D.files disk.old).pkg (room db.now) words.now ask.now
         (λ for. pkg_read D.Disk disk.new ≤ pkg_read D.Disk disk.old + reached_by
-        (reaches_by (argument_reach (is_indexed db.now) (packages_in D.Disk disk.old db.now) ask.now.chosen)
-        (map (text_at words.now) ask.now.arguments)) db.now for) result (shown O.Sink E.Sink out.old err.old)
-        (shown O.Sink E.Sink out.new err.new) }
+        (asked_reaches (is_indexed db.now) (D.files disk.old).pkg (room db.now) words.now ask.now) db.now for) result
+        (shown O.Sink E.Sink out.old err.old) (shown O.Sink E.Sink out.new err.new) }
     ensures done { is_foreign result ≡ false }
     ensures opened { is_of_opening result ≡ false }
-    ensures reads { is_query ask.now.mode ≡ true → IsTrue D.tells → HasRows D.Disk disk.old db.now
+    ensures reads { always_keyed (deed_of ask.now.mode) ≡ false → IsTrue D.tells → HasRows D.Disk disk.old db.now
         → pkg_read D.Disk disk.new ≤ pkg_read D.Disk disk.old + reach_sum
-        (reaches_by (argument_reach (is_indexed db.now) (packages_in D.Disk disk.old db.now) ask.now.chosen)
-        (map (text_at words.now) ask.now.arguments)) db.now }
+        (asked_reaches (is_indexed db.now) (D.files disk.old).pkg (room db.now) words.now ask.now) db.now }
     ensures bad_index { IsTrue D.tells → CauseIs words.now ask.now (D.files disk.old).idx result }
-    ensures looks { Peeks D.Disk true disk.old disk.new }
+    ensures looks { Peeks D.Disk (always_keyed (deed_of ask.now.mode) || is_indexed db.now) disk.old disk.new }
     ensures disk { DiskFault D.Disk (result ≡ Why.DiskFault) disk.old disk.new }
     ensures hands { EndHands O.Sink E.Sink result out.old err.old out.new err.new }
 {
-    match inquiry_of(ask.mode()) {
-        Inquiry::Query => query_opened(alloc, db, disk, words, ask, format, out, err),
-        Inquiry::Unmet => why_of_report(report_unmet(alloc, db, disk, out, err)),
-        Inquiry::Order => why_of_report(report_order(alloc, db, disk, out, err)),
+    match deed_of(ask.mode()) {
+        Deed::Print => {
+            let count = ask.arguments();
+            if count == 0 {
+                query_all(alloc, db, disk, ask.after(), &Way::Format(format), out, err)
+            } else {
+                query_each(alloc, db, disk, words, ask, format, out, err)
+            }
+        }
+        Deed::Export => query_all(alloc, db, disk, 0, &Way::Export, out, err),
+        Deed::Verify => report(alloc, db, disk, out),
+        Deed::CheckFiles => check_files(alloc, db, disk, out, err),
+        Deed::Unmet => why_of_report(report_unmet(alloc, db, disk, out, err)),
+        Deed::Order => why_of_report(report_order(alloc, db, disk, out, err)),
     }
 }

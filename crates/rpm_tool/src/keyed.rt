@@ -1,10 +1,10 @@
 //! The commands that open the database with its index: questions by key, and the reports on requirements.
 
 ghost use Rattle.std.specs.Prelude.{◌≡◌, ◌+◌, ◌≤◌, [], false, true, IsTrue};
-ghost use Rattle.rpm_tool.specs.Prelude.{AnswersByKey, AreLawful, BadIs, DidByKey, DiskFault, EndHands, FullIs, HasIndex, Idx, images, is_done, is_foreign, is_query, IsLawful, IsLawfulStill, IsSettled, keyed_cost, LeavesIn, OpenedBy, Pkg, pkg_read, Remade, Runs, shown, store, why_of_recover};
+ghost use Rattle.rpm_tool.specs.Prelude.{AnswersByKey, AreLawful, BadIs, DidByKey, DiskFault, EndHands, FullIs, HasIndex, Idx, images, is_done, is_foreign, is_query, IsLawful, IsLawfulStill, IsSettled, keyed_cost, LeavesIn, OnLawful, Opened, Pkg, pkg_read, Remade, Runs, shown, store, why_of_recover};
 
 use crate::answer::Why;
-use crate::inquiries::answer_inquiry;
+use crate::inquiries::answer_opened;
 use rpm_db::{Db, DbOpenFault};
 use rpm_group::{RecoverFault, recover};
 use rpm_outside::{Buffered, Disk, File, Sink};
@@ -34,8 +34,8 @@ fn answer_indexed<D: Disk, O: Sink + Drop, E: Sink + Drop>(
 ) -> Why
     requires pkg { IsTrue D.tells → IsSettled Pkg (D.files disk.old) (images D.Disk disk.old) }
     requires idx { IsTrue D.tells → IsSettled Idx (D.files disk.old) (images D.Disk disk.old) }
-    ensures went { IsTrue D.tells → OpenedBy (IsLawful (D.files disk.old).pkg (D.files disk.old).idx)
-        (DidByKey format.now words.now ask.now (D.files disk.old) (pkg_read D.Disk disk.old) (pkg_read D.Disk disk.new))
+    ensures went { IsTrue D.tells → Opened (OnLawful (IsLawful (D.files disk.old).pkg (D.files disk.old).idx)
+        (DidByKey format.now words.now ask.now (D.files disk.old) (pkg_read D.Disk disk.old) (pkg_read D.Disk disk.new)))
         (store (D.files disk.old).pkg) result (shown O.Sink E.Sink out.old err.old)
         (shown O.Sink E.Sink out.new err.new) }
     ensures reads { is_query ask.now.mode ≡ true → IsTrue D.tells
@@ -53,7 +53,7 @@ fn answer_indexed<D: Disk, O: Sink + Drop, E: Sink + Drop>(
     ensures hands { EndHands O.Sink E.Sink result out.old err.old out.new err.new }
 {
     match Db::open_settled(alloc, disk) {
-        Ok(db) => answer_inquiry(alloc, &db, disk, words, ask, format, out, err),
+        Ok(db) => answer_opened(alloc, &db, disk, words, ask, format, out, err),
         Err(DbOpenFault::Damaged(damage)) => Why::Damaged(damage),
         Err(DbOpenFault::IndexFull { needed }) => Why::IndexFull { needed },
         Err(DbOpenFault::DiskFault) => Why::DiskFault,

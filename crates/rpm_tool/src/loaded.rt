@@ -1,7 +1,7 @@
 //! Commands on a database as it reads when an open log is gone through.
 
 ghost use Rattle.std.specs.Prelude.{◌≡◌, ◌+◌, ◌≤◌, [], false, IsTrue};
-ghost use Rattle.rpm_tool.specs.Prelude.{DiskFault, EndHands, is_foreign, Leaves, pkg_read, Queried, query_cost, reopened, shown, unless_starved, why_of_load};
+ghost use Rattle.rpm_tool.specs.Prelude.{always_keyed, deed_of, DiskFault, EndHands, is_foreign, Leaves, pkg_read, Queried, query_cost, reopened, shown, unless_starved, why_of_load};
 
 use crate::answer::Why;
 use crate::unindexed::answer_unindexed;
@@ -42,6 +42,7 @@ pub fn answer_loaded<D: Disk, O: Sink + Drop, E: Sink + Drop>(
     out: &mut Buffered<O>,
     err: &mut Buffered<E>,
 ) -> (Why, D)
+    requires plain { always_keyed (deed_of ask.now.mode) ≡ false }
     ensures went { IsTrue D.tells → Queried format.now words.now ask.now (D.files disk) result.0
         (shown O.Sink E.Sink out.old err.old) (shown O.Sink E.Sink out.new err.new) (pkg_read D.Disk disk)
         (pkg_read D.Disk result.1) }

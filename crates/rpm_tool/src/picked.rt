@@ -1,13 +1,13 @@
 //! The packages that a question picks, printed one after the other.
 
-ghost use Rattle.std.specs.Prelude.{◌≡◌, ◌≢◌, ℕ, ◌+◌, ◌-◌, ◌<◌, ◌≤◌, ◌||◌, [], false, IsTrue, Err, IfOk, IfSome};
-ghost use Rattle.rpm_tool.specs.Prelude.{above, cost_all, cost_to, cost_until, DiskFault, entry_in, fails_in, HasRows, holds, is_some_of, IsAskable, Looks, NextIs, number_in, OneIs, packages_in, packages_part, PartIs, picks, Pkg, pkg_read, reach_all, reach_to, reach_until, ReadsIn, Serves, shown, step_by, stop_of, StopHands, unasked};
+ghost use Rattle.std.specs.Prelude.{◌≡◌, ◌≢◌, ℕ, ◌+◌, ◌-◌, ◌≤◌, ◌||◌, [], false, IsTrue, Err, IfOk};
+ghost use Rattle.rpm_tool.specs.Prelude.{above, cost_all, cost_to, DiskFault, fails_in, HasRows, holds, is_some_of, IsAskable, Looks, packages_in, packages_part, PartIs, picks, Pkg, pkg_read, reach_all, reach_to, ReadsIn, Serves, shown, step_by, stop_of, StopHands, unasked};
 ghost use Rattle.rpm_select.specs.Reach.{asks};
 
 use crate::step::{Stop, Way, print_picked};
 use rpm_db::Db;
 use rpm_outside::{Buffered, Disk, File, Sink};
-use rpm_select::{PickFault, Picked, Picker, Selection};
+use rpm_select::{PickFault, Picker, Selection};
 use std::alloc::Global;
 
 /// What became of the packages of an argument: whether there were some, and whether the argument fails for them.
@@ -49,65 +49,6 @@ pub fn begin_unasked<D: Disk>(
     }
 }
 
-/// Prints a package that was picked, and says its number, and whether it went to out (true), or a message to err
-/// (false).
-fn print_one<O: Sink + Drop, E: Sink + Drop>(
-    alloc: Global,
-    way: &Way<'_>,
-    picked: &Picked,
-    out: &mut Buffered<O>,
-    err: &mut Buffered<E>,
-) -> Result<Option<(u32, bool)>, Stop>
-    ensures one { (j : ℕ) → OneIs (step_by way.now j (entry_in picked.now)) result (shown O.Sink E.Sink out.old err.old)
-        (shown O.Sink E.Sink out.new err.new) }
-    ensures numbered { IfOk result (λ o. IfSome o (λ e. e.0 ≡ number_in picked.now)) }
-    ensures no_read { result ≢ Err Stop.ReadFault }
-    ensures unbroken { (unit : ℕ) → result ≢ Err (Stop.BadIndex unit) }
-    ensures hands { StopHands O.Sink E.Sink result out.old err.old out.new err.new }
-{
-    match print_picked(alloc, way, picked, out, err) {
-        Ok(to_out) => Ok(Some((picked.number(), to_out))),
-        Err(stop) => Err(stop),
-    }
-}
-
-/// Prints the next package above a number, and says which it was, and whether it went to out (true), or a message to
-/// err (false).
-fn print_next<D: Disk, O: Sink + Drop, E: Sink + Drop>(
-    alloc: Global,
-    picker: &mut Picker,
-    db: &Db,
-    disk: &mut D,
-    selection: &Selection<'_>,
-    number: u32,
-    way: &Way<'_>,
-    out: &mut Buffered<O>,
-    err: &mut Buffered<E>,
-) -> Result<Option<(u32, bool)>, Stop>
-    requires asked { IsAskable D.Disk disk.old db.now }
-    ensures same { picker.new ≡ picker.old }
-    ensures went { IsTrue D.tells → Serves picker.old (packages_in D.Disk disk.old db.now) selection.now → (j : ℕ)
-        → NextIs (step_by way.now j) number (picks (packages_in D.Disk disk.old db.now) selection.now) result
-        (shown O.Sink E.Sink out.old err.old) (shown O.Sink E.Sink out.new err.new)
-        (ReadsIn j number picker.old db.now (pkg_read D.Disk disk.old) (pkg_read D.Disk disk.new)) }
-    ensures rises { IfOk result (λ o. IfSome o (λ e. number < e.0)) }
-    ensures reads { pkg_read D.Disk disk.new ≤ pkg_read D.Disk disk.old + reach_until number picker.old db.now result }
-    ensures looks { Looks D.Disk Pkg (cost_until number db.now.store result) disk.old disk.new }
-    ensures disk { DiskFault D.Disk (result ≡ Err Stop.ReadFault) disk.old disk.new }
-    ensures unbroken { (unit : ℕ) → result ≢ Err (Stop.BadIndex unit) }
-    ensures hands { StopHands O.Sink E.Sink result out.old err.old out.new err.new }
-{
-    match picker.next_after(alloc, db, disk, selection, number) {
-        Ok(None) => Ok(None),
-        Ok(Some(picked)) => {
-            let printed = print_one(alloc, way, &picked, out, err);
-            picker.take_back(picked);
-            printed
-        }
-        Err(fault) => Err(stop_of(fault)),
-    }
-}
-
 /// Prints each package above a number that a selection picks, by rising number.
 pub fn print_above<D: Disk, O: Sink + Drop, E: Sink + Drop>(
     alloc: Global,
@@ -140,13 +81,17 @@ pub fn print_above<D: Disk, O: Sink + Drop, E: Sink + Drop>(
     let mut some = false;
     let mut fails = false;
     loop {
-        match print_next(alloc, picker, db, disk, selection, number, way, out, err)? {
-            Some((next, to_out)) => {
-                number = next;
+        match picker.next_after(alloc, db, disk, selection, number) {
+            Ok(Some(picked)) => {
+                let printed = print_picked(alloc, way, &picked, out, err);
+                number = picked.number();
+                picker.take_back(picked);
+                let to_out = printed?;
                 some = true;
                 fails |= !to_out;
             }
-            None => return Ok(PrintedPackages { some, fails }),
+            Ok(None) => return Ok(PrintedPackages { some, fails }),
+            Err(fault) => return Err(stop_of(fault)),
         }
     }
 }

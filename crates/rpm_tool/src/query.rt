@@ -1,7 +1,7 @@
 //! The queries of an opened database.
 
 ghost use Rattle.std.specs.Prelude.{◌≡◌, ◌≢◌, ◌+◌, ◌<◌, ◌≤◌, ℕ, [], ◌∷◌, if◌then◌else◌, false, map, IsTrue};
-ghost use Rattle.rpm_tool.specs.Prelude.{argument_part, argument_reach, before, cost_all, DiskFault, EndHands, Everything, HasRows, holds, idle, in_turn, is_foreign, is_indexed, is_of_opening, IsAskable, IsOfChains, Looks, packages_in, packages_part, Peeks, picks, Pkg, pkg_read, query, reach_sum, reached_by, reaches_by, shown, step_by, text_at, Went, why_of};
+ghost use Rattle.rpm_tool.specs.Prelude.{argument_part, argument_reach, before, cost_all, DiskFault, EndHands, Everything, HasRows, holds, idle, in_turn, is_foreign, is_indexed, is_of_opening, IsAskable, IsOfChains, Looks, packages_in, packages_part, Peeks, picks, Pkg, pkg_read, reach_sum, reached_by, shown, step_by, text_at, Went, why_of};
 ghost use Rattle.rpm_select.specs.declared.selection.Selection.TheVariants as question;
 
 use crate::answer::Why;
@@ -79,7 +79,7 @@ pub fn count(failed: u32, fails: bool) -> u32
 }
 
 /// Prints what each argument picks, one after the other.
-fn query_each<D: Disk, O: Sink + Drop, E: Sink + Drop>(
+pub fn query_each<D: Disk, O: Sink + Drop, E: Sink + Drop>(
     alloc: Global,
     db: &Db,
     disk: &mut D,
@@ -130,43 +130,5 @@ fn query_each<D: Disk, O: Sink + Drop, E: Sink + Drop>(
         Why::Done
     } else {
         Why::Failed(failed)
-    }
-}
-
-/// A query of an opened database.
-pub fn query_opened<D: Disk, O: Sink + Drop, E: Sink + Drop>(
-    alloc: Global,
-    db: &Db,
-    disk: &mut D,
-    words: &Words,
-    ask: &Ask,
-    format: &Format,
-    out: &mut Buffered<O>,
-    err: &mut Buffered<E>,
-) -> Why
-    requires asked { IsAskable D.Disk disk.old db.now }
-    ensures went { IsTrue D.tells → HasRows D.Disk disk.old db.now
-        → Went (query format.now (packages_in D.Disk disk.old db.now) words.now ask.now) result
-        (shown O.Sink E.Sink out.old err.old) (shown O.Sink E.Sink out.new err.new)
-        (λ for. pkg_read D.Disk disk.new ≤ pkg_read D.Disk disk.old + reached_by
-        (reaches_by (argument_reach (is_indexed db.now) (packages_in D.Disk disk.old db.now) ask.now.chosen)
-        (map (text_at words.now) ask.now.arguments)) db.now for) }
-    ensures done { is_foreign result ≡ false }
-    ensures opened { is_of_opening result ≡ false }
-    ensures reads { IsTrue D.tells → HasRows D.Disk disk.old db.now
-        → pkg_read D.Disk disk.new ≤ pkg_read D.Disk disk.old + reach_sum
-        (reaches_by (argument_reach (is_indexed db.now) (packages_in D.Disk disk.old db.now) ask.now.chosen)
-        (map (text_at words.now) ask.now.arguments)) db.now }
-    ensures bad_index { IsTrue D.tells → IsOfChains ask.now.chosen (map (text_at words.now) ask.now.arguments)
-        (D.files disk.old).idx result }
-    ensures looks { Peeks D.Disk (is_indexed db.now) disk.old disk.new }
-    ensures disk { DiskFault D.Disk (result ≡ Why.DiskFault) disk.old disk.new }
-    ensures hands { EndHands O.Sink E.Sink result out.old err.old out.new err.new }
-{
-    let count = ask.arguments();
-    if count == 0 {
-        query_all(alloc, db, disk, ask.after(), &Way::Format(format), out, err)
-    } else {
-        query_each(alloc, db, disk, words, ask, format, out, err)
     }
 }

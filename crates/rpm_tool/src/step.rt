@@ -67,17 +67,18 @@ pub fn put_bad<E: Sink + Drop>(
     }
 }
 
-/// Prints what the format says of a header, and gives the sink behind the buffer all of it.
-fn print_through<O: Sink + Drop>(
+/// Prints what the format says of a header, and gives the sink behind the buffer all of it. What the buffer held is let
+/// go.
+fn print_flushed<O: Sink + Drop>(
     format: &Format,
     view: &View<'_>,
     number: u32,
     out: &mut Buffered<O>,
 ) -> Result<(), DirectFault>
-    requires { holds out.old ≡ [] }
     ensures { Prints O.tells O.taken O.faults O.follows (meaning view.now number format.now) (inner out.old)
         (inner out.new) (ending result) }
 {
+    out.clear();
     match print_direct(format, view, number, out) {
         Ok(()) => match out.flush() {
             Ok(()) => Ok(()),
@@ -85,20 +86,6 @@ fn print_through<O: Sink + Drop>(
         },
         Err(fault) => Err(fault),
     }
-}
-
-/// Prints so. What the buffer held is let go.
-fn print_flushed<O: Sink + Drop>(
-    format: &Format,
-    view: &View<'_>,
-    number: u32,
-    out: &mut Buffered<O>,
-) -> Result<(), DirectFault>
-    ensures prints { Prints O.tells O.taken O.faults O.follows (meaning view.now number format.now) (inner out.old)
-        (inner out.new) (ending result) }
-{
-    out.clear();
-    print_through(format, view, number, out)
 }
 
 /// Prints what the format says of a header, to out (true), or where a bracket's tags have different numbers of elements

@@ -1,7 +1,7 @@
 //! What a command changes, by its words.
 
 ghost use Rattle.std.specs.Prelude.{◌≡◌, ℕ, ◌+◌, ◌<◌, ◌≤◌, ◌^◌, [], ◌∷◌, ◌++◌, length, map, IfOk, OnOk};
-ghost use Rattle.rpm_tool.specs.Prelude.{asked_task, filter_map, is_changing, is_changing_in, IsCountable, IsSound, number, numbers_asked, replacing, task_parts, TaskParts, text_at};
+ghost use Rattle.rpm_tool.specs.Prelude.{asked_task, filter_map, is_changing, IsCountable, IsSound, number, numbers_asked, replacing, task_parts, TaskParts, text_at};
 
 use rpm_words::{Ask, Mode, Words, number_of};
 use std::alloc::{AllocError, Global};
@@ -25,22 +25,15 @@ pub enum Task<'a> {
     Exercise(u32),
 }
 
-/// Whether a command of this mode changes packages, or makes the database.
-fn is_changing_in(mode: Mode) -> bool
-    ensures { result ≡ is_changing_in mode }
-{
-    match mode {
-        Mode::Addpkg | Mode::Replacepkg | Mode::Erasepkg => true,
-        Mode::Initdb | Mode::Rebuilddb | Mode::Importdb | Mode::Exercise(_) => true,
-        _ => false,
-    }
-}
-
 /// Whether a command changes packages, or makes the database.
 pub fn is_changing(ask: &Ask) -> bool
     ensures { result ≡ is_changing ask.now }
 {
-    is_changing_in(ask.mode())
+    match ask.mode() {
+        Mode::Addpkg | Mode::Replacepkg | Mode::Erasepkg => true,
+        Mode::Initdb | Mode::Rebuilddb | Mode::Importdb | Mode::Exercise(_) => true,
+        _ => false,
+    }
 }
 
 /// Puts the number after the others that a text is, where it is one.
@@ -104,15 +97,9 @@ pub fn task_of<'a>(alloc: Global, words: &'a Words, ask: &Ask) -> Result<Task<'a
     ensures countable { IfOk result (λ task. IsCountable (task_parts task)) }
 {
     match ask.mode() {
-        Mode::Addpkg => match texts_of(alloc, words, ask) {
-            Ok(paths) => Ok(Task::Add(paths)),
-            Err(AllocError) => Err(AllocError),
-        },
+        Mode::Addpkg => Ok(Task::Add(texts_of(alloc, words, ask)?)),
         Mode::Replacepkg => Ok(replacing_of(words, ask)),
-        Mode::Erasepkg => match numbers_of(alloc, words, ask) {
-            Ok(numbers) => Ok(Task::Erase(numbers)),
-            Err(AllocError) => Err(AllocError),
-        },
+        Mode::Erasepkg => Ok(Task::Erase(numbers_of(alloc, words, ask)?)),
         Mode::Importdb => Ok(Task::Import),
         Mode::Rebuilddb => Ok(Task::Rebuild),
         Mode::Exercise(headers) => Ok(Task::Exercise(headers)),

@@ -1,24 +1,50 @@
-//! What the reports read of packages, and the packages that can't be read.
+//! What the reports read of packages and write, and the packages that can't be read.
 
-ghost use Rattle.std.specs.Prelude.{◌≡◌, ◌≢◌, ℕ, true, false, IsTrue, Err, IfOk};
+ghost use Rattle.std.specs.Prelude.{◌≡◌, map, IsTrue, IfOk};
 ghost use Rattle.std.specs.FinMap as finite;
-ghost use Rattle.rpm_tool.specs.Prelude.{Anywhere, bad_at, bad_parts, bad_step, ErrTakes, fails, Hand, IsAskable, IsRead, packages_in, PartIs, ReadsBy, stop_of_check, TellsErr};
+ghost use Rattle.rpm_tool.specs.Prelude.{Anywhere, bad_at, bad_parts, Bearer, concat, ErrTakes, fails, IsAskable, IsRead, OutTakes, packages_in, PartIs, PutsOut, ReadsBy, stop_of_check, TellsErr, ToOut};
 
+use crate::pieces::put_line;
 use crate::step::{Stop, put_bad};
 use rpm_check::CheckFault;
 use rpm_db::{Db, GetFault};
 use rpm_outside::{Buffered, Disk, Sink};
-use std::alloc::Global;
+use std::alloc::{AllocError, Global};
 use std::mem::replace;
 
-/// What stops a report.
-pub fn stop_of_check(fault: CheckFault) -> Stop
-    ensures { result ≡ stop_of_check fault }
+/// What stops a report where a question fails.
+impl From<CheckFault> for Stop {
+    ghost from_gives = { λ fault e. e ≡ stop_of_check fault };
+
+    fn from(fault: CheckFault) -> Stop {
+        match fault {
+            CheckFault::BadIndex { unit } => Stop::BadIndex { unit },
+            CheckFault::DiskFault => Stop::ReadFault,
+            CheckFault::NoMemory => Stop::NoMemory,
+        }
+    }
+}
+
+impl From<AllocError> for Stop {
+    ghost use Rattle.rpm_tool.specs.declared.step.Stop.TheVariants.{NoMemory};
+
+    ghost from_gives = { λ _ e. e ≡ NoMemory };
+
+    fn from(_: AllocError) -> Stop {
+        Stop::NoMemory
+    }
+}
+
+/// Writes to out these pieces of a text, one after the other, as one step. Says true: the argument may fail for it.
+pub fn put_out<O: Sink + Drop>(out: &mut Buffered<O>, pieces: &[&[u8]]) -> Result<bool, Stop>
+    ensures part { (for : Bearer) → OutTakes O.Sink (λ old new. PartIs
+        (fails (ToOut for (concat (map (λ piece. piece.now) pieces.now)))) result old new (λ at. at ≡ for))
+        out.old out.new }
+    ensures puts { PutsOut O.Sink result out.old out.new }
 {
-    match fault {
-        CheckFault::BadIndex { unit } => Stop::BadIndex { unit },
-        CheckFault::DiskFault => Stop::ReadFault,
-        CheckFault::NoMemory => Stop::NoMemory,
+    match put_line(out, pieces) {
+        Ok(()) => Ok(true),
+        Err(_) => Err(Stop::OutFault),
     }
 }
 
@@ -33,7 +59,6 @@ pub fn read_into<D: Disk>(
     requires asked { IsAskable D.Disk disk.old db.now }
     ensures told { IfOk result (λ _done. IsTrue D.tells
         → IsRead (packages_in D.Disk disk.old db.now) number room.new.items) }
-    ensures unbroken { (unit : ℕ) → result ≢ Err (Stop.BadIndex unit) }
     ensures reads { ReadsBy D.Disk result disk.old disk.new }
 {
     match db.read_in(disk, number, replace(room, Vec::new(alloc))) {
@@ -46,23 +71,6 @@ pub fn read_into<D: Disk>(
         Err(GetFault::DiskFault) => Err(Stop::ReadFault),
         Err(GetFault::NoMemory) => Err(Stop::NoMemory),
     }
-}
-
-/// Writes to err that a package can't be read; then the argument fails.
-fn put_failing<E: Sink + Drop>(
-    alloc: Global,
-    err: &mut Buffered<E>,
-    number: u32,
-) -> Result<bool, Stop>
-    ensures part { ErrTakes E.Sink (λ old new. PartIs (fails (bad_step 0 number)) result old new Anywhere)
-        err.old err.new }
-    ensures no_read { result ≢ Err Stop.ReadFault }
-    ensures no_out { result ≢ Err Stop.OutFault }
-    ensures unbroken { (unit : ℕ) → result ≢ Err (Stop.BadIndex unit) }
-    ensures err { Hand E.Sink (result ≡ Err Stop.ErrFault) err.old err.new }
-{
-    put_bad(alloc, err, number)?;
-    Ok(true)
 }
 
 /// Tells a package that can't be read. Says whether the argument fails for it. A package that can be read is read into
@@ -79,7 +87,6 @@ fn tell_bad<D: Disk, E: Sink + Drop>(
     ensures went { IsTrue D.tells → ErrTakes E.Sink (λ old new. PartIs
         (bad_at number (finite.get (packages_in D.Disk disk.old db.now) number)) result old new Anywhere)
         err.old err.new }
-    ensures unbroken { (unit : ℕ) → result ≢ Err (Stop.BadIndex unit) }
     ensures tells { TellsErr D.Disk E.Sink result disk.old disk.new err.old err.new }
 {
     match db.get_in(disk, number, replace(room, Vec::new(alloc))) {
@@ -88,7 +95,10 @@ fn tell_bad<D: Disk, E: Sink + Drop>(
             Ok(false)
         }
         Err(GetFault::NoSuch) => Ok(false),
-        Err(GetFault::Bad) => put_failing(alloc, err, number),
+        Err(GetFault::Bad) => {
+            put_bad(alloc, err, number)?;
+            Ok(true)
+        }
         Err(GetFault::DiskFault) => Err(Stop::ReadFault),
         Err(GetFault::NoMemory) => Err(Stop::NoMemory),
     }
@@ -105,7 +115,6 @@ pub fn tell_each_bad<D: Disk, E: Sink + Drop>(
     requires asked { IsAskable D.Disk disk.old db.now }
     ensures went { IsTrue D.tells → ErrTakes E.Sink (λ old new. PartIs (bad_parts (packages_in D.Disk disk.old db.now))
         result old new Anywhere) err.old err.new }
-    ensures unbroken { (unit : ℕ) → result ≢ Err (Stop.BadIndex unit) }
     ensures tells { TellsErr D.Disk E.Sink result disk.old disk.new err.old err.new }
 {
     let mut room = Vec::new(alloc);

@@ -1,17 +1,17 @@
 //! The requirements that no package meets, each with its line.
 
-ghost use Rattle.std.specs.Prelude.{◌≡◌, ◌≢◌, ◌==◌, ◌<◌, ◌≤◌, ℕ, [], length, map, if◌then◌else◌, true, IsTrue, Err, IfOk, IfErr, slice_get};
+ghost use Rattle.std.specs.Prelude.{◌≡◌, ◌==◌, ◌<◌, ◌≤◌, [], ◌++◌, length, map, if◌then◌else◌, true, IsTrue, Err, IfOk, IfErr, OnOk, slice_get};
 ghost use Rattle.std.specs.List.{All, prefix_len};
-ghost use Rattle.rpm_tool.specs.Prelude.{Anywhere, depflags, DiskFault, has, HasRows, header, is_open, IsAskable, line_of, letters, needed_in, option_map, OutTakes, packages_in, PartIs, Peeks, range_text, Reached, read_text, required, shown, StepIs, StopHands, StopsOfSome, TellsOut, unmet_line, unmet_lines, unmet_part, unmet_step, unsatisfied_part};
+ghost use Rattle.rpm_tool.specs.Prelude.{Anywhere, DiskFault, has, HasRows, header, is_open, IsAskable, line_of, OutTakes, packages_in, PartIs, Peeks, range_text, Reached, read_text, required, shown, StopHands, StopsOfSome, TellsOut, unmet_lines, unmet_step, unsatisfied_part};
 
 use crate::step::{Stop, put_text};
-use crate::unreadable::{read_into, stop_of_check, tell_each_bad};
+use crate::unreadable::{read_into, tell_each_bad};
 use rpm_check::{Unmet, unmet};
 use rpm_db::Db;
 use rpm_filecheck::label_of;
 use rpm_header::View;
 use rpm_outside::{Buffered, Disk, Sink};
-use rpm_tags::{Dependency, Tags, dependencies, numbers};
+use rpm_tags::{Tags, dependencies, numbers};
 use std::alloc::{AllocError, Global};
 
 const REQUIRES: Tags = Tags {
@@ -42,92 +42,48 @@ fn letter(flags: u64, bit: u64, letter: &'static [u8]) -> &'static [u8]
     if has(flags, bit) { letter } else { b"" }
 }
 
-/// The letters of a comparison: `<`, `>` and `=` for the bits 2, 4 and 8.
+/// Adds the comparison and the version of a requirement, each after a space; nothing where one of them is missing.
 #[tactic(auto, using(crate::proofs::Lettered::letters_are))]
-fn comparison(alloc: Global, flags: u64) -> Result<Vec<u8>, AllocError>
-    ensures { IfOk result (λ text. text.items ≡ letters depflags flags) }
+fn push_range(text: &mut Vec<u8>, flags: u64, version: &[u8]) -> Result<(), AllocError>
+    ensures { OnOk result (text.new.items ≡ text.old.items ++ range_text flags version.now) }
 {
-    let mut text = Vec::new(alloc);
+    if is_open(flags, version) {
+        return Ok(());
+    }
+    text.extend_from_slice(b" ")?;
     text.extend_from_slice(letter(flags, 2, b"<"))?;
     text.extend_from_slice(letter(flags, 4, b">"))?;
     text.extend_from_slice(letter(flags, 8, b"="))?;
-    Ok(text)
+    text.extend_from_slice(b" ")?;
+    text.extend_from_slice(version)
 }
 
-/// The comparison and the version of a requirement, each after a space; nothing where one of them is missing.
-fn range_text(alloc: Global, flags: u64, version: &[u8]) -> Result<Vec<u8>, AllocError>
-    ensures { IfOk result (λ text. text.items ≡ range_text flags version.now) }
-{
-    if is_open(flags, version) {
-        return Ok(Vec::new(alloc));
-    }
-    let comparison = comparison(alloc, flags)?;
-    let mut text = Vec::new(alloc);
-    text.extend_from_slice(b" ")?;
-    text.extend_from_slice(&comparison)?;
-    text.extend_from_slice(b" ")?;
-    text.extend_from_slice(version)?;
-    Ok(text)
-}
-
-/// The line of a requirement of the package with this label.
+/// Adds the line of the requirement at a place of the header with this label; nothing where there is none.
 #[tactic(auto, unfolding(crate::specs::Requirements::unmet_line))]
-fn unmet_line(alloc: Global, label: &[u8], needed: &Dependency<'_>) -> Result<Vec<u8>, AllocError>
-    ensures { IfOk result (λ line. line.items ≡ unmet_line label.now (needed_in needed.now)) }
-{
-    let range = range_text(alloc, needed.flags, needed.version)?;
-    let mut line = Vec::new(alloc);
-    line.extend_from_slice(label)?;
-    line.extend_from_slice(b": unsatisfied: ")?;
-    line.extend_from_slice(needed.name)?;
-    line.extend_from_slice(&range)?;
-    line.extend_from_slice(b"\n")?;
-    Ok(line)
-}
-
-/// The requirement at a place of a header.
-fn requirement<'a>(view: &View<'a>, place: u32) -> Option<Dependency<'a>>
-    ensures { option_map needed_in result ≡ slice_get (required view.now) place }
-{
-    let mut left = dependencies(view, REQUIRES);
-    left.nth(place as usize)
-}
-
-/// The line of the requirement at a place of the header with this label; empty where there is none.
-fn unmet_text(
-    alloc: Global,
+fn push_unmet(
+    text: &mut Vec<u8>,
     view: &View<'_>,
     label: &[u8],
     place: u32,
-) -> Result<Vec<u8>, AllocError>
-    ensures { IfOk result (λ line. line.items ≡ line_of label.now (slice_get (required view.now) place)) }
+) -> Result<(), AllocError>
+    ensures { OnOk result (text.new.items ≡ text.old.items
+        ++ line_of label.now (slice_get (required view.now) place)) }
 {
-    match requirement(view, place) {
-        Some(needed) => unmet_line(alloc, label, &needed),
-        None => Ok(Vec::new(alloc)),
+    let mut left = dependencies(view, REQUIRES);
+    match left.nth(place as usize) {
+        Some(needed) => {
+            text.extend_from_slice(label)?;
+            text.extend_from_slice(b": unsatisfied: ")?;
+            text.extend_from_slice(needed.name)?;
+            push_range(text, needed.flags, needed.version)?;
+            text.extend_from_slice(b"\n")
+        }
+        None => Ok(()),
     }
 }
 
-/// The lines of these requirements of a header, one after the other.
+/// The lines of these requirements of the header with which these bytes begin, one after the other.
 fn unmet_lines(
-    alloc: Global,
-    view: &View<'_>,
-    number: u32,
-    row: &[Unmet],
-) -> Result<Vec<u8>, AllocError>
-    ensures { IfOk result (λ lines. lines.items ≡ unmet_lines row.now number view.now) }
-{
-    let label = label_of(alloc, view, number)?;
-    let mut lines = Vec::new(alloc);
-    for unmet in row {
-        let line = unmet_text(alloc, view, &label, unmet.place)?;
-        lines.extend_from_slice(&line)?;
-    }
-    Ok(lines)
-}
-
-/// The same of the header with which these bytes begin, which is parsed once.
-fn read_unmet_lines(
     alloc: Global,
     blob: &[u8],
     number: u32,
@@ -135,9 +91,16 @@ fn read_unmet_lines(
 ) -> Result<Vec<u8>, AllocError>
     ensures { IfOk result (λ lines. lines.items ≡ read_text (unmet_lines row.now number) (header blob.now)) }
 {
+    let mut lines = Vec::new(alloc);
     match View::parse(blob) {
-        Ok(view) => unmet_lines(alloc, &view, number, row),
-        Err(_) => Ok(Vec::new(alloc)),
+        Ok(view) => {
+            let label = label_of(alloc, &view, number)?;
+            for unmet in row {
+                push_unmet(&mut lines, &view, &label, unmet.place)?;
+            }
+            Ok(lines)
+        }
+        Err(_) => Ok(lines),
     }
 }
 
@@ -156,14 +119,11 @@ fn put_row<D: Disk, O: Sink + Drop>(
     requires some { 0 < length row.now }
     ensures went { IsTrue D.tells → OutTakes O.Sink (λ old new. Reached
         (map (unmet_step (packages_in D.Disk disk.old db.now)) row.now) result old new Anywhere) out.old out.new }
-    ensures unbroken { (unit : ℕ) → result ≢ Err (Stop.BadIndex unit) }
     ensures tells { TellsOut D.Disk O.Sink result disk.old disk.new out.old out.new }
 {
     read_into(alloc, db, disk, number, room)?;
-    match read_unmet_lines(alloc, room, number, row) {
-        Ok(lines) => put_text(out, &lines),
-        Err(_) => Err(Stop::NoMemory),
-    }
+    let lines = unmet_lines(alloc, room, number, row)?;
+    put_text(out, &lines)
 }
 
 /// How many requirements at the front of a list are of one package.
@@ -188,7 +148,6 @@ fn put_each_unmet<D: Disk, O: Sink + Drop>(
     requires asked { IsAskable D.Disk disk.old db.now }
     ensures went { IsTrue D.tells → OutTakes O.Sink (λ old new. Reached
         (map (unmet_step (packages_in D.Disk disk.old db.now)) list.now) result old new Anywhere) out.old out.new }
-    ensures unbroken { (unit : ℕ) → result ≢ Err (Stop.BadIndex unit) }
     ensures tells { TellsOut D.Disk O.Sink result disk.old disk.new out.old out.new }
 {
     let mut room = Vec::new(alloc);
@@ -200,28 +159,6 @@ fn put_each_unmet<D: Disk, O: Sink + Drop>(
         left = rest;
     }
     Ok(())
-}
-
-/// Tells the requirements that no package meets, each with its line on out. Says whether there is one.
-fn tell_unmet<D: Disk, O: Sink + Drop>(
-    alloc: Global,
-    db: &Db,
-    disk: &mut D,
-    out: &mut Buffered<O>,
-) -> Result<bool, Stop>
-    requires asked { IsAskable D.Disk disk.old db.now }
-    ensures went { IsTrue D.tells → HasRows D.Disk disk.old db.now
-        → OutTakes O.Sink (λ old new. PartIs (unmet_part (packages_in D.Disk disk.old db.now)) result old new Anywhere)
-        out.old out.new }
-    ensures broken { IsTrue D.tells → IfErr result (StopsOfSome (D.files disk.old).idx) }
-    ensures tells { TellsOut D.Disk O.Sink result disk.old disk.new out.old out.new }
-{
-    let list = match unmet(alloc, db, disk) {
-        Ok(list) => list,
-        Err(fault) => return Err(stop_of_check(fault)),
-    };
-    put_each_unmet(alloc, db, disk, list.as_slice(), out)?;
-    Ok(!list.as_slice().is_empty())
 }
 
 /// Tells first the packages that can't be read, with their lines on err, and then the requirements that no package
@@ -246,6 +183,7 @@ pub fn report_unmet<D: Disk, O: Sink + Drop, E: Sink + Drop>(
     ensures hands { StopHands O.Sink E.Sink result out.old err.old out.new err.new }
 {
     let bad = tell_each_bad(alloc, db, disk, err)?;
-    let some = tell_unmet(alloc, db, disk, out)?;
-    Ok(bad | some)
+    let list = unmet(alloc, db, disk)?;
+    put_each_unmet(alloc, db, disk, list.as_slice(), out)?;
+    Ok(bad | !list.as_slice().is_empty())
 }

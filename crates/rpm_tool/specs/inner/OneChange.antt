@@ -1,12 +1,11 @@
 -- A command that changes packages, as each function on the way to it says it: what becomes `changes` of the page (Theorem.antt) in `run`.
+use Rattle.rpm_db.specs.Frame.{room}
 use Rattle.std.specs.Prelude.{◌≡◌, ℕ, Bool, true, false, [], IsTrue, Result, Err, IfOk, IfErr}
 use Rattle.rpm_outside.specs.declared.disk.Disk as disk
 use Rattle.rpm_outside.specs.declared.shelf.Shelf as shelf
 use Rattle.rpm_outside.specs.declared.sink.Sink as sink
 use Rattle.rpm_outside.specs.declared.buffered.Buffered.{Buffered}
-use Rattle.rpm_outside.specs.Files.{Files}
 use Rattle.rpm_outside.specs.Logs.{reopened}
-use Rattle.rpm_outside.specs.Shelves.{Paths}
 use Rattle.rpm_hindex.specs.Sizes.{units_for}
 use Rattle.rpm_pkgdb.specs.Reaches.{ReachesTo}
 use Rattle.rpm_pkgdb.specs.Store.{store}
@@ -15,7 +14,7 @@ use Rattle.rpm_db.specs.Database.{Database, is_blank}
 use Rattle.rpm_db.specs.Lawful.{IsLawful, IsWholeIndex}
 use Rattle.rpm_db.specs.Reaches.{ReachesMade}
 use Rattle.rpm_db.specs.State.{State}
-use Rattle.rpm_db.specs.inner.Writes.{SameLog}
+use Rattle.rpm_db.specs.Runs.{SameLog}
 use Rattle.rpm_change.specs.declared.tally.Tally.{Tally}
 use Rattle.rpm_change.specs.Endings.{Outputs}
 use Rattle.rpm_change.specs.Steps.{Course}
@@ -27,29 +26,28 @@ use Rattle.rpm_tool.specs.Changing.{DidOn, ChangesWith, EmptyBy, IsBroken}
 use Rattle.rpm_tool.specs.Frame.{DiskFault, ShelfFault, Hands, IsIndexed, Runs, state_in}
 use Rattle.rpm_tool.specs.Keyed.{IsLawfulGroup, is_done}
 use Rattle.rpm_tool.specs.Limits.{LimitsBy, LogBy, FaultIs, begun}
-use Rattle.rpm_tool.specs.Tasks.{TaskParts, task_course, is_anew, changes_index}
+use Rattle.rpm_tool.specs.Tasks.{TaskParts, is_anew, changes_index}
 use Rattle.rpm_tool.specs.Working.{OpensWithin, WorkedWith, is_halt, why_of}
 
--- what it answers, what it leaves, which limit it is answered, and how long its log is where that is refused
-pub record OneChange {D : Type 0} (files : D → Files) (left_since : D → ℕ → Files → Type 0) (moment : D → ℕ) (paths : Paths) (now : ℕ)
-    (task : TaskParts) (given : Why) (changes : ℕ) (old new : D) (before behind : Outputs) : Type 0 where
-  pub did : DidOn (task_course paths now task) (files old) given before behind
-  pub changed : ChangesWith (is_anew task) (changes_index task) files left_since moment (task_course paths now task) given changes old new
-  pub limits : LimitsBy (is_anew task) (IsLawfulGroup (files old)) (task_course paths now task) (reopened (files old)) given
-  pub fault : FaultIs (is_anew task) files left_since moment (task_course paths now task) given old new before behind
-  pub log : LogBy (is_anew task) (IsLawfulGroup (files old)) (task_course paths now task) (reopened (files old)) given
-
 module _ {D : Type 0} (d : disk.Ghosts D) where
+  -- what it answers, what it leaves, which limit it is answered, and how long its log is where that is refused
+  pub record OneChange (task : TaskParts) (course : State → Course) (given : Why) (changes : ℕ) (old new : D) (before behind : Outputs) : Type 0 where
+    pub did : DidOn course (d.files old) given before behind
+    pub changed : ChangesWith d (is_anew task) (changes_index task) course given changes old new
+    pub limits : LimitsBy (is_anew task) (IsLawfulGroup (d.files old)) course (reopened (d.files old)) given
+    pub fault : FaultIs d (is_anew task) course given old new before behind
+    pub log : LogBy (is_anew task) (IsLawfulGroup (d.files old)) course (reopened (d.files old)) given
+
   -- a database is begun where there is none, and any other stays as it is
   pub record BeginsOn (old new : D) (before after : Database) : Type 0 where
     pub ready : IsReady d new after
     pub not_blank : is_blank after ≡ false
     pub state_is : IsTrue d.tells → state_in d new after ≡ state_in d old before
-    pub store_is : after.store ≡ begun before.store
+    pub store_is : (room after) ≡ begun (room before)
     pub rows : IsTrue d.tells → (is_blank before ≡ false → IsIndexed d old before) → IsIndexed d new after
     pub whole : IsTrue d.tells → (is_blank before ≡ false → IsWholeIndex (d.files old).idx) → IsWholeIndex (d.files new).idx
     pub reach : IsTrue d.tells → ReachesMade (units_for []) (d.files old).idx (d.files new).idx
-    pub end : IsTrue d.tells → ReachesTo after.store (d.files old).pkg (d.files new).pkg
+    pub end : IsTrue d.tells → ReachesTo (room after) (d.files old).pkg (d.files new).pkg
 
   -- it is opened to be changed: its index holds the rows where the database is lawful, and no file is longer than opening makes it
   pub record OpensOn (old new : D) (db : Database) : Type 0 where
@@ -57,7 +55,7 @@ module _ {D : Type 0} (d : disk.Ghosts D) where
     pub not_blank : is_blank db ≡ false
     pub rows : IsTrue d.tells → IsLawful (d.files old).pkg (d.files old).idx → IsIndexed d new db
     pub broken : IsTrue d.tells → ¬ IsWholeIndex (d.files new).idx → IsBroken (d.files old).pkg (d.files old).idx
-    pub store_is : IsTrue d.tells → IfOk (store (d.files old).pkg) (λ value. db.store ≡ begun value)
+    pub store_is : IsTrue d.tells → IfOk (store (d.files old).pkg) (λ value. (room db) ≡ begun value)
     pub reach : IsTrue d.tells → IfOk (store (d.files old).pkg) (λ value. OpensWithin (d.files old) value db (d.files new))
 
   -- a course was gone through on the disk over which its changes are held: how far, which limit stopped it, and whether it found packages where it

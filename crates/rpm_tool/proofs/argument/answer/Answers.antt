@@ -1,20 +1,7 @@
+use Rattle.rpm_tool.proofs.Vocabulary.{answered, argument_reach, Bearer, cost_all, Files, inner, is_indexed, IsOfChain, lent, missing_part, not_asked}
+use Rattle.rpm_tool.proofs.Vocabulary.{outputs, Package, packages, PartIs, picked_by, picks, Pkg, Portion, question_of, Reach, reach_all, reach_of, reached}
+use Rattle.rpm_tool.proofs.Vocabulary.{ReadsOf, room, Selection, Stop, whole}
 use Rattle.std.proofs.Common.{◌≡◌, ℕ, ◌+◌, ◌≤◌, Option, List, Some, Err, refl, sym, ap, ◌∙◌, subst, arith}
-use Rattle.rpm_outside.specs.Buffered.{inner}
-use Rattle.rpm_outside.specs.declared.disk.File.TheVariants.{Pkg}
-use Rattle.rpm_outside.specs.Files.{Files}
-use Rattle.rpm_db.specs.State.{Package, packages}
-use Rattle.rpm_db.specs.Database.{cost_all, is_indexed}
-use Rattle.rpm_select.specs.declared.selection.Selection.{Selection}
-use Rattle.rpm_select.specs.Selections.{picks}
-use Rattle.rpm_select.specs.Reach.{Reach, reach_all}
-use Rattle.rpm_select.specs.inner.Unindexed.{not_asked}
-use Rattle.rpm_tool.specs.declared.step.Stop.{Stop}
-use Rattle.rpm_change.specs.Steps.{Bearer, whole}
-use Rattle.rpm_tool.specs.Steps.{Portion}
-use Rattle.rpm_tool.specs.Queries.{lent, question_of, picked_by, missing_part, answered}
-use Rattle.rpm_change.specs.Endings.{outputs}
-use Rattle.rpm_tool.specs.Answers.{PartIs}
-use Rattle.rpm_tool.specs.Reads.{ReadsOf, reached, reach_of, argument_reach, IsOfChain}
 use Rattle.rpm_tool.proofs.Peeking.{peeks_none, peeks_then, peeks_packages, peeks_index}
 use Rattle.rpm_tool.proofs.Unbroken.{part_unbroken, chain_unbroken, chain_of}
 use Rattle.rpm_tool.proofs.Questions.{picked_same, reach_same, chain_same}
@@ -24,12 +11,15 @@ use Rattle.rpm_tool.proofs.Askable.{asked_still}
 use Rattle.rpm_tool.proofs.argument.answer.Goals as goal
 
 pub answer_question-requires : goal.answer_question-requires
-answer_question-requires g c = record { asked = asked_still g.D.Disk c.args.disk.now c.new.new.disk c.args.db.now c.in-Ok.ensures.asks.looks.untouched c.requires.asked }
+answer_question-requires g c = record {
+  asked = asked_still g.D.Disk c.args.disk.now c.new.new.disk c.args.db.now c.in-Ok.ensures.asks.looks.untouched
+      c.requires.asked;
+}
 
 pub returns-in-Ok-clause-went : goal.returns-in-Ok-clause-went
 returns-in-Ok-clause-went g c = λ told rows j.
     let db = c.args.db.now in
-    let s = db.store in
+    let s = (room db) in
     let sel = c.in-Some.selection in
     let files = g.D.Disk.files c.args.disk.now in
     let map = packages files.pkg s in
@@ -58,7 +48,7 @@ returns-in-Ok-clause-went g c = λ told rows j.
 pub returns-in-None-clause-went : goal.returns-in-None-clause-went
 returns-in-None-clause-went g c = λ told rows j.
     let db = c.args.db.now in
-    let s = db.store in
+    let s = (room db) in
     let old = outputs g.O.Sink.tells (g.O.Sink.taken (inner c.args.out.now)) g.E.Sink.tells (g.E.Sink.taken (inner c.args.err.now)) in
     let new = outputs g.O.Sink.tells (g.O.Sink.taken (inner c.put_missing_part.new.out)) g.E.Sink.tells (g.E.Sink.taken (inner c.put_missing_part.new.err)) in
     let before = g.D.Disk.bytes_read c.args.disk.now Pkg in
@@ -74,7 +64,7 @@ returns-in-None-clause-went g c = λ told rows j.
 pub returns-in-Ok-clause-reads : goal.returns-in-Ok-clause-reads
 returns-in-Ok-clause-reads g c = λ told rows.
     let db = c.args.db.now in
-    let map = packages (g.D.Disk.files c.args.disk.now).pkg db.store in
+    let map = packages (g.D.Disk.files c.args.disk.now).pkg (room db) in
     let is = c.in-Ok.ensures.reach told rows ∙ sym (reach_same (is_indexed db) map c.args.chosen c.args.text
     ∙ ap (reach_of (is_indexed db) map) (sym c.question_of.ensures ∙ c.in-Some.is)) in
     subst (λ (r : Reach). g.D.Disk.bytes_read c.answer_question.new.disk Pkg ≤ g.D.Disk.bytes_read c.args.disk.now Pkg + reach_all r db) is

@@ -1,16 +1,12 @@
+use Rattle.rpm_tool.proofs.Vocabulary.{above, from_one, is_some_of, packages, picks, picks_from_one, room}
 use Rattle.std.proofs.Common.{◌≡◌, ℕ, [], ap, sym, ◌∙◌, subst}
-use Rattle.rpm_db.specs.State.{packages, above}
-use Rattle.rpm_db.specs.inner.FromOne.{from_one}
-use Rattle.rpm_select.specs.Selections.{picks}
-use Rattle.rpm_tool.specs.Answers.{is_some_of}
-use Rattle.rpm_select.specs.inner.Rising.{picks_from_one}
 use Rattle.rpm_tool.proofs.Rising.{any_passed}
 use Rattle.rpm_tool.proofs.argument.is_any_passed.Goals as goal
 
 pub returns-then-after-eq0-clause-told : goal.returns-then-after-eq0-clause-told
 returns-then-after-eq0-clause-told g c = λ told serves none.
     let file = (g.D.Disk.files c.args.disk.now).pkg in
-    let es = picks (packages file c.args.db.now.store) c.args.selection.now in
+    let es = picks (packages file (room c.args.db.now)) c.args.selection.now in
     let nothing : es ≡ [] = sym (picks_from_one file c.args.db.now c.args.selection.now (from_one file c.args.db.now (c.requires.asked.keeps told)))
     ∙ subst (λ (k : ℕ). above k es ≡ []) c.if-after-eq0.true none in
     sym (ap is_some_of nothing)
@@ -18,5 +14,5 @@ returns-then-after-eq0-clause-told g c = λ told serves none.
 pub returns-in-Ok-clause-told : goal.returns-in-Ok-clause-told
 returns-in-Ok-clause-told g c = λ told serves none.
     let file = (g.D.Disk.files c.args.disk.now).pkg in
-    c.in-Ok.ensures.told told serves ∙ any_passed c.args.after (picks (packages file c.args.db.now.store) c.args.selection.now) none
+    c.in-Ok.ensures.told told serves ∙ any_passed c.args.after (picks (packages file (room c.args.db.now)) c.args.selection.now) none
     (picks_from_one file c.args.db.now c.args.selection.now (from_one file c.args.db.now (c.requires.asked.keeps told)))

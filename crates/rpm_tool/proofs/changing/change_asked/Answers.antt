@@ -1,98 +1,156 @@
-use Rattle.std.proofs.Common.{sym, ap, ◌∙◌, subst}
-use Rattle.rpm_outside.specs.Buffered.{inner}
-use Rattle.rpm_outside.specs.Logs.{reopened}
-use Rattle.rpm_change.specs.Endings.{outputs}
-use Rattle.rpm_tool.specs.Changing.{EmptyBy}
-use Rattle.rpm_tool.specs.Tasks.{TaskParts, asked_task, task_parts, task_course, reads_shelf, is_anew, needs_none}
-use Rattle.rpm_tool.proofs.Emptied.{memory_empty, recover_empty}
-use Rattle.rpm_outside.specs.Files.{Files}
-use Rattle.rpm_db.specs.State.{State}
-use Rattle.rpm_change.specs.Steps.{Course}
-use Rattle.rpm_tool.proofs.LimitEnds.{limits_unrecovered}
-use Rattle.rpm_tool.proofs.Logged.{log_unrecovered}
-use Rattle.rpm_tool.proofs.Regrouped.{recovered_changes, recovered_limits, recovered_log, recovered_fault}
-use Rattle.rpm_tool.proofs.Unmade.{through_none, recovered_did, unrecovered_did, unrecovered_changes, unrecovered_fault}
-use Rattle.rpm_tool.proofs.Unstarted.{unstarted_one}
-use Rattle.rpm_tool.specs.inner.OneChange.{OneChange}
+use Rattle.std.proofs.Common.{◌≡◌, ◌+◌, ◌≤◌, Err, refl, sym, ap, ◌∙◌, subst, ⊎_elim, arith}
+use Rattle.rpm_tool.proofs.Vocabulary.{asked_task, changes_index, Course, EmptyBy, Files, is_anew, is_of_streams, IsLawful, IsShut, laid_files, LimitsBy, Log}
+use Rattle.rpm_tool.proofs.Vocabulary.{log_state, needs_none, OneChange, overlay_below, overlay_held, overlay_read, overlay_starved, reads_shelf, reopened}
+use Rattle.rpm_tool.proofs.Vocabulary.{Rose, shown, State, task_course, task_parts, TaskParts, why_of, why_of_load, why_of_recover, with_file, WorkedWith}
+use Rattle.rpm_tool.specs.declared.answer.Why.TheVariants as why
+use Rattle.rpm_tool.proofs.Emptied.{group_empty, same_empty}
+use Rattle.rpm_tool.proofs.Ends.{below_same, below_back, below_moment}
+use Rattle.rpm_tool.proofs.Grouped.{group_one}
+use Rattle.rpm_tool.proofs.Regrouped.{recovered_one}
+use Rattle.rpm_tool.proofs.Standing.{may_begin}
+use Rattle.rpm_tool.proofs.Unmade.{early_load, early_recover, idle_run, looked_run, unmade_one}
 use Rattle.rpm_tool.proofs.changing.change_asked.Goals as goal
+
+pub returns-in-Ok-load-clause-one : goal.returns-in-Ok-load-clause-one
+returns-in-Ok-load-clause-one g c = λ told shelf.
+    let D = g.D.Disk in
+    let first = c.recover.new.disk in
+    let mid = overlay_below c.in-Ok-load.overlay in
+    let end = c.change_on-ended.new.disk in
+    let last = overlay_below end in
+    let final = c.end_group.result.1 in
+    let new = laid_files (overlay_held end) (D.files last) in
+    let r = reopened (D.files first) in
+    let recovered = c.in-Ok-recover.ensures in
+    let works = c.change_on-ended.ensures.works in
+    let t = task_parts c.in-Ok.task in
+    let paths = g.S.Shelf.paths c.args.shelf.now in
+    let course : State → Course = task_course paths c.args.now t in
+    let ended = c.change_on-ended.result in
+    let given = c.end_group.result.0.why in
+    let n = c.end_group.result.0.changes in
+    let ends = c.end_group.ensures.ends told in
+    let looks = c.in-Ok-load.ensures.looks in
+    let ro = overlay_read D.bytes_read c.in-Ok-load.overlay in
+    let rn = overlay_read D.bytes_read end in
+    let before = shown g.O.Sink g.E.Sink c.args.out.now c.args.err.now in
+    let now = shown g.O.Sink g.E.Sink c.change_on-ended.new.out c.change_on-ended.new.err in
+    let shut : IsShut D first = record { closed = recovered.closed told; settled = recovered.settled told } in
+    let laid = c.in-Ok-load.ensures.files told in
+    let asked = c.in-Ok.ensures.asked in
+    let worked : WorkedWith (is_anew t) (changes_index t) course (with_file Log (D.files first).log r) new ended before now =
+    subst (λ (f : Files). WorkedWith (is_anew t) (changes_index t) course f new ended before now) laid
+    (works.worked (told, λ reads. shelf (sym (ap reads_shelf asked) ∙ reads))) in
+    let met : LimitsBy (is_anew t) (IsLawful r.pkg r.idx) course (with_file Log (D.files first).log r) (why_of ended) =
+    subst (λ (f : Files). LimitsBy (is_anew t) (IsLawful f.pkg f.idx) course f (why_of ended)) laid
+    (works.limits (told, λ reads. shelf (sym (ap reads_shelf asked) ∙ reads))) in
+    let as_read = g.met.D.Disk.earlier final (D.moment last) (D.moment final) (D.files final) told ends.leaves.later (omega arith)
+    (g.met.D.Disk.as_read final told) in
+    subst (λ (k : TaskParts). OneChange D k (task_course paths c.args.now k) given n c.args.disk final before now) asked
+    (recovered_one D t course given n c.args.disk first final _ (g.met.D.Disk.as_read c.args.disk told) (recovered.says told) (recovered.stands told)
+    (recovered.images told) shut before now
+    (group_one D t course ended given n first last final new before now shut (g.met.D.Disk.as_read first told) worked
+    (λ indexed may. met indexed (λ asked. may_begin (is_anew t) (λ group. group.lawful) (may asked)))
+    (below_same D first mid last ro rn looks works.runs.goes_on told) (below_back D first mid last ro rn looks works.runs.goes_on told)
+    (below_moment D first mid last ro rn looks works.runs.goes_on told) ends as_read works.halted (c.end_group.ensures.log told)))
+
+pub returns-in-Ok-load-clause-empty : goal.returns-in-Ok-load-clause-empty
+returns-in-Ok-load-clause-empty g c = λ told.
+    let needs = needs_none (task_parts c.in-Ok.task) in
+    let r = reopened (g.D.Disk.files c.recover.new.disk) in
+    let ended = c.change_on-ended.result in
+    let given = c.end_group.result.0.why in
+    subst (λ (t : TaskParts). EmptyBy (needs_none t) (reopened (g.D.Disk.files c.args.disk)) given) c.in-Ok.ensures.asked
+    (subst (λ (f : Files). EmptyBy needs f given) (c.in-Ok-recover.ensures.stands told)
+    (group_empty needs r ended given c.end_group.result.0.changes (c.end_group.ensures.ends told).says
+    (same_empty needs _ r (why_of ended) (ap (λ (f : Files). f.pkg) (c.in-Ok-load.ensures.files told)) (c.change_on-ended.ensures.works.empty told))))
+
+pub returns-in-Ok-load-clause-keeps : goal.returns-in-Ok-load-clause-keeps
+returns-in-Ok-load-clause-keeps g c =
+    let D = g.D.Disk in
+    let said = c.end_group.ensures in
+    let works = c.change_on-ended.ensures.works in
+    let goes = g.met.D.Disk.follows_trans in
+    let old = c.args.disk in
+    let first = c.recover.new.disk in
+    let mid = overlay_below c.in-Ok-load.overlay in
+    let end = c.change_on-ended.new.disk in
+    let last = overlay_below end in
+    let final = c.end_group.result.1 in
+    let start : D.faults old ≤ D.faults mid = omega (arith, c.in-Ok-recover.ensures.cause.later, c.in-Ok-load.ensures.cause.later) in
+    let so_far : D.faults mid ≤ D.faults last = works.runs.goes_on.later in
+    let later : D.faults last ≤ D.faults final = said.later in
+    let by_commit : Rose (D.faults last) (D.faults final) → Rose (D.faults old) (D.faults final) = λ higher. omega (arith, start, so_far, higher) in
+    let before_it : (c.change_on-ended.result ≡ Err why.DiskFault) × (overlay_starved end ≡ 0) → Rose (D.faults old) (D.faults final) =
+    λ both. (let rose : Rose (D.faults mid + overlay_starved c.in-Ok-load.overlay) (D.faults last + overlay_starved end) = works.disk.rose both.0 in
+    let none : overlay_starved end ≡ 0 = both.1 in
+    omega (arith, start, rose, none, later)) in
+    record {
+      counted = said.counted;
+      of_words = said.of_words;
+      goes_on = goes old last final (goes old mid last (goes old first mid c.in-Ok-recover.ensures.reads.goes_on c.in-Ok-load.ensures.looks.goes_on)
+          works.runs.goes_on.below) said.goes_on;
+      disk = record { later = omega (arith, start, so_far, later); rose = λ is. ⊎_elim by_commit before_it (said.disk is) };
+    }
+
+pub returns-in-Ok-load-clause-streams : goal.returns-in-Ok-load-clause-streams
+returns-in-Ok-load-clause-streams g c =
+    let streams = c.change_on-ended.ensures.streams in
+    let kept = c.end_group.ensures.kept in
+    let out = streams.hands.out in
+    let err = streams.hands.err in
+    record {
+      unread = λ reads. streams.unread (ap reads_shelf c.in-Ok.ensures.asked ∙ reads);
+      paths = streams.paths;
+      shelf = record { later = streams.shelf.later; rose = λ is. streams.shelf.rose (kept (ap is_of_streams is) ∙ ap Err is) };
+      hands = record {
+        out = record {
+          cause = record { later = out.cause.later; rose = λ is. out.cause.rose (kept (ap is_of_streams is) ∙ ap Err is) };
+          goes_on = out.goes_on;
+        };
+        err = record {
+          cause = record { later = err.cause.later; rose = λ is. err.cause.rose (kept (ap is_of_streams is) ∙ ap Err is) };
+          goes_on = err.goes_on;
+        };
+      };
+    }
+
+-- ---- not loaded
 
 pub returns-in-Ok-recover-clause-one : goal.returns-in-Ok-recover-clause-one
 returns-in-Ok-recover-clause-one g c = λ told shelf.
     let D = g.D.Disk in
-    let old = c.args.disk in
-    let mid = c.recover.new.disk in
-    let first = c.in-Ok-recover.ensures in
-    let course : State → Course = task_course (g.S.Shelf.paths c.args.shelf.now) c.args.now (task_parts c.in-Ok.task) in
-    let given = c.change_recovered.result.0.why in
-    let same = c.in-Ok.ensures.asked in
-    let one = c.change_recovered.ensures.one told (λ reads. shelf (sym (ap reads_shelf same) ∙ reads)) in
-    subst (λ (t : TaskParts). OneChange D.files D.left_since D.moment (g.S.Shelf.paths c.args.shelf.now) c.args.now t given
-    c.change_recovered.result.0.changes old c.change_recovered.result.1
-    (outputs g.O.Sink.tells (g.O.Sink.taken (inner c.args.out.now)) g.E.Sink.tells (g.E.Sink.taken (inner c.args.err.now)))
-    (outputs g.O.Sink.tells (g.O.Sink.taken (inner c.change_recovered.new.out)) g.E.Sink.tells (g.E.Sink.taken (inner c.change_recovered.new.err)))) same
-    (record {
-      did = recovered_did course (D.files old) (D.files mid) _ given
-          (outputs g.O.Sink.tells (g.O.Sink.taken (inner c.args.out.now)) g.E.Sink.tells (g.E.Sink.taken (inner c.args.err.now)))
-          (outputs g.O.Sink.tells (g.O.Sink.taken (inner c.change_recovered.new.out)) g.E.Sink.tells
-          (g.E.Sink.taken (inner c.change_recovered.new.err))) (first.says told) (first.closed told) (first.stands told) one.did;
-      changed = recovered_changes D.files D.left_since D.moment course given c.change_recovered.result.0.changes old mid c.change_recovered.result.1
-          (g.met.D.Disk.as_read old told) (first.stands told) (first.images told) (first.closed told) (first.settled told) one.changed;
-      limits = recovered_limits D.files D.left_since D.moment course given c.change_recovered.result.0.changes old mid c.change_recovered.result.1
-          (g.met.D.Disk.as_read old told) (first.stands told) (first.images told) (first.closed told) (first.settled told) one.changed one.limits;
-      fault = recovered_fault D.files D.left_since D.moment course given c.change_recovered.result.0.changes old mid c.change_recovered.result.1
-          (g.met.D.Disk.as_read old told) (first.stands told) (first.images told) (first.closed told) (first.settled told) one.changed
-          (outputs g.O.Sink.tells (g.O.Sink.taken (inner c.args.out.now)) g.E.Sink.tells (g.E.Sink.taken (inner c.args.err.now)))
-          (outputs g.O.Sink.tells (g.O.Sink.taken (inner c.change_recovered.new.out)) g.E.Sink.tells
-          (g.E.Sink.taken (inner c.change_recovered.new.err))) one.fault;
-      log = recovered_log D.files D.left_since D.moment course given c.change_recovered.result.0.changes old mid c.change_recovered.result.1
-          (g.met.D.Disk.as_read old told) (first.stands told) (first.images told) (first.closed told) (first.settled told) one.changed one.log;
-    })
+    let first = c.recover.new.disk in
+    let back = c.in-Err-load.refused.disk in
+    let fault = c.in-Err-load.refused.why in
+    let looks = c.in-Err-load.ensures.looks in
+    let recovered = c.in-Ok-recover.ensures in
+    let t = asked_task c.args.words.now c.args.ask.now in
+    let course : State → Course = task_course (g.S.Shelf.paths c.args.shelf.now) c.args.now t in
+    let x = shown g.O.Sink g.E.Sink c.args.out.now c.args.err.now in
+    rw (c.unchanged-in-Err-load.ensures, c.why_of_load.ensures)
+    (recovered_one D t course (why_of_load fault) 0 c.args.disk first back _ (g.met.D.Disk.as_read c.args.disk told) (recovered.says told)
+    (recovered.stands told) (recovered.images told) (record { closed = recovered.closed told; settled = recovered.settled told }) x x
+    (unmade_one D first back (ap reopened (looks.untouched told).same) (looked_run D first back looks told) (why_of_load fault)
+    (early_load (log_state (D.files first).log) fault (c.in-Err-load.ensures.says told)) t course x))
 
-pub returns-in-Ok-recover-clause-streams : goal.returns-in-Ok-recover-clause-streams
-returns-in-Ok-recover-clause-streams g c =
-    let streams = c.change_recovered.ensures.streams in
-    record {
-      unread = λ reads. streams.unread (ap reads_shelf c.in-Ok.ensures.asked ∙ reads);
-      paths = streams.paths;
-      shelf = streams.shelf;
-      hands = streams.hands;
-    }
+-- ---- not recovered
 
 pub returns-clause-one : goal.returns-clause-one
 returns-clause-one g c = λ told shelf.
     let D = g.D.Disk in
-    let old = c.args.disk in
     let first = c.in-Err-recover.ensures in
-    let course : State → Course = task_course (g.S.Shelf.paths c.args.shelf.now) c.args.now (asked_task c.args.words.now c.args.ask.now) in
-    let x = outputs g.O.Sink.tells (g.O.Sink.taken (inner c.args.out.now)) g.E.Sink.tells (g.E.Sink.taken (inner c.args.err.now)) in
-    rw (c.unchanged-in-Err-recover.ensures, c.why_of_recover.ensures) (record {
-      did = unrecovered_did course (D.files old) c.in-Err-recover.fault x x (first.says told) (through_none x);
-      changed = unrecovered_changes D.files D.left_since D.moment course old c.recover.new.disk (g.met.D.Disk.as_read old told) (first.stands told)
-          (first.images told) c.in-Err-recover.fault (first.says told);
-      limits = λ indexed may. limits_unrecovered indexed (is_anew (asked_task c.args.words.now c.args.ask.now)) course (reopened (D.files old)) c.in-Err-recover.fault;
-      fault = unrecovered_fault D.files D.left_since D.moment course old c.recover.new.disk (g.met.D.Disk.as_read old told) (first.stands told)
-          (first.images told) c.in-Err-recover.fault x;
-      log = λ indexed may. log_unrecovered indexed course (reopened (D.files old)) c.in-Err-recover.fault;
-    })
-
-pub returns-in-Ok-recover-clause-empty : goal.returns-in-Ok-recover-clause-empty
-returns-in-Ok-recover-clause-empty g c = λ told.
-    let given = c.change_recovered.result.0.why in
-    subst (λ (t : TaskParts). EmptyBy (needs_none t) (reopened (g.D.Disk.files c.args.disk)) given) c.in-Ok.ensures.asked
-    (subst (λ (f : Files). EmptyBy (needs_none (task_parts c.in-Ok.task)) f given) (c.in-Ok-recover.ensures.stands told)
-    (c.change_recovered.ensures.empty told))
-
-pub returns-clause-empty : goal.returns-clause-empty
-returns-clause-empty g c = λ told.
+    let fault = c.in-Err-recover.fault in
+    let t = asked_task c.args.words.now c.args.ask.now in
     rw (c.unchanged-in-Err-recover.ensures, c.why_of_recover.ensures)
-    (recover_empty (needs_none (asked_task c.args.words.now c.args.ask.now)) (reopened (g.D.Disk.files c.args.disk)) c.in-Err-recover.fault)
+    (unmade_one D c.args.disk c.recover.new.disk (first.stands told) (first.images told) (why_of_recover fault)
+    (early_recover (log_state (D.files c.args.disk).log) fault (first.says told)) t (task_course (g.S.Shelf.paths c.args.shelf.now) c.args.now t)
+    (shown g.O.Sink g.E.Sink c.args.out.now c.args.err.now))
+
+-- ---- not begun
 
 pub returns-in-Err-clause-one : goal.returns-in-Err-clause-one
 returns-in-Err-clause-one g c = λ told shelf.
-    rw c.unchanged.ensures (unstarted_one g.D.Disk.files g.D.Disk.left_since g.D.Disk.moment (g.S.Shelf.paths c.args.shelf.now) c.args.now
-    (asked_task c.args.words.now c.args.ask.now) c.args.disk
-    (outputs g.O.Sink.tells (g.O.Sink.taken (inner c.args.out.now)) g.E.Sink.tells (g.E.Sink.taken (inner c.args.err.now))))
-
-pub returns-in-Err-clause-empty : goal.returns-in-Err-clause-empty
-returns-in-Err-clause-empty g c = λ told.
-    rw c.unchanged.ensures (memory_empty (needs_none (asked_task c.args.words.now c.args.ask.now)) (reopened (g.D.Disk.files c.args.disk)))
+    let t = asked_task c.args.words.now c.args.ask.now in
+    rw c.unchanged.ensures (unmade_one g.D.Disk c.args.disk c.args.disk refl (idle_run g.D.Disk c.args.disk) why.NoMemory tt t
+    (task_course (g.S.Shelf.paths c.args.shelf.now) c.args.now t) (shown g.O.Sink g.E.Sink c.args.out.now c.args.err.now))

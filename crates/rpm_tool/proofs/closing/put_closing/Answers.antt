@@ -1,4 +1,4 @@
-use Rattle.rpm_outside.specs.inner.Flushed.{stopped, flushed}
+use Rattle.rpm_tool.proofs.Vocabulary.{flushed, stopped}
 use Rattle.rpm_tool.proofs.closing.put_closing.Goals as goal
 
 pub returns-in_err-put_line : goal.returns-in_err-put_line

@@ -1,5 +1,5 @@
 use Rattle.std.proofs.Common.{◌∙◌}
-use Rattle.rpm_tool.specs.Closing.{damage_line}
+use Rattle.rpm_tool.proofs.Vocabulary.{damage_line}
 use Rattle.rpm_tool.proofs.closing.put_damage.Goals as goal
 
 pub returns : goal.returns

@@ -1,5 +1,5 @@
 use Rattle.std.proofs.Common.{◌∙◌}
-use Rattle.rpm_tool.specs.Closing.{format_line}
+use Rattle.rpm_tool.proofs.Vocabulary.{format_line}
 use Rattle.rpm_tool.proofs.closing.put_fault.Goals as goal
 
 pub returns : goal.returns

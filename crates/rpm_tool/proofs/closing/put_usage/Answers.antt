@@ -1,4 +1,4 @@
-use Rattle.rpm_tool.specs.Closing.{usage_line}
+use Rattle.rpm_tool.proofs.Vocabulary.{usage_line}
 use Rattle.rpm_tool.proofs.closing.put_usage.Goals as goal
 
 pub returns : goal.returns

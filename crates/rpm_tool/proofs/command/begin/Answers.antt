@@ -1,8 +1,14 @@
-use Rattle.std.proofs.Common.{◌≡◌, true, false, refl, sym, ap, ◌∙◌, arith}
-use Rattle.rpm_tool.specs.Answers.{is_foreign}
+use Rattle.std.proofs.Common.{◌≡◌, true, false, not, refl, sym, ap, ◌∙◌, arith}
+use Rattle.rpm_tool.proofs.Vocabulary.{is_foreign, needs_no_index}
 use Rattle.rpm_tool.proofs.Begun.{unforeign}
+use Rattle.rpm_tool.proofs.Deeds.{plain_deed}
 use Rattle.rpm_tool.proofs.Page.{does_plain, does_files, does_keyed, does_change}
 use Rattle.rpm_tool.proofs.command.begin.Goals as goal
+
+pub answer_loaded-why-requires : goal.answer_loaded-why-requires
+answer_loaded-why-requires g c = record {
+  plain = plain_deed c.args.ask.now.mode (not (needs_no_index c.args.ask.now.chosen c.args.ask.now.noindex)) (sym c.by_key.ensures ∙ c.if-by_key.false);
+}
 
 pub returns-then-is_changing-clause-does : goal.returns-then-is_changing-clause-does
 returns-then-is_changing-clause-does g c =

@@ -1,8 +1,5 @@
 use Rattle.std.proofs.Common.{◌≡◌, true, false, sym, ap, refl, ◌∙◌}
-use Rattle.rpm_outside.specs.Buffered.{inner}
-use Rattle.rpm_words.specs.Ask.{ask}
-use Rattle.rpm_tool.specs.Answers.{is_of_words}
-use Rattle.rpm_tool.specs.Asked.{changes_in, asks_change, asks_format, asks}
+use Rattle.rpm_tool.proofs.Vocabulary.{ask, asks, asks_change, asks_format, changes_in, inner, is_of_words}
 use Rattle.rpm_tool.proofs.Page.{does_nothing}
 use Rattle.rpm_tool.proofs.Undone.{usage_of_undone, usage_of_done, format_of_undone, format_of_done, kind_of_usage, kind_of_format, starved, none_asked, same_command}
 use Rattle.rpm_tool.proofs.command.command.Goals as goal

@@ -1,6 +1,5 @@
 use Rattle.std.proofs.Common.{◌∙◌, ap, refl, rules, arith}
-use Rattle.rpm_outside.specs.Buffered.{inner}
-use Rattle.rpm_tool.specs.Closing.{closing}
+use Rattle.rpm_tool.proofs.Vocabulary.{closing, inner}
 use Rattle.rpm_tool.proofs.Arguments.{questions}
 use Rattle.rpm_tool.proofs.Closed.{ended, handed, counted_fault}
 use Rattle.rpm_tool.proofs.Numbered.{argument_numbers, picked_rises, whole_numbers, all_rise}

@@ -1,21 +1,9 @@
+use Rattle.rpm_tool.proofs.Vocabulary.{bad, Bearer, check_files, conflicts, Everything, fails, FinMap, inner, IsReport, nat_cmp, Outputs, outputs, Package}
+use Rattle.rpm_tool.proofs.Vocabulary.{packages, PartIs, Pkg, Portion, Reached, reached_by, Report, report_steps, room, Step, Stop, together, told_steps}
+use Rattle.rpm_tool.proofs.Vocabulary.{Went, whole, Why}
 use Rattle.std.proofs.Common.{◌≡◌, ◌+◌, ◌≤◌, true, false, Bool, List, [], ◌∷◌, map, Result, Ok, Err, refl, sym, subst, arith}
 use Rattle.std.proofs.lemmas.List.{append-nil}
-use Rattle.std.specs.Ordering.{nat_cmp}
-use Rattle.std.specs.FinMap.{FinMap}
-use Rattle.rpm_outside.specs.Buffered.{inner}
-use Rattle.rpm_outside.specs.declared.disk.File.TheVariants.{Pkg}
-use Rattle.rpm_db.specs.State.{Package, packages}
-use Rattle.rpm_filecheck.specs.Conflicts.{Report, IsReport, bad, conflicts}
-use Rattle.rpm_select.specs.Reach.{Everything}
-use Rattle.rpm_change.specs.Steps.{Bearer, Step, whole}
-use Rattle.rpm_change.specs.Endings.{Outputs, outputs}
-use Rattle.rpm_tool.specs.declared.answer.Why.{Why}
-use Rattle.rpm_tool.specs.declared.step.Stop.{Stop}
-use Rattle.rpm_tool.specs.Steps.{Portion, fails, together}
 use Rattle.rpm_tool.specs.Labels.{label}
-use Rattle.rpm_tool.specs.FileReport.{report_steps, told_steps, check_files}
-use Rattle.rpm_tool.specs.Reads.{reached_by}
-use Rattle.rpm_tool.specs.Answers.{Reached, PartIs, Went}
 use Rattle.rpm_tool.proofs.Answering.{part_reads, went_stop}
 use Rattle.rpm_tool.proofs.Labels.{same_steps}
 use Rattle.rpm_tool.proofs.Reaching.{through_none}
@@ -42,7 +30,7 @@ stopped packages what old new reads_to part =
 pub returns-in-Err-DiskFault-clause-went : goal.returns-in-Err-DiskFault-clause-went
 returns-in-Err-DiskFault-clause-went g c = λ tells. (
   [],
-  (check_files (packages (g.D.Disk.files c.args.disk.now).pkg c.args.db.now.store)).steps,
+  (check_files (packages (g.D.Disk.files c.args.disk.now).pkg (room c.args.db.now))).steps,
   refl,
   through_none {ot = g.O.Sink.tells} {et = g.E.Sink.tells} (g.O.Sink.taken (inner c.args.out.now)) (g.E.Sink.taken (inner c.args.err.now)),
 )
@@ -50,14 +38,14 @@ returns-in-Err-DiskFault-clause-went g c = λ tells. (
 pub returns-in-Err-NoMemory-clause-went : goal.returns-in-Err-NoMemory-clause-went
 returns-in-Err-NoMemory-clause-went g c = λ tells. (
   [],
-  (check_files (packages (g.D.Disk.files c.args.disk.now).pkg c.args.db.now.store)).steps,
+  (check_files (packages (g.D.Disk.files c.args.disk.now).pkg (room c.args.db.now))).steps,
   refl,
   through_none {ot = g.O.Sink.tells} {et = g.E.Sink.tells} (g.O.Sink.taken (inner c.args.out.now)) (g.E.Sink.taken (inner c.args.err.now)),
 )
 
 pub returns-clause-went : goal.returns-clause-went
 returns-clause-went g c = λ tells.
-    let ps = packages (g.D.Disk.files c.args.disk.now).pkg c.args.db.now.store in
+    let ps = packages (g.D.Disk.files c.args.disk.now).pkg (room c.args.db.now) in
     let old = outputs g.O.Sink.tells (g.O.Sink.taken (inner c.args.out.now)) g.E.Sink.tells (g.E.Sink.taken (inner c.args.err.now)) in
     let new = outputs g.O.Sink.tells (g.O.Sink.taken (inner c.tell_report.new.out)) g.E.Sink.tells (g.E.Sink.taken (inner c.tell_report.new.err)) in
     let reads : Bearer → Type 0 = λ for. g.D.Disk.bytes_read c.conflicts.new.disk Pkg ≤ g.D.Disk.bytes_read c.args.disk.now Pkg
@@ -70,7 +58,7 @@ returns-clause-went g c = λ tells.
 
 pub returns-in-Ok-true-clause-went : goal.returns-in-Ok-true-clause-went
 returns-in-Ok-true-clause-went g c = λ tells.
-    let ps = packages (g.D.Disk.files c.args.disk.now).pkg c.args.db.now.store in
+    let ps = packages (g.D.Disk.files c.args.disk.now).pkg (room c.args.db.now) in
     let old = outputs g.O.Sink.tells (g.O.Sink.taken (inner c.args.out.now)) g.E.Sink.tells (g.E.Sink.taken (inner c.args.err.now)) in
     let new = outputs g.O.Sink.tells (g.O.Sink.taken (inner c.tell_report.new.out)) g.E.Sink.tells (g.E.Sink.taken (inner c.tell_report.new.err)) in
     let reads : Bearer → Type 0 = λ for. g.D.Disk.bytes_read c.conflicts.new.disk Pkg ≤ g.D.Disk.bytes_read c.args.disk.now Pkg
@@ -80,7 +68,7 @@ returns-in-Ok-true-clause-went g c = λ tells.
 
 pub returns-in-Ok-false-clause-went : goal.returns-in-Ok-false-clause-went
 returns-in-Ok-false-clause-went g c = λ tells.
-    let ps = packages (g.D.Disk.files c.args.disk.now).pkg c.args.db.now.store in
+    let ps = packages (g.D.Disk.files c.args.disk.now).pkg (room c.args.db.now) in
     let old = outputs g.O.Sink.tells (g.O.Sink.taken (inner c.args.out.now)) g.E.Sink.tells (g.E.Sink.taken (inner c.args.err.now)) in
     let new = outputs g.O.Sink.tells (g.O.Sink.taken (inner c.tell_report.new.out)) g.E.Sink.tells (g.E.Sink.taken (inner c.tell_report.new.err)) in
     let reads : Bearer → Type 0 = λ for. g.D.Disk.bytes_read c.conflicts.new.disk Pkg ≤ g.D.Disk.bytes_read c.args.disk.now Pkg

@@ -1,6 +1,5 @@
 use Rattle.std.proofs.Common.{ℕ, ◌≤◌, Bool, List, map, drop}
-use Rattle.rpm_outside.specs.Buffered.{inner}
-use Rattle.rpm_tool.specs.FileReport.{conflict_step, label_told}
+use Rattle.rpm_tool.proofs.Vocabulary.{conflict_step, inner, label_told}
 use Rattle.rpm_tool.proofs.Reaching.{Goes}
 use Rattle.rpm_tool.proofs.file_report.put_conflicts.Given as goal
 

@@ -1,6 +1,5 @@
 use Rattle.std.proofs.Common.{ℕ, ◌≤◌, Bool, List, map, drop}
-use Rattle.rpm_outside.specs.Buffered.{inner}
-use Rattle.rpm_tool.specs.FileReport.{unread_step}
+use Rattle.rpm_tool.proofs.Vocabulary.{inner, unread_step}
 use Rattle.rpm_tool.proofs.Reaching.{Goes}
 use Rattle.rpm_tool.proofs.file_report.put_unread.Given as goal
 

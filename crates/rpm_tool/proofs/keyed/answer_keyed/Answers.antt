@@ -1,14 +1,6 @@
-use Rattle.std.proofs.Common.{◌≡◌, ◌+◌, ◌≤◌, [], sym, ap, ◌∙◌, subst, arith}
-use Rattle.rpm_outside.specs.Buffered.{inner}
-use Rattle.rpm_outside.specs.declared.disk.File.TheVariants.{Pkg}
-use Rattle.rpm_outside.specs.Files.{Files}
-use Rattle.rpm_outside.specs.Logs.{log_state, reopened, unlogged}
-use Rattle.rpm_pkgdb.specs.Store.{store}
-use Rattle.rpm_db.specs.Lawful.{IsLawful}
-use Rattle.rpm_db.specs.State.{packages}
-use Rattle.rpm_tool.specs.Asked.{inquiry_of}
-use Rattle.rpm_tool.specs.Keyed.{KeyedIs, FullIs, BadIs, DidByKey, keyed_to, keyed_cost}
-use Rattle.rpm_change.specs.Endings.{outputs, Through}
+use Rattle.std.proofs.Common.{◌≡◌, ◌+◌, ◌≤◌, [], refl, sym, ap, ◌∙◌, subst, arith}
+use Rattle.rpm_tool.proofs.Vocabulary.{BadIs, deed_of, DidByKey, Files, FullIs, inner, IsLawful, keyed_cost, keyed_to, KeyedIs, log_state, OnLawful, outputs}
+use Rattle.rpm_tool.proofs.Vocabulary.{Pkg, reopened, store, Through, unlogged}
 use Rattle.rpm_tool.proofs.Deeds.{does_fault}
 use Rattle.rpm_tool.proofs.Reaching.{through_none}
 use Rattle.rpm_tool.proofs.Recovered.{closed_stands, opened_keyed, opening_stops, recovering_stops}
@@ -74,8 +66,8 @@ returns-in-Err-clause-keyed g c = λ told.
     let x = outputs ot o et e in
     let none : Through [] x x = through_none {ot = ot} {et = et} o e in
     rw c.why_of_recover.ensures (record {
-      went = unrecovered (IsLawful r.pkg r.idx) (DidByKey c.args.format.now words a r start now) (store r.pkg) x none
-          (λ s. does_fault c.args.format.now words a (packages r.pkg s) (λ for. now ≤ start + keyed_to r words a s for) x none (inquiry_of a.mode))
+      went = unrecovered (OnLawful (IsLawful r.pkg r.idx) (DidByKey c.args.format.now words a r start now)) (store r.pkg) x none
+          (λ s. (refl, λ lawful. does_fault c.args.format.now r.pkg s words a (λ for. now ≤ start + keyed_to r words a s for) x none (deed_of a.mode)))
           (log_state files.log) fault (first.says told);
       reads = λ query lawful. omega (arith, first.reads.pkg);
       kind = unrecovered_kind fault;

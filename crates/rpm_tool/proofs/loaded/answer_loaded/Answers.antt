@@ -1,53 +1,43 @@
 use Rattle.std.proofs.Common.{◌≡◌, ◌+◌, ◌≤◌, true, refl, sym, ap, ◌∙◌, subst, arith}
-use Rattle.rpm_outside.specs.Buffered.{inner}
-use Rattle.rpm_outside.specs.declared.disk.File.TheVariants.{Pkg, Idx}
-use Rattle.rpm_outside.specs.Files.{Units, Files}
-use Rattle.rpm_outside.specs.Logs.{log_state, reopened}
-use Rattle.rpm_pkgdb.specs.Store.{Store, store}
-use Rattle.rpm_group.specs.Layers.{laid_files}
-use Rattle.rpm_change.specs.Steps.{Bearer, Course}
-use Rattle.rpm_tool.specs.Reports.{course}
-use Rattle.rpm_change.specs.Endings.{outputs}
-use Rattle.rpm_tool.specs.Answers.{Opened, ReadsTo, unless_starved, read_to, query_cost}
-use Rattle.rpm_tool.specs.declared.answer.Why.{Why}
+use Rattle.rpm_tool.proofs.Vocabulary.{deed_of, DidPlain, Files, Idx, is_of_streams, laid_files, log_state, Opened, Pkg, pkg_read, query_cost, read_to}
+use Rattle.rpm_tool.proofs.Vocabulary.{reopened, shown, store, Units, unless_starved, Why}
 use Rattle.rpm_tool.specs.declared.answer.Why.TheVariants as why
-use Rattle.rpm_tool.specs.Working.{is_of_streams}
 use Rattle.rpm_tool.proofs.Starved.{starved_streams}
-use Rattle.rpm_tool.proofs.Loading.{opened_reads, loaded_sound, below_reads}
-use Rattle.rpm_tool.proofs.Wanting.{opened_unless, fault_below}
+use Rattle.rpm_tool.proofs.Deeds.{does_reads, does_starved}
+use Rattle.rpm_tool.proofs.Loading.{opened_as, loaded_sound, below_reads}
+use Rattle.rpm_tool.proofs.Wanting.{refused_starved, fault_below}
 use Rattle.rpm_tool.proofs.loaded.answer_loaded.Goals as goal
 
 pub returns-in-Ok-clause-went : goal.returns-in-Ok-clause-went
 returns-in-Ok-clause-went g c = λ told.
+    let tree = c.args.format.now in
+    let words = c.args.words.now in
+    let a = c.args.ask.now in
+    let asked = deed_of a.mode in
     let files = g.D.Disk.files c.args.disk in
     let file = (reopened files).pkg in
     let ov = c.in-Ok.overlay in
     let end = c.answer_unindexed-ended.new.disk in
     let ended = c.answer_unindexed-ended.result in
-    let old = outputs g.O.Sink.tells (g.O.Sink.taken (inner c.args.out.now)) g.E.Sink.tells (g.E.Sink.taken (inner c.args.err.now)) in
-    let new = outputs g.O.Sink.tells (g.O.Sink.taken (inner c.answer_unindexed-ended.new.out)) g.E.Sink.tells
-    (g.E.Sink.taken (inner c.answer_unindexed-ended.new.err)) in
-    let start = g.D.Disk.bytes_read c.args.disk Pkg in
-    let below = g.D.Disk.bytes_read ov.below Pkg in
-    let now = g.D.Disk.bytes_read end.below Pkg in
+    let given = unless_starved c.is_starved.result ended in
+    let old = shown g.O.Sink g.E.Sink c.args.out.now c.args.err.now in
+    let new = shown g.O.Sink g.E.Sink c.answer_unindexed-ended.new.out c.answer_unindexed-ended.new.err in
+    let start = pkg_read g.D.Disk c.args.disk in
+    let below = pkg_read g.D.Disk ov.below in
+    let now = pkg_read g.D.Disk end.below in
     let over = below + ov.spared.pkg in
     let over' = now + end.spared.pkg in
-    let words = c.args.words.now in
-    let a = c.args.ask.now in
-    let does : Units → Store → Course = λ u t. course c.args.format.now u t words a in
     let pkg : (laid_files ov.held (g.D.Disk.files ov.below)).pkg ≡ file = ap (λ (f : Files). f.pkg) (c.in-Ok.ensures.files told) in
-    let here : Store → Bearer → Type 0 = λ t for. over' ≤ over + read_to file words a t for in
-    let there : Store → Bearer → Type 0 = λ t for. ReadsTo file words a t start now for in
     let keeps = c.answer_unindexed-ended.ensures.looks.1.goes_on in
-    let opened : Opened (does file) (store file) ended old new here =
-    subst (λ (u : Units). Opened (does u) (store u) ended old new (λ t for. over' ≤ over + read_to u words a t for)) pkg
-    (c.answer_unindexed-ended.ensures.went told) in
-    let answered : Opened (does file) (store file) (unless_starved c.is_starved.result ended) old new there =
-    opened_reads (does file) here there (store file) (unless_starved c.is_starved.result ended) old new
-    (λ t b le. below_reads start below now over over' (read_to file words a t b) (omega (arith, c.in-Ok.ensures.looks.reads.pkg)) le (keeps.reads Pkg))
-    (opened_unless (does file) here (store file) c.is_starved.result ended old new opened) in
-    rw (c.release.ensures, c.unless_starved-why.ensures) (loaded_sound (does file) there (store file) (log_state files.log)
-    (unless_starved c.is_starved.result ended) old new (c.in-Ok.ensures.says told) answered)
+    let opened : Opened (DidPlain tree words a file over over') (store file) ended old new =
+    subst (λ (u : Units). Opened (DidPlain tree words a u over over') (store u) ended old new) pkg (c.answer_unindexed-ended.ensures.went told) in
+    rw (c.release.ensures, c.unless_starved-why.ensures) (loaded_sound (DidPlain tree words a file start now) (store file) (log_state files.log) given old new
+    (c.in-Ok.ensures.says told)
+    (opened_as (DidPlain tree words a file over over') (DidPlain tree words a file start now) (store file) ended given old new
+    (λ s does. does_starved tree file s words a (λ for. now ≤ start + read_to file words a s for) old new asked c.is_starved.result ended
+    (does_reads tree file s words a asked (λ for. over' ≤ over + read_to file words a s for) (λ for. now ≤ start + read_to file words a s for)
+    (λ b le. below_reads start below now over over' (read_to file words a s b) (omega (arith, c.in-Ok.ensures.looks.reads.pkg)) le (keeps.reads Pkg))
+    ended old new does)) (refused_starved c.is_starved.result ended) opened))
 
 pub returns-in-Ok-clause-reads : goal.returns-in-Ok-clause-reads
 returns-in-Ok-clause-reads g c = λ told.

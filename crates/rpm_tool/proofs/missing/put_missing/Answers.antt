@@ -1,7 +1,5 @@
 use Rattle.std.proofs.Common.{[], ◌∷◌}
-use Rattle.std.specs.List.{concat}
-use Rattle.rpm_outside.specs.Buffered.{inner}
-use Rattle.rpm_change.specs.Steps.{whole}
+use Rattle.rpm_tool.proofs.Vocabulary.{concat, inner, whole}
 use Rattle.rpm_tool.proofs.Stopping.{out_cut}
 use Rattle.rpm_tool.proofs.missing.put_missing.Goals as goal
 

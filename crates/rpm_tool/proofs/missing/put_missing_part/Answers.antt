@@ -1,5 +1,4 @@
-use Rattle.rpm_outside.specs.Buffered.{inner}
-use Rattle.rpm_tool.specs.Queries.{missing_part}
+use Rattle.rpm_tool.proofs.Vocabulary.{inner, missing_part}
 use Rattle.rpm_tool.proofs.missing.put_missing_part.Goals as goal
 
 pub returns-in-Label-clause-part : goal.returns-in-Label-clause-part

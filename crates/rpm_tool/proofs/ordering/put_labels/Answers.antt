@@ -1,13 +1,11 @@
-use Rattle.std.proofs.Common.{◌+◌, ◌<◌, ◌≤◌, Bool, [], ◌∷◌, map, drop, length, get_or, ap}
-use Rattle.std.proofs.lemmas.List.{drop_all}
+use Rattle.rpm_tool.proofs.Vocabulary.{Files, label_step, packages, room}
+use Rattle.std.proofs.Common.{◌+◌, Bool, [], ◌∷◌, map, drop, get_or, ap}
 use Rattle.std.proofs.lemmas.Result.{err_from_is_err_and}
-use Rattle.rpm_outside.specs.Files.{Files}
-use Rattle.rpm_db.specs.State.{packages}
-use Rattle.rpm_tool.specs.Requirements.{label_step}
+use Rattle.std.proofs.lemmas.List.{drop_all}
 use Rattle.rpm_tool.proofs.Askable.{asked_still}
 use Rattle.rpm_tool.proofs.Going.{going_none, going_more, going_stop, going_end}
 use Rattle.rpm_tool.proofs.SoFar.{stops_out, ends_out}
-use Rattle.rpm_tool.proofs.Telling.{steps_at, step_stops}
+use Rattle.rpm_tool.proofs.Telling.{steps_at}
 use Rattle.rpm_tool.proofs.ordering.put_labels.Goals as goal
 
 pub put_label-requires : goal.put_label-requires
@@ -18,51 +16,40 @@ put_label-requires g c = record {
 pub loop-number-init : goal.loop-number-init
 loop-number-init g c =
     going_none g.D.Disk g.O.Sink g.met.D.Disk.follows_refl g.met.O.Sink.follows_refl
-    (λ (f : Files). map (label_step (packages f.pkg c.args.db.now.store) c.args.indent.now) c.args.class.now) c.args.disk.now c.args.out.now
+    (λ (f : Files). map (label_step (packages f.pkg (room c.args.db.now)) c.args.indent.now) c.args.class.now) c.args.disk.now c.args.out.now
 
 pub loop-number-preserved : goal.loop-number-preserved
 loop-number-preserved g c =
     let i = c.loop-number.number-index in
     let xs = c.args.class.now in
-    let lt : i < length xs = c.loop-number-test.true in
-    let step = λ (f : Files). label_step (packages f.pkg c.args.db.now.store) c.args.indent.now in
-    let done = c.in_ok-put_label.ensures in
-    going_more g.D.Disk g.O.Sink g.met.D.Disk.follows_trans g.met.O.Sink.follows_trans (λ (f : Files). map (step f) xs)
-    (λ (f : Files). map (step f) (drop i xs)) (λ (f : Files). step f (get_or xs i 0) ∷ []) (λ (f : Files). map (step f) (drop (i + 1) xs))
-    (λ (f : Files). steps_at (step f) xs i 0 lt) c.args.disk.now c.loop-number.disk c.put_label.new.disk c.args.out.now c.loop-number.out
-    c.put_label.new.out c.loop-number.invariant _ _ done.tells (λ told et e. (done.step told et e).1)
+    let step = λ (f : Files). label_step (packages f.pkg (room c.args.db.now)) c.args.indent.now in
+    going_more g.D.Disk g.O.Sink g.met.D.Disk.follows_trans g.met.O.Sink.follows_trans (λ (f : Files). step f (get_or xs i 0) ∷ [])
+    (λ (f : Files). map (step f) (drop (i + 1) xs)) (λ (f : Files). steps_at (step f) xs i 0 c.loop-number-test.true) c.loop-number.invariant
+    c.put_label.new.disk c.put_label.new.out c.in_ok-put_label.ensures.tells c.in_ok-put_label.ensures.went
 
 pub returns-in_err-put_label-clause-went : goal.returns-in_err-put_label-clause-went
 returns-in_err-put_label-clause-went g c = λ told et e.
     let i = c.loop-number.number-index in
     let xs = c.args.class.now in
-    let lt : i < length xs = c.loop-number-test.true in
-    let step = λ (f : Files). label_step (packages f.pkg c.args.db.now.store) c.args.indent.now in
-    let here = step (g.D.Disk.files c.loop-number.disk) (get_or xs i 0) in
-    let what = c.in_err-put_label.field-0.0 in
+    let step = λ (f : Files). label_step (packages f.pkg (room c.args.db.now)) c.args.indent.now in
     let p = err_from_is_err_and c.from_residual.result c.from_residual.ensures.1 in
-    rw (p.1, p.2) (going_stop g.D.Disk g.O.Sink g.met.D.Disk.follows_trans g.met.O.Sink.follows_trans (λ (f : Files). map (step f) xs)
-    (λ (f : Files). map (step f) (drop i xs)) (λ (f : Files). step f (get_or xs i 0) ∷ []) (λ (f : Files). map (step f) (drop (i + 1) xs))
-    (λ (f : Files). steps_at (step f) xs i 0 lt) c.args.disk.now c.loop-number.disk c.put_label.new.disk c.args.out.now c.loop-number.out
-    c.put_label.new.out c.loop-number.invariant Bool (Unit {0}) what
-    (λ told et e. step_stops here what _ _ (c.in_err-put_label.ensures.step told et e)) told et e)
+    rw (p.1, p.2) (going_stop g.D.Disk g.O.Sink g.met.D.Disk.follows_trans g.met.O.Sink.follows_trans (λ (f : Files). step f (get_or xs i 0) ∷ [])
+    (λ (f : Files). map (step f) (drop (i + 1) xs)) (λ (f : Files). steps_at (step f) xs i 0 c.loop-number-test.true) c.loop-number.invariant
+    c.put_label.new.disk c.put_label.new.out Bool (Unit {0}) c.in_err-put_label.field-0.0
+    c.in_err-put_label.ensures.went told et e)
 
 pub returns-in_err-put_label-clause-tells : goal.returns-in_err-put_label-clause-tells
 returns-in_err-put_label-clause-tells g c =
     let p = err_from_is_err_and c.from_residual.result c.from_residual.ensures.1 in
-    rw (p.1, p.2) (stops_out g.D.Disk g.O.Sink g.met.D.Disk.follows_trans g.met.O.Sink.follows_trans c.args.disk.now c.loop-number.disk
-    c.put_label.new.disk c.args.out.now c.loop-number.out c.put_label.new.out c.loop-number.invariant.far _ _ c.in_err-put_label.field-0.0
+    rw (p.1, p.2) (stops_out g.D.Disk g.O.Sink g.met.D.Disk.follows_trans g.met.O.Sink.follows_trans c.loop-number.invariant.far
     c.in_err-put_label.ensures.tells)
 
 pub returns-clause-tells : goal.returns-clause-tells
-returns-clause-tells g c =
-    ends_out g.D.Disk g.O.Sink _ _ c.args.disk.now c.loop-number.disk c.args.out.now c.loop-number.out c.loop-number.invariant.far
+returns-clause-tells g c = ends_out g.D.Disk g.O.Sink c.loop-number.invariant.far
 
 pub returns-clause-went : goal.returns-clause-went
 returns-clause-went g c =
     let i = c.loop-number.number-index in
     let xs = c.args.class.now in
-    let step = λ (f : Files). label_step (packages f.pkg c.args.db.now.store) c.args.indent.now in
-    let over : length xs ≤ i = c.loop-number-test.false in
-    going_end g.D.Disk g.O.Sink (λ (f : Files). map (step f) xs) (λ (f : Files). map (step f) (drop i xs)) c.args.disk.now c.loop-number.disk
-    c.args.out.now c.loop-number.out (λ (f : Files). ap (map (step f)) (drop_all i xs over)) c.loop-number.invariant
+    going_end g.D.Disk g.O.Sink (λ (f : Files). ap (map (label_step (packages f.pkg (room c.args.db.now)) c.args.indent.now))
+    (drop_all i xs c.loop-number-test.false)) c.loop-number.invariant

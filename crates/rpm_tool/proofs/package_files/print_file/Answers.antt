@@ -1,10 +1,5 @@
 use Rattle.std.proofs.Common.{ℕ, List, Option, sym, subst}
-use Rattle.rpm_outside.specs.Buffered.{inner}
-use Rattle.rpm_outside.specs.Shelves.{bytes_at}
-use Rattle.rpm_tool.specs.Steps.{Portion}
-use Rattle.rpm_tool.specs.PackageFiles.{found_part}
-use Rattle.rpm_change.specs.Endings.{outputs}
-use Rattle.rpm_tool.specs.Answers.{Anywhere, PartIs}
+use Rattle.rpm_tool.proofs.Vocabulary.{Anywhere, bytes_at, found_part, inner, outputs, PartIs, Portion}
 use Rattle.rpm_tool.proofs.Filed.{found_open}
 use Rattle.rpm_tool.proofs.package_files.print_file.Goals as goal
 

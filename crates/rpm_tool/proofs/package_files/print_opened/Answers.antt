@@ -1,12 +1,6 @@
 use Rattle.std.proofs.Common.{◌≡◌, Bool, Some, Result, Err, sym, ap, ◌∙◌, subst}
-use Rattle.rpm_outside.specs.Buffered.{inner}
-use Rattle.rpm_file.specs.declared.fault.FileFault.{FileFault}
-use Rattle.rpm_outside.specs.Browses.{left}
-use Rattle.rpm_file.specs.Package.{Headed, package_header}
+use Rattle.rpm_tool.proofs.Vocabulary.{Anywhere, FileFault, Headed, inner, left, outputs, package_header, PartIs, read_part}
 use Rattle.rpm_tool.specs.declared.step.Stop.TheVariants as stop
-use Rattle.rpm_tool.specs.PackageFiles.{read_part}
-use Rattle.rpm_change.specs.Endings.{outputs}
-use Rattle.rpm_tool.specs.Answers.{Anywhere, PartIs}
 use Rattle.rpm_tool.proofs.Reaching.{through_none}
 use Rattle.rpm_tool.proofs.Stopping.{reached_unsunk}
 use Rattle.rpm_tool.proofs.Filed.{unsunk, read_stop, own_fault}

@@ -1,12 +1,6 @@
 use Rattle.std.proofs.Common.{◌≡◌, Bool, [], Ok, Err, sym, subst}
 use Rattle.std.proofs.lemmas.Result.{err_from_is_err_and}
-use Rattle.rpm_header.specs.Header.{Header}
-use Rattle.rpm_outside.specs.Buffered.{inner}
-use Rattle.rpm_qfeval.specs.Meaning.{meaning}
-use Rattle.rpm_change.specs.Steps.{bearer}
-use Rattle.rpm_tool.specs.Queries.{printed}
-use Rattle.rpm_change.specs.Endings.{outputs}
-use Rattle.rpm_tool.specs.Answers.{Anywhere, StepIs}
+use Rattle.rpm_tool.proofs.Vocabulary.{Anywhere, bearer, Header, inner, meaning, outputs, printed, StepIs}
 use Rattle.rpm_tool.proofs.Stopping.{reached_first}
 use Rattle.rpm_tool.proofs.Filed.{fails_one}
 use Rattle.rpm_tool.proofs.package_files.print_package.Goals as goal
@@ -21,7 +15,8 @@ returns-clause-part g c = λ j.
     let new = outputs g.O.Sink.tells (g.O.Sink.taken (inner c.print_header.new.out)) g.E.Sink.tells (g.E.Sink.taken (inner c.print_header.new.err)) in
     let s = printed (bearer j 0) (meaning c.args.found.now 0 c.args.format.now) in
     let step : StepIs s (Ok c.in_ok-to_out.to_out) old new =
-    subst (λ (h : Header). StepIs (printed (bearer j 0) (meaning h 0 c.args.format.now)) (Ok c.in_ok-to_out.to_out) old new) same (c.in_ok-to_out.ensures.step j) in
+    subst (λ (h : Header). StepIs (printed (bearer j 0) (meaning h 0 c.args.format.now)) (Ok c.in_ok-to_out.to_out) old new) same
+    (c.in_ok-to_out.ensures.step j) in
     record { steps = step.1; fails = fails_one s c.in_ok-to_out.to_out step.0 }
 
 pub returns-in_err-to_out-clause-part : goal.returns-in_err-to_out-clause-part
@@ -31,6 +26,7 @@ returns-in_err-to_out-clause-part g c = λ j.
     let new = outputs g.O.Sink.tells (g.O.Sink.taken (inner c.print_header.new.out)) g.E.Sink.tells (g.E.Sink.taken (inner c.print_header.new.err)) in
     let s = printed (bearer j 0) (meaning c.args.found.now 0 c.args.format.now) in
     let step : StepIs s (Err c.in_err-to_out.field-0.0) old new =
-    subst (λ (h : Header). StepIs (printed (bearer j 0) (meaning h 0 c.args.format.now)) (Err c.in_err-to_out.field-0.0) old new) same (c.in_err-to_out.ensures.step j) in
+    subst (λ (h : Header). StepIs (printed (bearer j 0) (meaning h 0 c.args.format.now)) (Err c.in_err-to_out.field-0.0) old new) same
+    (c.in_err-to_out.ensures.step j) in
     let p = err_from_is_err_and c.from_residual.result c.from_residual.ensures.1 in
     rw (p.1, p.2) (record { steps = reached_first Bool s [] c.in_err-to_out.field-0.0 old new Anywhere tt step; fails = tt })

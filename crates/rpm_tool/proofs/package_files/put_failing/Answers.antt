@@ -1,9 +1,5 @@
 use Rattle.std.proofs.Common.{◌≡◌, false, [], ◌∷◌, map}
-use Rattle.std.specs.List.{concat}
-use Rattle.rpm_outside.specs.Buffered.{inner}
-use Rattle.rpm_change.specs.Steps.{ToErr, whole}
-use Rattle.rpm_change.specs.Endings.{outputs}
-use Rattle.rpm_tool.specs.Answers.{Anywhere}
+use Rattle.rpm_tool.proofs.Vocabulary.{Anywhere, concat, inner, outputs, ToErr, whole}
 use Rattle.rpm_tool.proofs.Stopping.{err_cut, within_reads}
 use Rattle.rpm_tool.proofs.package_files.put_failing.Goals as goal
 

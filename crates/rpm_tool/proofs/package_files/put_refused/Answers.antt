@@ -1,11 +1,6 @@
 use Rattle.std.proofs.Common.{◌≡◌, List, [], ◌++◌, ℕ, ◌∙◌, subst}
 use Rattle.std.proofs.lemmas.List.{append-nil}
-use Rattle.rpm_outside.specs.Buffered.{inner}
-use Rattle.rpm_change.specs.Steps.{ToErr, whole}
-use Rattle.rpm_tool.specs.Steps.{fails}
-use Rattle.rpm_change.specs.Texts.{refused_line}
-use Rattle.rpm_change.specs.Endings.{outputs}
-use Rattle.rpm_tool.specs.Answers.{Anywhere, PartIs}
+use Rattle.rpm_tool.proofs.Vocabulary.{Anywhere, fails, inner, outputs, PartIs, refused_line, ToErr, whole}
 use Rattle.rpm_tool.proofs.package_files.put_refused.Goals as goal
 
 pub returns-in-Ok-clause-part : goal.returns-in-Ok-clause-part

@@ -1,5 +1,5 @@
 use Rattle.std.proofs.Common.{List, ℕ, [], Bor}
-use Rattle.rpm_outside.specs.inner.Upto.{upto_more, upto_stop}
+use Rattle.rpm_tool.proofs.Vocabulary.{upto_more, upto_stop}
 use Rattle.rpm_tool.proofs.Joins.{concat_at}
 use Rattle.rpm_tool.proofs.pieces.put_pieces.Goals as goal
 

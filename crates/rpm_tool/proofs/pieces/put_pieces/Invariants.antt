@@ -1,6 +1,5 @@
 use Rattle.std.proofs.Common.{map, drop}
-use Rattle.std.specs.List.{concat}
-use Rattle.rpm_outside.specs.inner.Upto.{Upto}
+use Rattle.rpm_tool.proofs.Vocabulary.{concat, Upto}
 use Rattle.rpm_tool.proofs.pieces.put_pieces.Given as goal
 
 abbrev pub invariant-loop-piece : goal.invariant-loop-piece

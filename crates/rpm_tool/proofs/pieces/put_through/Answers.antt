@@ -1,4 +1,4 @@
-use Rattle.rpm_outside.specs.inner.Flushed.{stopped, flushed}
+use Rattle.rpm_tool.proofs.Vocabulary.{flushed, stopped}
 use Rattle.rpm_tool.proofs.pieces.put_through.Goals as goal
 
 pub returns-in_err-put_pieces : goal.returns-in_err-put_pieces

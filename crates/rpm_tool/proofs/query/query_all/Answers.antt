@@ -1,20 +1,8 @@
+use Rattle.rpm_tool.proofs.Vocabulary.{Bearer, before, Everything, Files, idle, inner, outputs, packages, packages_part, PartIs, picks, Pkg, Portion, Reach}
+use Rattle.rpm_tool.proofs.Vocabulary.{Reached, reached_by, ReadsIn, room, Step, step_by, Went, Why}
 use Rattle.std.proofs.Common.{◌≡◌, ◌+◌, ◌≤◌, Bool, List, [], ◌∷◌, Err, sym, ap, ◌∙◌, subst}
 use Rattle.std.proofs.lemmas.List.{append-nil}
-use Rattle.rpm_outside.specs.Buffered.{inner}
-use Rattle.rpm_outside.specs.declared.disk.File.TheVariants.{Pkg}
-use Rattle.rpm_outside.specs.Files.{Files}
-use Rattle.rpm_db.specs.State.{packages}
 use Rattle.rpm_select.specs.declared.selection.Selection.TheVariants as question
-use Rattle.rpm_select.specs.Selections.{picks}
-use Rattle.rpm_tool.specs.declared.answer.Why.{Why}
-use Rattle.rpm_change.specs.Steps.{Bearer, Step, idle}
-use Rattle.rpm_tool.specs.Steps.{Portion, before}
-use Rattle.rpm_tool.specs.Queries.{packages_part}
-use Rattle.rpm_tool.specs.Reports.{step_by}
-use Rattle.rpm_change.specs.Endings.{outputs}
-use Rattle.rpm_tool.specs.Answers.{PartIs, Reached, Went}
-use Rattle.rpm_tool.specs.Reads.{ReadsIn, reached_by}
-use Rattle.rpm_select.specs.Reach.{Reach, Everything}
 use Rattle.rpm_tool.proofs.Sums.{reads_one}
 use Rattle.rpm_tool.proofs.Unbroken.{why_unbroken}
 use Rattle.rpm_tool.proofs.Stopping.{reached_reads}
@@ -23,12 +11,15 @@ use Rattle.rpm_tool.proofs.Askable.{asked_still}
 use Rattle.rpm_tool.proofs.query.query_all.Goals as goal
 
 pub print_above-requires : goal.print_above-requires
-print_above-requires g c = record { asked = asked_still g.D.Disk c.args.disk.now c.begin_unasked-picker.new.disk c.args.db.now c.begin_unasked-picker.ensures.looks.untouched c.requires.asked }
+print_above-requires g c = record {
+  asked = asked_still g.D.Disk c.args.disk.now c.begin_unasked-picker.new.disk c.args.db.now
+      c.begin_unasked-picker.ensures.looks.untouched c.requires.asked;
+}
 
 pub returns-clause-went : goal.returns-clause-went
 returns-clause-went g c = λ told rows.
     let db = c.args.db.now in
-    let s = db.store in
+    let s = (room db) in
     let old = outputs g.O.Sink.tells (g.O.Sink.taken (inner c.args.out.now)) g.E.Sink.tells (g.E.Sink.taken (inner c.args.err.now)) in
     let new = outputs g.O.Sink.tells (g.O.Sink.taken (inner c.print_above.new.out)) g.E.Sink.tells (g.E.Sink.taken (inner c.print_above.new.err)) in
     let start = g.D.Disk.bytes_read c.args.disk.now Pkg in

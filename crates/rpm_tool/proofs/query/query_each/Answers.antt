@@ -1,16 +1,8 @@
 mod Stopped
+use Rattle.rpm_tool.proofs.Vocabulary.{argument_part, argument_reach, HasIndexRows, inner, is_indexed, outputs, packages, PartIs, Pkg, reached_by, ReadsOf}
+use Rattle.rpm_tool.proofs.Vocabulary.{room, text_at}
 use Rattle.std.proofs.Common.{◌≡◌, ◌+◌, ◌≤◌, map, Ok, Some, refl, arith}
 use Rattle.std.specs.Prelude.{slice_get, IsTrue}
-use Rattle.rpm_outside.specs.Buffered.{inner}
-use Rattle.rpm_outside.specs.declared.disk.File.TheVariants.{Pkg}
-use Rattle.rpm_db.specs.State.{packages}
-use Rattle.rpm_db.specs.Database.{is_indexed}
-use Rattle.rpm_select.specs.Reach.{HasIndexRows}
-use Rattle.rpm_words.specs.Words.{text_at}
-use Rattle.rpm_tool.specs.Queries.{argument_part}
-use Rattle.rpm_change.specs.Endings.{outputs}
-use Rattle.rpm_tool.specs.Answers.{PartIs}
-use Rattle.rpm_tool.specs.Reads.{ReadsOf, argument_reach, reached_by}
 use Rattle.rpm_tool.proofs.Peeking.{peeks_none, peeks_then}
 use Rattle.rpm_tool.proofs.Sums.{before_some}
 use Rattle.rpm_tool.proofs.Turns.{part_here, reads_here, read_more, goes_turn}
@@ -26,7 +18,7 @@ answer-requires g c = record { asked = asked_still g.D.Disk c.args.disk.now c.lo
 pub loop-k-init : goal.loop-k-init
 loop-k-init g c =
     let db = c.args.db.now in
-    let each = argument_part c.args.format.now (packages (g.D.Disk.files c.args.disk.now).pkg db.store) c.args.ask.now.chosen c.args.ask.now.after in
+    let each = argument_part c.args.format.now (packages (g.D.Disk.files c.args.disk.now).pkg (room db)) c.args.ask.now.chosen c.args.ask.now.after in
     let all = (rest_of each (text_at c.args.words.now) c.args.ask.now.arguments 0).steps in
     record {
       looks = peeks_none g.D.Disk.tells g.D.Disk.files g.D.Disk.left_since g.D.Disk.moment g.D.Disk.bytes_read g.D.Disk.follows (is_indexed db)
@@ -57,8 +49,8 @@ loop-k-preserved g c =
     let chosen = c.args.ask.now.chosen in
     let after = c.args.ask.now.after in
     let start = g.D.Disk.files c.args.disk.now in
-    let each = argument_part c.args.format.now (packages start.pkg db.store) chosen after in
-    let over = argument_reach (is_indexed db) (packages start.pkg db.store) chosen in
+    let each = argument_part c.args.format.now (packages start.pkg (room db)) chosen after in
+    let over = argument_reach (is_indexed db) (packages start.pkg (room db)) chosen in
     let f = text_at c.args.words.now in
     let args = c.args.ask.now.arguments in
     let word = c.argument.result in
@@ -110,7 +102,7 @@ returns-then-failed-eq0-clause-went g c = λ told rows.
     let db = c.args.db.now in
     let a = c.args.ask.now in
     let f = text_at c.args.words.now in
-    let map' = packages (g.D.Disk.files c.args.disk.now).pkg db.store in
+    let map' = packages (g.D.Disk.files c.args.disk.now).pkg (room db) in
     let inv = c.loop-k.invariant in
     went_done (argument_part c.args.format.now map' a.chosen a.after) f a.arguments c.loop-k.k c.loop-k.failed
     (omega (arith, c.loop-k-test.false, c.arguments-k-end.ensures)) g.O.Sink.tells g.E.Sink.tells (g.O.Sink.taken (inner c.args.out.now))
@@ -123,7 +115,7 @@ pub returns-then-failed-eq0-clause-reads : goal.returns-then-failed-eq0-clause-r
 returns-then-failed-eq0-clause-reads g c = λ told rows.
     let db = c.args.db.now in
     let f = text_at c.args.words.now in
-    let over = argument_reach (is_indexed db) (packages (g.D.Disk.files c.args.disk.now).pkg db.store) c.args.ask.now.chosen in
+    let over = argument_reach (is_indexed db) (packages (g.D.Disk.files c.args.disk.now).pkg (room db)) c.args.ask.now.chosen in
     omega (arith, c.loop-k.invariant.reads told rows, before_some (map over (map f c.args.ask.now.arguments)) db c.loop-k.k)
 
 pub returns-else-failed-eq0-clause-went : goal.returns-else-failed-eq0-clause-went
@@ -131,7 +123,7 @@ returns-else-failed-eq0-clause-went g c = λ told rows.
     let db = c.args.db.now in
     let a = c.args.ask.now in
     let f = text_at c.args.words.now in
-    let map' = packages (g.D.Disk.files c.args.disk.now).pkg db.store in
+    let map' = packages (g.D.Disk.files c.args.disk.now).pkg (room db) in
     let inv = c.loop-k.invariant in
     went_failed (argument_part c.args.format.now map' a.chosen a.after) f a.arguments c.loop-k.k c.loop-k.failed
     (omega (arith, c.loop-k-test.false, c.arguments-k-end.ensures)) g.O.Sink.tells g.E.Sink.tells (g.O.Sink.taken (inner c.args.out.now))
@@ -144,5 +136,5 @@ pub returns-else-failed-eq0-clause-reads : goal.returns-else-failed-eq0-clause-r
 returns-else-failed-eq0-clause-reads g c = λ told rows.
     let db = c.args.db.now in
     let f = text_at c.args.words.now in
-    let over = argument_reach (is_indexed db) (packages (g.D.Disk.files c.args.disk.now).pkg db.store) c.args.ask.now.chosen in
+    let over = argument_reach (is_indexed db) (packages (g.D.Disk.files c.args.disk.now).pkg (room db)) c.args.ask.now.chosen in
     omega (arith, c.loop-k.invariant.reads told rows, before_some (map over (map f c.args.ask.now.arguments)) db c.loop-k.k)

@@ -1,13 +1,6 @@
+use Rattle.rpm_tool.proofs.Vocabulary.{argument_part, argument_reach, HasIndexRows, inner, is_indexed, packages, Peeks, Pkg, reach_before, room, text_at}
 use Rattle.std.proofs.Common.{◌≡◌, ◌+◌, ◌≤◌, map}
 use Rattle.std.specs.Prelude.{IsTrue}
-use Rattle.rpm_outside.specs.Buffered.{inner}
-use Rattle.rpm_outside.specs.declared.disk.File.TheVariants.{Pkg}
-use Rattle.rpm_db.specs.State.{packages}
-use Rattle.rpm_db.specs.Database.{is_indexed}
-use Rattle.rpm_words.specs.Words.{text_at}
-use Rattle.rpm_select.specs.Reach.{HasIndexRows}
-use Rattle.rpm_tool.specs.Queries.{argument_part}
-use Rattle.rpm_tool.specs.Reads.{Peeks, argument_reach, reach_before}
 use Rattle.rpm_tool.proofs.Reaching.{Goes}
 use Rattle.rpm_tool.proofs.Answering.{rest_of}
 use Rattle.rpm_tool.proofs.query.query_each.Given as goal
@@ -18,7 +11,7 @@ invariant-loop-k g l = record {
       l.initial.disk l.disk;
   reads : IsTrue g.D.Disk.tells → HasIndexRows l.db (g.D.Disk.files l.initial.disk).pkg (g.D.Disk.files l.initial.disk).idx → g.D.Disk.bytes_read l.disk Pkg
       ≤ g.D.Disk.bytes_read l.initial.disk Pkg
-      + reach_before (map (argument_reach (is_indexed l.db) (packages (g.D.Disk.files l.initial.disk).pkg l.db.store) l.ask.chosen)
+      + reach_before (map (argument_reach (is_indexed l.db) (packages (g.D.Disk.files l.initial.disk).pkg (room l.db)) l.ask.chosen)
       (map (text_at l.words) l.ask.arguments)) l.db l.k;
   disk : g.D.Disk.faults l.initial.disk ≤ g.D.Disk.faults l.disk;
   out : g.O.Sink.faults (inner l.initial.out) ≤ g.O.Sink.faults (inner l.out);
@@ -27,14 +20,14 @@ invariant-loop-k g l = record {
   err_rest : g.E.Sink.follows (inner l.initial.err) (inner l.err);
   few : l.failed ≤ l.k;
   goes : IsTrue g.D.Disk.tells → HasIndexRows l.db (g.D.Disk.files l.initial.disk).pkg (g.D.Disk.files l.initial.disk).idx → Goes g.O.Sink.tells g.E.Sink.tells
-      (rest_of (argument_part l.format (packages (g.D.Disk.files l.initial.disk).pkg l.db.store) l.ask.chosen l.ask.after) (text_at l.words)
+      (rest_of (argument_part l.format (packages (g.D.Disk.files l.initial.disk).pkg (room l.db)) l.ask.chosen l.ask.after) (text_at l.words)
       l.ask.arguments 0).steps
-      (rest_of (argument_part l.format (packages (g.D.Disk.files l.initial.disk).pkg l.db.store) l.ask.chosen l.ask.after) (text_at l.words)
+      (rest_of (argument_part l.format (packages (g.D.Disk.files l.initial.disk).pkg (room l.db)) l.ask.chosen l.ask.after) (text_at l.words)
       l.ask.arguments l.k).steps
       (g.O.Sink.taken (inner l.initial.out)) (g.E.Sink.taken (inner l.initial.err)) (g.O.Sink.taken (inner l.out)) (g.E.Sink.taken (inner l.err));
   count : IsTrue g.D.Disk.tells → HasIndexRows l.db (g.D.Disk.files l.initial.disk).pkg (g.D.Disk.files l.initial.disk).idx →
-      (rest_of (argument_part l.format (packages (g.D.Disk.files l.initial.disk).pkg l.db.store) l.ask.chosen l.ask.after) (text_at l.words)
+      (rest_of (argument_part l.format (packages (g.D.Disk.files l.initial.disk).pkg (room l.db)) l.ask.chosen l.ask.after) (text_at l.words)
       l.ask.arguments 0).failed ≡ l.failed
-      + (rest_of (argument_part l.format (packages (g.D.Disk.files l.initial.disk).pkg l.db.store) l.ask.chosen l.ask.after) (text_at l.words)
+      + (rest_of (argument_part l.format (packages (g.D.Disk.files l.initial.disk).pkg (room l.db)) l.ask.chosen l.ask.after) (text_at l.words)
       l.ask.arguments l.k).failed;
 }

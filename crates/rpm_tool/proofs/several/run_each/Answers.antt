@@ -2,27 +2,11 @@ mod Begun
 mod Along
 use Rattle.std.proofs.Common.{◌≡◌, ℕ, Bool, true, false, List, [], ◌∷◌, ◌++◌, length, length-append, ◌+◌, ◌<◌, get_or, refl, sym, ap, ◌∙◌, subst, arith}
 use Rattle.std.specs.Prelude.{IsTrue, Some}
-use Rattle.rpm_words.specs.Ask.{AskParts}
-use Rattle.rpm_qfparse.specs.Tree.{Tree}
-use Rattle.rpm_outside.specs.Files.{Files}
-use Rattle.rpm_outside.specs.Shelves.{Paths}
-use Rattle.rpm_outside.specs.inner.Moments.{leaves_then, leaves_weaker}
-use Rattle.rpm_db.specs.State.{State}
-use Rattle.rpm_change.specs.Steps.{Course}
-use Rattle.rpm_change.specs.Endings.{Outputs}
-use Rattle.rpm_tool.specs.declared.several.Line.{Line}
-use Rattle.rpm_tool.specs.Answers.{Closes, Anywhere, Went}
-use Rattle.rpm_tool.specs.Asked.{is_changing, asks}
-use Rattle.rpm_tool.specs.Changing.{AllFit, ChangesWith, RowsFit}
-use Rattle.rpm_tool.specs.Closing.{closing}
-use Rattle.rpm_tool.specs.Frame.{images, outs, LeavesIn}
-use Rattle.rpm_tool.specs.Given.{given_on}
-use Rattle.rpm_tool.specs.History.{RunCall, StandsIn, FromOneOf, Leads, Cuts, TellsLines, calls_of, course_of, uses_shelf}
-use Rattle.rpm_tool.specs.Keyed.{AreLawfulGroups}
-use Rattle.rpm_tool.specs.Lines.{Between, LineIs, InTurn, between}
-use Rattle.rpm_tool.specs.PackageFiles.{query_files}
-use Rattle.rpm_tool.specs.Tasks.{asked_task, asked_course, is_anew, changes_index, reads_shelf}
-use Rattle.rpm_tool.specs.Theorem.{AnswersChange, ran}
+use Rattle.rpm_tool.proofs.Vocabulary.{AllFit, AnswersChange, Anywhere, AreLawfulGroups, asked_course, asked_task, AskParts, asks, Between, between, calls_of}
+use Rattle.rpm_tool.proofs.Vocabulary.{changes_index, ChangesWith, Closes, closing, Course, course_of, Cuts, Files, FromOneOf, given_on, InTurn, is_anew}
+use Rattle.rpm_tool.proofs.Vocabulary.{is_changing, Leads, leaves_then, leaves_weaker, Line, LineIs, Outputs, outs, Paths, query_files, ran, reads_shelf}
+use Rattle.rpm_tool.proofs.Vocabulary.{RowsFit, RunCall, StandsIn, State, TellsLines, Tree, uses_shelf, Went}
+use Rattle.rpm_tool.specs.Frame.{images, LeavesIn}
 use Rattle.rpm_tool.proofs.Brokens.{by_bool}
 use Rattle.rpm_tool.proofs.Chained.{in_turn_more}
 use Rattle.rpm_tool.proofs.Histories.{stands_weaker}
@@ -78,7 +62,7 @@ loop-line-preserved g c =
     let changed = λ (told : IsTrue D.tells) (shelf : TellsLines tells lines) (a : AskParts) (tree : Tree) (asked : asks words ≡ Some (a, tree))
     (any : is_changing a ≡ true). (change told a tree asked any (λ reads. uses shelf (uses_reads words a tree asked reads))).changed in
     let both = λ (told : IsTrue D.tells) (shelf : TellsLines tells lines) (lawful : AreLawfulGroups (images D c.args.disk)).
-    line_both D.tells D.files D.left_since D.moment D.bytes_read D.follows told paths now words c.run-left.result.0.why c.run-left.result.0.changes mid
+    line_both D told paths now words c.run-left.result.0.why c.run-left.result.0.changes mid
     new (FromOneOf (images D c.args.disk) (Leads paths before)) (inv.leads told shelf lawful) (g.met.D.Disk.as_read mid told) (λ none. (did.unread none).0)
     (λ a tree asked keyed still. (does a tree asked).looks keyed still) (λ a tree asked keyed. ((does a tree asked).keyed keyed told).stops)
     (changed told shelf) in
@@ -114,7 +98,7 @@ loop-line-preserved g c =
           let fit_mid : AllFit (images D mid) = λ image left.
           so_far.each image (g.met.D.Disk.earlier mid (D.moment c.args.disk) (D.moment mid) image told so_far.later (omega arith) left) in
           leaves_then D.moment D.left_since c.args.disk mid new RowsFit so_far
-          (line_fits D.tells D.files D.left_since D.moment D.bytes_read D.follows told paths now words c.run-left.result.0.why c.run-left.result.0.changes
+          (line_fits D told paths now words c.run-left.result.0.why c.run-left.result.0.changes
           mid new (FromOneOf (images D c.args.disk) (Leads paths before)) (inv.leads told shelf lawful) (g.met.D.Disk.as_read mid told)
           (λ none. (did.unread none).0) (λ a tree asked keyed still. (does a tree asked).looks keyed still)
           (λ a tree asked keyed. ((does a tree asked).keyed keyed told).stops) (changed told shelf) fit_mid);

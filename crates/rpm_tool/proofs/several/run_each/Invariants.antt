@@ -1,11 +1,8 @@
 use Rattle.std.proofs.Common.{◌≡◌, ℕ, List, [], length}
 use Rattle.std.specs.Prelude.{IsTrue}
-use Rattle.std.specs.Vec.{vec_len, vec_capacity}
-use Rattle.rpm_tool.specs.Changing.{AllFit, RowsFit}
-use Rattle.rpm_tool.specs.Frame.{images, outs, LeavesIn}
-use Rattle.rpm_tool.specs.History.{AllStand, StandsIn, FromOneOf, Leads, Cuts, TellsLines, calls_of}
-use Rattle.rpm_tool.specs.Keyed.{AreLawfulGroups}
-use Rattle.rpm_tool.specs.Lines.{LineIs, InTurn, between}
+use Rattle.rpm_tool.proofs.Vocabulary.{AllFit, AllStand, AreLawfulGroups, between, calls_of, Cuts, FromOneOf, InTurn, Leads, LineIs, outs, RowsFit, StandsIn}
+use Rattle.rpm_tool.proofs.Vocabulary.{TellsLines, vec_capacity, vec_len}
+use Rattle.rpm_tool.specs.Frame.{images, LeavesIn}
 use Rattle.rpm_tool.proofs.several.run_each.Given as goal
 
 abbrev pub invariant-loop-line : goal.invariant-loop-line

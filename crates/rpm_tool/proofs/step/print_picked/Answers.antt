@@ -1,5 +1,4 @@
-use Rattle.rpm_outside.specs.Buffered.{inner}
-use Rattle.rpm_change.specs.Steps.{bearer}
+use Rattle.rpm_tool.proofs.Vocabulary.{bearer, inner}
 use Rattle.rpm_tool.proofs.Printed.{step_by-bad}
 use Rattle.rpm_tool.proofs.step.print_picked.Goals as goal
 

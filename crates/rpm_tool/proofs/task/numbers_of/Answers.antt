@@ -1,9 +1,7 @@
 use Rattle.std.proofs.Common.{◌≡◌, ℕ, ◌+◌, List, [], ◌∷◌, ◌++◌, Option, Some, drop, sym, ap, ◌∙◌, append_assoc, arith}
 use Rattle.std.specs.Prelude.{slice_get}
-use Rattle.std.specs.List.{filter_map}
+use Rattle.rpm_tool.proofs.Vocabulary.{filter_map, number, text_at}
 use Rattle.std.proofs.lemmas.List.Elements.{filter_map-append}
-use Rattle.rpm_words.specs.Number.{number}
-use Rattle.rpm_words.specs.Words.{text_at}
 use Rattle.rpm_tool.proofs.Answering.{drop_get}
 use Rattle.rpm_tool.proofs.task.numbers_of.Goals as goal
 

@@ -1,7 +1,5 @@
 use Rattle.std.proofs.Common.{◌≡◌, ◌≤◌, ◌++◌, length, drop}
-use Rattle.std.specs.List.{filter_map}
-use Rattle.rpm_words.specs.Number.{number}
-use Rattle.rpm_words.specs.Words.{text_at}
+use Rattle.rpm_tool.proofs.Vocabulary.{filter_map, number, text_at}
 use Rattle.rpm_tool.proofs.task.numbers_of.Given as goal
 
 abbrev pub invariant-loop-k : goal.invariant-loop-k

@@ -1,7 +1,7 @@
 use Rattle.std.proofs.Common.{◌≡◌, ℕ, ◌+◌, List, [], ◌∷◌, ◌++◌, map, length, drop, Some, Bor, sym, ap, ◌∙◌, append_assoc, arith}
 use Rattle.std.specs.Prelude.{slice_get}
 use Rattle.std.proofs.lemmas.List.{length-append, map-append}
-use Rattle.rpm_words.specs.Words.{text_at}
+use Rattle.rpm_tool.proofs.Vocabulary.{text_at}
 use Rattle.rpm_tool.proofs.Answering.{drop_get}
 use Rattle.rpm_tool.proofs.task.texts_of.Goals as goal
 

@@ -1,5 +1,5 @@
 use Rattle.std.proofs.Common.{◌≡◌, ◌≤◌, ◌++◌, map, length, drop}
-use Rattle.rpm_words.specs.Words.{text_at}
+use Rattle.rpm_tool.proofs.Vocabulary.{text_at}
 use Rattle.rpm_tool.proofs.task.texts_of.Given as goal
 
 abbrev pub invariant-loop-k : goal.invariant-loop-k

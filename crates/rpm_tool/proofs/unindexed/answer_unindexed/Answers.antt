@@ -1,23 +1,77 @@
-use Rattle.std.proofs.Common.{◌+◌, ◌-◌, ◌^◌, arith}
-use Rattle.rpm_outside.specs.declared.disk.File.TheVariants.{Pkg}
-use Rattle.rpm_outside.specs.inner.Looking.{looks_then}
+use Rattle.rpm_tool.proofs.Vocabulary.{always_keyed, asked_reaches, Bearer, blocks_cost, Damage, deed_of, DidPlain, DoesBy, Files, is_indexed, looks_then}
+use Rattle.rpm_tool.proofs.Vocabulary.{no_index_rows, Opened, Pkg, pkg_read, reach_sum, reached_by, read_to, room, shown, Store, store, Units}
+use Rattle.std.proofs.Common.{◌≡◌, ◌+◌, ◌-◌, ◌^◌, ◌≤◌, ◌||◌, false, Result, refl, sym, ap, ◌∙◌, subst, arith}
 use Rattle.rpm_tool.proofs.Askable.{keeps_none}
+use Rattle.rpm_tool.proofs.Deeds.{does_reads}
+use Rattle.rpm_tool.proofs.Peeking.{looks_unindexed}
+use Rattle.rpm_tool.proofs.Sums.{store_by, store_sum}
 use Rattle.rpm_tool.proofs.unindexed.answer_unindexed.Goals as goal
 
-pub answer_opened-requires-clause-asked : goal.answer_opened-requires-clause-asked
-answer_opened-requires-clause-asked g c =
+pub answer_opened-requires : goal.answer_opened-requires
+answer_opened-requires g c =
     let opened = c.in-Ok.ensures in
     record {
-      keeps = opened.kept;
-      keeps_index = λ told. keeps_none (g.D.Disk.files c.open_unindexed.new.disk).idx c.in-Ok.db.index opened.unindexed;
-      going = opened.runs;
+      asked = record {
+        keeps = opened.kept;
+        keeps_index = λ told. keeps_none (g.D.Disk.files c.open_unindexed.new.disk).idx c.in-Ok.db.index opened.unindexed;
+        going = opened.runs;
+      };
     }
+
+pub returns-in-Ok-clause-went : goal.returns-in-Ok-clause-went
+returns-in-Ok-clause-went g c = λ told.
+    let d = g.D.Disk in
+    let a = c.args.ask.now in
+    let words = c.args.words.now in
+    let tree = c.args.format.now in
+    let db = c.in-Ok.db in
+    let s = (room db) in
+    let files = d.files c.args.disk.now in
+    let file = files.pkg in
+    let mid = d.files c.open_unindexed.new.disk in
+    let start = pkg_read d c.args.disk.now in
+    let between = pkg_read d c.open_unindexed.new.disk in
+    let now = pkg_read d c.answer_opened.new.disk in
+    let given = c.answer_opened.result in
+    let old = shown g.O.Sink g.E.Sink c.args.out.now c.args.err.now in
+    let new = shown g.O.Sink g.E.Sink c.answer_opened.new.out c.answer_opened.new.err in
+    let said = c.in-Ok.ensures in
+    let read : Units → Bearer → Type 0 = λ u for. now ≤ between + reached_by (asked_reaches false u s words a) db for in
+    let went = rw said.unindexed at (c.answer_opened.ensures.went told (no_index_rows db mid.pkg mid.idx said.unindexed)) in
+    subst (λ (r : Result Store Damage). Opened (DidPlain tree words a file start now) r given old new) (sym (said.store told))
+    (does_reads tree file s words a (deed_of a.mode) (read file) (λ for. now ≤ start + read_to file words a s for)
+    (λ for le. omega (arith, le, said.reads told, store_by (asked_reaches false file s words a) db for)) given old new
+    (subst (λ (f : Files). DoesBy (deed_of a.mode) tree f.pkg s words a (read f.pkg) given old new) (said.looks.untouched told).same went))
+
+pub returns-in-Ok-clause-reads : goal.returns-in-Ok-clause-reads
+returns-in-Ok-clause-reads g c = λ told.
+    let d = g.D.Disk in
+    let a = c.args.ask.now in
+    let words = c.args.words.now in
+    let db = c.in-Ok.db in
+    let s = (room db) in
+    let file = (d.files c.args.disk.now).pkg in
+    let mid = d.files c.open_unindexed.new.disk in
+    let between = pkg_read d c.open_unindexed.new.disk in
+    let now = pkg_read d c.answer_opened.new.disk in
+    let said = c.in-Ok.ensures in
+    let read = rw said.unindexed at (c.answer_opened.ensures.reads c.requires.plain told (no_index_rows db mid.pkg mid.idx said.unindexed)) in
+    let here : now ≤ between + reach_sum (asked_reaches false file s words a) db =
+    subst (λ (f : Files). now ≤ between + reach_sum (asked_reaches false f.pkg s words a) db) (said.looks.untouched told).same read in
+    let most = ap (λ (r : Result Store Damage). blocks_cost (λ t. false) file r words a) (said.store told) in
+    omega (arith, here, said.reads told, most, store_sum (asked_reaches false file s words a) db)
 
 pub returns-in-Ok-clause-looks : goal.returns-in-Ok-clause-looks
 returns-in-Ok-clause-looks g c =
-    let more = g.D.Disk.bytes_read c.answer_opened.new.disk Pkg - g.D.Disk.bytes_read c.open_unindexed.new.disk Pkg in (
+    let d = g.D.Disk in
+    let start = c.args.disk.now in
+    let mid = c.open_unindexed.new.disk in
+    let end = c.answer_opened.new.disk in
+    let more = pkg_read d end - pkg_read d mid in
+    let asked = always_keyed (deed_of c.args.ask.now.mode) || is_indexed c.in-Ok.db in
+    let none : asked ≡ false = ap (λ b. b || is_indexed c.in-Ok.db) c.requires.plain ∙ c.in-Ok.ensures.unindexed in (
       2 ^ 32 + more,
-      looks_then g.D.Disk.tells g.D.Disk.files g.D.Disk.left_since g.D.Disk.moment g.D.Disk.bytes_read g.D.Disk.follows Pkg g.met.D.Disk.follows_trans
-          (2 ^ 32) more (2 ^ 32 + more) c.args.disk.now
-          c.open_unindexed.new.disk c.answer_opened.new.disk (omega arith) c.in-Ok.ensures.looks c.answer_opened.ensures.looks,
+      looks_then d.tells d.files d.left_since d.moment d.bytes_read d.follows Pkg g.met.D.Disk.follows_trans (2 ^ 32) more (2 ^ 32 + more) start mid end
+          (omega arith) c.in-Ok.ensures.looks
+          (looks_unindexed d.tells d.files d.left_since d.moment d.bytes_read d.follows asked mid end none c.answer_opened.ensures.looks),
     )

@@ -1,8 +1,6 @@
 use Rattle.std.proofs.Common.{◌≡◌, ℕ, List, [], sym, ap, ◌∙◌}
 use Rattle.std.specs.Prelude.{Vec}
-use Rattle.std.specs.declared.alloc.Global.{Global}
-use Rattle.rpm_header.specs.Header.{header}
-use Rattle.rpm_tool.specs.Requirements.{read_text, package_text}
+use Rattle.rpm_tool.proofs.Vocabulary.{Global, header, package_text, read_text}
 use Rattle.rpm_tool.proofs.Telling.{package_read, nothing_read}
 use Rattle.rpm_tool.proofs.unreadable.read_into.Goals as goal
 

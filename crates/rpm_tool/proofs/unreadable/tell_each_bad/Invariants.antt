@@ -1,23 +1,16 @@
-use Rattle.std.proofs.Common.{◌≡◌, ℕ, ◌-◌, ◌^◌, ◌||◌, Bool, List, map}
+use Rattle.rpm_tool.proofs.Vocabulary.{bad_part, entries, inner, packages, room}
+use Rattle.std.proofs.Common.{ℕ, ◌-◌, ◌^◌, Bool, List}
 use Rattle.std.specs.Prelude.{IsTrue}
-use Rattle.std.specs.FinMap.{entries}
-use Rattle.rpm_outside.specs.Buffered.{inner}
-use Rattle.rpm_db.specs.State.{packages, above}
-use Rattle.rpm_tool.specs.Steps.{together}
-use Rattle.rpm_tool.specs.Requirements.{bad_part}
-use Rattle.rpm_tool.proofs.Reaching.{Goes}
 use Rattle.rpm_tool.proofs.SoFar.{SoFar}
+use Rattle.rpm_tool.proofs.Verified.{Told}
 use Rattle.rpm_tool.proofs.unreadable.tell_each_bad.Given as goal
 
 abbrev pub invariant-loop-next : goal.invariant-loop-next
 invariant-loop-next g l = record {
   far : SoFar g.D.Disk g.E.Sink l.initial.disk l.disk l.initial.err l.err;
-  goes : IsTrue g.D.Disk.tells → (out_tells : Bool) (out : List ℕ) → Goes out_tells g.E.Sink.tells
-      (together (map bad_part (above 0 (entries (packages (g.D.Disk.files l.initial.disk).pkg l.db.store))))).steps
-      (together (map bad_part (above l.number (entries (packages (g.D.Disk.files l.initial.disk).pkg l.db.store))))).steps
-      out (g.E.Sink.taken (inner l.initial.err)) out (g.E.Sink.taken (inner l.err));
-  bad : IsTrue g.D.Disk.tells → (together (map bad_part (above 0 (entries (packages (g.D.Disk.files l.initial.disk).pkg l.db.store))))).fails
-      ≡ (l.fails || (together (map bad_part (above l.number (entries (packages (g.D.Disk.files l.initial.disk).pkg l.db.store))))).fails);
+  told : IsTrue g.D.Disk.tells → (ot : Bool) (o : List ℕ)
+      → Told ot g.E.Sink.tells bad_part (entries (packages (g.D.Disk.files l.initial.disk).pkg (room l.db))) l.number l.fails
+      o (g.E.Sink.taken (inner l.initial.err)) o (g.E.Sink.taken (inner l.err));
 }
 
 abbrev pub decreases-loop-next : goal.decreases-loop-next

@@ -1,14 +1,12 @@
+use Rattle.rpm_tool.proofs.Vocabulary.{Files, packages, room, unmet_step}
 use Rattle.std.proofs.Common.{map, length}
-use Rattle.rpm_outside.specs.Files.{Files}
-use Rattle.rpm_db.specs.State.{packages}
-use Rattle.rpm_tool.specs.Requirements.{unmet_step}
 use Rattle.rpm_tool.proofs.Going.{Going}
 use Rattle.rpm_tool.proofs.unsatisfied.put_each_unmet.Given as goal
 
 abbrev pub invariant-loop-first : goal.invariant-loop-first
 invariant-loop-first g l =
-    Going g.D.Disk g.O.Sink (λ (f : Files). map (unmet_step (packages f.pkg l.db.store)) l.list)
-    (λ (f : Files). map (unmet_step (packages f.pkg l.db.store)) l.left) l.initial.disk l.disk l.initial.out l.out
+    Going g.D.Disk g.O.Sink (λ (f : Files). map (unmet_step (packages f.pkg (room l.db))) l.list)
+    (λ (f : Files). map (unmet_step (packages f.pkg (room l.db))) l.left) l.initial.disk l.disk l.initial.out l.out
 
 abbrev pub decreases-loop-first : goal.decreases-loop-first
 decreases-loop-first g l = length l.left

@@ -1,5 +1,5 @@
 use Rattle.std.proofs.Common.{◌≡◌, take}
-use Rattle.rpm_tool.specs.Requirements.{unmet_lines}
+use Rattle.rpm_tool.proofs.Vocabulary.{unmet_lines}
 use Rattle.rpm_tool.proofs.unsatisfied.unmet_lines.Given as goal
 
 abbrev pub invariant-loop-unmet : goal.invariant-loop-unmet

@@ -1,14 +1,7 @@
 -- Nothing was printed: nothing was passed over either, or looking for that was stopped.
+use Rattle.rpm_tool.proofs.Vocabulary.{above, answered, inner, missing_part, outputs, Package, packages, picks, Pkg, ReadsOf, room, step_of, Through, whole}
 use Rattle.std.proofs.Common.{◌≡◌, ℕ, Bool, List, [], map, refl, sym, ◌∙◌, subst}
 use Rattle.std.proofs.lemmas.Result.{err_from_is_err_and}
-use Rattle.rpm_outside.specs.Buffered.{inner}
-use Rattle.rpm_outside.specs.declared.disk.File.TheVariants.{Pkg}
-use Rattle.rpm_db.specs.State.{Package, packages, above}
-use Rattle.rpm_select.specs.Selections.{picks}
-use Rattle.rpm_change.specs.Steps.{whole}
-use Rattle.rpm_tool.specs.Queries.{step_of, missing_part, answered}
-use Rattle.rpm_change.specs.Endings.{outputs, Through}
-use Rattle.rpm_tool.specs.Reads.{ReadsOf}
 use Rattle.rpm_tool.proofs.Looked.{looks_both, both_read}
 use Rattle.rpm_tool.proofs.Nexts.{passed_here}
 use Rattle.rpm_tool.proofs.Unbroken.{part_unbroken}
@@ -19,18 +12,18 @@ use Rattle.rpm_tool.proofs.argument.answer_question.Goals as goal
 
 pub returns-clause-looks : goal.returns-clause-looks
 returns-clause-looks g c =
-    looks_both g.D.Disk.tells g.D.Disk.files g.D.Disk.left_since g.D.Disk.moment g.D.Disk.bytes_read g.D.Disk.follows g.met.D.Disk.follows_trans
-    c.args.db.now c.args.after c.args.disk.now c.print_above.new.disk c.is_any_passed.new.disk c.in_ok-printed.ensures.looks c.in_ok-is_passed.ensures.looks
+    looks_both g.D.Disk g.met.D.Disk.follows_trans c.args.db.now c.args.disk.now c.print_above.new.disk c.is_any_passed.new.disk c.args.after
+    c.in_ok-printed.ensures.looks c.in_ok-is_passed.ensures.looks
 
 pub returns-in_err-is_passed-clause-looks : goal.returns-in_err-is_passed-clause-looks
 returns-in_err-is_passed-clause-looks g c =
-    looks_both g.D.Disk.tells g.D.Disk.files g.D.Disk.left_since g.D.Disk.moment g.D.Disk.bytes_read g.D.Disk.follows g.met.D.Disk.follows_trans
-    c.args.db.now c.args.after c.args.disk.now c.print_above.new.disk c.is_any_passed.new.disk c.in_ok-printed.ensures.looks c.in_err-is_passed.ensures.looks
+    looks_both g.D.Disk g.met.D.Disk.follows_trans c.args.db.now c.args.disk.now c.print_above.new.disk c.is_any_passed.new.disk c.args.after
+    c.in_ok-printed.ensures.looks c.in_err-is_passed.ensures.looks
 
 pub returns-clause-went : goal.returns-clause-went
 returns-clause-went g c = λ told serves j.
     let db = c.args.db.now in
-    let s = db.store in
+    let s = (room db) in
     let r = c.args.picker.now in
     let ot = g.O.Sink.tells in
     let et = g.E.Sink.tells in
@@ -57,7 +50,7 @@ returns-clause-went g c = λ told serves j.
 pub returns-in_err-is_passed-clause-went : goal.returns-in_err-is_passed-clause-went
 returns-in_err-is_passed-clause-went g c = λ told serves j.
     let db = c.args.db.now in
-    let s = db.store in
+    let s = (room db) in
     let r = c.args.picker.now in
     let ot = g.O.Sink.tells in
     let et = g.E.Sink.tells in
@@ -80,7 +73,8 @@ returns-in_err-is_passed-clause-went g c = λ told serves j.
 pub returns-clause-reads : goal.returns-clause-reads
 returns-clause-reads g c =
     both_read c.print_above.new.picker c.args.picker.now c.in_ok-printed.ensures.same c.args.db.now c.args.after (g.D.Disk.bytes_read c.args.disk.now Pkg)
-    (g.D.Disk.bytes_read c.print_above.new.disk Pkg) (g.D.Disk.bytes_read c.is_any_passed.new.disk Pkg) c.in_ok-printed.ensures.reads c.in_ok-is_passed.ensures.reads
+    (g.D.Disk.bytes_read c.print_above.new.disk Pkg) (g.D.Disk.bytes_read c.is_any_passed.new.disk Pkg) c.in_ok-printed.ensures.reads
+    c.in_ok-is_passed.ensures.reads
 
 pub returns-in_err-is_passed-clause-reads : goal.returns-in_err-is_passed-clause-reads
 returns-in_err-is_passed-clause-reads g c =

@@ -1,18 +1,8 @@
 -- A query that was stopped.
+use Rattle.rpm_tool.proofs.Vocabulary.{argument_part, argument_reach, Bearer, Files, inner, is_indexed, IsOfChain, IsOfChains, lent, outputs, packages, Pkg}
+use Rattle.rpm_tool.proofs.Vocabulary.{question_of, reached_by, ReadsOf, room, text_at, Went, Why}
 use Rattle.std.proofs.Common.{◌≡◌, ◌+◌, ◌≤◌, map, Err, Some, sym, subst}
 use Rattle.std.specs.Prelude.{slice_get}
-use Rattle.rpm_outside.specs.Buffered.{inner}
-use Rattle.rpm_outside.specs.declared.disk.File.TheVariants.{Pkg}
-use Rattle.rpm_outside.specs.Files.{Files}
-use Rattle.rpm_db.specs.State.{packages}
-use Rattle.rpm_db.specs.Database.{is_indexed}
-use Rattle.rpm_words.specs.Words.{text_at}
-use Rattle.rpm_tool.specs.declared.answer.Why.{Why}
-use Rattle.rpm_change.specs.Steps.{Bearer}
-use Rattle.rpm_tool.specs.Queries.{lent, question_of, argument_part}
-use Rattle.rpm_change.specs.Endings.{outputs}
-use Rattle.rpm_tool.specs.Answers.{Went}
-use Rattle.rpm_tool.specs.Reads.{ReadsOf, argument_reach, reached_by, IsOfChain, IsOfChains}
 use Rattle.rpm_tool.proofs.Peeking.{peeks_then}
 use Rattle.rpm_tool.proofs.Sums.{get_map}
 use Rattle.rpm_tool.proofs.Turns.{part_here, reads_here, read_sum, read_by, went_turn}
@@ -36,8 +26,8 @@ returns-in-Err-clause-went g c = λ told rows.
     let chosen = c.args.ask.now.chosen in
     let after = c.args.ask.now.after in
     let start = g.D.Disk.files c.args.disk.now in
-    let each = argument_part c.args.format.now (packages start.pkg db.store) chosen after in
-    let over = argument_reach (is_indexed db) (packages start.pkg db.store) chosen in
+    let each = argument_part c.args.format.now (packages start.pkg (room db)) chosen after in
+    let over = argument_reach (is_indexed db) (packages start.pkg (room db)) chosen in
     let f = text_at c.args.words.now in
     let args = c.args.ask.now.arguments in
     let word = c.argument.result in
@@ -66,7 +56,7 @@ returns-in-Err-clause-reads g c = λ told rows.
     let now = g.D.Disk.bytes_read c.answer.new.disk Pkg in
     let f = text_at c.args.words.now in
     let word = c.argument.result in
-    read_sum (argument_reach (is_indexed db) (packages start.pkg db.store) c.args.ask.now.chosen) f c.args.ask.now.arguments db c.loop-k.k word
+    read_sum (argument_reach (is_indexed db) (packages start.pkg (room db)) c.args.ask.now.chosen) f c.args.ask.now.arguments db c.loop-k.k word
     c.argument.ensures (g.D.Disk.bytes_read c.args.disk.now Pkg) between now (c.loop-k.invariant.reads told rows)
     (reads_here c.args.ask.now.chosen (f word) db (g.D.Disk.files c.loop-k.disk) start (c.loop-k.invariant.looks.untouched told).same between now
     (λ there. rw (c.chosen.ensures, c.text_at-text.ensures) at (c.in-Err.ensures.reads told there)) rows)

@@ -1,5 +1,5 @@
 -- The states and the numbers along all lines.
-use Rattle.rpm_tool.specs.History.{calls_of}
+use Rattle.rpm_tool.proofs.Vocabulary.{calls_of}
 use Rattle.rpm_tool.proofs.Chained.{lines_rise}
 use Rattle.rpm_tool.proofs.Leading.{tells_calls}
 use Rattle.rpm_tool.proofs.Moved.{lines_lead}

@@ -1,9 +1,7 @@
 -- No line was run yet.
 use Rattle.std.proofs.Common.{[], refl}
-use Rattle.rpm_outside.specs.inner.Moments.{started}
-use Rattle.rpm_tool.specs.Changing.{RowsFit}
+use Rattle.rpm_tool.proofs.Vocabulary.{Cuts, FromOneOf, Leads, RowsFit, StandsIn, started}
 use Rattle.rpm_tool.specs.Frame.{images}
-use Rattle.rpm_tool.specs.History.{StandsIn, FromOneOf, Leads, Cuts}
 use Rattle.rpm_tool.proofs.Leading.{from_itself}
 use Rattle.rpm_tool.proofs.several.run_each.Goals as goal
 

@@ -1,0 +1,96 @@
+-- What a command does with the database that it opens, with its index or without: what it prints, and what it reads of the packages. On it rest
+-- `plain` and `keyed` of the page (Theorem.antt).
+use Rattle.std.specs.Prelude.{ℕ, ◌+◌, ◌≤◌, List, [], ◌∷◌, map, Bool, false, Result, Ok, Err}
+use Rattle.std.specs.Ordering.{nat_cmp}
+use Rattle.std.specs.FinMap.{FinMap}
+use Rattle.rpm_outside.specs.Files.{Units, Files}
+use Rattle.rpm_outside.specs.Logs.{LogState, Closed, Malformed, Open, log_state, reopened}
+use Rattle.rpm_pkgdb.specs.declared.slot.Damage.{Damage}
+use Rattle.rpm_pkgdb.specs.Store.{Store, store}
+use Rattle.rpm_pkgdb.specs.Costs.{opening_cost}
+use Rattle.rpm_db.specs.State.{Package, packages}
+use Rattle.rpm_check.specs.Edges.{graph_of}
+use Rattle.rpm_words.specs.Words.{text_at}
+use Rattle.rpm_words.specs.Ask.{AskParts}
+use Rattle.rpm_qfparse.specs.Tree.{Tree}
+use Rattle.rpm_select.specs.Reach.{Reach, Everything}
+use Rattle.rpm_tool.specs.declared.answer.Why.{Why}
+use Rattle.rpm_tool.specs.declared.asked.Deed.{Deed}
+use Rattle.rpm_tool.specs.declared.asked.Deed.TheVariants as deed
+use Rattle.rpm_tool.specs.Asked.{deed_of}
+use Rattle.rpm_change.specs.Endings.{Outputs, Through}
+use Rattle.rpm_change.specs.Steps.{Bearer}
+use Rattle.rpm_tool.specs.Answers.{Went, Misread, Refused, Anywhere, is_done}
+use Rattle.rpm_tool.specs.FileReport.{check_files}
+use Rattle.rpm_tool.specs.Queries.{query}
+use Rattle.rpm_tool.specs.Reads.{argument_reach, reaches_by, reach_sum, reached_by}
+use Rattle.rpm_tool.specs.Reports.{unindexed, export, verify}
+use Rattle.rpm_tool.specs.Requirements.{unsatisfied, ordering, IsListed}
+
+-- ---- what is read
+
+-- what each argument goes over, with an index or without; exports, verdicts and the report on files go over all packages
+abbrev pub reaches_of : Deed → Bool → FinMap nat_cmp Package → List (List ℕ) → AskParts → List Reach
+reaches_of deed.Print indexed packages words a = reaches_by (argument_reach indexed packages a.chosen) (map (text_at words) a.arguments)
+reaches_of others indexed packages words a = Everything ∷ []
+
+-- of a store, by the words
+abbrev pub asked_reaches : Bool → Units → Store → List (List ℕ) → AskParts → List Reach
+asked_reaches indexed file s words a = reaches_of (deed_of a.mode) indexed (packages file s) words a
+
+-- the bytes of all blocks that they go over, none of a damaged store
+abbrev pub blocks_cost : (Store → Bool) → Units → Result Store Damage → List (List ℕ) → AskParts → ℕ
+blocks_cost indexed file (Ok s) words a = reach_sum (asked_reaches (indexed s) file s words a) (unindexed s)
+blocks_cost indexed file (Err damage) words a = 0
+
+-- ---- what is done
+
+-- how far the order was told, by the order of the graph
+abbrev pub OrderIs : FinMap nat_cmp Package → Why → Outputs → Outputs → Type 0
+OrderIs packages given old new = (classes : List (List ℕ)) × IsListed (graph_of packages) (is_done given) classes
+    × Went (ordering packages classes) given old new Anywhere
+
+-- how far a command went, by a file and its store; how much is read isn't said of a report on requirements
+abbrev pub DoesBy : Deed → Tree → Units → Store → List (List ℕ) → AskParts → (Bearer → Type 0) → Why → Outputs → Outputs → Type 0
+DoesBy deed.Print tree file s words a reads_to given old new = Went (query tree (packages file s) words a) given old new reads_to
+DoesBy deed.Export tree file s words a reads_to given old new = Went (export (packages file s)) given old new reads_to
+DoesBy deed.Verify tree file s words a reads_to given old new = Went (verify file s) given old new reads_to
+DoesBy deed.CheckFiles tree file s words a reads_to given old new = Went (check_files (packages file s)) given old new reads_to
+DoesBy deed.Unmet tree file s words a reads_to given old new = Went (unsatisfied (packages file s)) given old new Anywhere
+DoesBy deed.Order tree file s words a reads_to given old new = OrderIs (packages file s) given old new
+
+-- what a command does with a store
+abbrev pub Deeds : Type 1
+Deeds = Store → Why → Outputs → Outputs → Type 0
+
+-- a damaged store is reported and nothing is printed
+abbrev pub Opened : Deeds → Result Store Damage → Why → Outputs → Outputs → Type 0
+Opened Do (Ok s) given old new = Do s given old new
+Opened Do (Err damage) given old new = Refused damage given × Through [] old new
+
+-- a malformed log is reported and nothing is printed, with any other the store is opened
+abbrev pub Loaded : Deeds → Result Store Damage → LogState → Why → Outputs → Outputs → Type 0
+Loaded Do s Closed given old new = Opened Do s given old new
+Loaded Do s (Malformed unit) given old new = Misread unit given × Through [] old new
+Loaded Do s (Open entries) given old new = Opened Do s given old new
+
+-- ---- without the index, as the database reads when an open log is gone through
+
+-- the most that is read of Packages.db up to a step, its pages with it
+abbrev pub read_to : Units → List (List ℕ) → AskParts → Store → Bearer → ℕ
+read_to file words a s for = opening_cost file + reached_by (asked_reaches false file s words a) (unindexed s) for
+
+-- what it prints, of a file of which so many bytes were read before and then
+abbrev pub DidPlain : Tree → List (List ℕ) → AskParts → Units → ℕ → ℕ → Deeds
+DidPlain tree words a file before now s given old new =
+    DoesBy (deed_of a.mode) tree file s words a (λ for. now ≤ before + read_to file words a s for) given old new
+
+-- what it prints, reports and reads
+abbrev pub Queried : Tree → List (List ℕ) → AskParts → Files → Why → Outputs → Outputs → ℕ → ℕ → Type 0
+Queried tree words a files given old new before now =
+    let file = (reopened files).pkg in
+    Loaded (DidPlain tree words a file before now) (store file) (log_state files.log) given old new
+
+-- the most that it reads
+abbrev pub query_cost : List (List ℕ) → AskParts → Units → ℕ
+query_cost words a file = opening_cost file + blocks_cost (λ s. false) file (store file) words a
