@@ -176,7 +176,8 @@ fn finish<D: Disk>(disk: &mut D, gate: Gate) -> Result<bool, RecoverFault>
 
 /// Finishes the change that an open log says, and answers whether there was one. The log is closed then.
 ///
-/// It takes no memory, reads the log alone, its units once and its heads twice, and writes 4 KiB at a time.
+/// It takes no memory, reads the log alone, its units once and its heads twice, and writes 4 KiB at a time. It syncs
+/// all three files first; with an open log both databases again, after what it wrote, and the log, once that is closed.
 ///
 /// # Errors
 ///

@@ -1,5 +1,4 @@
 pub mod Again
-pub mod Begins
 pub mod Bools
 pub mod Counted
 pub mod Cut

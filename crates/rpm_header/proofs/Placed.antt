@@ -1,10 +1,14 @@
 -- The first of an entry's texts.
-use Rattle.std.proofs.Common.{◌≡◌, ℕ, ◌≤◌, List, take, true, refl, ap, ◌∙◌, sym}
+use Rattle.std.proofs.Common.{◌≡◌, ℕ, ◌≤◌, List, take, true, refl, ap, ◌∙◌, sym, arith}
 use Rattle.std.specs.Prelude.{IsTrue}
 use Rattle.rpm_header.proofs.Vocabulary.{are_ended, Form, has_texts, HasRoom, texts, texts_of, values}
 use Rattle.rpm_header.specs.declared.form.Form.TheVariants as form
-use Rattle.rpm_header.proofs.Begins.{ended_fewer}
+use Rattle.rpm_header.proofs.Counted.{ended_enough, zeros_enough}
 use Rattle.rpm_header.proofs.Texts.{take_texts}
+
+-- the first of so many texts
+ended_fewer : (i n : ℕ) (bytes : List ℕ) → i ≤ n → are_ended n bytes ≡ true → are_ended i bytes ≡ true
+ended_fewer i n bytes le e = ended_enough i bytes (omega (arith, zeros_enough n bytes e))
 
 all_ended : (f : Form) (count : ℕ) (bytes : List ℕ) → IsTrue (has_texts f) → HasRoom f count bytes → are_ended count bytes ≡ true
 all_ended form.Null count bytes is room = absurd cc

@@ -19,11 +19,9 @@ pub use Rattle.rpm_header.specs.declared.form.HeaderFault.{HeaderFault}
 pub use Rattle.rpm_header.specs.declared.form.HeaderFault.TheVariants.{BadCount, BadOffset, BadRegion, NoEnd, Short, TooManyEntries, TooMuchData}
 pub use Rattle.rpm_header.specs.declared.index.IndexEntry.{IndexEntry}
 pub use Rattle.rpm_header.specs.declared.laying.Lengths.{Lengths}
-pub use Rattle.rpm_header.specs.declared.places.Kept.{Kept}
 pub use Rattle.rpm_header.specs.inner.Checked.{HasRoom, IsCut, IsInside, IsSound}
 pub use Rattle.rpm_header.specs.inner.Longer.{number_longer}
 pub use Rattle.rpm_header.specs.inner.Packed.{IsJoined, IsPacked, IsStored, item_at, ReadsBack}
-pub use Rattle.rpm_header.specs.inner.Placed.{AreKept}
 pub use Rattle.rpm_header.specs.inner.Splits.{Splits}
 unfoldable pub use Rattle.rpm_header.specs.inner.Zeros.{skipped, zeros}
 pub use Rattle.sha2.specs.Sha256.{sha256}

@@ -1,6 +1,6 @@
 //! Texts by place, in any order.
 
-ghost use Rattle.std.specs.Prelude.{◌≡◌, ℕ, ◌-◌, ◌*◌, ◌≤◌, ◌<◌, true, length, Some, is_some, slice_get, slice_index, take, drop, List};
+ghost use Rattle.std.specs.Prelude.{◌≡◌, ℕ, ◌*◌, ◌≤◌, ◌<◌, true, length, Some, is_some, slice_get, slice_index, take, List};
 ghost use Rattle.rpm_header.specs.Prelude.{after_first, are_ended, AreCounted, before_first, is_zero, IsPlaced, max_data, position, skipped, texts, zeros};
 
 use crate::bytes::{next_text, skip_texts};
@@ -31,25 +31,15 @@ impl PlacesRoom {
     }
 }
 
-/// What the numbers that are kept say of the texts.
-#[derive(Clone, Copy)]
-enum Kept {
-    /// Where each text begins, and where the last one ends.
-    Begins,
-    /// How many zero bytes stand in front of each stride of so many bytes.
-    Zeros(usize),
-}
-
-/// The texts of an entry, to be read in any order. Contracts see it as the list of them. Of fewer
-/// than 262,144 texts it keeps where each begins. Of more it keeps how many zero bytes stand in front
-/// of each of at most 262,143 strides, so that what is read to find where a text begins is at most
-/// one stride, 257 bytes; the same for where it ends.
+/// The texts of an entry, to be read in any order. Contracts see it as the list of them. It keeps how
+/// many zero bytes stand in front of each of at most 262,143 strides, so that what is read to find
+/// where a text begins is at most one stride, 257 bytes; the same for where it ends.
 #[derive(Drop)]
 pub struct TextPlaces<'p, 'a> {
     count: u32,
     bytes: &'a [u8],
-    kept: Kept,
-    numbers: &'p [u32],
+    stride: usize,
+    sums: &'p [u32],
 }
 
 impl<'p, 'a> Model for TextPlaces<'p, 'a> {
@@ -57,7 +47,7 @@ impl<'p, 'a> Model for TextPlaces<'p, 'a> {
 
     ghost view = { λ s. texts s.count s.bytes.now };
 
-    ghost invariant = { λ s. IsPlaced s.count s.bytes.now s.kept s.numbers.now };
+    ghost invariant = { λ s. IsPlaced s.count s.bytes.now s.stride s.sums.now };
 }
 
 /// A stride of which fewer than 262,143 reach the end of so many bytes.
@@ -67,25 +57,6 @@ fn stride_for(len: usize) -> usize
     ensures small { result ≤ 257 }
 {
     (len / (SUMS - 1) + 1).max(64)
-}
-
-/// Where each text begins, and where the last one ends. Reads each byte once.
-fn list_begins(begins: &mut [u32], bytes: &[u8])
-    requires few { length bytes.now ≤ max_data }
-    requires some { 0 < length begins.old }
-    requires ended { are_ended (length begins.old - 1) bytes.now ≡ true }
-    ensures size { length begins.new ≡ length begins.old }
-    ensures within { (k : ℕ) → k < length begins.old → slice_index begins.new k ≤ length bytes.now }
-    ensures each { (k : ℕ) → k < length begins.old → drop (slice_index begins.new k) bytes.now ≡ skipped k bytes.now }
-{
-    let count = begins.len() - 1;
-    let mut rest = bytes;
-    for k in 0..count {
-        begins[k] = (bytes.len() - rest.len()) as u32;
-        let (_, others) = next_text(rest);
-        rest = others;
-    }
-    begins[count] = (bytes.len() - rest.len()) as u32;
 }
 
 /// How many zero bytes stand in front of each stride. Reads each byte once.
@@ -126,7 +97,7 @@ fn stride_before(sums: &[u32], count: u32) -> usize
 
 /// What stands after so many texts, by the zeros in front of strides. Reads the bytes of one stride
 /// at most.
-fn behind_strides<'a>(bytes: &'a [u8], stride: usize, sums: &[u32], count: u32) -> &'a [u8]
+fn behind<'a>(bytes: &'a [u8], stride: usize, sums: &[u32], count: u32) -> &'a [u8]
     requires counted { AreCounted bytes.now stride sums.now }
     requires ended { count ≤ zeros bytes.now }
     ensures { result.now ≡ skipped count bytes.now }
@@ -140,18 +111,6 @@ fn behind_strides<'a>(bytes: &'a [u8], stride: usize, sums: &[u32], count: u32) 
     skip_texts(left, rest)
 }
 
-/// What stands after so many of all texts. Reads the bytes of one stride at most.
-fn behind<'a>(all: u32, bytes: &'a [u8], kept: Kept, numbers: &[u32], count: u32) -> &'a [u8]
-    requires placed { IsPlaced all bytes.now kept numbers.now }
-    requires within { count ≤ all }
-    ensures { result.now ≡ skipped count bytes.now }
-{
-    match kept {
-        Kept::Begins => &bytes[numbers[count as usize] as usize..],
-        Kept::Zeros(stride) => behind_strides(bytes, stride, numbers, count),
-    }
-}
-
 /// The first text, where the others stand after its zero byte. Reads none of them.
 fn in_front<'a>(bytes: &'a [u8], others: &[u8]) -> &'a [u8]
     requires ended { is_some (position is_zero bytes.now) ≡ true }
@@ -162,25 +121,8 @@ fn in_front<'a>(bytes: &'a [u8], others: &[u8]) -> &'a [u8]
 }
 
 impl<'p, 'a> TextPlaces<'p, 'a> {
-    /// Reads the bytes of the texts once.
-    fn listed(count: u32, bytes: &'a [u8], room: &'p mut PlacesRoom) -> TextPlaces<'p, 'a>
-        requires ended { are_ended count bytes.now ≡ true }
-        requires few { length bytes.now ≤ max_data }
-        requires room { count < 262144 }
-        ensures { result ≡ texts count bytes.now }
-    {
-        let begins = room.zeroed(count as usize + 1);
-        list_begins(begins, bytes);
-        TextPlaces {
-            count,
-            bytes,
-            kept: Kept::Begins,
-            numbers: begins,
-        }
-    }
-
     /// Reads the bytes of the texts twice, 64 at a time.
-    fn counted(count: u32, bytes: &'a [u8], room: &'p mut PlacesRoom) -> TextPlaces<'p, 'a>
+    pub(crate) fn new(count: u32, bytes: &'a [u8], room: &'p mut PlacesRoom) -> TextPlaces<'p, 'a>
         requires ended { are_ended count bytes.now ≡ true }
         requires few { length bytes.now ≤ max_data }
         ensures { result ≡ texts count bytes.now }
@@ -192,21 +134,8 @@ impl<'p, 'a> TextPlaces<'p, 'a> {
         TextPlaces {
             count,
             bytes,
-            kept: Kept::Zeros(stride),
-            numbers: sums,
-        }
-    }
-
-    /// Reads the bytes of the texts twice at most.
-    pub(crate) fn new(count: u32, bytes: &'a [u8], room: &'p mut PlacesRoom) -> TextPlaces<'p, 'a>
-        requires ended { are_ended count bytes.now ≡ true }
-        requires few { length bytes.now ≤ max_data }
-        ensures { result ≡ texts count bytes.now }
-    {
-        if (count as usize) < SUMS {
-            TextPlaces::listed(count, bytes, room)
-        } else {
-            TextPlaces::counted(count, bytes, room)
+            stride,
+            sums,
         }
     }
 
@@ -216,12 +145,12 @@ impl<'p, 'a> TextPlaces<'p, 'a> {
         requires { i < length self.now }
         ensures { slice_get self.now i ≡ Some result.now }
     {
-        let from = behind(self.count, self.bytes, self.kept, self.numbers, i);
+        let from = behind(self.bytes, self.stride, self.sums, i);
         if has_end_near(from) {
             let (text, _) = next_text(from);
             return text;
         }
-        let others = behind(self.count, self.bytes, self.kept, self.numbers, i + 1);
+        let others = behind(self.bytes, self.stride, self.sums, i + 1);
         in_front(from, others)
     }
 }

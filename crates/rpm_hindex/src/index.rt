@@ -16,6 +16,7 @@ pub struct Hindex {
     pub first: [u8; 16],
     pub second: [u8; 16],
     pub units: u64,
+    /// The buckets of records that wait for their seal; 0 where none do.
     pub pending: u32,
 }
 

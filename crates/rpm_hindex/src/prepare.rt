@@ -97,8 +97,8 @@ impl Hindex {
     ///
     /// - `BadIndex` only where `unit` is the first fault of a bucket's chain, or is 1, where unit 1 counts less than
     ///   the chains hold, and less than the change drops.
-    /// - `IndexFull` where the rows after the change, made from scratch, need more than 268435456 units, and only
-    ///   there: `needed` of them.
+    /// - `IndexFull` where the rows after the change, made from scratch, need more than 268435456 units, and of a
+    ///   well-formed file only there: `needed` of them.
     /// - `DiskFault` only where the disk's count of faults rose.
     /// - `NoMemory` where the change finds no memory.
     pub fn prepare<D: Disk>(

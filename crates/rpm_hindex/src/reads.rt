@@ -1,4 +1,4 @@
-//! Units of the file.
+//! Units and keys of Hindex.db, read.
 
 ghost use Rattle.std.specs.Prelude.{◌≡◌, ◌+◌, ◌*◌, ◌/◌, ◌%◌, ◌^◌, ◌≤◌, ◌<◌, IsTrue, length, take, drop, OnOk, IfOk, IfErr, Err};
 ghost use Rattle.rpm_hindex.specs.Prelude.{bytes_of, Idx, IsOutside, Reads, ReadsOr, run, unit_at};

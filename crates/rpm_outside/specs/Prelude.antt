@@ -7,7 +7,8 @@ pub use Rattle.rpm_outside.specs.Causes.{HasCause, Rose, RoseBy}
 pub use Rattle.rpm_outside.specs.Crash.{Elapses, OnlyAfter, RisesOrStays, TornFile, Untouched, bytes_for}
 pub use Rattle.rpm_outside.specs.Files.{Files, FitsAt, blank, bytes_of, file_of, put, unit_at, units_of, with_file}
 pub use Rattle.rpm_outside.specs.Literal.{IsImage}
-pub use Rattle.rpm_outside.specs.MemShelf.{SameReads, ShelfDoes, bytes_in, left_in, paths_of, shelf_absences, shelf_failing, shelf_faults, shelf_most, shelf_paths, shelf_reads, shelf_rest}
+pub use Rattle.rpm_outside.specs.MemShelf.{SameReads, ShelfDoes, bytes_in, left_in, paths_of}
+pub use Rattle.rpm_outside.specs.MemShelf.{shelf_absences, shelf_failing, shelf_faults, shelf_most, shelf_paths, shelf_reads, shelf_rest}
 pub use Rattle.rpm_outside.specs.MemSink.{FailsWhereFull, sink_bytes, sink_faults, sink_limit, sink_most, sink_starved}
 pub use Rattle.rpm_outside.specs.Past.{Images, ImagesSince, WroteAny, after_step, after_steps, held_files, part_of}
 pub use Rattle.rpm_outside.specs.Picks.{mixed_unit, picked, picked_image, picked_step}

@@ -31,6 +31,7 @@ pub struct PkgDb {
     pub(crate) used: Option<Used>,
     /// No slot before this one is free, so that a run of puts doesn't look at the used ones again each time.
     pub(crate) free_from: u32,
+    /// How many used ranges still find room without memory.
     pub(crate) spare: u32,
     pub(crate) stopped: bool,
 }

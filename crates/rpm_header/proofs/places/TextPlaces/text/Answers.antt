@@ -1,6 +1,7 @@
 use Rattle.std.proofs.Common.{◌≡◌, ◌+◌, ◌<◌, ℕ, List, length, Some, arith, ap, sym, ◌∙◌, refl}
 use Rattle.std.specs.Prelude.{slice_get, is_some}
 use Rattle.rpm_header.proofs.Vocabulary.{after_first, before_first, is_zero, position, texts}
+use Rattle.rpm_header.proofs.Counted.{zeros_enough}
 use Rattle.rpm_header.proofs.Skipped.{text_behind, skip_one_more, ended_behind}
 use Rattle.rpm_header.proofs.Whole.{length-texts}
 use Rattle.rpm_header.proofs.places.TextPlaces.text.Goals as goal
@@ -9,11 +10,16 @@ use Rattle.rpm_header.proofs.places.TextPlaces.text.Goals as goal
 below_count : (i count : ℕ) (bytes : List ℕ) (seen : List (List ℕ)) → texts count bytes ≡ seen → i < length seen → i < count
 below_count i count bytes seen is lt = omega (arith, length-texts count bytes, ap (λ (ts : List (List ℕ)). length ts) is)
 
-pub behind-from-requires-clause-placed : goal.behind-from-requires-clause-placed
-behind-from-requires-clause-placed c = c.self.invariant
+pub behind-from-requires-clause-counted : goal.behind-from-requires-clause-counted
+behind-from-requires-clause-counted c = c.self.invariant.counted
 
-pub behind-from-requires-clause-within : goal.behind-from-requires-clause-within
-behind-from-requires-clause-within c = omega (arith, below_count c.args.i c.self.inside.count c.self.inside.bytes.now _ c.self.view_is c.requires)
+pub behind-from-requires-clause-ended : goal.behind-from-requires-clause-ended
+behind-from-requires-clause-ended c =
+    omega (
+        arith,
+        below_count c.args.i c.self.inside.count c.self.inside.bytes.now _ c.self.view_is c.requires,
+        zeros_enough c.self.inside.count c.self.inside.bytes.now c.self.invariant.ended
+    )
 
 pub next_text-requires : goal.next_text-requires
 next_text-requires c =
@@ -33,11 +39,16 @@ returns-then-has_end_near c =
 pub overflow_add-i : goal.overflow_add-i
 overflow_add-i c = omega (arith, below_count c.args.i c.self.inside.count c.self.inside.bytes.now _ c.self.view_is c.requires)
 
-pub behind-others-requires-clause-placed : goal.behind-others-requires-clause-placed
-behind-others-requires-clause-placed c = c.self.invariant
+pub behind-others-requires-clause-counted : goal.behind-others-requires-clause-counted
+behind-others-requires-clause-counted c = c.self.invariant.counted
 
-pub behind-others-requires-clause-within : goal.behind-others-requires-clause-within
-behind-others-requires-clause-within c = omega (arith, below_count c.args.i c.self.inside.count c.self.inside.bytes.now _ c.self.view_is c.requires)
+pub behind-others-requires-clause-ended : goal.behind-others-requires-clause-ended
+behind-others-requires-clause-ended c =
+    omega (
+        arith,
+        below_count c.args.i c.self.inside.count c.self.inside.bytes.now _ c.self.view_is c.requires,
+        zeros_enough c.self.inside.count c.self.inside.bytes.now c.self.invariant.ended
+    )
 
 pub in_front-requires-clause-ended : goal.in_front-requires-clause-ended
 in_front-requires-clause-ended c =
