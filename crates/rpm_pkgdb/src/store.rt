@@ -155,7 +155,7 @@ impl PkgDb {
         head: &[u8],
     ) -> Result<PkgDb, OpenFault>
         requires whole { length head.now ≡ 16 }
-        requires lawful { head_reason units head.now ≡ None }
+        requires in_order { head_reason units head.now ≡ None }
         requires units { IsTrue D.tells → units ≡ length (D.files disk.old).pkg }
         requires head { IsTrue D.tells → head.now ≡ unit_at (D.files disk.old).pkg 0 }
         ensures store { IsTrue D.tells → OpenIs (store_of (word 3 head.now) (D.files disk.old).pkg) result }

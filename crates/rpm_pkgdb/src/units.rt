@@ -8,7 +8,7 @@ use crate::slot::{MAGIC, SLOT, Slot};
 use rpm_outside::{Disk, Failed, File, bytes_of_word, unit_of_words};
 
 /// Unit 1.
-#[tactic(auto, unfolding(crate::specs::Framing::next_unit, rpm_outside::specs::Words::unit_of_words, rpm_outside::specs::Words::bytes_of_word, rpm_outside::specs::Words::word))]
+#[tactic(auto, using(crate::proofs::UnitWords::next_unit_words))]
 pub fn next_unit(number: u32) -> [u8; 16]
     ensures word { word 0 result ≡ number }
     ensures bytes { result ≡ next_unit number }

@@ -16,9 +16,9 @@ behind-from-requires-clause-counted c = c.self.invariant.counted
 pub behind-from-requires-clause-ended : goal.behind-from-requires-clause-ended
 behind-from-requires-clause-ended c =
     omega (
-        arith,
-        below_count c.args.i c.self.inside.count c.self.inside.bytes.now _ c.self.view_is c.requires,
-        zeros_enough c.self.inside.count c.self.inside.bytes.now c.self.invariant.ended
+      arith,
+      below_count c.args.i c.self.inside.count c.self.inside.bytes.now _ c.self.view_is c.requires,
+      zeros_enough c.self.inside.count c.self.inside.bytes.now c.self.invariant.ended,
     )
 
 pub next_text-requires : goal.next_text-requires
@@ -45,9 +45,9 @@ behind-others-requires-clause-counted c = c.self.invariant.counted
 pub behind-others-requires-clause-ended : goal.behind-others-requires-clause-ended
 behind-others-requires-clause-ended c =
     omega (
-        arith,
-        below_count c.args.i c.self.inside.count c.self.inside.bytes.now _ c.self.view_is c.requires,
-        zeros_enough c.self.inside.count c.self.inside.bytes.now c.self.invariant.ended
+      arith,
+      below_count c.args.i c.self.inside.count c.self.inside.bytes.now _ c.self.view_is c.requires,
+      zeros_enough c.self.inside.count c.self.inside.bytes.now c.self.invariant.ended,
     )
 
 pub in_front-requires-clause-ended : goal.in_front-requires-clause-ended
