@@ -1,5 +1,6 @@
 -- Entries that are written one after another.
 use Rattle.std.proofs.Common.{◌≡◌, inl, inr, ℕ, suc, ◌+◌, ◌<◌, ◌≤◌, List, [], ◌∷◌, ◌++◌, length, take, drop, true, false, refl, sym, ap, subst, ◌∙◌, arith, append_assoc}
+use Rattle.rpm_outside.specs.declared.disk.Disk as disk
 use Rattle.std.proofs.lemmas.List.{append-nil, length-take, length-drop}
 use Rattle.std.proofs.lemmas.Bool.{cases_eq}
 use Rattle.rpm_group.proofs.Vocabulary.{before, Closed, Covers, Entry, entry_at, entry_units, File, file_of, Files, HasUnit, Head, head_parts, HeadIs, heads}
@@ -110,15 +111,15 @@ done_all entries n p last log old now none d =
     ∙ ap (λ (es : List Entry). d.done ++ es) (sym (left_none n p last log d.rest none d.heads_left)) ∙ sym d.all)
 
 -- what a crash leaves while they are written
-module _ {D : Type 0} (moment : D → ℕ) (left_since : D → ℕ → Files → Type 0) where
+module _ {D : Type 0} (g : disk.Ghosts D) where
   pub within_more : (entries : List Entry) (file : File) (first end : ℕ) (old mid new : D) → first < end
       → ((i : ℕ) → first ≤ i → i < end → Covers entries file i)
-      → ((image : Files) → left_since mid (moment mid) image → left_since mid (moment old) image)
-      → LeavesOnly moment left_since old mid (WasWithin entries (left_since old (moment old))) → LeavesChanged moment left_since file first end mid new
-      → LeavesOnly moment left_since old new (WasWithin entries (left_since old (moment old)))
+      → ((image : Files) → g.left_since mid (g.moment mid) image → g.left_since mid (g.moment old) image)
+      → LeavesOnly g old mid (WasWithin entries (g.left_since old (g.moment old))) → LeavesChanged g file first end mid new
+      → LeavesOnly g old new (WasWithin entries (g.left_since old (g.moment old)))
   within_more entries file first end old mid new some covers earlier one two =
-      leaves_then moment left_since old mid new (WasWithin entries (left_since old (moment old))) one
-      (leaves_weaker moment left_since mid new (WasChanged file first end (left_since mid (moment mid))) (WasWithin entries (left_since old (moment old)))
+      leaves_then g old mid new (WasWithin entries (g.left_since old (g.moment old))) one
+      (leaves_weaker g mid new (WasChanged file first end (g.left_since mid (g.moment mid))) (WasWithin entries (g.left_since old (g.moment old)))
       (λ image was.
       let so_far = one.each was.0 (earlier was.0 was.1) in
       (so_far.0, so_far.1, within_changed entries so_far.0 was.0 image file first end some covers so_far.2 was.2))

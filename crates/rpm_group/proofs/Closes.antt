@@ -1,5 +1,6 @@
 -- What a crash leaves while a log is closed.
 use Rattle.std.proofs.Common.{◌≡◌, ⊎_elim, ℕ, ◌<◌, List, [], ◌∷◌, length, true, refl, sym, ap, subst, ◌∙◌}
+use Rattle.rpm_outside.specs.declared.disk.Disk as disk
 use Rattle.rpm_group.proofs.Vocabulary.{blank_closed, Closed, closing, Elapses, entries_done, entries_log, Entry, Files, first_unit, is_blank, IsOpen}
 use Rattle.rpm_group.proofs.Vocabulary.{IsSound, leaves_weaker, LeavesOnly, Log, log_not_log, log_state, LogState, NotLog, one_more, OnlyAfter, Open, put}
 use Rattle.rpm_group.proofs.Vocabulary.{reopened, reopened_open, reopened_within, ReopensAs, started, torn_first, TornFile, unit_at, Units, unlogged}
@@ -25,17 +26,17 @@ closing_sound unit from image entries blank some is torn = ⊎_elim
     (λ (same : image ≡ with_file Log (put 0 (unit ∷ []) from.log) from). closed_sound image.log (closed_after from image unit blank same))
     (torn_first unit from image some torn)
 
-module _ {D : Type 0} (moment : D → ℕ) (left_since : D → ℕ → Files → Type 0) where
+module _ {D : Type 0} (g : disk.Ghosts D) where
   -- the write of the commit record
   pub closing_leaves : (old new : D) (files : Files) (unit : List ℕ) (entries : List Entry) → is_blank unit ≡ true → 0 < length files.log
       → log_state files.log ≡ Open entries → with_entries entries (unlogged files) ≡ unlogged files
-      → ((image : Files) → left_since old (moment old) image → image ≡ files)
-      → OnlyAfter (TornFile Log 0 (unit ∷ [])) (left_since old (moment old)) (left_since new (moment new))
-      → Elapses (moment old) (moment new) (left_since old) (left_since new)
-      → LeavesOnly moment left_since old new (ReopensAs (unlogged files))
+      → ((image : Files) → g.left_since old (g.moment old) image → image ≡ files)
+      → OnlyAfter (TornFile Log 0 (unit ∷ [])) (g.left_since old (g.moment old)) (g.left_since new (g.moment new))
+      → Elapses (g.moment old) (g.moment new) (g.left_since old) (g.left_since new)
+      → LeavesOnly g old new (ReopensAs (unlogged files))
   closing_leaves old new files unit entries blank some is done settled images time =
-      one_more moment left_since old old new (ReopensAs (unlogged files))
-      (started moment left_since old (ReopensAs (unlogged files)) (λ image left. record {
+      one_more g old old new (ReopensAs (unlogged files))
+      (started g old (ReopensAs (unlogged files)) (λ image left. record {
         same = ap reopened (settled image left) ∙ reopened_open files entries is ∙ done;
         sound = open_sound image.log entries (ap (λ (f : Files). log_state f.log) (settled image left) ∙ is);
       }))
@@ -50,11 +51,11 @@ module _ {D : Type 0} (moment : D → ℕ) (left_since : D → ℕ → Files →
 
   -- the entries, before it
   pub written_leaves : (old new : D) (files : Files) (entries : List Entry) → log_state files.log ≡ Open entries
-      → ((image : Files) → left_since old (moment old) image → image ≡ files)
-      → LeavesOnly moment left_since old new (WasWithin entries (left_since old (moment old)))
-      → LeavesOnly moment left_since old new (ReopensAs (reopened files))
+      → ((image : Files) → g.left_since old (g.moment old) image → image ≡ files)
+      → LeavesOnly g old new (WasWithin entries (g.left_since old (g.moment old)))
+      → LeavesOnly g old new (ReopensAs (reopened files))
   written_leaves old new files entries is settled run =
-      leaves_weaker moment left_since old new (WasWithin entries (left_since old (moment old))) (ReopensAs (reopened files))
+      leaves_weaker g old new (WasWithin entries (g.left_since old (g.moment old))) (ReopensAs (reopened files))
       (λ image was.
       let within : Within entries files image = subst (λ (f : Files). Within entries f image) (settled was.0 was.1) was.2 in
       record {
@@ -73,15 +74,15 @@ three_files a b p x l =
 pub open_as : (state : LogState) (entries : List Entry) → state ≡ Open entries → IsOpen state
 open_as state entries is = subst IsOpen (sym is) refl
 
-module _ {D : Type 0} (moment : D → ℕ) (left_since : D → ℕ → Files → Type 0) where
+module _ {D : Type 0} (g : disk.Ghosts D) where
   -- the entries are written and the two files are settled
   pub applied_settled : (old new : D) (files now : Files) (entries : List Entry) → NotLog entries → now ≡ with_entries entries files
-      → ((image : Files) → left_since old (moment old) image → image ≡ files)
-      → LeavesOnly moment left_since old new (WasWithin entries (left_since old (moment old)))
-      → ((image : Files) → left_since new (moment new) image → left_since new (moment old) image)
-      → ((image : Files) → left_since new (moment new) image → image.pkg ≡ now.pkg)
-      → ((image : Files) → left_since new (moment new) image → image.idx ≡ now.idx)
-      → (image : Files) → left_since new (moment new) image → image ≡ now
+      → ((image : Files) → g.left_since old (g.moment old) image → image ≡ files)
+      → LeavesOnly g old new (WasWithin entries (g.left_since old (g.moment old)))
+      → ((image : Files) → g.left_since new (g.moment new) image → g.left_since new (g.moment old) image)
+      → ((image : Files) → g.left_since new (g.moment new) image → image.pkg ≡ now.pkg)
+      → ((image : Files) → g.left_since new (g.moment new) image → image.idx ≡ now.idx)
+      → (image : Files) → g.left_since new (g.moment new) image → image ≡ now
   applied_settled old new files now entries not is settled run earlier pkg idx image left =
       let was = run.each image (earlier image left) in
       three_files image now (pkg image left) (idx image left)

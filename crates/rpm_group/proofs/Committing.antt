@@ -1,5 +1,6 @@
 -- The stages of a commit.
 use Rattle.std.proofs.Common.{◌≡◌, inl, inr, ⊎_elim, ℕ, ◌+◌, ◌<◌, ◌≤◌, ◌^◌, List, [], ◌∷◌, ◌++◌, length, refl, sym, ap, subst, ◌∙◌, arith, length-append}
+use Rattle.rpm_outside.specs.declared.disk.Disk as disk
 use Rattle.rpm_group.proofs.Vocabulary.{BeforeOrAfter, changed_leaves_more, changed_leaves_then, ChangedIn, Closed, Elapses, entries_kept, entries_then}
 use Rattle.rpm_group.proofs.Vocabulary.{EntriesIn, Entry, Files, HeadsEndInZeros, Idx, IsGate, IsGroup, laid, Layers, LeavesChanged, LeavesOnly, Log}
 use Rattle.rpm_group.proofs.Vocabulary.{log_state, Logged, one_more, OnlyAfter, Open, opened_is, Pkg, put, reopened, reopened_closed, reopened_open}
@@ -67,21 +68,21 @@ opening_reopens gate entries last from image g some below is closed torn = ⊎_e
     }))
     (torn_first gate from image (omega (arith, below)) torn)
 
-module _ {D : Type 0} (moment : D → ℕ) (left_since : D → ℕ → Files → Type 0) where
+module _ {D : Type 0} (g : disk.Ghosts D) where
   -- two runs of writes to the log
-  pub log_leaves : (middle : ℕ) (old mid new : D) → 1 ≤ middle → ((image : Files) → left_since mid (moment mid) image → left_since mid (moment old) image)
-      → LeavesChanged moment left_since Log 1 (2 ^ 28) old mid → LeavesChanged moment left_since Log middle (2 ^ 28) mid new
-      → LeavesChanged moment left_since Log 1 (2 ^ 28) old new
+  pub log_leaves : (middle : ℕ) (old mid new : D) → 1 ≤ middle → ((image : Files) → g.left_since mid (g.moment mid) image → g.left_since mid (g.moment old) image)
+      → LeavesChanged g Log 1 (2 ^ 28) old mid → LeavesChanged g Log middle (2 ^ 28) mid new
+      → LeavesChanged g Log 1 (2 ^ 28) old new
   log_leaves middle old mid new low earlier one two =
-      changed_leaves_then moment left_since Log 1 (2 ^ 28) old mid new earlier one
-      (changed_leaves_more moment left_since Log middle (2 ^ 28) 1 (2 ^ 28) mid new low (omega arith) two)
+      changed_leaves_then g Log 1 (2 ^ 28) old mid new earlier one
+      (changed_leaves_more g Log middle (2 ^ 28) 1 (2 ^ 28) mid new low (omega arith) two)
 
   -- the log was written and settled
-  pub log_settled : (old new : D) (files now : Files) → ((image : Files) → left_since old (moment old) image → image ≡ files)
+  pub log_settled : (old new : D) (files now : Files) → ((image : Files) → g.left_since old (g.moment old) image → image ≡ files)
       → ChangedIn Log 1 (2 ^ 28) files now
-      → LeavesChanged moment left_since Log 1 (2 ^ 28) old new → ((image : Files) → left_since new (moment new) image → left_since new (moment old) image)
-      → ((image : Files) → left_since new (moment new) image → image.log ≡ now.log)
-      → (image : Files) → left_since new (moment new) image → image ≡ now
+      → LeavesChanged g Log 1 (2 ^ 28) old new → ((image : Files) → g.left_since new (g.moment new) image → g.left_since new (g.moment old) image)
+      → ((image : Files) → g.left_since new (g.moment new) image → image.log ≡ now.log)
+      → (image : Files) → g.left_since new (g.moment new) image → image ≡ now
   log_settled old new files now settled changed run earlier log image left =
       let was = run.each image (earlier image left) in
       let same : was.0 ≡ files = settled was.0 was.1 in
@@ -93,16 +94,16 @@ module _ {D : Type 0} (moment : D → ℕ) (left_since : D → ℕ → Files →
   -- the commit record is written
   pub opening_leaves : (old new : D) (files : Files) (gate : List ℕ) (entries : List Entry) (last : ℕ) → IsGate gate (length entries) last
       → 0 < length entries → last < length files.log → EntriesIn entries 1 (last + 1) files.log → log_state files.log ≡ Closed
-      → ((image : Files) → left_since old (moment old) image → image ≡ files)
-      → OnlyAfter (TornFile Log 0 (gate ∷ [])) (left_since old (moment old)) (left_since new (moment new))
-      → Elapses (moment old) (moment new) (left_since old) (left_since new)
-      → LeavesOnly moment left_since old new (BeforeOrAfter (unlogged files) (with_entries entries (unlogged files)))
-  opening_leaves old new files gate entries last g some below is closed settled images time =
-      one_more moment left_since old old new (BeforeOrAfter (unlogged files) (with_entries entries (unlogged files)))
-      (started moment left_since old (BeforeOrAfter (unlogged files) (with_entries entries (unlogged files)))
+      → ((image : Files) → g.left_since old (g.moment old) image → image ≡ files)
+      → OnlyAfter (TornFile Log 0 (gate ∷ [])) (g.left_since old (g.moment old)) (g.left_since new (g.moment new))
+      → Elapses (g.moment old) (g.moment new) (g.left_since old) (g.left_since new)
+      → LeavesOnly g old new (BeforeOrAfter (unlogged files) (with_entries entries (unlogged files)))
+  opening_leaves old new files gate entries last opens some below is closed settled images time =
+      one_more g old old new (BeforeOrAfter (unlogged files) (with_entries entries (unlogged files)))
+      (started g old (BeforeOrAfter (unlogged files) (with_entries entries (unlogged files)))
       (λ image left. inl (closed_reopens image files (settled image left) closed)))
       time
       (λ image left.
       let was = images image left in
-      opening_reopens gate entries last files image g some below is closed
+      opening_reopens gate entries last files image opens some below is closed
       (subst (λ (f : Files). TornFile Log 0 (gate ∷ []) f image) (settled was.0 was.1) was.2))

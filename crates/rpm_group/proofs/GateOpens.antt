@@ -1,5 +1,6 @@
 -- A commit record that opens a log.
 use Rattle.std.proofs.Common.{◌≡◌, ℕ, ◌+◌, ◌-◌, ◌<◌, ◌≤◌, ◌^◌, List, [], ◌∷◌, length, sym, ap, subst, ◌∙◌, arith}
+use Rattle.rpm_outside.specs.declared.disk.Disk as disk
 use Rattle.rpm_group.proofs.Vocabulary.{BeforeOrAfter, Closed, Elapses, entries_long, EntriesIn, Entry, Files, IsGate, IsTail, LeavesOnly, Log, log_state}
 use Rattle.rpm_group.proofs.Vocabulary.{OnlyAfter, Open, opened_is, put, Tail, TornFile, unit_of_words, Units, unlogged, with_entries, with_file, word}
 use Rattle.rpm_group.proofs.Vocabulary.{word_0, word_1, word_2, word_3, word_full}
@@ -33,16 +34,16 @@ opens gate entries tail log unit is some few place small =
       placed = subst (λ (i : ℕ). EntriesIn entries 1 i log) same is.placed;
     }
 
-module _ {D : Type 0} (moment : D → ℕ) (left_since : D → ℕ → Files → Type 0) where
+module _ {D : Type 0} (g : disk.Ghosts D) where
   pub gate_leaves : (old new : D) (files : Files) (gate : List ℕ) (units : Units) (entries : List Entry) (tail : Tail) → units ≡ gate ∷ []
       → Opens gate entries tail files.log → log_state files.log ≡ Closed
-      → ((image : Files) → left_since old (moment old) image → image ≡ files)
-      → OnlyAfter (TornFile Log 0 units) (left_since old (moment old)) (left_since new (moment new))
-      → Elapses (moment old) (moment new) (left_since old) (left_since new)
-      → LeavesOnly moment left_since old new (BeforeOrAfter (unlogged files) (with_entries entries (unlogged files)))
+      → ((image : Files) → g.left_since old (g.moment old) image → image ≡ files)
+      → OnlyAfter (TornFile Log 0 units) (g.left_since old (g.moment old)) (g.left_since new (g.moment new))
+      → Elapses (g.moment old) (g.moment new) (g.left_since old) (g.left_since new)
+      → LeavesOnly g old new (BeforeOrAfter (unlogged files) (with_entries entries (unlogged files)))
   gate_leaves old new files gate units entries tail is o closed settled images time =
-      opening_leaves moment left_since old new files gate entries (tail.at - 1) o.is_gate o.some o.below o.placed closed settled
-      (subst (λ (us : Units). OnlyAfter (TornFile Log 0 us) (left_since old (moment old)) (left_since new (moment new))) is images) time
+      opening_leaves g old new files gate entries (tail.at - 1) o.is_gate o.some o.below o.placed closed settled
+      (subst (λ (us : Units). OnlyAfter (TornFile Log 0 us) (g.left_since old (g.moment old)) (g.left_since new (g.moment new))) is images) time
 
 pub gate_opened : (files mid new : Files) (gate : List ℕ) (units : Units) (entries : List Entry) (tail : Tail) → units ≡ gate ∷ []
     → Opens gate entries tail files.log → mid ≡ with_file Log (put 0 units files.log) files → new ≡ mid → log_state new.log ≡ Open entries

@@ -1,5 +1,6 @@
 -- One run more in the log: its room, and what a crash leaves of it.
 use Rattle.std.proofs.Common.{◌≡◌, ℕ, ◌+◌, ◌-◌, ◌≤◌, ◌^◌, arith}
+use Rattle.rpm_outside.specs.declared.disk.Disk as disk
 use Rattle.rpm_group.proofs.Vocabulary.{changed_leaves_more, changed_leaves_then, Files, LeavesChanged, Log, log_units, Table}
 use Rattle.rpm_group.proofs.Countings.{log_units_later}
 
@@ -9,10 +10,10 @@ pub room_here : (table : Table) (place tail at first stop end : ℕ) → place �
 room_here table place tail at first stop end is counted below room = omega (arith, is, counted, log_units_later table stop end below, room)
 
 -- what a crash leaves of one run more
-pub run_leaves : {D : Type 0} (moment : D → ℕ) (left_since : D → ℕ → Files → Type 0) (start place end : ℕ) (old mid new : D) → start ≤ place → end ≤ 2 ^ 28
-    → ((image : Files) → left_since mid (moment mid) image → left_since mid (moment old) image)
-    → LeavesChanged moment left_since Log start (2 ^ 28) old mid → LeavesChanged moment left_since Log place end mid new
-    → LeavesChanged moment left_since Log start (2 ^ 28) old new
-run_leaves moment left_since start place end old mid new low high earlier one two =
-    changed_leaves_then moment left_since Log start (2 ^ 28) old mid new earlier one
-    (changed_leaves_more moment left_since Log place end start (2 ^ 28) mid new low high two)
+pub run_leaves : {D : Type 0} (g : disk.Ghosts D) (start place end : ℕ) (old mid new : D) → start ≤ place → end ≤ 2 ^ 28
+    → ((image : Files) → g.left_since mid (g.moment mid) image → g.left_since mid (g.moment old) image)
+    → LeavesChanged g Log start (2 ^ 28) old mid → LeavesChanged g Log place end mid new
+    → LeavesChanged g Log start (2 ^ 28) old new
+run_leaves g start place end old mid new low high earlier one two =
+    changed_leaves_then g Log start (2 ^ 28) old mid new earlier one
+    (changed_leaves_more g Log place end start (2 ^ 28) mid new low high two)

@@ -1,5 +1,6 @@
 -- One stage of a commit after another.
 use Rattle.std.proofs.Common.{◌≡◌, inl, inr, ⊎_elim, ℕ, ◌≤◌, ◌^◌, List, refl, ap, subst, ◌∙◌, arith}
+use Rattle.rpm_outside.specs.declared.disk.Disk as disk
 use Rattle.rpm_group.proofs.Vocabulary.{BeforeOrAfter, blank_closed, ChangedIn, Closed, closed_blank, Entry, Files, is_blank, IsGroup, Layers, leaves_then}
 use Rattle.rpm_group.proofs.Vocabulary.{leaves_weaker, LeavesChanged, LeavesOnly, Log, log_state, Open, reopened, reopened_closed, reopened_open, ReopensAs}
 use Rattle.rpm_group.proofs.Vocabulary.{unlogged, WasChanged, WasWithin, with_entries, with_held}
@@ -8,30 +9,30 @@ use Rattle.rpm_group.proofs.Closes.{written_leaves, closed_sound}
 pub still_closed : (old new : Files) (first end : ℕ) → 1 ≤ first → log_state old.log ≡ Closed → ChangedIn Log first end old new → log_state new.log ≡ Closed
 still_closed old new first end low closed changed = blank_closed new.log (ap is_blank (changed.each 0 (inl (omega (arith, low)))) ∙ closed_blank old.log closed)
 
-module _ {D : Type 0} (moment : D → ℕ) (left_since : D → ℕ → Files → Type 0) (before after : Files) where
+module _ {D : Type 0} (g : disk.Ghosts D) (before after : Files) where
   -- the entries after the commit record change nothing
   pub logged_leaves : (old new : D) (files : Files) → unlogged files ≡ before → log_state files.log ≡ Closed
-      → ((image : Files) → left_since old (moment old) image → image ≡ files)
-      → LeavesChanged moment left_since Log 1 (2 ^ 28) old new → LeavesOnly moment left_since old new (BeforeOrAfter before after)
+      → ((image : Files) → g.left_since old (g.moment old) image → image ≡ files)
+      → LeavesChanged g Log 1 (2 ^ 28) old new → LeavesOnly g old new (BeforeOrAfter before after)
   logged_leaves old new files is closed settled run =
-      leaves_weaker moment left_since old new (WasChanged Log 1 (2 ^ 28) (left_since old (moment old))) (BeforeOrAfter before after)
+      leaves_weaker g old new (WasChanged Log 1 (2 ^ 28) (g.left_since old (g.moment old))) (BeforeOrAfter before after)
       (λ image was.
       let changed : ChangedIn Log 1 (2 ^ 28) files image = subst (λ (f : Files). ChangedIn Log 1 (2 ^ 28) f image) (settled was.0 was.1) was.2 in
       let shut : log_state image.log ≡ Closed = still_closed files image 1 (2 ^ 28) (omega arith) closed changed in
       inl (record { same = reopened_closed image shut ∙ ap unlogged changed.others ∙ is; sound = closed_sound image.log shut }))
       run
 
-  pub opened_leaves : (old new : D) (a b : Files) → a ≡ before → b ≡ after → LeavesOnly moment left_since old new (BeforeOrAfter a b)
-      → LeavesOnly moment left_since old new (BeforeOrAfter before after)
+  pub opened_leaves : (old new : D) (a b : Files) → a ≡ before → b ≡ after → LeavesOnly g old new (BeforeOrAfter a b)
+      → LeavesOnly g old new (BeforeOrAfter before after)
   opened_leaves old new a b is_a is_b run =
-      leaves_weaker moment left_since old new (BeforeOrAfter a b) (BeforeOrAfter before after)
+      leaves_weaker g old new (BeforeOrAfter a b) (BeforeOrAfter before after)
       (λ image either. ⊎_elim (λ one. inl (record { same = one.same ∙ is_a; sound = one.sound }))
       (λ two. inr (record { same = two.same ∙ is_b; sound = two.sound })) either) run
 
-  pub after_leaves : (old new : D) (files : Files) → files ≡ after → LeavesOnly moment left_since old new (ReopensAs files)
-      → LeavesOnly moment left_since old new (BeforeOrAfter before after)
+  pub after_leaves : (old new : D) (files : Files) → files ≡ after → LeavesOnly g old new (ReopensAs files)
+      → LeavesOnly g old new (BeforeOrAfter before after)
   after_leaves old new files is run =
-      leaves_weaker moment left_since old new (ReopensAs files) (BeforeOrAfter before after)
+      leaves_weaker g old new (ReopensAs files) (BeforeOrAfter before after)
       (λ image one. inr (record { same = one.same ∙ is; sound = one.sound })) run
 
 -- what the files stand for in each stage
@@ -49,36 +50,36 @@ module _ (held : Layers) (files first : Files) (same : unlogged first ≡ unlogg
 pub unlogged_changed : (files new : Files) (first end : ℕ) → ChangedIn Log first end files new → unlogged new ≡ unlogged files
 unlogged_changed files new first end changed = ap unlogged changed.others
 
-module _ {D : Type 0} (moment : D → ℕ) (left_since : D → ℕ → Files → Type 0) (held : Layers) (files : Files) where
+module _ {D : Type 0} (g : disk.Ghosts D) (held : Layers) (files : Files) where
   abbrev BOA : Files → Type 0
   BOA = BeforeOrAfter (unlogged files) (unlogged (with_held held files))
 
-  pub stage_one : (old new : D) → log_state files.log ≡ Closed → ((image : Files) → left_since old (moment old) image → image ≡ files)
-      → LeavesChanged moment left_since Log 1 (2 ^ 28) old new → LeavesOnly moment left_since old new BOA
-  stage_one old new closed settled run = logged_leaves moment left_since (unlogged files) (unlogged (with_held held files)) old new files refl closed
+  pub stage_one : (old new : D) → log_state files.log ≡ Closed → ((image : Files) → g.left_since old (g.moment old) image → image ≡ files)
+      → LeavesChanged g Log 1 (2 ^ 28) old new → LeavesOnly g old new BOA
+  stage_one old new closed settled run = logged_leaves g (unlogged files) (unlogged (with_held held files)) old new files refl closed
       settled run
 
-  pub stage_two : (old mid new : D) (first : Files) (entries : List Entry) → LeavesOnly moment left_since old mid BOA
+  pub stage_two : (old mid new : D) (first : Files) (entries : List Entry) → LeavesOnly g old mid BOA
       → unlogged first ≡ unlogged files → IsGroup entries held
-      → LeavesOnly moment left_since mid new (BeforeOrAfter (unlogged first) (with_entries entries (unlogged first)))
-      → LeavesOnly moment left_since old new BOA
+      → LeavesOnly g mid new (BeforeOrAfter (unlogged first) (with_entries entries (unlogged first)))
+      → LeavesOnly g old new BOA
   stage_two old mid new first entries so_far same group run =
-      leaves_then moment left_since old mid new BOA so_far
-      (opened_leaves moment left_since (unlogged files) (unlogged (with_held held files)) mid new (unlogged first)
+      leaves_then g old mid new BOA so_far
+      (opened_leaves g (unlogged files) (unlogged (with_held held files)) mid new (unlogged first)
       (with_entries entries (unlogged first)) same (entries_same held files first same entries group) run)
 
-  pub stage_three : (old mid new : D) (second : Files) (entries : List Entry) → LeavesOnly moment left_since old mid BOA
+  pub stage_three : (old mid new : D) (second : Files) (entries : List Entry) → LeavesOnly g old mid BOA
       → unlogged second ≡ unlogged files → IsGroup entries held → log_state second.log ≡ Open entries
-      → ((image : Files) → left_since mid (moment mid) image → image ≡ second)
-      → LeavesOnly moment left_since mid new (WasWithin entries (left_since mid (moment mid))) → LeavesOnly moment left_since old new BOA
+      → ((image : Files) → g.left_since mid (g.moment mid) image → image ≡ second)
+      → LeavesOnly g mid new (WasWithin entries (g.left_since mid (g.moment mid))) → LeavesOnly g old new BOA
   stage_three old mid new second entries so_far same group is settled run =
-      leaves_then moment left_since old mid new BOA so_far
-      (after_leaves moment left_since (unlogged files) (unlogged (with_held held files)) mid new (reopened second)
-      (reopened_same held files second same entries group is) (written_leaves moment left_since mid new second entries is settled run))
+      leaves_then g old mid new BOA so_far
+      (after_leaves g (unlogged files) (unlogged (with_held held files)) mid new (reopened second)
+      (reopened_same held files second same entries group is) (written_leaves g mid new second entries is settled run))
 
-  pub stage_four : (old mid new : D) (second third : Files) → LeavesOnly moment left_since old mid BOA → unlogged second ≡ unlogged files
-      → third ≡ with_held held second → LeavesOnly moment left_since mid new (ReopensAs (unlogged third)) → LeavesOnly moment left_since old new BOA
+  pub stage_four : (old mid new : D) (second third : Files) → LeavesOnly g old mid BOA → unlogged second ≡ unlogged files
+      → third ≡ with_held held second → LeavesOnly g mid new (ReopensAs (unlogged third)) → LeavesOnly g old new BOA
   stage_four old mid new second third so_far same written run =
-      leaves_then moment left_since old mid new BOA so_far
-      (after_leaves moment left_since (unlogged files) (unlogged (with_held held files)) mid new (unlogged third) (ap unlogged written
+      leaves_then g old mid new BOA so_far
+      (after_leaves g (unlogged files) (unlogged (with_held held files)) mid new (unlogged third) (ap unlogged written
       ∙ held_same held files second same) run)

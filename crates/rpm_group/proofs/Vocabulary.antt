@@ -32,7 +32,8 @@ pub use Rattle.rpm_group.specs.inner.Logged.{CoversHeld, Logged, run_entry}
 pub use Rattle.rpm_group.specs.inner.Over.{ReadsOver}
 pub use Rattle.rpm_outside.specs.Causes.{RoseBy}
 pub use Rattle.rpm_outside.specs.Changed.{ChangedIn, LeavesChanged, WasChanged}
-pub use Rattle.rpm_outside.specs.Crash.{bytes_for, Elapses, LeavesOnly, OnlyAfter, TornFile}
+pub use Rattle.rpm_outside.specs.Crash.{bytes_for, Elapses, OnlyAfter, TornFile}
+pub use Rattle.rpm_outside.specs.Leaves.{LeavesOnly}
 pub use Rattle.rpm_outside.specs.Entries.{Covers, HasUnit, Within}
 pub use Rattle.rpm_outside.specs.Files.{cases_file, file_of, Files, unit_at, Units, units_of, with_file}
 unfoldable pub use Rattle.rpm_outside.specs.Files.{blank, put}

@@ -1,25 +1,24 @@
 -- What calls on an overlay keep of the disk below.
 use Rattle.std.specs.Prelude.{◌≡◌, ℕ, ◌+◌, ◌≤◌, Bool, IsTrue}
+use Rattle.rpm_outside.specs.declared.disk.Disk as disk
 use Rattle.std.proofs.Common.{inl, refl, ◌∙◌, arith}
 use Rattle.rpm_outside.specs.declared.disk.File.{File}
 use Rattle.rpm_outside.specs.Files.{Files}
-use Rattle.rpm_outside.specs.Crash.{LeavesOnly}
+use Rattle.rpm_outside.specs.Leaves.{LeavesOnly}
 
 -- the disk below has the same contents, images and moment, of each file at most as many bytes were read there as here, it follows itself,
 -- and its count of faults didn't fall
-pub record KeepsBelow {D : Type 0} (tells : Bool) (files : D → Files) (moment : D → ℕ) (left_since : D → ℕ → Files → Type 0) (bytes_read : D → File
-    → ℕ) (follows : D → D → Type 0) (faults : D → ℕ) (old new : D) (read_old read_new : File → ℕ) : Type 0 where
-  pub same : IsTrue tells → files new ≡ files old
-  pub images : IsTrue tells → (t : ℕ) (image : Files) → left_since new t image → left_since old t image
-  pub kept : IsTrue tells → (t : ℕ) (image : Files) → left_since old t image → left_since new t image
-  pub moment_same : moment new ≡ moment old
-  pub reads : (f : File) → bytes_read new f + read_old f ≤ bytes_read old f + read_new f
-  pub below : follows old new
-  pub later : faults old ≤ faults new
+pub record KeepsBelow {D : Type 0} (g : disk.Ghosts D) (old new : D) (read_old read_new : File → ℕ) : Type 0 where
+  pub same : IsTrue g.tells → g.files new ≡ g.files old
+  pub images : IsTrue g.tells → (t : ℕ) (image : Files) → g.left_since new t image → g.left_since old t image
+  pub kept : IsTrue g.tells → (t : ℕ) (image : Files) → g.left_since old t image → g.left_since new t image
+  pub moment_same : g.moment new ≡ g.moment old
+  pub reads : (f : File) → g.bytes_read new f + read_old f ≤ g.bytes_read old f + read_new f
+  pub below : g.follows old new
+  pub later : g.faults old ≤ g.faults new
 
-module _ {D : Type 0} (tells : Bool) (files : D → Files) (moment : D → ℕ) (left_since : D → ℕ → Files → Type 0) (bytes_read : D → File → ℕ)
-    (follows : D → D → Type 0) (faults : D → ℕ) where
-  pub keeps_refl : (disk : D) (read : File → ℕ) → follows disk disk → KeepsBelow tells files moment left_since bytes_read follows faults disk disk read read
+module _ {D : Type 0} (g : disk.Ghosts D) where
+  pub keeps_refl : (disk : D) (read : File → ℕ) → g.follows disk disk → KeepsBelow g disk disk read read
   keeps_refl disk read below = record {
     same = λ told. refl;
     images = λ told t image left. left;
@@ -30,10 +29,10 @@ module _ {D : Type 0} (tells : Bool) (files : D → Files) (moment : D → ℕ) 
     later = omega arith;
   }
 
-  pub keeps_trans : ((a b c : D) → follows a b → follows b c → follows a c) → (a b c : D) (ra rb rc : File → ℕ)
-      → KeepsBelow tells files moment left_since bytes_read follows faults a b ra rb
-      → KeepsBelow tells files moment left_since bytes_read follows faults b c rb rc
-      → KeepsBelow tells files moment left_since bytes_read follows faults a c ra rc
+  pub keeps_trans : ((a b c : D) → g.follows a b → g.follows b c → g.follows a c) → (a b c : D) (ra rb rc : File → ℕ)
+      → KeepsBelow g a b ra rb
+      → KeepsBelow g b c rb rc
+      → KeepsBelow g a c ra rc
   keeps_trans trans a b c ra rb rc first second = record {
     same = λ told. second.same told ∙ first.same told;
     images = λ told t image left. first.images told t image (second.images told t image left);
@@ -45,12 +44,11 @@ module _ {D : Type 0} (tells : Bool) (files : D → Files) (moment : D → ℕ) 
   }
 
 -- what a crash may leave of the disk below, while calls go to the overlay
-pub below_leaves : {D : Type 0} (tells : Bool) (files : D → Files) (moment : D → ℕ) (left_since : D → ℕ → Files → Type 0) (bytes_read : D → File → ℕ)
-    (follows : D → D → Type 0) (faults : D → ℕ) (old new : D) (ro rn : File → ℕ) (P : Files → Type 0)
-    → IsTrue tells → KeepsBelow tells files moment left_since bytes_read follows faults old new ro rn
-    → ((image : Files) → left_since old (moment old) image → P image) → LeavesOnly moment left_since old new P
-below_leaves tells files moment left_since bytes_read follows faults old new ro rn P told keeps here = record {
+pub below_leaves : {D : Type 0} (g : disk.Ghosts D) (old new : D) (ro rn : File → ℕ) (P : Files → Type 0)
+    → IsTrue g.tells → KeepsBelow g old new ro rn
+    → ((image : Files) → g.left_since old (g.moment old) image → P image) → LeavesOnly g old new P
+below_leaves g old new ro rn P told keeps here = record {
   later = omega (arith, keeps.moment_same);
-  each = λ image left. here image (keeps.images told (moment old) image left);
+  each = λ image left. here image (keeps.images told (g.moment old) image left);
   before = λ t image le left. inl (keeps.images told t image left);
 }

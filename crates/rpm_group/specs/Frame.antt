@@ -8,7 +8,7 @@ use Rattle.rpm_group.specs.LogReads as reads
 module _ {D : Type 0} (d : disk.Ghosts D) where
   -- of the other files than the log nothing was read
   abbrev pub ReadsLog : D → D → Type 0
-  ReadsLog = reads.ReadsLog d.moment d.bytes_read d.follows
+  ReadsLog = reads.ReadsLog d
 
   -- of the other files than the log nothing was read, and an error comes only where the disk counted a fault
   pub record OnlyReadsLog {T E : Type 0} (result : Result T E) (old new : D) : Type 0 where
@@ -22,9 +22,9 @@ module _ {D : Type 0} (d : disk.Ghosts D) where
 
   -- nothing was read, and an error comes only where the disk counted a fault
   pub record ReadsNothing {T E : Type 0} (result : Result T E) (old new : D) : Type 0 where
-    pub nothing : reads.ReadsNothing d.moment d.bytes_read d.follows old new
+    pub nothing : reads.ReadsNothing d old new
     pub cause : frame.DiskCause d result old new
 
   -- nothing at all happened
   abbrev pub Unwritten : D → D → Type 0
-  Unwritten = groups.Unwritten d.tells d.files d.left_since d.moment d.bytes_read
+  Unwritten = groups.Unwritten d

@@ -1,5 +1,6 @@
 -- A group of changes: what is held of the two files.
 use Rattle.std.specs.Prelude.{◌≡◌, ◌⊎◌, ℕ, ◌+◌, ◌*◌, Bool, IsTrue, length}
+use Rattle.rpm_outside.specs.declared.disk.Disk as disk
 use Rattle.rpm_outside.specs.Crash.{Untouched}
 use Rattle.rpm_outside.specs.declared.disk.File.{File}
 use Rattle.rpm_outside.specs.Files.{Files}
@@ -37,8 +38,7 @@ abbrev pub BeforeOrAfter : Files → Files → Files → Type 0
 BeforeOrAfter before after image = ReopensAs before image ⊎ ReopensAs after image
 
 -- a call that changed nothing at all
-pub record Unwritten {D : Type 0} (tells : Bool) (files : D → Files) (left_since : D → ℕ → Files → Type 0) (moment : D → ℕ) (bytes_read : D → File
-    → ℕ) (old new : D) : Type 0 where
-  pub untouched : IsTrue tells → Untouched (files old) (files new) (left_since old) (left_since new)
-  pub moment_stays : moment new ≡ moment old
-  pub reads : (file : File) → bytes_read new file ≡ bytes_read old file
+pub record Unwritten {D : Type 0} (g : disk.Ghosts D) (old new : D) : Type 0 where
+  pub untouched : IsTrue g.tells → Untouched (g.files old) (g.files new) (g.left_since old) (g.left_since new)
+  pub moment_stays : g.moment new ≡ g.moment old
+  pub reads : (file : File) → g.bytes_read new file ≡ g.bytes_read old file

@@ -85,7 +85,7 @@ impl<D: Disk> Disk for Overlay<D> {
 
     ghost faults = { λ disk. D.faults disk.below + disk.starved };
 
-    ghost follows = { λ old new. KeepsBelow D.tells D.files D.moment D.left_since D.bytes_read D.follows D.faults
+    ghost follows = { λ old new. KeepsBelow D.Disk
         old.below new.below (overlay_read D.bytes_read old) (overlay_read D.bytes_read new) };
 
     ghost outcome = { StarvesOrHolds };
@@ -94,11 +94,11 @@ impl<D: Disk> Disk for Overlay<D> {
 
     ghost earlier = { λ disk s t image told le below left. left };
 
-    ghost follows_refl = { λ disk. keeps_refl D.tells D.files D.moment D.left_since D.bytes_read D.follows D.faults
+    ghost follows_refl = { λ disk. keeps_refl _
         disk.below (overlay_read D.bytes_read disk) (D.follows_refl disk.below) };
 
     ghost follows_trans = { λ a b c f g.
-        keeps_trans D.tells D.files D.moment D.left_since D.bytes_read D.follows D.faults D.follows_trans
+        keeps_trans _ D.follows_trans
         a.below b.below c.below (overlay_read D.bytes_read a) (overlay_read D.bytes_read b)
         (overlay_read D.bytes_read c) f g };
 

@@ -56,8 +56,8 @@ module _ (unit : List ℕ) (a b : Units) (torn : Torn 0 (unit ∷ []) a b) where
 -- what leaves unit 0, and then one more write
 module _ {D : Type 0} (d : disk.Ghosts D) (trans : (a b c : D) → d.follows a b → d.follows b c → d.follows a c) (a b c : D) where
   pub seal_then : Changes d Idx SameSeal 0 a b → Changes d Idx SameSeal 0 b c → Changes d Idx SameSeal 0 a c
-  seal_then = changes_then _ _ _ _ _ _ Idx trans SameSeal SameSeal SameSeal 0 0 0 a b c (omega arith) (λ x y p. p) (λ x y z p q. q ∙ p)
+  seal_then = changes_then _ Idx trans SameSeal SameSeal SameSeal 0 0 0 a b c (omega arith) (λ x y p. p) (λ x y z p q. q ∙ p)
 
   pub seal_torn : (at : ℕ) (us : Units) → 1 ≤ at → Changes d Idx SameSeal 0 a b → Changes d Idx (Torn at us) 0 b c → Changes d Idx SameSeal 0 a c
-  seal_torn at us behind first torn = seal_then first (changes_weaker _ _ _ _ _ _ Idx (Torn at us) SameSeal 0 0 b c (omega arith) (λ x y. torn_behind at us x y
+  seal_torn at us behind first torn = seal_then first (changes_weaker _ Idx (Torn at us) SameSeal 0 0 b c (omega arith) (λ x y. torn_behind at us x y
       behind) torn)

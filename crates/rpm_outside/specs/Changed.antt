@@ -1,8 +1,9 @@
 -- Files of which one range was written.
 use Rattle.std.specs.Prelude.{◌≡◌, ◌⊎◌, ℕ, ◌<◌, ◌≤◌, max, length}
+use Rattle.rpm_outside.specs.declared.disk.Disk as disk
 use Rattle.rpm_outside.specs.declared.disk.File.{File}
 use Rattle.rpm_outside.specs.Files.{Files, file_of, with_file, unit_at}
-use Rattle.rpm_outside.specs.Crash.{LeavesOnly}
+use Rattle.rpm_outside.specs.Leaves.{LeavesOnly}
 
 -- one file is another in this range alone, and no longer than its end
 pub record ChangedIn (file : File) (first end : ℕ) (old new : Files) : Type 0 where
@@ -15,7 +16,7 @@ pub record ChangedIn (file : File) (first end : ℕ) (old new : Files) : Type 0 
 abbrev pub WasChanged : File → ℕ → ℕ → (Files → Type 0) → Files → Type 0
 WasChanged file first end images image = (from : Files) × images from × ChangedIn file first end from image
 
-module _ {D : Type 0} (moment : D → ℕ) (left_since : D → ℕ → Files → Type 0) where
+module _ {D : Type 0} (g : disk.Ghosts D) where
   -- what a crash may leave since a write to a range began
   abbrev pub LeavesChanged : File → ℕ → ℕ → D → D → Type 0
-  LeavesChanged file first end old new = LeavesOnly moment left_since old new (WasChanged file first end (left_since old (moment old)))
+  LeavesChanged file first end old new = LeavesOnly g old new (WasChanged file first end (g.left_since old (g.moment old)))

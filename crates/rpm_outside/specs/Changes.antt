@@ -1,9 +1,10 @@
 -- What a run of calls changes that writes one file.
 use Rattle.std.specs.Prelude.{IsTrue, ◌≡◌, ℕ, Bool}
+use Rattle.rpm_outside.specs.declared.disk.Disk as disk
 use Rattle.rpm_outside.specs.declared.disk.File.{File}
 use Rattle.rpm_outside.specs.declared.disk.File.TheVariants.{Pkg, Idx, Log}
 use Rattle.rpm_outside.specs.Files.{Units, Files, file_of}
-use Rattle.rpm_outside.specs.Crash.{LeavesOnly}
+use Rattle.rpm_outside.specs.Leaves.{LeavesOnly}
 use Rattle.rpm_outside.specs.Looks.{ReadAtMost}
 
 -- each of these images has this file as it reads
@@ -38,12 +39,11 @@ abbrev pub Stops : File → (Units → Type 0) → (Files → Type 0) → Files 
 Stops file P images = Changed file (λ from now. P now) images
 
 -- a run of calls that changes this file alone, and it so, and reads at most so many bytes of it
-pub record Changes {D : Type 0} (tells : Bool) (files : D → Files) (left_since : D → ℕ → Files → Type 0) (moment : D → ℕ)
-    (bytes_read : D → File → ℕ) (follows : D → D → Type 0) (file : File) (R : Units → Units → Type 0) (most : ℕ) (old new : D) : Type 0 where
-  pub pkg : IsTrue tells → OnlyIn file R Pkg (files old).pkg (files new).pkg
-  pub idx : IsTrue tells → OnlyIn file R Idx (files old).idx (files new).idx
-  pub log : IsTrue tells → OnlyIn file R Log (files old).log (files new).log
-  pub now : IsTrue tells → (image : Files) → left_since new (moment new) image → Changed file R (left_since old (moment old)) image
-  pub any_moment : IsTrue tells → LeavesOnly moment left_since old new (Changed file R (left_since old (moment old)))
-  pub reads : ReadAtMost file most (bytes_read old) (bytes_read new)
-  pub goes_on : follows old new
+pub record Changes {D : Type 0} (g : disk.Ghosts D) (file : File) (R : Units → Units → Type 0) (most : ℕ) (old new : D) : Type 0 where
+  pub pkg : IsTrue g.tells → OnlyIn file R Pkg (g.files old).pkg (g.files new).pkg
+  pub idx : IsTrue g.tells → OnlyIn file R Idx (g.files old).idx (g.files new).idx
+  pub log : IsTrue g.tells → OnlyIn file R Log (g.files old).log (g.files new).log
+  pub now : IsTrue g.tells → (image : Files) → g.left_since new (g.moment new) image → Changed file R (g.left_since old (g.moment old)) image
+  pub any_moment : IsTrue g.tells → LeavesOnly g old new (Changed file R (g.left_since old (g.moment old)))
+  pub reads : ReadAtMost file most (g.bytes_read old) (g.bytes_read new)
+  pub goes_on : g.follows old new

@@ -25,13 +25,6 @@ pub record Elapses (before now : ℕ) (past since : ℕ → Files → Type 0) : 
   pub later : before ≤ now
   pub nothing_else : (t : ℕ) (image : Files) → t ≤ before → since t image → past t image ⊎ since now image
 
--- a crash at any moment since old leaves files with P
-pub record LeavesOnly {D : Type 0} (moment : D → ℕ) (left_since : D → ℕ → Files → Type 0) (old new : D) (P : Files → Type 0) : Type 0 where
-  pub later : moment old ≤ moment new
-  pub each : (image : Files) → left_since new (moment old) image → P image
-  -- for a run that began earlier
-  pub before : (t : ℕ) (image : Files) → t ≤ moment old → left_since new t image → left_since old t image ⊎ P image
-
 -- neither the files nor their images change
 pub record Untouched (old new : Files) (past since : ℕ → Files → Type 0) : Type 0 where
   pub same : new ≡ old

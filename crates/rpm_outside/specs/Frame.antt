@@ -5,8 +5,8 @@ use Rattle.rpm_outside.specs.declared.disk.File.{File}
 use Rattle.rpm_outside.specs.Causes.{HasCause, HasCauseAt}
 use Rattle.rpm_outside.specs.Changed as changed
 use Rattle.rpm_outside.specs.Changes as changes
-use Rattle.rpm_outside.specs.Crash as crash
 use Rattle.rpm_outside.specs.Files.{Units, Files}
+use Rattle.rpm_outside.specs.Leaves as leaves
 use Rattle.rpm_outside.specs.Looks as looks
 
 module _ {D : Type 0} (d : disk.Ghosts D) where
@@ -20,23 +20,23 @@ module _ {D : Type 0} (d : disk.Ghosts D) where
 
   -- at most so many bytes of a file were read, and nothing else happened
   abbrev pub Looks : File → ℕ → D → D → Type 0
-  Looks = looks.Looks d.tells d.files d.left_since d.moment d.bytes_read d.follows
+  Looks = looks.Looks d
 
   -- one file was read, and nothing else happened
   abbrev pub LooksAt : File → D → D → Type 0
-  LooksAt = looks.LooksAt d.tells d.files d.left_since d.moment d.bytes_read d.follows
+  LooksAt = looks.LooksAt d
 
   -- one file alone changed, as a relation says, and so many bytes of it were read at most
   abbrev pub Changes : File → (Units → Units → Type 0) → ℕ → D → D → Type 0
-  Changes = changes.Changes d.tells d.files d.left_since d.moment d.bytes_read d.follows
+  Changes = changes.Changes d
 
   -- a crash since then leaves files of which this holds
   abbrev pub LeavesIn : D → D → (Files → Type 0) → Type 0
-  LeavesIn = crash.LeavesOnly d.moment d.left_since
+  LeavesIn = leaves.LeavesOnly d
 
   -- or the files of before, changed in this range of one of them
   abbrev pub LeavesChanged : File → ℕ → ℕ → D → D → Type 0
-  LeavesChanged = changed.LeavesChanged d.moment d.left_since
+  LeavesChanged = changed.LeavesChanged d
 
   -- an answer that comes only where the disk counted a fault
   abbrev pub DiskFault : Type 0 → D → D → Type 0

@@ -11,6 +11,7 @@ pub mod Frame
 pub mod inner
 pub mod Literal
 pub mod LogWrites
+pub mod Leaves
 pub mod Logs
 pub mod Looks
 pub mod MemSink
@@ -20,5 +21,6 @@ pub mod Past
 pub mod Picks
 pub mod Prelude
 pub mod Shelves
+pub mod SinkFrame
 pub mod Sinks
 pub mod Words

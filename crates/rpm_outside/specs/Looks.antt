@@ -1,5 +1,6 @@
 -- What a run of calls does that only reads.
 use Rattle.std.specs.Prelude.{IsTrue, ◌≡◌, ◌≤◌, ◌+◌, ◌-◌, ℕ, Bool}
+use Rattle.rpm_outside.specs.declared.disk.Disk as disk
 use Rattle.rpm_outside.specs.declared.disk.File.{File}
 use Rattle.rpm_outside.specs.declared.disk.File.TheVariants.{Pkg, Idx, Log}
 use Rattle.rpm_outside.specs.Files.{Files}
@@ -13,15 +14,13 @@ pub record ReadAtMost (file : File) (most : ℕ) (old new : File → ℕ) : Type
   pub log : new Log ≤ old Log + bytes_for file Log most
 
 -- the files, their images and the moment stay, of this file at most so many bytes are read and of another none
-pub record Looks {D : Type 0} (tells : Bool) (files : D → Files) (left_since : D → ℕ → Files → Type 0) (moment : D → ℕ)
-    (bytes_read : D → File → ℕ) (follows : D → D → Type 0) (file : File) (most : ℕ) (old new : D) : Type 0 where
-  pub untouched : IsTrue tells → Untouched (files old) (files new) (left_since old) (left_since new)
-  pub moment_stays : moment new ≡ moment old
-  pub reads : ReadAtMost file most (bytes_read old) (bytes_read new)
-  pub goes_on : follows old new
+pub record Looks {D : Type 0} (g : disk.Ghosts D) (file : File) (most : ℕ) (old new : D) : Type 0 where
+  pub untouched : IsTrue g.tells → Untouched (g.files old) (g.files new) (g.left_since old) (g.left_since new)
+  pub moment_stays : g.moment new ≡ g.moment old
+  pub reads : ReadAtMost file most (g.bytes_read old) (g.bytes_read new)
+  pub goes_on : g.follows old new
 
-module _ {D : Type 0} (tells : Bool) (files : D → Files) (left_since : D → ℕ → Files → Type 0) (moment : D → ℕ)
-    (bytes_read : D → File → ℕ) (follows : D → D → Type 0) where
+module _ {D : Type 0} (g : disk.Ghosts D) where
   -- the same, no matter how much of this file is read
   abbrev pub LooksAt : File → D → D → Type 0
-  LooksAt file old new = Looks tells files left_since moment bytes_read follows file (bytes_read new file - bytes_read old file) old new
+  LooksAt file old new = Looks g file (g.bytes_read new file - g.bytes_read old file) old new

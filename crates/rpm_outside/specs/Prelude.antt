@@ -13,7 +13,7 @@ pub use Rattle.rpm_outside.specs.MemSink.{FailsWhereFull, sink_bytes, sink_fault
 pub use Rattle.rpm_outside.specs.Past.{Images, ImagesSince, WroteAny, after_step, after_steps, held_files, part_of}
 pub use Rattle.rpm_outside.specs.Picks.{mixed_unit, picked, picked_image, picked_step}
 pub use Rattle.rpm_outside.specs.Shelves.{Open, Opens, Paths, ShelfCall, Take, TakesFront, bytes_at}
-pub use Rattle.rpm_outside.specs.Sinks.{Begins, Gained, Writes}
+pub use Rattle.rpm_outside.specs.Sinks.{Begins, Gained}
 pub use Rattle.rpm_outside.specs.Words.{bytes_of_word, unit_of_words, word}
 pub use Rattle.rpm_outside.specs.declared.disk.File.{File}
 pub use Rattle.rpm_outside.specs.inner.Copies.{HasCopy, HoldCopies, KeepsCopy, SettlesFile, StartsFrom, is_loose, loosened, tightened}

@@ -1,7 +1,7 @@
 //! Where bytes go.
 
 ghost use Rattle.std.specs.Prelude.{◌≡◌, ℕ, ◌<◌, ◌≤◌, Bool, IsTrue, List, length, take, is_err, IfOk, OnErr};
-ghost use Rattle.rpm_outside.specs.Prelude.{Begins, Gained, HasCause, refl, Writes, ◌∙◌};
+ghost use Rattle.rpm_outside.specs.Prelude.{Begins, Gained, HasCause, refl, ◌∙◌};
 
 use crate::Failed;
 
@@ -66,20 +66,4 @@ impl<O: Sink> Sink for &mut O {
     fn write(&mut self, bytes: &[u8]) -> Result<usize, Failed> {
         (**self).write(bytes)
     }
-}
-
-/// Writes all these bytes, in order, in as many calls of the sink as it asks for. It takes no memory and copies
-/// nothing.
-///
-/// # Errors
-///
-/// `Failed` where a call of the sink failed. The sink then took the first of the bytes, or none.
-pub fn put_all<O: Sink>(sink: &mut O, bytes: &[u8]) -> Result<(), Failed>
-    ensures { Writes O.tells O.taken O.faults O.follows sink.old sink.new bytes.now result }
-{
-    let mut done = 0;
-    while done < bytes.len() {
-        done += sink.write(&bytes[done..])?;
-    }
-    Ok(())
 }

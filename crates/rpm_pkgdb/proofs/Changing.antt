@@ -23,7 +23,7 @@ module _ {D : Type 0} (d : disk.Ghosts D) where
   pub writes_weaker : {R S : Units → Units → Type 0} {m n : ℕ} {X E : Type 0} {r : Result X E} {a b : D} → Writes d Pkg R m r a b → m ≤ n
       → ((x y : Units) → R x y → S x y) → Writes d Pkg S n r a b
   writes_weaker run le weaker = record {
-    changes = shared.changes_weaker d.tells d.files d.left_since d.moment d.bytes_read d.follows Pkg _ _ _ _ _ _ le weaker run.changes;
+    changes = shared.changes_weaker d Pkg _ _ _ _ _ _ le weaker run.changes;
     cause = run.cause;
   }
 
@@ -33,7 +33,7 @@ module _ {D : Type 0} (d : disk.Ghosts D) where
       → ((x y : Units) → R x y → T x y) → ((x y z : Units) → R x y → S y z → T x z) → Writes d Pkg T most q a c
   writes_then trans first second le weaker joined = record {
     changes =
-        shared.changes_then d.tells d.files d.left_since d.moment d.bytes_read d.follows Pkg trans _ _ _ _ _ _ _ _ _ le weaker joined first.changes
+        shared.changes_then d Pkg trans _ _ _ _ _ _ _ _ _ le weaker joined first.changes
         second.changes;
     cause = record {
       later = omega (arith, first.cause.later, second.cause.later);
@@ -51,14 +51,14 @@ module _ {D : Type 0} (d : disk.Ghosts D) where
   pub writes_reads : {R : Units → Units → Type 0} {most : ℕ} {X E : Type 0} {r : Result X E} {a b : D} → Reads d Pkg most r a b → ((x : Units) → R x x)
       → Writes d Pkg R most r a b
   writes_reads run same = record {
-    changes = shared.changes_looks d.tells d.files d.left_since d.moment d.bytes_read d.follows Pkg _ same _ _ _ run.looks;
+    changes = shared.changes_looks d Pkg _ same _ _ _ run.looks;
     cause = run.cause;
   }
 
   -- no run
   pub writes_none : ((x : D) → d.follows x x) → {R : Units → Units → Type 0} (a : D) → ((x : Units) → R x x) → Writes d Pkg R 0 done a a
   writes_none stays a same = record {
-    changes = shared.changes_none d.tells d.files d.left_since d.moment d.bytes_read d.follows Pkg stays _ same a;
+    changes = shared.changes_none d Pkg stays _ same a;
     cause = record { later = omega arith; failed = tt };
   }
 
@@ -67,7 +67,7 @@ module _ {D : Type 0} (d : disk.Ghosts D) where
       {a b c : D} → Reads d Pkg m r a b → Reads d Pkg n q b c → m + n ≤ most → Reads d Pkg most q a c
   reads_then trans first second le = record {
     looks =
-        reading.looks_then d.tells d.files d.left_since d.moment d.bytes_read d.follows Pkg trans _ _ _ _ _ _ le first.looks second.looks;
+        reading.looks_then d Pkg trans _ _ _ _ _ _ le first.looks second.looks;
     cause = record {
       later = omega (arith, first.cause.later, second.cause.later);
       failed = failed_then _ _ _ _ first.cause.later second.cause.failed;
@@ -82,7 +82,7 @@ module _ {D : Type 0} (d : disk.Ghosts D) where
   pub reads_failed : {m most : ℕ} {X E : Type 0} {e : E} {what : Type 0} {a b : D} → (let r : Result X E = Err e in Reads d Pkg m r a b) → m ≤ most
       → ReadsOr d Pkg most what a b
   reads_failed run le = record {
-    looks = reading.looks_more d.tells d.files d.left_since d.moment d.bytes_read d.follows Pkg _ _ _ _ le run.looks;
+    looks = reading.looks_more d Pkg _ _ _ _ le run.looks;
     cause = record { later = run.cause.later; rose = λ is. run.cause.failed };
   }
 
@@ -91,7 +91,7 @@ module _ {D : Type 0} (d : disk.Ghosts D) where
       {a b c : D} → Reads d Pkg m r a b → ReadsOr d Pkg n why b c → m + n ≤ most → (what → why) → ReadsOr d Pkg most what a c
   reads_or_then trans first second le only = record {
     looks =
-        reading.looks_then d.tells d.files d.left_since d.moment d.bytes_read d.follows Pkg trans _ _ _ _ _ _ le first.looks second.looks;
+        reading.looks_then d Pkg trans _ _ _ _ _ _ le first.looks second.looks;
     cause = record {
       later = omega (arith, first.cause.later, second.cause.later);
       rose = λ is. (let rose = second.cause.rose (only is) in omega (arith, first.cause.later));
@@ -102,16 +102,16 @@ module _ {D : Type 0} (d : disk.Ghosts D) (told : IsTrue d.tells) where
   -- what stops leave that fall into a run
   pub stops_while : (P : Units → Type 0) {R : Units → Units → Type 0} {most : ℕ} {X E : Type 0} {r : Result X E} {a b : D} → Writes d Pkg R most r a b
       → ((from image : Files) → images d a from → R from.pkg image.pkg → P image.pkg) → StopsIn d a b P
-  stops_while P run = shared.stops_from d.tells d.files d.left_since d.moment d.bytes_read d.follows Pkg told _ P _ _ _ run.changes
+  stops_while P run = shared.stops_from d Pkg told _ P _ _ _ run.changes
 
   -- and into two runs, one after the other
   pub stops_next : (P : Units → Type 0) {R : Units → Units → Type 0} {most : ℕ} {X E : Type 0} {r : Result X E} {a b c : D} → Writes d Pkg R most r a b
       → StopsIn d a b P → StopsIn d b c P → StopsIn d a c P
-  stops_next P run = shared.stops_then d.tells d.files d.left_since d.moment d.bytes_read d.follows Pkg told _ P _ _ _ _ run.changes
+  stops_next P run = shared.stops_then d Pkg told _ P _ _ _ _ run.changes
 
-pub stops_weaker : {D : Type 0} (moment : D → ℕ) (left_since : D → ℕ → Files → Type 0) (P Q : Units → Type 0) (a b : D) → ((image : Units) → P image → Q image)
-    → LeavesOnly moment left_since a b (Stops Pkg P (left_since a (moment a))) → LeavesOnly moment left_since a b (Stops Pkg Q (left_since a (moment a)))
-stops_weaker moment left_since P Q a b weaker = shared.stops_weaker moment left_since Pkg P Q a b weaker
+pub stops_weaker : {D : Type 0} (g : disk.Ghosts D) (P Q : Units → Type 0) (a b : D) → ((image : Units) → P image → Q image)
+    → LeavesOnly g a b (Stops Pkg P (g.left_since a (g.moment a))) → LeavesOnly g a b (Stops Pkg Q (g.left_since a (g.moment a)))
+stops_weaker g P Q a b weaker = shared.stops_weaker g Pkg P Q a b weaker
 
 -- what holds anyhow holds on Ok
 pub on_ok : {T E X : Type 0} (r : Result T E) → X → OnOk r X

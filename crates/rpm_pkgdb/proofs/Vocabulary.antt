@@ -5,7 +5,8 @@ pub use Rattle.rpm_blocks.specs.Laws.{without_only}
 pub use Rattle.rpm_blocks.specs.declared.Range.{Range}
 pub use Rattle.rpm_outside.specs.Causes.{Rose}
 pub use Rattle.rpm_outside.specs.Changes.{IsSame, IsSettled, Stops}
-pub use Rattle.rpm_outside.specs.Crash.{LeavesOnly, Torn}
+pub use Rattle.rpm_outside.specs.Crash.{Torn}
+pub use Rattle.rpm_outside.specs.Leaves.{LeavesOnly}
 pub use Rattle.rpm_outside.specs.Files.{bytes_of, cut_up, Files, put, unit_at, Units, units_of}
 unfoldable pub use Rattle.rpm_outside.specs.Files.{blank}
 pub use Rattle.rpm_outside.specs.Frame.{images, Reads, ReadsOr, Writes}

@@ -1,5 +1,6 @@
 -- Laws of files of which one range was written.
 use Rattle.std.specs.Prelude.{◌≡◌, ℕ, ◌+◌, ◌≤◌, length}
+use Rattle.rpm_outside.specs.declared.disk.Disk as disk
 use Rattle.std.proofs.Common.{inl, inr, ⊎_elim, refl, ap, ◌∙◌, arith}
 use Rattle.rpm_outside.specs.declared.disk.File.{File}
 use Rattle.rpm_outside.specs.Files.{Units, Files, file_of, with_file}
@@ -42,20 +43,20 @@ torn_changed file at units end a b is torn = record {
   no_longer = omega (arith, torn.torn.no_longer, length-put at units (file_of file a));
 }
 
-module _ {D : Type 0} (moment : D → ℕ) (left_since : D → ℕ → Files → Type 0) where
-  pub leaves_none : (file : File) (first end : ℕ) (d : D) → LeavesChanged moment left_since file first end d d
-  leaves_none file first end d = started moment left_since d (WasChanged file first end (left_since d (moment d)))
+module _ {D : Type 0} (g : disk.Ghosts D) where
+  pub leaves_none : (file : File) (first end : ℕ) (d : D) → LeavesChanged g file first end d d
+  leaves_none file first end d = started g d (WasChanged file first end (g.left_since d (g.moment d)))
       (λ image left. (image, left, changed_none file first end image))
 
   -- two runs of writes to one range
-  pub changed_leaves_then : (file : File) (first end : ℕ) (old mid new : D) → ((image : Files) → left_since mid (moment mid) image → left_since mid
-      (moment old) image)
-      → LeavesChanged moment left_since file first end old mid → LeavesChanged moment left_since file first end mid new
-      → LeavesChanged moment left_since file first end old new
+  pub changed_leaves_then : (file : File) (first end : ℕ) (old mid new : D) → ((image : Files) → g.left_since mid (g.moment mid) image → g.left_since mid
+      (g.moment old) image)
+      → LeavesChanged g file first end old mid → LeavesChanged g file first end mid new
+      → LeavesChanged g file first end old new
   changed_leaves_then file first end old mid new earlier one two =
-      leaves_then moment left_since old mid new (WasChanged file first end (left_since old (moment old))) one
-      (leaves_weaker moment left_since mid new (WasChanged file first end (left_since mid (moment mid)))
-      (WasChanged file first end (left_since old (moment old)))
+      leaves_then g old mid new (WasChanged file first end (g.left_since old (g.moment old))) one
+      (leaves_weaker g mid new (WasChanged file first end (g.left_since mid (g.moment mid)))
+      (WasChanged file first end (g.left_since old (g.moment old)))
       (λ image was.
       let so_far = one.each was.0 (earlier was.0 was.1) in
       (so_far.0, so_far.1, changed_then file first end so_far.0 was.0 image so_far.2 was.2))
@@ -63,18 +64,18 @@ module _ {D : Type 0} (moment : D → ℕ) (left_since : D → ℕ → Files →
 
   -- a wider range
   pub changed_leaves_more : (file : File) (first end low high : ℕ) (old new : D) → low ≤ first → end ≤ high
-      → LeavesChanged moment left_since file first end old new → LeavesChanged moment left_since file low high old new
+      → LeavesChanged g file first end old new → LeavesChanged g file low high old new
   changed_leaves_more file first end low high old new below above one =
-      leaves_weaker moment left_since old new (WasChanged file first end (left_since old (moment old))) (WasChanged file low high (left_since old (moment old)))
+      leaves_weaker g old new (WasChanged file first end (g.left_since old (g.moment old))) (WasChanged file low high (g.left_since old (g.moment old)))
       (λ image was. (was.0, was.1, changed_more file first end low high was.0 image below above was.2)) one
 
   -- one write
   pub write_leaves : (file : File) (at : ℕ) (units : Units) (end : ℕ) (old new : D) → at + length units ≡ end
-      → OnlyAfter (TornFile file at units) (left_since old (moment old)) (left_since new (moment new)) → Elapses (moment old) (moment new)
-      (left_since old) (left_since new)
-      → LeavesChanged moment left_since file at end old new
+      → OnlyAfter (TornFile file at units) (g.left_since old (g.moment old)) (g.left_since new (g.moment new)) → Elapses (g.moment old) (g.moment new)
+      (g.left_since old) (g.left_since new)
+      → LeavesChanged g file at end old new
   write_leaves file at units end old new is images time =
-      one_more moment left_since old old new (WasChanged file at end (left_since old (moment old))) (leaves_none file at end old) time
+      one_more g old old new (WasChanged file at end (g.left_since old (g.moment old))) (leaves_none file at end old) time
       (λ image left.
       let was = images image left in
       (was.0, was.1, torn_changed file at units end was.0 image is was.2))

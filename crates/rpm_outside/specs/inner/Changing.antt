@@ -1,10 +1,12 @@
 -- Runs of calls that write one file, one after the other.
 use Rattle.std.proofs.Common.{◌≡◌, inl, ℕ, ◌+◌, ◌≤◌, Bool, refl, sym, ◌∙◌, ap, subst, arith}
+use Rattle.rpm_outside.specs.declared.disk.Disk as disk
 use Rattle.std.specs.Prelude.{IsTrue}
 use Rattle.rpm_outside.specs.declared.disk.File.{File}
 use Rattle.rpm_outside.specs.declared.disk.File.TheVariants.{Pkg, Idx, Log}
 use Rattle.rpm_outside.specs.Files.{Units, Files, file_of}
-use Rattle.rpm_outside.specs.Crash.{Torn, TornFile, OnlyAfter, Elapses, LeavesOnly}
+use Rattle.rpm_outside.specs.Crash.{Torn, TornFile, OnlyAfter, Elapses}
+use Rattle.rpm_outside.specs.Leaves.{LeavesOnly}
 use Rattle.rpm_outside.specs.inner.History.{torn_none}
 use Rattle.rpm_outside.specs.Looks.{Looks}
 use Rattle.rpm_outside.specs.Changes.{OnlyIn, Changed, Stops, Changes}
@@ -108,85 +110,84 @@ module _ (file : File) where
     log = only_torn file Log at units from image torn;
   }
 
-module _ {D : Type 0} (tells : Bool) (files : D → Files) (left_since : D → ℕ → Files → Type 0) (moment : D → ℕ)
-    (bytes_read : D → File → ℕ) (follows : D → D → Type 0) (file : File) where
+module _ {D : Type 0} (g : disk.Ghosts D) (file : File) where
   abbrev images : D → Files → Type 0
-  images d = left_since d (moment d)
+  images d = g.left_since d (g.moment d)
 
   abbrev Run : (Units → Units → Type 0) → ℕ → D → D → Type 0
-  Run = Changes tells files left_since moment bytes_read follows file
+  Run = Changes g file
 
-  pub changes_none : ((d : D) → follows d d) → (R : Units → Units → Type 0) → ((a : Units) → R a a) → (d : D) → Run R 0 d d
+  pub changes_none : ((d : D) → g.follows d d) → (R : Units → Units → Type 0) → ((a : Units) → R a a) → (d : D) → Run R 0 d d
   changes_none stays R same d = record {
-    pkg = λ told. only_none file Pkg R same (files d).pkg;
-    idx = λ told. only_none file Idx R same (files d).idx;
-    log = λ told. only_none file Log R same (files d).log;
+    pkg = λ told. only_none file Pkg R same (g.files d).pkg;
+    idx = λ told. only_none file Idx R same (g.files d).idx;
+    log = λ told. only_none file Log R same (g.files d).log;
     now = λ told image here. changed_none file R (images d) image same here;
-    any_moment = λ told. started moment left_since d (Changed file R (images d)) (λ image here. changed_none file R (images d) image same here);
-    reads = read_none file 0 (bytes_read d);
+    any_moment = λ told. started g d (Changed file R (images d)) (λ image here. changed_none file R (images d) image same here);
+    reads = read_none file 0 (g.bytes_read d);
     goes_on = stays d;
   }
 
   pub changes_weaker : (R S : Units → Units → Type 0) (m n : ℕ) (a b : D) → m ≤ n → ((x y : Units) → R x y → S x y) → Run R m a b → Run S n a b
   changes_weaker R S m n a b le weaker run = record {
-    pkg = λ told. only_weaker file Pkg R S (files a) (files b) (weaker (file_of file (files a)) (file_of file (files b))) (run.pkg told);
-    idx = λ told. only_weaker file Idx R S (files a) (files b) (weaker (file_of file (files a)) (file_of file (files b))) (run.idx told);
-    log = λ told. only_weaker file Log R S (files a) (files b) (weaker (file_of file (files a)) (file_of file (files b))) (run.log told);
+    pkg = λ told. only_weaker file Pkg R S (g.files a) (g.files b) (weaker (file_of file (g.files a)) (file_of file (g.files b))) (run.pkg told);
+    idx = λ told. only_weaker file Idx R S (g.files a) (g.files b) (weaker (file_of file (g.files a)) (file_of file (g.files b))) (run.idx told);
+    log = λ told. only_weaker file Log R S (g.files a) (g.files b) (weaker (file_of file (g.files a)) (file_of file (g.files b))) (run.log told);
     now = λ told image here. changed_weaker file R S (images a) image weaker (run.now told image here);
-    any_moment = λ told. leaves_weaker moment left_since a b (Changed file R (images a)) (Changed file S (images a))
+    any_moment = λ told. leaves_weaker g a b (Changed file R (images a)) (Changed file S (images a))
         (λ image. changed_weaker file R S (images a) image weaker) (run.any_moment told);
-    reads = read_more file m n (bytes_read a) (bytes_read b) le run.reads;
+    reads = read_more file m n (g.bytes_read a) (g.bytes_read b) le run.reads;
     goes_on = run.goes_on;
   }
 
   -- two runs, one after the other, where M holds of the file in each image between them, and as it reads there
-  pub changes_between : ((a b c : D) → follows a b → follows b c → follows a c) → (R S T : Units → Units → Type 0) (M : Units → Type 0) (m n most : ℕ)
+  pub changes_between : ((a b c : D) → g.follows a b → g.follows b c → g.follows a c) → (R S T : Units → Units → Type 0) (M : Units → Type 0) (m n most : ℕ)
       (a b c : D) → m + n ≤ most
       → ((x y : Units) → R x y → T x y) → ((x y z : Units) → R x y → M y → S y z → T x z)
-      → (IsTrue tells → M (file_of file (files b))) → (IsTrue tells → (image : Files) → left_since b (moment b) image → M (file_of file image))
+      → (IsTrue g.tells → M (file_of file (g.files b))) → (IsTrue g.tells → (image : Files) → g.left_since b (g.moment b) image → M (file_of file image))
       → Run R m a b → Run S n b c → Run T most a c
   changes_between trans R S T M m n most a b c le weaker joined here between first second =
-      let later : IsTrue tells → (image : Files) → Changed file S (images b) image → Changed file T (images a) image =
+      let later : IsTrue g.tells → (image : Files) → Changed file S (images b) image → Changed file T (images a) image =
       λ told image. changed_between file R S T M (images a) (images b) image joined (between told) (first.now told) in
       record {
-        pkg = λ told. only_then file Pkg R S T M joined (files a) (files b) (files c) (here told) (first.pkg told) (second.pkg told);
-        idx = λ told. only_then file Idx R S T M joined (files a) (files b) (files c) (here told) (first.idx told) (second.idx told);
-        log = λ told. only_then file Log R S T M joined (files a) (files b) (files c) (here told) (first.log told) (second.log told);
+        pkg = λ told. only_then file Pkg R S T M joined (g.files a) (g.files b) (g.files c) (here told) (first.pkg told) (second.pkg told);
+        idx = λ told. only_then file Idx R S T M joined (g.files a) (g.files b) (g.files c) (here told) (first.idx told) (second.idx told);
+        log = λ told. only_then file Log R S T M joined (g.files a) (g.files b) (g.files c) (here told) (first.log told) (second.log told);
         now = λ told image left. later told image (second.now told image left);
         any_moment = λ told.
-            leaves_then moment left_since a b c (Changed file T (images a))
-            (leaves_weaker moment left_since a b (Changed file R (images a)) (Changed file T (images a))
+            leaves_then g a b c (Changed file T (images a))
+            (leaves_weaker g a b (Changed file R (images a)) (Changed file T (images a))
             (λ image. changed_weaker file R T (images a) image weaker) (first.any_moment told))
-            (leaves_weaker moment left_since b c (Changed file S (images b)) (Changed file T (images a)) (later told) (second.any_moment told));
-        reads = read_then file m n most (bytes_read a) (bytes_read b) (bytes_read c) le first.reads second.reads;
+            (leaves_weaker g b c (Changed file S (images b)) (Changed file T (images a)) (later told) (second.any_moment told));
+        reads = read_then file m n most (g.bytes_read a) (g.bytes_read b) (g.bytes_read c) le first.reads second.reads;
         goes_on = trans a b c first.goes_on second.goes_on;
       }
 
   -- two runs, one after the other
-  pub changes_then : ((a b c : D) → follows a b → follows b c → follows a c) → (R S T : Units → Units → Type 0) (m n most : ℕ) (a b c : D) → m + n ≤ most
+  pub changes_then : ((a b c : D) → g.follows a b → g.follows b c → g.follows a c) → (R S T : Units → Units → Type 0) (m n most : ℕ) (a b c : D) → m + n ≤ most
       → ((x y : Units) → R x y → T x y) → ((x y z : Units) → R x y → S y z → T x z) → Run R m a b → Run S n b c → Run T most a c
   changes_then trans R S T m n most a b c le weaker joined =
       changes_between trans R S T (λ u. Unit {0}) m n most a b c le weaker (λ x y z r here s. joined x y z r s) (λ told. tt) (λ told image left. tt)
 
   -- one write, whole or cut short
-  pub changes_write : (at : ℕ) (units : Units) (a b : D) → (IsTrue tells → TornFile file at units (files a) (files b))
-      → (IsTrue tells → OnlyAfter (TornFile file at units) (images a) (images b))
-      → (IsTrue tells → Elapses (moment a) (moment b) (left_since a) (left_since b)) → ((f : File) → bytes_read b f ≡ bytes_read a f) → follows a b
+  pub changes_write : (at : ℕ) (units : Units) (a b : D) → (IsTrue g.tells → TornFile file at units (g.files a) (g.files b))
+      → (IsTrue g.tells → OnlyAfter (TornFile file at units) (images a) (images b))
+      → (IsTrue g.tells → Elapses (g.moment a) (g.moment b) (g.left_since a) (g.left_since b)) → ((f : File) → g.bytes_read b f ≡ g.bytes_read a f) → g.follows a b
       → Run (Torn at units) 0 a b
   changes_write at units a b torn left time reads goes =
-      let now : IsTrue tells → (image : Files) → images b image → Changed file (Torn at units) (images a) image =
+      let now : IsTrue g.tells → (image : Files) → images b image → Changed file (Torn at units) (images a) image =
       λ told image here. (let l = left told image here in changed_torn file at units (images a) image l.0 l.1 l.2) in
       record {
-        pkg = λ told. only_torn file Pkg at units (files a) (files b) (torn told);
-        idx = λ told. only_torn file Idx at units (files a) (files b) (torn told);
-        log = λ told. only_torn file Log at units (files a) (files b) (torn told);
+        pkg = λ told. only_torn file Pkg at units (g.files a) (g.files b) (torn told);
+        idx = λ told. only_torn file Idx at units (g.files a) (g.files b) (torn told);
+        log = λ told. only_torn file Log at units (g.files a) (g.files b) (torn told);
         now = now;
         any_moment = λ told.
-            one_more moment left_since a a b (Changed file (Torn at units) (images a))
-            (started moment left_since a (Changed file (Torn at units) (images a)) (λ image here. changed_none file (Torn at units) (images a) image
+            one_more g a a b (Changed file (Torn at units) (images a))
+            (started g a (Changed file (Torn at units) (images a)) (λ image here. changed_none file (Torn at units) (images a) image
             (torn_none at units) here))
             (time told) (now told);
-        reads = read_same file 0 (bytes_read a) (bytes_read b) reads;
+        reads = read_same file 0 (g.bytes_read a) (g.bytes_read b) reads;
         goes_on = goes;
       }
 
@@ -194,38 +195,38 @@ module _ {D : Type 0} (tells : Bool) (files : D → Files) (left_since : D → �
   only_files R same f a b is = subst (λ (g : Files). OnlyIn file R f (file_of f a) (file_of f g)) (sym is) (only_none file f R same (file_of f a))
 
   -- one sync
-  pub changes_sync : (R : Units → Units → Type 0) → ((x : Units) → R x x) → (a b : D) → (IsTrue tells → files b ≡ files a)
-      → (IsTrue tells → (image : Files) → images b image → images a image)
-      → (IsTrue tells → Elapses (moment a) (moment b) (left_since a) (left_since b)) → ((f : File) → bytes_read b f ≡ bytes_read a f) → follows a b
+  pub changes_sync : (R : Units → Units → Type 0) → ((x : Units) → R x x) → (a b : D) → (IsTrue g.tells → g.files b ≡ g.files a)
+      → (IsTrue g.tells → (image : Files) → images b image → images a image)
+      → (IsTrue g.tells → Elapses (g.moment a) (g.moment b) (g.left_since a) (g.left_since b)) → ((f : File) → g.bytes_read b f ≡ g.bytes_read a f) → g.follows a b
       → Run R 0 a b
   changes_sync R same a b files_same left time reads goes =
-      let now : IsTrue tells → (image : Files) → images b image → Changed file R (images a) image =
+      let now : IsTrue g.tells → (image : Files) → images b image → Changed file R (images a) image =
       λ told image here. changed_none file R (images a) image same (left told image here) in
       record {
-        pkg = λ told. only_files R same Pkg (files a) (files b) (files_same told);
-        idx = λ told. only_files R same Idx (files a) (files b) (files_same told);
-        log = λ told. only_files R same Log (files a) (files b) (files_same told);
+        pkg = λ told. only_files R same Pkg (g.files a) (g.files b) (files_same told);
+        idx = λ told. only_files R same Idx (g.files a) (g.files b) (files_same told);
+        log = λ told. only_files R same Log (g.files a) (g.files b) (files_same told);
         now = now;
         any_moment = λ told.
-            one_more moment left_since a a b (Changed file R (images a))
-            (started moment left_since a (Changed file R (images a)) (λ image here. changed_none file R (images a) image same here))
+            one_more g a a b (Changed file R (images a))
+            (started g a (Changed file R (images a)) (λ image here. changed_none file R (images a) image same here))
             (time told) (now told);
-        reads = read_same file 0 (bytes_read a) (bytes_read b) reads;
+        reads = read_same file 0 (g.bytes_read a) (g.bytes_read b) reads;
         goes_on = goes;
       }
 
   -- a run that only reads
-  pub changes_looks : (R : Units → Units → Type 0) → ((x : Units) → R x x) → (most : ℕ) (a b : D) → Looks tells files left_since moment bytes_read
-      follows file most a b → Run R most a b
+  pub changes_looks : (R : Units → Units → Type 0) → ((x : Units) → R x x) → (most : ℕ) (a b : D) → Looks g
+      file most a b → Run R most a b
   changes_looks R same most a b looks = record {
-    pkg = λ told. only_files R same Pkg (files a) (files b) (looks.untouched told).same;
-    idx = λ told. only_files R same Idx (files a) (files b) (looks.untouched told).same;
-    log = λ told. only_files R same Log (files a) (files b) (looks.untouched told).same;
+    pkg = λ told. only_files R same Pkg (g.files a) (g.files b) (looks.untouched told).same;
+    idx = λ told. only_files R same Idx (g.files a) (g.files b) (looks.untouched told).same;
+    log = λ told. only_files R same Log (g.files a) (g.files b) (looks.untouched told).same;
     now = λ told image here. changed_none file R (images a) image same
-        (subst (λ (t : ℕ). left_since a t image) looks.moment_stays ((looks.untouched told).images (moment b) image here));
+        (subst (λ (t : ℕ). g.left_since a t image) looks.moment_stays ((looks.untouched told).images (g.moment b) image here));
     any_moment = λ told. record {
       later = omega (arith, looks.moment_stays);
-      each = λ image left. changed_none file R (images a) image same ((looks.untouched told).images (moment a) image left);
+      each = λ image left. changed_none file R (images a) image same ((looks.untouched told).images (g.moment a) image left);
       before = λ t image le left. inl ((looks.untouched told).images t image left);
     };
     reads = looks.reads;
@@ -233,24 +234,23 @@ module _ {D : Type 0} (tells : Bool) (files : D → Files) (left_since : D → �
   }
 
   -- what crashes leave that fall into a run
-  pub stops_from : IsTrue tells → (R : Units → Units → Type 0) (P : Units → Type 0) (most : ℕ) (a b : D) → Run R most a b
-      → ((from image : Files) → images a from → R (file_of file from) (file_of file image) → P (file_of file image)) → LeavesOnly moment left_since a
+  pub stops_from : IsTrue g.tells → (R : Units → Units → Type 0) (P : Units → Type 0) (most : ℕ) (a b : D) → Run R most a b
+      → ((from image : Files) → images a from → R (file_of file from) (file_of file image) → P (file_of file image)) → LeavesOnly g a
       b (Stops file P (images a))
-  stops_from told R P most a b run each = leaves_weaker moment left_since a b (Changed file R (images a)) (Stops file P (images a))
+  stops_from told R P most a b run each = leaves_weaker g a b (Changed file R (images a)) (Stops file P (images a))
       (λ image c. changed_map file R (λ x y. P y) (images a) image c (each c.from image c.was)) (run.any_moment told)
 
   -- and in two runs, one after the other
-  pub stops_then : IsTrue tells → (R : Units → Units → Type 0) (P : Units → Type 0) (most : ℕ) (a b c : D) → Run R most a b
-      → LeavesOnly moment left_since a b (Stops file P (images a)) → LeavesOnly moment left_since b c (Stops file P (images b)) → LeavesOnly moment
-      left_since a c (Stops file P (images a))
-  stops_then told R P most a b c run first second = leaves_then moment left_since a b c (Stops file P (images a)) first
-      (leaves_weaker moment left_since b c (Stops file P (images b)) (Stops file P (images a))
+  pub stops_then : IsTrue g.tells → (R : Units → Units → Type 0) (P : Units → Type 0) (most : ℕ) (a b c : D) → Run R most a b
+      → LeavesOnly g a b (Stops file P (images a)) → LeavesOnly g b c (Stops file P (images b)) → LeavesOnly g a c (Stops file P (images a))
+  stops_then told R P most a b c run first second = leaves_then g a b c (Stops file P (images a)) first
+      (leaves_weaker g b c (Stops file P (images b)) (Stops file P (images a))
       (λ image s. changed_between file R (λ x y. P y) (λ x y. P y) (λ u. Unit {0}) (images a) (images b) image (λ x y z r m p. p) (λ i left. tt)
       (run.now told) s) second)
 
-pub stops_weaker : {D : Type 0} (moment : D → ℕ) (left_since : D → ℕ → Files → Type 0) (file : File) (P Q : Units → Type 0) (a b : D)
+pub stops_weaker : {D : Type 0} (g : disk.Ghosts D) (file : File) (P Q : Units → Type 0) (a b : D)
     → ((image : Units) → P image → Q image)
-    → LeavesOnly moment left_since a b (Stops file P (left_since a (moment a))) → LeavesOnly moment left_since a b (Stops file Q (left_since a (moment a)))
-stops_weaker moment left_since file P Q a b weaker =
-    leaves_weaker moment left_since a b (Stops file P (left_since a (moment a))) (Stops file Q (left_since a (moment a)))
-    (λ image s. changed_weaker file (λ x y. P y) (λ x y. Q y) (left_since a (moment a)) image (λ x y. weaker y) s)
+    → LeavesOnly g a b (Stops file P (g.left_since a (g.moment a))) → LeavesOnly g a b (Stops file Q (g.left_since a (g.moment a)))
+stops_weaker g file P Q a b weaker =
+    leaves_weaker g a b (Stops file P (g.left_since a (g.moment a))) (Stops file Q (g.left_since a (g.moment a)))
+    (λ image s. changed_weaker file (λ x y. P y) (λ x y. Q y) (g.left_since a (g.moment a)) image (λ x y. weaker y) s)

@@ -1,5 +1,6 @@
 -- Runs of calls that only read, one after the other.
 use Rattle.std.proofs.Common.{◌≡◌, ℕ, ◌+◌, ◌-◌, ◌≤◌, Bool, refl, ◌∙◌, arith}
+use Rattle.rpm_outside.specs.declared.disk.Disk as disk
 use Rattle.rpm_outside.specs.declared.disk.File.{File}
 use Rattle.rpm_outside.specs.declared.disk.File.TheVariants.{Pkg, Idx, Log}
 use Rattle.rpm_outside.specs.Files.{Files}
@@ -54,23 +55,22 @@ read_all Pkg most a b reads = record { no_less = reads.no_less; pkg = omega arit
 read_all Idx most a b reads = record { no_less = reads.no_less; pkg = reads.pkg; idx = omega arith; log = reads.log }
 read_all Log most a b reads = record { no_less = reads.no_less; pkg = reads.pkg; idx = reads.idx; log = omega arith }
 
-module _ {D : Type 0} (tells : Bool) (files : D → Files) (left_since : D → ℕ → Files → Type 0) (moment : D → ℕ)
-    (bytes_read : D → File → ℕ) (follows : D → D → Type 0) (file : File) where
+module _ {D : Type 0} (g : disk.Ghosts D) (file : File) where
   abbrev Looked : ℕ → D → D → Type 0
-  Looked = Looks tells files left_since moment bytes_read follows file
+  Looked = Looks g file
 
   abbrev LookedAt : D → D → Type 0
-  LookedAt = LooksAt tells files left_since moment bytes_read follows file
+  LookedAt = LooksAt g file
 
-  pub looks_none : ((d : D) → follows d d) → (d : D) → Looked 0 d d
+  pub looks_none : ((d : D) → g.follows d d) → (d : D) → Looked 0 d d
   looks_none same d = record {
     untouched = λ told. record { same = refl; images = λ t i x. x; kept = λ t i x. x };
     moment_stays = refl;
-    reads = read_none file 0 (bytes_read d);
+    reads = read_none file 0 (g.bytes_read d);
     goes_on = same d;
   }
 
-  pub looks_then : ((a b c : D) → follows a b → follows b c → follows a c) → (m n most : ℕ) (a b c : D) → m + n ≤ most
+  pub looks_then : ((a b c : D) → g.follows a b → g.follows b c → g.follows a c) → (m n most : ℕ) (a b c : D) → m + n ≤ most
       → Looked m a b → Looked n b c → Looked most a c
   looks_then trans m n most a b c le first second = record {
     untouched = λ told.
@@ -78,7 +78,7 @@ module _ {D : Type 0} (tells : Bool) (files : D → Files) (left_since : D → �
         let s = second.untouched told in
         record { same = s.same ∙ f.same; images = λ t i x. f.images t i (s.images t i x); kept = λ t i x. s.kept t i (f.kept t i x) };
     moment_stays = second.moment_stays ∙ first.moment_stays;
-    reads = read_then file m n most (bytes_read a) (bytes_read b) (bytes_read c) le first.reads second.reads;
+    reads = read_then file m n most (g.bytes_read a) (g.bytes_read b) (g.bytes_read c) le first.reads second.reads;
     goes_on = trans a b c first.goes_on second.goes_on;
   }
 
@@ -86,7 +86,7 @@ module _ {D : Type 0} (tells : Bool) (files : D → Files) (left_since : D → �
   looks_more m most a b le looks = record {
     untouched = looks.untouched;
     moment_stays = looks.moment_stays;
-    reads = read_more file m most (bytes_read a) (bytes_read b) le looks.reads;
+    reads = read_more file m most (g.bytes_read a) (g.bytes_read b) le looks.reads;
     goes_on = looks.goes_on;
   }
 
@@ -94,14 +94,14 @@ module _ {D : Type 0} (tells : Bool) (files : D → Files) (left_since : D → �
   looks_at_from most a b looks = record {
     untouched = looks.untouched;
     moment_stays = looks.moment_stays;
-    reads = read_all file most (bytes_read a) (bytes_read b) looks.reads;
+    reads = read_all file most (g.bytes_read a) (g.bytes_read b) looks.reads;
     goes_on = looks.goes_on;
   }
 
-  pub looks_at_none : ((d : D) → follows d d) → (d : D) → LookedAt d d
+  pub looks_at_none : ((d : D) → g.follows d d) → (d : D) → LookedAt d d
   looks_at_none same d = looks_at_from 0 d d (looks_none same d)
 
-  pub looks_at_then : ((a b c : D) → follows a b → follows b c → follows a c) → (a b c : D) → LookedAt a b → LookedAt b c → LookedAt a c
+  pub looks_at_then : ((a b c : D) → g.follows a b → g.follows b c → g.follows a c) → (a b c : D) → LookedAt a b → LookedAt b c → LookedAt a c
   looks_at_then trans a b c first second =
-      looks_then trans (bytes_read b file - bytes_read a file) (bytes_read c file - bytes_read b file) (bytes_read c file - bytes_read a file) a b c
+      looks_then trans (g.bytes_read b file - g.bytes_read a file) (g.bytes_read c file - g.bytes_read b file) (g.bytes_read c file - g.bytes_read a file) a b c
       (omega (arith, first.reads.no_less file, second.reads.no_less file)) first second

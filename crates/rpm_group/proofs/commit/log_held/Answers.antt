@@ -8,7 +8,7 @@ returns-in_err-tail-clause-images g c = λ told.
     let D = g.D.Disk in
     let old = c.args.disk.now in
     let mid = c.log_runs.new.disk in
-    log_leaves D.moment D.left_since c.in_ok-middle.middle.at old mid c.log_runs-2.new.disk (omega (arith, c.in_ok-middle.ensures.at))
+    log_leaves D c.in_ok-middle.middle.at old mid c.log_runs-2.new.disk (omega (arith, c.in_ok-middle.ensures.at))
     (λ image left. g.met.D.Disk.earlier mid (D.moment old) (D.moment mid) image told c.log_runs.ensures.reads.nothing.later (omega arith) left)
     (c.log_runs.ensures.images told) (c.log_runs-2.ensures.images told)
 
@@ -18,8 +18,8 @@ returns-in_err-sync-clause-images g c = λ told.
     let old = c.args.disk.now in
     let mid = c.log_runs.new.disk in
     let last = c.log_runs-2.new.disk in
-    sync_leaves D.moment D.left_since old last c.sync.new.self (WasChanged Log 1 (2 ^ 28) (D.left_since old (D.moment old)))
-    (log_leaves D.moment D.left_since c.in_ok-middle.middle.at old mid last (omega (arith, c.in_ok-middle.ensures.at))
+    sync_leaves D old last c.sync.new.self (WasChanged Log 1 (2 ^ 28) (D.left_since old (D.moment old)))
+    (log_leaves D c.in_ok-middle.middle.at old mid last (omega (arith, c.in_ok-middle.ensures.at))
     (λ image left. g.met.D.Disk.earlier mid (D.moment old) (D.moment mid) image told c.log_runs.ensures.reads.nothing.later (omega arith) left)
     (c.log_runs.ensures.images told) (c.log_runs-2.ensures.images told))
     (c.sync.ensures.time told) (c.sync.ensures.images told)
@@ -32,8 +32,8 @@ returns-clause-images g c = λ told.
     let old = c.args.disk.now in
     let mid = c.log_runs.new.disk in
     let last = c.log_runs-2.new.disk in
-    sync_leaves D.moment D.left_since old last c.sync.new.self (WasChanged Log 1 (2 ^ 28) (D.left_since old (D.moment old)))
-    (log_leaves D.moment D.left_since c.in_ok-middle.middle.at old mid last (omega (arith, c.in_ok-middle.ensures.at))
+    sync_leaves D old last c.sync.new.self (WasChanged Log 1 (2 ^ 28) (D.left_since old (D.moment old)))
+    (log_leaves D c.in_ok-middle.middle.at old mid last (omega (arith, c.in_ok-middle.ensures.at))
     (λ image left. g.met.D.Disk.earlier mid (D.moment old) (D.moment mid) image told c.log_runs.ensures.reads.nothing.later (omega arith) left)
     (c.log_runs.ensures.images told) (c.log_runs-2.ensures.images told))
     (c.sync.ensures.time told) (c.sync.ensures.images told)
@@ -73,7 +73,7 @@ returns-clause-settled g c = λ told.
     (changed_then Log 1 (2 ^ 28) (D.files old) first last (c.in_ok-middle.ensures.changed told)
     (changed_more Log c.in_ok-middle.middle.at (2 ^ 28) 1 (2 ^ 28) first last (omega (arith, c.in_ok-middle.ensures.at)) (omega arith)
     (c.in_ok-tail.ensures.changed told))) in
-    log_settled D.moment D.left_since old new (D.files old) (D.files new) (c.requires.settled told) changed (returns-clause-images g c told)
+    log_settled D old new (D.files old) (D.files new) (c.requires.settled told) changed (returns-clause-images g c told)
     (λ image left. g.met.D.Disk.earlier new (D.moment old) (D.moment new) image told
     (omega (arith, c.log_runs.ensures.reads.nothing.later, c.log_runs-2.ensures.reads.nothing.later, c.sync.ensures.later)) (omega arith) left)
     (λ image left. c.in_ok-sync.ensures.settled told image left ∙ ap (λ (f : Files). f.log) same)

@@ -9,7 +9,7 @@ returns-in_err-write_at-clause-images g c = λ told entries is.
     let D = g.D.Disk in
     let files : Files = D.files c.args.disk.now in
     let gate = c.unit_of_words-gate.result in
-    gate_leaves D.moment D.left_since c.args.disk.now c.write_at.new.self files gate (units_of gate) entries c.args.tail
+    gate_leaves D c.args.disk.now c.write_at.new.self files gate (units_of gate) entries c.args.tail
     (cut_up_one gate (ap length c.unit_of_words-gate.ensures ∙ length-unit _ _ _ _))
     (opens gate entries c.args.tail files.log c.unit_of_words-gate.ensures is c.requires.some (omega arith) c.requires.place c.requires.small)
     (c.requires.closed told)
@@ -22,8 +22,8 @@ returns-in_err-sync-clause-images g c = λ told entries is.
     let mid = c.write_at.new.self in
     let files : Files = D.files old in
     let gate = c.unit_of_words-gate.result in
-    sync_leaves D.moment D.left_since old mid c.sync.new.self (BeforeOrAfter (unlogged files) (with_entries entries (unlogged files)))
-    (gate_leaves D.moment D.left_since old mid files gate (units_of gate) entries c.args.tail (cut_up_one gate (ap length c.unit_of_words-gate.ensures ∙
+    sync_leaves D old mid c.sync.new.self (BeforeOrAfter (unlogged files) (with_entries entries (unlogged files)))
+    (gate_leaves D old mid files gate (units_of gate) entries c.args.tail (cut_up_one gate (ap length c.unit_of_words-gate.ensures ∙
     length-unit _ _ _ _))
     (opens gate entries c.args.tail files.log c.unit_of_words-gate.ensures is c.requires.some (omega arith) c.requires.place c.requires.small)
     (c.requires.closed told)
@@ -38,8 +38,8 @@ returns-clause-images g c = λ told entries is.
     let mid = c.write_at.new.self in
     let files : Files = D.files old in
     let gate = c.unit_of_words-gate.result in
-    sync_leaves D.moment D.left_since old mid c.sync.new.self (BeforeOrAfter (unlogged files) (with_entries entries (unlogged files)))
-    (gate_leaves D.moment D.left_since old mid files gate (units_of gate) entries c.args.tail (cut_up_one gate (ap length c.unit_of_words-gate.ensures ∙
+    sync_leaves D old mid c.sync.new.self (BeforeOrAfter (unlogged files) (with_entries entries (unlogged files)))
+    (gate_leaves D old mid files gate (units_of gate) entries c.args.tail (cut_up_one gate (ap length c.unit_of_words-gate.ensures ∙
     length-unit _ _ _ _))
     (opens gate entries c.args.tail files.log c.unit_of_words-gate.ensures is c.requires.some (omega arith) c.requires.place c.requires.small)
     (c.requires.closed told)

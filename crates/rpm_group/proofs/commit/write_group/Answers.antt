@@ -11,7 +11,7 @@ use Rattle.rpm_group.proofs.commit.write_group.Goals as goal
 pub returns-in_err-tail-clause-images : goal.returns-in_err-tail-clause-images
 returns-in_err-tail-clause-images g c = λ told.
     let D = g.D.Disk in
-    stage_one D.moment D.left_since c.args.held.now (D.files c.args.disk.now) c.args.disk.now c.log_held.new.disk (c.requires.closed told)
+    stage_one D c.args.held.now (D.files c.args.disk.now) c.args.disk.now c.log_held.new.disk (c.requires.closed told)
     (c.requires.settled told) (c.log_held.ensures.images told)
 
 pub open_log-requires-clause-some : goal.open_log-requires-clause-some
@@ -43,8 +43,8 @@ returns-in_err-open_log-clause-images g c = λ told.
     let files : Files = D.files old in
     let held = c.args.held.now in
     let logged = c.in_ok-tail.ensures.logged told in
-    stage_two D.moment D.left_since held files old first c.open_log.new.disk (D.files first) logged.0
-    (stage_one D.moment D.left_since held files old first (c.requires.closed told) (c.requires.settled told) (c.log_held.ensures.images told))
+    stage_two D held files old first c.open_log.new.disk (D.files first) logged.0
+    (stage_one D held files old first (c.requires.closed told) (c.requires.settled told) (c.log_held.ensures.images told))
     (unlogged_changed files (D.files first) 1 268_435_456 (c.in_ok-tail.ensures.changed told)) logged.1 (c.open_log.ensures.images told logged.0 logged.2)
 
 pub returns-in_err-apply_held-clause-images : goal.returns-in_err-apply_held-clause-images
@@ -57,9 +57,9 @@ returns-in_err-apply_held-clause-images g c = λ told.
     let held = c.args.held.now in
     let logged = c.in_ok-tail.ensures.logged told in
     let same_first = unlogged_changed files (D.files first) 1 268_435_456 (c.in_ok-tail.ensures.changed told) in
-    stage_three D.moment D.left_since held files old second c.apply_held.new.disk (D.files second) logged.0
-    (stage_two D.moment D.left_since held files old first second (D.files first) logged.0
-    (stage_one D.moment D.left_since held files old first (c.requires.closed told) (c.requires.settled told) (c.log_held.ensures.images told))
+    stage_three D held files old second c.apply_held.new.disk (D.files second) logged.0
+    (stage_two D held files old first second (D.files first) logged.0
+    (stage_one D held files old first (c.requires.closed told) (c.requires.settled told) (c.log_held.ensures.images told))
     same_first logged.1 (c.open_log.ensures.images told logged.0 logged.2))
     (c.open_log.ensures.same told ∙ same_first) logged.1 (c.in_ok-open_log.ensures.open told logged.0 logged.2)
     (c.in_ok-open_log.ensures.settled told) (c.apply_held.ensures.images told logged.0 logged.1)
@@ -71,7 +71,7 @@ close_log-requires-clause-settled g c = λ told.
     let third = c.apply_held.new.disk in
     let logged = c.in_ok-tail.ensures.logged told in
     let opened = c.in_ok-open_log.ensures.open told logged.0 logged.2 in
-    applied_settled D.moment D.left_since second third (D.files second) (D.files third) logged.0 (log_not_log (D.files second).log logged.0 opened)
+    applied_settled D second third (D.files second) (D.files third) logged.0 (log_not_log (D.files second).log logged.0 opened)
     (c.in_ok-apply_held.ensures.written told ∙ sym (logged.1.whole (D.files second)))
     (c.in_ok-open_log.ensures.settled told) (c.apply_held.ensures.images told logged.0 logged.1)
     (λ image left. g.met.D.Disk.earlier third (D.moment second) (D.moment third) image told c.apply_held.ensures.reads.log.later (omega arith) left)
@@ -100,10 +100,10 @@ returns-clause-images g c = λ told.
     let logged = c.in_ok-tail.ensures.logged told in
     let same_first = unlogged_changed files (D.files first) 1 268_435_456 (c.in_ok-tail.ensures.changed told) in
     let same_second = c.open_log.ensures.same told ∙ same_first in
-    stage_four D.moment D.left_since held files old third c.close_log.new.disk (D.files second) (D.files third)
-    (stage_three D.moment D.left_since held files old second third (D.files second) logged.0
-    (stage_two D.moment D.left_since held files old first second (D.files first) logged.0
-    (stage_one D.moment D.left_since held files old first (c.requires.closed told) (c.requires.settled told) (c.log_held.ensures.images told))
+    stage_four D held files old third c.close_log.new.disk (D.files second) (D.files third)
+    (stage_three D held files old second third (D.files second) logged.0
+    (stage_two D held files old first second (D.files first) logged.0
+    (stage_one D held files old first (c.requires.closed told) (c.requires.settled told) (c.log_held.ensures.images told))
     same_first logged.1 (c.open_log.ensures.images told logged.0 logged.2))
     same_second logged.1 (c.in_ok-open_log.ensures.open told logged.0 logged.2) (c.in_ok-open_log.ensures.settled told)
     (c.apply_held.ensures.images told logged.0 logged.1))

@@ -14,9 +14,9 @@ loop-at-init g c =
       end = omega arith;
       starts = λ some. absurd (omega (arith, some));
       written = λ told. ([], logged_none c.args.file c.args.pages.now.table.items (none_begun c.args.pages.now.table.items), refl);
-      images = λ told entries covers. started D.moment D.left_since old (WasWithin entries (D.left_since old (D.moment old)))
+      images = λ told entries covers. started D old (WasWithin entries (D.left_since old (D.moment old)))
           (λ image left. (image, left, within_none entries image));
-      reads = nothing_none _ _ _ g.met.D.Disk.follows_refl old;
+      reads = nothing_none _ g.met.D.Disk.follows_refl old;
       faults = omega arith;
     }
 
@@ -29,7 +29,7 @@ returns-in_err-write_run-clause-images g c = λ told entries covers.
     let first = c.next_unit-first.result in
     let stop = c.next_unit-stop.result in
     let whole : first + (stop - first) ≡ stop = omega (arith, c.if-first-stop.true) in
-    within_more D.moment D.left_since entries c.args.file first (first + (stop - first)) old mid c.write_run.new.disk (omega (arith, c.if-first-stop.true))
+    within_more D entries c.args.file first (first + (stop - first)) old mid c.write_run.new.disk (omega (arith, c.if-first-stop.true))
     (λ i low high. covers i (omega (arith, high, whole, c.next_unit-stop.ensures.end)) (c.next_unit-stop.ensures.between i low (omega (arith, high, whole))))
     (λ image left. g.met.D.Disk.earlier mid (D.moment old) (D.moment mid) image told inv.reads.later (omega arith) left)
     (inv.images told entries covers) (c.write_run.ensures.images told)
@@ -61,12 +61,12 @@ loop-at-preserved-in_ok-write_run g c =
                 ∙ sym (with_entries-append so_far.0 (entry ∷ []) (D.files old)),
           );
       images = λ told entries covers.
-          within_more D.moment D.left_since entries c.args.file first.result (first.result + (stop.result - first.result)) old mid
+          within_more D entries c.args.file first.result (first.result + (stop.result - first.result)) old mid
           c.write_run.new.disk (omega (arith, c.if-first-stop.true))
           (λ i low high. covers i (omega (arith, high, whole, stop.ensures.end)) (stop.ensures.between i low (omega (arith, high, whole))))
           (λ image left. g.met.D.Disk.earlier mid (D.moment old) (D.moment mid) image told inv.reads.later (omega arith) left)
           (inv.images told entries covers) (c.write_run.ensures.images told);
-      reads = nothing_then _ _ _ g.met.D.Disk.follows_trans old mid c.write_run.new.disk inv.reads c.write_run.ensures.reads.nothing;
+      reads = nothing_then _ g.met.D.Disk.follows_trans old mid c.write_run.new.disk inv.reads c.write_run.ensures.reads.nothing;
       faults = omega (arith, inv.faults, c.write_run.ensures.reads.cause.later);
     }
 

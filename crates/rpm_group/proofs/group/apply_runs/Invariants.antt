@@ -12,8 +12,8 @@ invariant-loop-at g l =
       starts : 0 < l.at → l.at < l.end → is_held table l.at ≡ false;
       written : IsTrue D.tells → (entries : List Entry) × Logged entries l.file table l.at × (D.files l.disk ≡ with_entries entries (D.files old));
       images : IsTrue D.tells → (entries : List Entry) → CoversHeld entries l.file table l.end
-          → LeavesOnly D.moment D.left_since old l.disk (WasWithin entries (D.left_since old (D.moment old)));
-      reads : ReadsNothing D.moment D.bytes_read D.follows old l.disk;
+          → LeavesOnly D old l.disk (WasWithin entries (D.left_since old (D.moment old)));
+      reads : ReadsNothing D old l.disk;
       faults : D.faults old ≤ D.faults l.disk;
     }
 

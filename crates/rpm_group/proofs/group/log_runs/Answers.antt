@@ -22,8 +22,8 @@ loop-at-init g c =
       count = omega (arith, none_begun table);
       logged = λ told. ([], logged_none c.args.file table (none_begun table), refl, tt);
       changed = λ told. changed_none Log c.args.tail.at (2 ^ 28) (D.files old);
-      images = λ told. leaves_none D.moment D.left_since Log c.args.tail.at (2 ^ 28) old;
-      reads = nothing_none _ _ _ g.met.D.Disk.follows_refl old;
+      images = λ told. leaves_none D Log c.args.tail.at (2 ^ 28) old;
+      reads = nothing_none _ g.met.D.Disk.follows_refl old;
       faults = omega arith;
     }
 
@@ -51,7 +51,7 @@ returns-in_err-log_run-clause-images g c = λ told.
     let room = room_here table c.loop-at.next.at c.args.tail.at c.loop-at.at first.result stop.result c.args.pages.now.end inv.place
     (run_counted table c.loop-at.at first.result first.ensures.from first.ensures.between stop.result c.if-first-stop.true stop.ensures.between
     (λ some. inv.starts some c.loop-at-test.true)) stop.ensures.end c.requires.room in
-    run_leaves D.moment D.left_since c.args.tail.at c.loop-at.next.at (c.loop-at.next.at + 1 + (stop.result - first.result)) old now
+    run_leaves D c.args.tail.at c.loop-at.next.at (c.loop-at.next.at + 1 + (stop.result - first.result)) old now
     c.log_run.new.disk (omega (arith, inv.place)) room
     (λ image left. g.met.D.Disk.earlier now (D.moment old) (D.moment now) image told inv.reads.later (omega arith) left)
     (inv.images told) (c.log_run.ensures.images told)
@@ -101,11 +101,11 @@ loop-at-preserved-in_ok-log_run g c =
           (put_changed place (place + 1 + (stop.result - first.result)) c.args.tail.at (2 ^ 28) (head_unit entry ∷ entry.units) (D.files now)
           (D.files c.log_run.new.disk) (omega (arith, long)) (omega (arith, inv.place)) room (written told));
       images = λ told.
-          run_leaves D.moment D.left_since c.args.tail.at place (place + 1 + (stop.result - first.result)) old now c.log_run.new.disk
+          run_leaves D c.args.tail.at place (place + 1 + (stop.result - first.result)) old now c.log_run.new.disk
           (omega (arith, inv.place)) room
           (λ image left. g.met.D.Disk.earlier now (D.moment old) (D.moment now) image told inv.reads.later (omega arith) left)
           (inv.images told) (c.log_run.ensures.images told);
-      reads = nothing_then _ _ _ g.met.D.Disk.follows_trans old now c.log_run.new.disk inv.reads c.log_run.ensures.reads.nothing;
+      reads = nothing_then _ g.met.D.Disk.follows_trans old now c.log_run.new.disk inv.reads c.log_run.ensures.reads.nothing;
       faults = omega (arith, inv.faults, c.log_run.ensures.reads.cause.later);
     }
 

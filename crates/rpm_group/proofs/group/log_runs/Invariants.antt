@@ -15,8 +15,8 @@ invariant-loop-at g l =
       logged : IsTrue D.tells → (entries : List Entry) × Logged entries l.file table l.at × EntriesIn entries l.fn.tail.at l.next.at (D.files l.disk).log
           × HeadsEndInZeros entries l.fn.tail.at (D.files l.disk).log;
       changed : IsTrue D.tells → ChangedIn Log l.fn.tail.at (2 ^ 28) (D.files l.initial.disk) (D.files l.disk);
-      images : IsTrue D.tells → LeavesChanged D.moment D.left_since Log l.fn.tail.at (2 ^ 28) l.initial.disk l.disk;
-      reads : ReadsNothing D.moment D.bytes_read D.follows l.initial.disk l.disk;
+      images : IsTrue D.tells → LeavesChanged D Log l.fn.tail.at (2 ^ 28) l.initial.disk l.disk;
+      reads : ReadsNothing D l.initial.disk l.disk;
       faults : D.faults l.initial.disk ≤ D.faults l.disk;
     }
 

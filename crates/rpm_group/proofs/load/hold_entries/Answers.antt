@@ -34,8 +34,8 @@ loop-k-preserved g c =
           (c.args.gate.entries - (c.loop-k._k + 1)) (c.loop-k.p + (1 + head.count)) (D.files c.read_head.new.disk).log (omega arith)
           (omega (arith, says.count)) (ap (λ (f : Files). f.log) same) (c.in_ok-hold_units.ensures.held told files);
       looks =
-          looks_at_then _ _ _ _ _ _ Log g.met.D.Disk.follows_trans c.args.disk.now c.read_head.new.disk c.hold_units.new.disk
-          (looks_at_then _ _ _ _ _ _ Log g.met.D.Disk.follows_trans c.args.disk.now c.loop-k.disk c.read_head.new.disk inv.looks
+          looks_at_then _ Log g.met.D.Disk.follows_trans c.args.disk.now c.read_head.new.disk c.hold_units.new.disk
+          (looks_at_then _ Log g.met.D.Disk.follows_trans c.args.disk.now c.loop-k.disk c.read_head.new.disk inv.looks
           c.read_head.ensures.reads.looks)
           c.hold_units.ensures.reads.looks;
       faults = omega (arith, inv.faults, c.read_head.ensures.reads.cause.later, c.hold_units.ensures.reads.cause.later);
@@ -50,8 +50,8 @@ returns-clause-held g c = λ told files.
 pub returns-in_err-hold_units-clause-reads : goal.returns-in_err-hold_units-clause-reads
 returns-in_err-hold_units-clause-reads g c = record {
   looks =
-      looks_at_then _ _ _ _ _ _ Log g.met.D.Disk.follows_trans c.args.disk.now c.read_head.new.disk c.hold_units.new.disk
-      (looks_at_then _ _ _ _ _ _ Log g.met.D.Disk.follows_trans c.args.disk.now c.loop-k.disk c.read_head.new.disk c.loop-k.invariant.looks
+      looks_at_then _ Log g.met.D.Disk.follows_trans c.args.disk.now c.read_head.new.disk c.hold_units.new.disk
+      (looks_at_then _ Log g.met.D.Disk.follows_trans c.args.disk.now c.loop-k.disk c.read_head.new.disk c.loop-k.invariant.looks
       c.read_head.ensures.reads.looks)
       c.hold_units.ensures.reads.looks;
   cause = record {

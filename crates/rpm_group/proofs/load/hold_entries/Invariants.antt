@@ -11,6 +11,6 @@ invariant-loop-k g l =
       place : l.p ≤ l.gate.last + 1;
       so_far : IsTrue D.tells → (files : Files) → Done (entries_of (heads_behind l.gate log)) (l.gate.entries - l._k) l.p l.gate.last log
           (laid_files l.initial.held files) (laid_files l.held files);
-      looks : LooksAt D.tells D.files D.left_since D.moment D.bytes_read D.follows Log l.initial.disk l.disk;
+      looks : LooksAt D Log l.initial.disk l.disk;
       faults : D.faults l.initial.disk ≤ D.faults l.disk;
     }

@@ -18,7 +18,7 @@ loop-done-preserved g c =
           (laid_files c.hold_piece.new.held files) (omega (arith, c.min-n.ensures)) (omega (arith, c.min-n.ensures, c.requires.within told))
           (length (take (16 * n) c.loop-done.page) / 16) (D.files c.loop-done.disk).log k (inv.held told files)
           (ap (λ (f : Files). f.log) (inv.looks.untouched told).same) (c.in_ok-hold_piece.ensures.held told files);
-      looks = looks_at_then _ _ _ _ _ _ Log g.met.D.Disk.follows_trans c.args.disk.now c.loop-done.disk c.hold_piece.new.disk inv.looks
+      looks = looks_at_then _ Log g.met.D.Disk.follows_trans c.args.disk.now c.loop-done.disk c.hold_piece.new.disk inv.looks
           c.hold_piece.ensures.reads.looks;
       faults = omega (arith, inv.faults, c.hold_piece.ensures.reads.cause.later);
     }
@@ -31,7 +31,7 @@ returns-clause-held g c = λ told files.
 
 pub returns-in_err-hold_piece-clause-reads : goal.returns-in_err-hold_piece-clause-reads
 returns-in_err-hold_piece-clause-reads g c = record {
-  looks = looks_at_then _ _ _ _ _ _ Log g.met.D.Disk.follows_trans c.args.disk.now c.loop-done.disk c.hold_piece.new.disk c.loop-done.invariant.looks
+  looks = looks_at_then _ Log g.met.D.Disk.follows_trans c.args.disk.now c.loop-done.disk c.hold_piece.new.disk c.loop-done.invariant.looks
       c.hold_piece.ensures.reads.looks;
   cause = record {
     later = omega (arith, c.loop-done.invariant.faults, c.hold_piece.ensures.reads.cause.later);

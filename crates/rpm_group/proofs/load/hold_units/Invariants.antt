@@ -10,7 +10,7 @@ invariant-loop-done g l =
       held : IsTrue D.tells → (files : Files)
           → laid_files l.held files ≡ with_file l.file (put_some l.at (take l.done (drop l.from (D.files l.initial.disk).log))
           (file_of l.file (laid_files l.initial.held files))) (laid_files l.initial.held files);
-      looks : LooksAt D.tells D.files D.left_since D.moment D.bytes_read D.follows Log l.initial.disk l.disk;
+      looks : LooksAt D Log l.initial.disk l.disk;
       faults : D.faults l.initial.disk ≤ D.faults l.disk;
     }
 

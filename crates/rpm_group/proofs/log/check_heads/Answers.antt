@@ -11,7 +11,7 @@ pub loop-k-init : goal.loop-k-init
 loop-k-init g c = record {
   place = omega arith;
   so_far = λ told. ([], ap (λ (n : ℕ). heads n 1 c.args.gate.last (g.D.Disk.files c.args.disk.now).log) (less c.args.gate.entries));
-  looks = looks_at_none _ _ _ _ _ _ Log g.met.D.Disk.follows_refl c.args.disk.now;
+  looks = looks_at_none _ Log g.met.D.Disk.follows_refl c.args.disk.now;
   faults = omega arith;
 }
 
@@ -46,7 +46,7 @@ loop-k-preserved g c =
           next_right (heads_behind c.args.gate files.log) so_far.0 (c.args.gate.entries - c.loop-k._k) c.loop-k.p c.args.gate.last files.log left
           so_far.1 (omega arith)
           (c.args.gate.entries - (c.loop-k._k + 1)) (c.loop-k.p + (1 + head.count)) (omega arith) says.right (omega (arith, says.count));
-      looks = looks_at_then _ _ _ _ _ _ Log g.met.D.Disk.follows_trans c.args.disk.now c.loop-k.disk c.read_head.new.disk inv.looks
+      looks = looks_at_then _ Log g.met.D.Disk.follows_trans c.args.disk.now c.loop-k.disk c.read_head.new.disk inv.looks
           c.read_head.ensures.reads.looks;
       faults = omega (arith, inv.faults, c.read_head.ensures.reads.cause.later);
     }

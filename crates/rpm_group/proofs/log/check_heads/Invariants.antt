@@ -9,6 +9,6 @@ invariant-loop-k g l =
       place : l.p ≤ l.gate.last + 1;
       so_far : IsTrue D.tells → (done : List Entry)
           × (heads_behind l.gate (D.files l.initial.disk).log ≡ after done (heads (l.gate.entries - l._k) l.p l.gate.last (D.files l.initial.disk).log));
-      looks : LooksAt D.tells D.files D.left_since D.moment D.bytes_read D.follows Log l.initial.disk l.disk;
+      looks : LooksAt D Log l.initial.disk l.disk;
       faults : D.faults l.initial.disk ≤ D.faults l.disk;
     }

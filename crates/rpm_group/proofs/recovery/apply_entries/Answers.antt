@@ -8,7 +8,7 @@ returns-clause-images g c = λ told.
     let D = g.D.Disk in
     let old = c.args.disk.now in
     let mid = c.copy_entries.new.disk in
-    then_back D.moment D.left_since old mid c.settle_files.new.disk
+    then_back D old mid c.settle_files.new.disk
     (WasWithin (entries_of (heads_behind c.args.gate (D.files old).log)) (D.left_since old (D.moment old)))
     (λ image left. g.met.D.Disk.earlier mid (D.moment old) (D.moment mid) image told c.copy_entries.ensures.reads.log.later (omega arith) left)
     (c.copy_entries.ensures.images told) (c.settle_files.ensures.images told)
@@ -20,7 +20,7 @@ returns-clause-settled g c = λ told.
     let new = c.settle_files.new.disk in
     let files = D.files old in
     let entries = entries_of (heads_behind c.args.gate files.log) in
-    applied_settled D.moment D.left_since old new files (D.files new) entries
+    applied_settled D old new files (D.files new) entries
     (heads_not_log c.args.gate.entries 1 c.args.gate.last files.log entries (c.requires.open told))
     (c.settle_files.ensures.same told ∙ c.in_ok-fault.ensures.written told)
     (c.requires.settled told) (returns-clause-images g c told)

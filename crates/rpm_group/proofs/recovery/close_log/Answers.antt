@@ -8,7 +8,7 @@ pub returns-in_err-write_at-clause-images : goal.returns-in_err-write_at-clause-
 returns-in_err-write_at-clause-images g c = λ told.
     let D = g.D.Disk in
     let files = D.files c.args.disk.now in
-    closing_leaves D.moment D.left_since c.args.disk.now c.write_at.new.self files _ (entries_of (log_state files.log)) refl (c.requires.some told)
+    closing_leaves D c.args.disk.now c.write_at.new.self files _ (entries_of (log_state files.log)) refl (c.requires.some told)
     (c.requires.open told) (c.requires.done told) (c.requires.settled told) (c.in_err-write_at.ensures.images told) (c.in_err-write_at.ensures.time told)
 
 pub returns-in_err-sync-clause-images : goal.returns-in_err-sync-clause-images
@@ -16,8 +16,8 @@ returns-in_err-sync-clause-images g c = λ told.
     let D = g.D.Disk in
     let files = D.files c.args.disk.now in
     let mid = c.write_at.new.self in
-    sync_leaves D.moment D.left_since c.args.disk.now mid c.sync.new.self (ReopensAs (unlogged files))
-    (closing_leaves D.moment D.left_since c.args.disk.now mid files _ (entries_of (log_state files.log)) refl (c.requires.some told)
+    sync_leaves D c.args.disk.now mid c.sync.new.self (ReopensAs (unlogged files))
+    (closing_leaves D c.args.disk.now mid files _ (entries_of (log_state files.log)) refl (c.requires.some told)
     (c.requires.open told) (c.requires.done told) (c.requires.settled told) (c.in_ok-write_at.ensures.images told) (c.in_ok-write_at.ensures.time told))
     (c.sync.ensures.time told) (c.sync.ensures.images told)
     (λ image left. g.met.D.Disk.earlier mid (D.moment c.args.disk.now) (D.moment mid) image told c.write_at.ensures.later (omega arith) left)
@@ -33,8 +33,8 @@ returns-clause-images g c = λ told.
     let D = g.D.Disk in
     let files = D.files c.args.disk.now in
     let mid = c.write_at.new.self in
-    sync_leaves D.moment D.left_since c.args.disk.now mid c.sync.new.self (ReopensAs (unlogged files))
-    (closing_leaves D.moment D.left_since c.args.disk.now mid files _ (entries_of (log_state files.log)) refl (c.requires.some told)
+    sync_leaves D c.args.disk.now mid c.sync.new.self (ReopensAs (unlogged files))
+    (closing_leaves D c.args.disk.now mid files _ (entries_of (log_state files.log)) refl (c.requires.some told)
     (c.requires.open told) (c.requires.done told) (c.requires.settled told) (c.in_ok-write_at.ensures.images told) (c.in_ok-write_at.ensures.time told))
     (c.sync.ensures.time told) (c.sync.ensures.images told)
     (λ image left. g.met.D.Disk.earlier mid (D.moment c.args.disk.now) (D.moment mid) image told c.write_at.ensures.later (omega arith) left)

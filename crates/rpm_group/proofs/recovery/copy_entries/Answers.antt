@@ -23,9 +23,9 @@ loop-k-init g c =
         files = refl;
       };
       log = λ told. refl;
-      images = λ told. started D.moment D.left_since c.args.disk.now (WasWithin entries (D.left_since c.args.disk.now (D.moment c.args.disk.now)))
+      images = λ told. started D c.args.disk.now (WasWithin entries (D.left_since c.args.disk.now (D.moment c.args.disk.now)))
           (λ image left. (image, left, within_none entries image));
-      reads = reads_none _ _ _ g.met.D.Disk.follows_refl c.args.disk.now;
+      reads = reads_none _ g.met.D.Disk.follows_refl c.args.disk.now;
       faults = omega arith;
     }
 
@@ -61,17 +61,17 @@ loop-k-preserved g c =
           let says : HeadIs c.args.gate.last c.loop-k.p files.log head = subst (λ us. HeadIs c.args.gate.last c.loop-k.p us head) (inv.log told)
           (subst (λ (h : Option Head). HeadSays c.args.gate.last c.loop-k.p (D.files c.loop-k.disk).log h) c.in-Some.is
           (c.in_ok-head.ensures.says told)) in
-          within_more D.moment D.left_since entries head.file head.first (head.first + head.count) old c.read_head.new.disk c.copy_units.new.disk
+          within_more D entries head.file head.first (head.first + head.count) old c.read_head.new.disk c.copy_units.new.disk
           (omega (arith, is_head.some))
           (head_covers entries (c.args.gate.entries - c.loop-k._k) c.loop-k.p c.args.gate.last files.log files (D.files c.loop-k.disk) mid
           (c.args.gate.entries - c.loop-k._k - 1) head (inv.so_far told) (omega arith) says (c.requires.last told))
           (λ image left. g.met.D.Disk.earlier c.read_head.new.disk (D.moment old) (D.moment c.read_head.new.disk) image told
           (omega (arith, inv.reads.later, looks.moment_stays)) (omega arith) left)
-          (then_look D.moment D.left_since old c.loop-k.disk c.read_head.new.disk (WasWithin entries (D.left_since old (D.moment old))) _ _
+          (then_look D old c.loop-k.disk c.read_head.new.disk (WasWithin entries (D.left_since old (D.moment old))) _ _
           (inv.images told) (looks.untouched told) looks.moment_stays)
           (c.copy_units.ensures.images told);
       reads =
-          reads_then _ _ _ g.met.D.Disk.follows_trans old c.read_head.new.disk c.copy_units.new.disk
+          reads_then _ g.met.D.Disk.follows_trans old c.read_head.new.disk c.copy_units.new.disk
           (record {
             later = omega (arith, inv.reads.later, looks.moment_stays);
             pkg = omega (arith, looks.reads.no_less Pkg, looks.reads.pkg, inv.reads.pkg);
@@ -96,13 +96,13 @@ returns-in_err-copy_units-clause-images g c = λ told.
     let old = c.args.disk.now in
     let says : HeadIs c.args.gate.last c.loop-k.p files.log head = subst (λ us. HeadIs c.args.gate.last c.loop-k.p us head) (inv.log told)
     (subst (λ (h : Option Head). HeadSays c.args.gate.last c.loop-k.p (D.files c.loop-k.disk).log h) c.in-Some.is (c.in_ok-head.ensures.says told)) in
-    within_more D.moment D.left_since entries head.file head.first (head.first + head.count) old c.read_head.new.disk c.copy_units.new.disk
+    within_more D entries head.file head.first (head.first + head.count) old c.read_head.new.disk c.copy_units.new.disk
     (omega (arith, is_head.some))
     (head_covers entries (c.args.gate.entries - c.loop-k._k) c.loop-k.p c.args.gate.last files.log files (D.files c.loop-k.disk) mid
     (c.args.gate.entries - c.loop-k._k - 1) head (inv.so_far told) (omega arith) says (c.requires.last told))
     (λ image left. g.met.D.Disk.earlier c.read_head.new.disk (D.moment old) (D.moment c.read_head.new.disk) image told
     (omega (arith, inv.reads.later, looks.moment_stays)) (omega arith) left)
-    (then_look D.moment D.left_since old c.loop-k.disk c.read_head.new.disk (WasWithin entries (D.left_since old (D.moment old))) _ _
+    (then_look D old c.loop-k.disk c.read_head.new.disk (WasWithin entries (D.left_since old (D.moment old))) _ _
     (inv.images told) (looks.untouched told) looks.moment_stays)
     (c.copy_units.ensures.images told)
 

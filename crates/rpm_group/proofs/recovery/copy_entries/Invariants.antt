@@ -12,8 +12,8 @@ invariant-loop-k g l =
       place : l.p ≤ l.gate.last + 1;
       so_far : IsTrue D.tells → Done entries (l.gate.entries - l._k) l.p l.gate.last first.log first (D.files l.disk);
       log : IsTrue D.tells → (D.files l.disk).log ≡ first.log;
-      images : IsTrue D.tells → LeavesOnly D.moment D.left_since l.initial.disk l.disk
+      images : IsTrue D.tells → LeavesOnly D l.initial.disk l.disk
           (WasWithin entries (D.left_since l.initial.disk (D.moment l.initial.disk)));
-      reads : ReadsLog D.moment D.bytes_read D.follows l.initial.disk l.disk;
+      reads : ReadsLog D l.initial.disk l.disk;
       faults : D.faults l.initial.disk ≤ D.faults l.disk;
     }

@@ -9,10 +9,10 @@ pub returns-in_err-write_at-clause-images : goal.returns-in_err-write_at-clause-
 returns-in_err-write_at-clause-images g c = λ told.
     let D = g.D.Disk in
     let bytes = c.read_at.new.into in
-    changed_after_look D.moment D.left_since c.args.file c.args.at (c.args.at + length c.args.bytes.now / 16) c.args.disk.now c.read_at.new.self
+    changed_after_look D c.args.file c.args.at (c.args.at + length c.args.bytes.now / 16) c.args.disk.now c.read_at.new.self
     c.write_at.new.self _ _
     (c.in_ok-read_at.ensures.untouched told) c.in_ok-read_at.ensures.moment
-    (write_leaves D.moment D.left_since c.args.file c.args.at (units_of bytes) (c.args.at + length c.args.bytes.now / 16) c.read_at.new.self
+    (write_leaves D c.args.file c.args.at (units_of bytes) (c.args.at + length c.args.bytes.now / 16) c.read_at.new.self
     c.write_at.new.self (long c.args.at (length c.args.bytes.now) bytes c.read_at.auto.into) (c.in_err-write_at.ensures.images told)
     (c.in_err-write_at.ensures.time told))
 
@@ -20,9 +20,9 @@ pub returns-clause-images : goal.returns-clause-images
 returns-clause-images g c = λ told.
     let D = g.D.Disk in
     let bytes = c.read_at.new.into in
-    changed_after_look D.moment D.left_since c.args.file c.args.at (c.args.at + length c.args.bytes.now / 16) c.args.disk.now c.read_at.new.self
+    changed_after_look D c.args.file c.args.at (c.args.at + length c.args.bytes.now / 16) c.args.disk.now c.read_at.new.self
     c.write_at.new.self _ _
     (c.in_ok-read_at.ensures.untouched told) c.in_ok-read_at.ensures.moment
-    (write_leaves D.moment D.left_since c.args.file c.args.at (units_of bytes) (c.args.at + length c.args.bytes.now / 16) c.read_at.new.self
+    (write_leaves D c.args.file c.args.at (units_of bytes) (c.args.at + length c.args.bytes.now / 16) c.read_at.new.self
     c.write_at.new.self (long c.args.at (length c.args.bytes.now) bytes c.read_at.auto.into) (c.in_ok-write_at.ensures.images told)
     (c.in_ok-write_at.ensures.time told))

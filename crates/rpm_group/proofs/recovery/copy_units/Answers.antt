@@ -8,8 +8,8 @@ loop-done-init g c = record {
   place = omega arith;
   files = λ told. with_itself c.args.file (g.D.Disk.files c.args.disk.now);
   log = λ told. refl;
-  images = λ told. leaves_none g.D.Disk.moment g.D.Disk.left_since c.args.file c.args.at (c.args.at + c.args.count) c.args.disk.now;
-  reads = reads_none _ _ _ g.met.D.Disk.follows_refl c.args.disk.now;
+  images = λ told. leaves_none g.D.Disk c.args.file c.args.at (c.args.at + c.args.count) c.args.disk.now;
+  reads = reads_none _ g.met.D.Disk.follows_refl c.args.disk.now;
   faults = omega arith;
 }
 
@@ -19,10 +19,10 @@ returns-in_err-copy_piece-clause-images g c = λ told.
     let inv = c.loop-done.invariant in
     let n = c.min-n.result in
     let k = page_count n c.loop-done.page c.min-n.array_long (omega (arith, c.min-n.ensures)) in
-    changed_leaves_then D.moment D.left_since c.args.file c.args.at (c.args.at + c.args.count) c.args.disk.now c.loop-done.disk c.copy_piece.new.disk
+    changed_leaves_then D c.args.file c.args.at (c.args.at + c.args.count) c.args.disk.now c.loop-done.disk c.copy_piece.new.disk
     (λ image left. g.met.D.Disk.earlier c.loop-done.disk (D.moment c.args.disk.now) (D.moment c.loop-done.disk) image told inv.reads.later (omega arith) left)
     (inv.images told)
-    (changed_leaves_more D.moment D.left_since c.args.file (c.args.at + c.loop-done.done)
+    (changed_leaves_more D c.args.file (c.args.at + c.loop-done.done)
     (c.args.at + c.loop-done.done + length (take (16 * n) c.loop-done.page) / 16) c.args.at (c.args.at + c.args.count) c.loop-done.disk
     c.copy_piece.new.disk
     (omega arith) (omega (arith, k, c.min-n.ensures)) (c.copy_piece.ensures.images told))
@@ -43,15 +43,15 @@ loop-done-preserved g c =
       log = λ told. log_stays c.args.file _ (D.files c.loop-done.disk) (D.files c.copy_piece.new.disk) c.requires.not_log
           (c.in_ok-copy_piece.ensures.written told) ∙ inv.log told;
       images = λ told.
-          changed_leaves_then D.moment D.left_since c.args.file c.args.at (c.args.at + c.args.count) c.args.disk.now c.loop-done.disk c.copy_piece.new.disk
+          changed_leaves_then D c.args.file c.args.at (c.args.at + c.args.count) c.args.disk.now c.loop-done.disk c.copy_piece.new.disk
           (λ image left. g.met.D.Disk.earlier c.loop-done.disk (D.moment c.args.disk.now) (D.moment c.loop-done.disk) image told inv.reads.later
           (omega arith) left)
           (inv.images told)
-          (changed_leaves_more D.moment D.left_since c.args.file (c.args.at + c.loop-done.done)
+          (changed_leaves_more D c.args.file (c.args.at + c.loop-done.done)
           (c.args.at + c.loop-done.done + length (take (16 * n) c.loop-done.page) / 16) c.args.at (c.args.at + c.args.count) c.loop-done.disk
           c.copy_piece.new.disk
           (omega arith) (omega (arith, k, c.min-n.ensures)) (c.copy_piece.ensures.images told));
-      reads = reads_then _ _ _ g.met.D.Disk.follows_trans c.args.disk.now c.loop-done.disk c.copy_piece.new.disk inv.reads c.copy_piece.ensures.reads.log;
+      reads = reads_then _ g.met.D.Disk.follows_trans c.args.disk.now c.loop-done.disk c.copy_piece.new.disk inv.reads c.copy_piece.ensures.reads.log;
       faults = omega (arith, inv.faults, c.copy_piece.ensures.reads.cause.later);
     }
 

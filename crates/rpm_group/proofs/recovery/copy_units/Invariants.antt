@@ -10,8 +10,8 @@ invariant-loop-done g l =
       place : l.done ≤ l.count;
       files : IsTrue D.tells → D.files l.disk ≡ with_file l.file (put_some l.at (take l.done (drop l.from first.log)) (file_of l.file first)) first;
       log : IsTrue D.tells → (D.files l.disk).log ≡ first.log;
-      images : IsTrue D.tells → LeavesChanged D.moment D.left_since l.file l.at (l.at + l.count) l.initial.disk l.disk;
-      reads : ReadsLog D.moment D.bytes_read D.follows l.initial.disk l.disk;
+      images : IsTrue D.tells → LeavesChanged D l.file l.at (l.at + l.count) l.initial.disk l.disk;
+      reads : ReadsLog D l.initial.disk l.disk;
       faults : D.faults l.initial.disk ≤ D.faults l.disk;
     }
 

@@ -1,4 +1,5 @@
 use Rattle.std.proofs.Common.{◌≡◌, ℕ, length, sym, ap, subst, ◌∙◌, arith}
+use Rattle.rpm_outside.specs.declared.disk.Disk as disk
 use Rattle.rpm_group.proofs.Vocabulary.{entries_of, Files, heads_behind, IsOpen, leaves_then, leaves_weaker, LeavesOnly, log_state, LogState, reopened}
 use Rattle.rpm_group.proofs.Vocabulary.{ReopensAs, Units, unlogged, WasWithin, with_entries}
 use Rattle.rpm_group.proofs.Closes.{mid_log, mid_open, mid_done, mid_stands, written_leaves, open_as}
@@ -9,19 +10,19 @@ entries_are : (files mid : Files) (behind : LogState) → log_state files.log �
     → mid ≡ with_entries (entries_of (log_state files.log)) files
 entries_are files mid behind is written = written ∙ ap (λ (s : LogState). with_entries (entries_of s) files) (sym is)
 
-module _ {D : Type 0} (moment : D → ℕ) (left_since : D → ℕ → Files → Type 0) (old new : D) (files : Files) (behind : LogState)
+module _ {D : Type 0} (g : disk.Ghosts D) (old new : D) (files : Files) (behind : LogState)
     (is : log_state files.log ≡ behind) (opened : IsOpen (log_state files.log)) where
-  first_leaves : ((image : Files) → left_since old (moment old) image → image ≡ files)
-      → LeavesOnly moment left_since old new (WasWithin (entries_of behind) (left_since old (moment old)))
-      → LeavesOnly moment left_since old new (ReopensAs (reopened files))
-  first_leaves settled run = written_leaves moment left_since old new files (entries_of (log_state files.log)) opened settled
-      (subst (λ (s : LogState). LeavesOnly moment left_since old new (WasWithin (entries_of s) (left_since old (moment old)))) (sym is) run)
+  first_leaves : ((image : Files) → g.left_since old (g.moment old) image → image ≡ files)
+      → LeavesOnly g old new (WasWithin (entries_of behind) (g.left_since old (g.moment old)))
+      → LeavesOnly g old new (ReopensAs (reopened files))
+  first_leaves settled run = written_leaves g old new files (entries_of (log_state files.log)) opened settled
+      (subst (λ (s : LogState). LeavesOnly g old new (WasWithin (entries_of s) (g.left_since old (g.moment old)))) (sym is) run)
 
 pub returns-in_default-clause-images : goal.returns-in_default-clause-images
 returns-in_default-clause-images g c = λ told.
     let D = g.D.Disk in
     let files = D.files c.args.disk.now in
-    first_leaves D.moment D.left_since c.args.disk.now c.apply_entries.new.disk files (heads_behind c.args.gate files.log) (c.requires.state told)
+    first_leaves D c.args.disk.now c.apply_entries.new.disk files (heads_behind c.args.gate files.log) (c.requires.state told)
     (c.requires.open told) (c.requires.settled told) (c.apply_entries.ensures.images told)
 
 pub close_log-requires-clause-some : goal.close_log-requires-clause-some
@@ -55,11 +56,11 @@ close_log-requires-clause-done g c = λ told.
     ∙ mid_done files mid entries (c.requires.open told) written
 
 -- the entries, and then the commit record
-both_leave : {D : Type 0} (moment : D → ℕ) (left_since : D → ℕ → Files → Type 0) (old mid new : D) (stands a : Files) → a ≡ stands
-    → LeavesOnly moment left_since old mid (ReopensAs stands) → LeavesOnly moment left_since mid new (ReopensAs a)
-    → LeavesOnly moment left_since old new (ReopensAs stands)
-both_leave moment left_since old mid new stands a same one two =
-    leaves_then moment left_since old mid new (ReopensAs stands) one (leaves_weaker moment left_since mid new (ReopensAs a) (ReopensAs stands)
+both_leave : {D : Type 0} (g : disk.Ghosts D) (old mid new : D) (stands a : Files) → a ≡ stands
+    → LeavesOnly g old mid (ReopensAs stands) → LeavesOnly g mid new (ReopensAs a)
+    → LeavesOnly g old new (ReopensAs stands)
+both_leave g old mid new stands a same one two =
+    leaves_then g old mid new (ReopensAs stands) one (leaves_weaker g mid new (ReopensAs a) (ReopensAs stands)
     (λ image is. record { same = is.same ∙ same; sound = is.sound }) two)
 
 pub returns-in_err-map_err-clause-images : goal.returns-in_err-map_err-clause-images
@@ -68,10 +69,10 @@ returns-in_err-map_err-clause-images g c = λ told.
     let old = c.args.disk.now in
     let files = D.files old in
     let mid = D.files c.apply_entries.new.disk in
-    both_leave D.moment D.left_since old c.apply_entries.new.disk c.close_log.new.disk (reopened files) (unlogged mid)
+    both_leave D old c.apply_entries.new.disk c.close_log.new.disk (reopened files) (unlogged mid)
     (mid_stands files mid (entries_of (log_state files.log)) (c.requires.open told)
     (entries_are files mid (heads_behind c.args.gate files.log) (c.requires.state told) (c.in-Ok.ensures.written told)))
-    (first_leaves D.moment D.left_since old c.apply_entries.new.disk files (heads_behind c.args.gate files.log) (c.requires.state told)
+    (first_leaves D old c.apply_entries.new.disk files (heads_behind c.args.gate files.log) (c.requires.state told)
     (c.requires.open told) (c.requires.settled told) (c.apply_entries.ensures.images told))
     (c.close_log.ensures.images told)
 
@@ -81,10 +82,10 @@ returns-clause-images g c = λ told.
     let old = c.args.disk.now in
     let files = D.files old in
     let mid = D.files c.apply_entries.new.disk in
-    both_leave D.moment D.left_since old c.apply_entries.new.disk c.close_log.new.disk (reopened files) (unlogged mid)
+    both_leave D old c.apply_entries.new.disk c.close_log.new.disk (reopened files) (unlogged mid)
     (mid_stands files mid (entries_of (log_state files.log)) (c.requires.open told)
     (entries_are files mid (heads_behind c.args.gate files.log) (c.requires.state told) (c.in-Ok.ensures.written told)))
-    (first_leaves D.moment D.left_since old c.apply_entries.new.disk files (heads_behind c.args.gate files.log) (c.requires.state told)
+    (first_leaves D old c.apply_entries.new.disk files (heads_behind c.args.gate files.log) (c.requires.state told)
     (c.requires.open told) (c.requires.settled told) (c.apply_entries.ensures.images told))
     (c.close_log.ensures.images told)
 

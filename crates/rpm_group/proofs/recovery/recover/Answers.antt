@@ -25,11 +25,11 @@ returns-in-Opened-clause-images g c = λ told.
     let one_of : Files → Type 0 = ReopensAsOneOf (D.left_since old (D.moment old)) in
     let looks = c.read_log.ensures.reads.looks in
     let same : D.files mid ≡ D.files old = (looks.untouched told).same ∙ c.settle.ensures.same told in
-    leaves_then D.moment D.left_since old mid new one_of
-    (then_look D.moment D.left_since old first mid one_of _ _
-    (leaves_weaker D.moment D.left_since old first (D.left_since old (D.moment old)) one_of
+    leaves_then D old mid new one_of
+    (then_look D old first mid one_of _ _
+    (leaves_weaker D old first (D.left_since old (D.moment old)) one_of
     (λ image left. (image, left, record { same = refl; sound = λ was. was })) (c.settle.ensures.images told))
     (looks.untouched told) looks.moment_stays)
-    (leaves_weaker D.moment D.left_since mid new (ReopensAs (reopened (D.files mid))) one_of
+    (leaves_weaker D mid new (ReopensAs (reopened (D.files mid))) one_of
     (λ image is. (D.files old, g.met.D.Disk.as_read old told, record { same = is.same ∙ ap reopened same; sound = λ was. is.sound }))
     (c.finish.ensures.images told))

@@ -22,9 +22,9 @@ returns-in_err-write_at-clause-images g c = λ told.
     let D = g.D.Disk in
     let head = c.head_of-head.result in
     let one = one_unit head (ap length c.head_of-head.ensures ∙ length-unit _ _ _ _) in
-    changed_leaves_more D.moment D.left_since Log c.args.at (c.args.at + 1) c.args.at (c.args.at + 1 + (c.args.end - c.args.from)) c.args.disk.now
+    changed_leaves_more D Log c.args.at (c.args.at + 1) c.args.at (c.args.at + 1 + (c.args.end - c.args.from)) c.args.disk.now
     c.write_at.new.self (omega arith) (omega arith)
-    (write_leaves D.moment D.left_since Log c.args.at (units_of head) (c.args.at + 1) c.args.disk.now c.write_at.new.self (omega (arith, one))
+    (write_leaves D Log c.args.at (units_of head) (c.args.at + 1) c.args.disk.now c.write_at.new.self (omega (arith, one))
     (c.write_at.ensures.images told) (c.write_at.ensures.time told))
 
 pub returns-clause-images : goal.returns-clause-images
@@ -34,12 +34,12 @@ returns-clause-images g c = λ told.
     let one = one_unit head (ap length c.head_of-head.ensures ∙ length-unit _ _ _ _) in
     let end = c.args.at + 1 + (c.args.end - c.args.from) in
     let mid = c.write_at.new.self in
-    changed_leaves_then D.moment D.left_since Log c.args.at end c.args.disk.now mid c.write_run.new.disk
+    changed_leaves_then D Log c.args.at end c.args.disk.now mid c.write_run.new.disk
     (λ image left. g.met.D.Disk.earlier mid (D.moment c.args.disk.now) (D.moment mid) image told c.write_at.ensures.later (omega arith) left)
-    (changed_leaves_more D.moment D.left_since Log c.args.at (c.args.at + 1) c.args.at end c.args.disk.now mid (omega arith) (omega arith)
-    (write_leaves D.moment D.left_since Log c.args.at (units_of head) (c.args.at + 1) c.args.disk.now mid (omega (arith, one))
+    (changed_leaves_more D Log c.args.at (c.args.at + 1) c.args.at end c.args.disk.now mid (omega arith) (omega arith)
+    (write_leaves D Log c.args.at (units_of head) (c.args.at + 1) c.args.disk.now mid (omega (arith, one))
     (c.write_at.ensures.images told) (c.write_at.ensures.time told)))
-    (changed_leaves_more D.moment D.left_since Log (c.args.at + 1) end c.args.at end mid c.write_run.new.disk (omega arith) (omega arith)
+    (changed_leaves_more D Log (c.args.at + 1) end c.args.at end mid c.write_run.new.disk (omega arith) (omega arith)
     (c.write_run.ensures.images told))
 
 pub returns-clause-written : goal.returns-clause-written

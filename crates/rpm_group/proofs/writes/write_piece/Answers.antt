@@ -10,14 +10,14 @@ pub returns-in_err-write_at-clause-images : goal.returns-in_err-write_at-clause-
 returns-in_err-write_at-clause-images g c = λ told.
     let D = g.D.Disk in
     let bytes = c.lay.new.into in
-    write_leaves D.moment D.left_since c.args.file c.args.at (units_of bytes) (c.args.at + length c.args.bytes.now / 16) c.args.disk.now c.write_at.new.self
+    write_leaves D c.args.file c.args.at (units_of bytes) (c.args.at + length c.args.bytes.now / 16) c.args.disk.now c.write_at.new.self
     (long c.args.at (length c.args.bytes.now) bytes c.lay.auto.into) (c.in_err-write_at.ensures.images told) (c.in_err-write_at.ensures.time told)
 
 pub returns-clause-images : goal.returns-clause-images
 returns-clause-images g c = λ told.
     let D = g.D.Disk in
     let bytes = c.lay.new.into in
-    write_leaves D.moment D.left_since c.args.file c.args.at (units_of bytes) (c.args.at + length c.args.bytes.now / 16) c.args.disk.now c.write_at.new.self
+    write_leaves D c.args.file c.args.at (units_of bytes) (c.args.at + length c.args.bytes.now / 16) c.args.disk.now c.write_at.new.self
     (long c.args.at (length c.args.bytes.now) bytes c.lay.auto.into) (c.in_ok-write_at.ensures.images told) (c.in_ok-write_at.ensures.time told)
 
 pub returns-clause-written : goal.returns-clause-written

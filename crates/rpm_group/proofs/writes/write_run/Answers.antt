@@ -16,8 +16,8 @@ loop-done-init g c = record {
   end = omega (arith, c.requires.some);
   files = λ told. run_none c.args.table.now.items c.args.file c.args.at c.args.from (c.args.from - c.args.from) (g.D.Disk.files c.args.disk.now)
       (omega arith) (with_itself c.args.file (g.D.Disk.files c.args.disk.now));
-  images = λ told. leaves_none g.D.Disk.moment g.D.Disk.left_since c.args.file c.args.at (c.args.at + (c.args.end - c.args.from)) c.args.disk.now;
-  reads = nothing_none _ _ _ g.met.D.Disk.follows_refl c.args.disk.now;
+  images = λ told. leaves_none g.D.Disk c.args.file c.args.at (c.args.at + (c.args.end - c.args.from)) c.args.disk.now;
+  reads = nothing_none _ g.met.D.Disk.follows_refl c.args.disk.now;
   faults = omega arith;
 }
 
@@ -28,11 +28,11 @@ returns-in_err-write_piece-clause-images g c = λ told.
     let n = c.min-n.result in
     let place = c.args.at + (c.loop-done.done - c.args.from) in
     let k = piece_count n c.loop-done.buffer inv.long (omega (arith, c.min-n.ensures)) in
-    changed_leaves_then D.moment D.left_since c.args.file c.args.at (c.args.at + (c.args.end - c.args.from)) c.args.disk.now c.loop-done.disk
+    changed_leaves_then D c.args.file c.args.at (c.args.at + (c.args.end - c.args.from)) c.args.disk.now c.loop-done.disk
     c.write_piece.new.disk
     (λ image left. g.met.D.Disk.earlier c.loop-done.disk (D.moment c.args.disk.now) (D.moment c.loop-done.disk) image told inv.reads.later (omega arith) left)
     (inv.images told)
-    (changed_leaves_more D.moment D.left_since c.args.file place (place + length (take (16 * n) c.loop-done.buffer) / 16) c.args.at
+    (changed_leaves_more D c.args.file place (place + length (take (16 * n) c.loop-done.buffer) / 16) c.args.at
     (c.args.at + (c.args.end - c.args.from)) c.loop-done.disk c.write_piece.new.disk
     (omega arith) (omega (arith, k, c.min-n.ensures, inv.from)) (c.write_piece.ensures.images told))
 
@@ -59,15 +59,15 @@ loop-done-preserved g c =
           (c.in_ok-write_piece.ensures.written told
           ∙ ap (λ (j : ℕ). with_file c.args.file (put place (units_held table done j) (file_of c.args.file mid)) mid) k);
       images = λ told.
-          changed_leaves_then D.moment D.left_since c.args.file c.args.at (c.args.at + (c.args.end - c.args.from)) c.args.disk.now c.loop-done.disk
+          changed_leaves_then D c.args.file c.args.at (c.args.at + (c.args.end - c.args.from)) c.args.disk.now c.loop-done.disk
           c.write_piece.new.disk
           (λ image left. g.met.D.Disk.earlier c.loop-done.disk (D.moment c.args.disk.now) (D.moment c.loop-done.disk) image told inv.reads.later
           (omega arith) left)
           (inv.images told)
-          (changed_leaves_more D.moment D.left_since c.args.file place (place + length (take (16 * n) c.loop-done.buffer) / 16) c.args.at
+          (changed_leaves_more D c.args.file place (place + length (take (16 * n) c.loop-done.buffer) / 16) c.args.at
           (c.args.at + (c.args.end - c.args.from)) c.loop-done.disk c.write_piece.new.disk
           (omega arith) (omega (arith, k, c.min-n.ensures, inv.from)) (c.write_piece.ensures.images told));
-      reads = nothing_then _ _ _ g.met.D.Disk.follows_trans c.args.disk.now c.loop-done.disk c.write_piece.new.disk inv.reads
+      reads = nothing_then _ g.met.D.Disk.follows_trans c.args.disk.now c.loop-done.disk c.write_piece.new.disk inv.reads
           c.write_piece.ensures.reads.nothing;
       faults = omega (arith, inv.faults, c.write_piece.ensures.reads.cause.later);
     }

@@ -12,8 +12,8 @@ invariant-loop-done g l =
       end : l.done ≤ l.end;
       files : IsTrue D.tells → D.files l.disk
           ≡ with_file l.file (put_some l.at (units_held l.table.items l.from (l.done - l.from)) (file_of l.file first)) first;
-      images : IsTrue D.tells → LeavesChanged D.moment D.left_since l.file l.at (l.at + (l.end - l.from)) l.initial.disk l.disk;
-      reads : ReadsNothing D.moment D.bytes_read D.follows l.initial.disk l.disk;
+      images : IsTrue D.tells → LeavesChanged D l.file l.at (l.at + (l.end - l.from)) l.initial.disk l.disk;
+      reads : ReadsNothing D l.initial.disk l.disk;
       faults : D.faults l.initial.disk ≤ D.faults l.disk;
     }
 

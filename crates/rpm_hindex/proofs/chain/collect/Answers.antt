@@ -12,7 +12,7 @@ use Rattle.rpm_hindex.proofs.chain.collect.Goals as goal
 pub loop-at-init : goal.loop-at-init
 loop-at-init g c = record {
   within = c.requires.within;
-  looks = looks_at_none _ _ _ _ _ _ Idx g.met.D.Disk.follows_refl c.args.disk.now;
+  looks = looks_at_none _ Idx g.met.D.Disk.follows_refl c.args.disk.now;
   faults = omega arith;
   so_far = λ told. ([], rw c.new-hits.ensures.items (often_none c.args.kind c.args.key.now), refl, omega arith);
 }
@@ -77,7 +77,7 @@ loop-at-preserved g c =
     let file : Files = g.D.Disk.files c.args.disk.now in
     record {
       within = λ some. (c.in_ok-met.ensures.next.linked some).1;
-      looks = looks_at_then _ _ _ _ _ _ Idx g.met.D.Disk.follows_trans c.args.disk.now l.disk c.meet.new.disk l.invariant.looks
+      looks = looks_at_then _ Idx g.met.D.Disk.follows_trans c.args.disk.now l.disk c.meet.new.disk l.invariant.looks
           c.meet.ensures.reads.looks;
       faults = omega (arith, l.invariant.faults, c.meet.ensures.reads.cause.later);
       so_far = λ told.

@@ -7,7 +7,7 @@ use Rattle.rpm_hindex.proofs.chain.collect.Given as goal
 abbrev pub invariant-loop-at : goal.invariant-loop-at
 invariant-loop-at g l = record {
   within : 0 < l.at → l.at < l.extent.used;
-  looks : LooksAt g.D.Disk.tells g.D.Disk.files g.D.Disk.left_since g.D.Disk.moment g.D.Disk.bytes_read g.D.Disk.follows Idx l.initial.disk l.disk;
+  looks : LooksAt g.D.Disk Idx l.initial.disk l.disk;
   faults : g.D.Disk.faults l.initial.disk ≤ g.D.Disk.faults l.disk;
   so_far : IsTrue g.D.Disk.tells → (done : List ℕ)
       × AsOften l.kind l.key (map (row_at (unit_at (g.D.Disk.files l.initial.disk).idx)) done) l.hits.items

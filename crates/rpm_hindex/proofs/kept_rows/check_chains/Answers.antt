@@ -18,7 +18,7 @@ loop-bucket-preserved g c =
             | inl same ↦ subst (λ (k : ℕ). IsOk (chain (index_in B file.idx) k)) (sym same) here
             | inr other ↦ l.invariant.none told b (omega (arith, lt, other))
           ];
-      looks = looks_at_then _ _ _ _ _ _ Idx g.met.D.Disk.follows_trans _ _ _ l.invariant.looks c.check_chain.ensures.reads.looks;
+      looks = looks_at_then _ Idx g.met.D.Disk.follows_trans _ _ _ l.invariant.looks c.check_chain.ensures.reads.looks;
       faults = omega (arith, l.invariant.faults, c.check_chain.ensures.reads.cause.later);
     }
 

@@ -6,6 +6,6 @@ use Rattle.rpm_hindex.proofs.kept_rows.check_chains.Given as goal
 abbrev pub invariant-loop-bucket : goal.invariant-loop-bucket
 invariant-loop-bucket g l = record {
   none : IsTrue g.D.Disk.tells → (b : ℕ) → b < l.bucket → IsOk (chain (index_in l.extent.buckets (g.D.Disk.files l.initial.disk).idx) b);
-  looks : LooksAt g.D.Disk.tells g.D.Disk.files g.D.Disk.left_since g.D.Disk.moment g.D.Disk.bytes_read g.D.Disk.follows Idx l.initial.disk l.disk;
+  looks : LooksAt g.D.Disk Idx l.initial.disk l.disk;
   faults : g.D.Disk.faults l.initial.disk ≤ g.D.Disk.faults l.disk;
 }

@@ -26,7 +26,7 @@ loop-left-init g c = record {
   cuts = λ told whole none cut. cut;
   honest = λ told is. is;
   cost = λ told whole. omega arith;
-  looks = looks_at_none _ _ _ _ _ _ Idx g.met.D.Disk.follows_refl c.args.disk.now;
+  looks = looks_at_none _ Idx g.met.D.Disk.follows_refl c.args.disk.now;
   faults = omega arith;
 } where
   none_left : drop c.len-left.result c.args.rows.now ≡ []
@@ -127,7 +127,7 @@ loop-left-preserved g c =
           (l.invariant.cost told whole)
           (cost_here g.D.Disk.files l.disk c.args.disk.now l.change.extent c.args.change.now.extent _ (row_nth rows i) _ _
           ((l.invariant.looks.untouched told).same) l.invariant.extent c.row_ref.ensures.row (c.in_ok-drop_row.ensures.cost told));
-      looks = looks_at_then _ _ _ _ _ _ Idx g.met.D.Disk.follows_trans _ _ _ l.invariant.looks c.drop_row.ensures.reads.looks;
+      looks = looks_at_then _ Idx g.met.D.Disk.follows_trans _ _ _ l.invariant.looks c.drop_row.ensures.reads.looks;
       faults = omega (arith, l.invariant.faults, c.drop_row.ensures.reads.cause.later);
     }
 

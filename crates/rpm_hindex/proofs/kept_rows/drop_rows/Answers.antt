@@ -53,7 +53,7 @@ returns-in-Ok-clause-counts g c = λ told fresh honest.
 pub returns-in-Err-check_chains-clause-reads : goal.returns-in-Err-check_chains-clause-reads
 returns-in-Err-check_chains-clause-reads g c = record {
   looks =
-      looks_at_then _ _ _ _ _ _ Idx g.met.D.Disk.follows_trans c.args.disk.now c.drop_each.new.disk c.check_chains.new.disk c.drop_each.ensures.reads.looks
+      looks_at_then _ Idx g.met.D.Disk.follows_trans c.args.disk.now c.drop_each.new.disk c.check_chains.new.disk c.drop_each.ensures.reads.looks
       c.check_chains.ensures.reads.looks;
   cause = search rules;
 }
@@ -61,7 +61,7 @@ returns-in-Err-check_chains-clause-reads g c = record {
 pub returns-in-Ok-clause-reads : goal.returns-in-Ok-clause-reads
 returns-in-Ok-clause-reads g c = record {
   looks =
-      looks_at_then _ _ _ _ _ _ Idx g.met.D.Disk.follows_trans c.args.disk.now c.drop_each.new.disk c.check_chains.new.disk c.drop_each.ensures.reads.looks
+      looks_at_then _ Idx g.met.D.Disk.follows_trans c.args.disk.now c.drop_each.new.disk c.check_chains.new.disk c.drop_each.ensures.reads.looks
       c.check_chains.ensures.reads.looks;
   cause = search rules;
 }

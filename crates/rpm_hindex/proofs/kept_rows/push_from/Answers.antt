@@ -31,10 +31,10 @@ pub returns-in_err-push_row-clause-reads : goal.returns-in_err-push_row-clause-r
 returns-in_err-push_row-clause-reads g c = record {
   looks =
       let l = c.loop-at in
-      let looks = looks_at_then _ _ _ _ _ _ Idx g.met.D.Disk.follows_trans c.args.disk.now l.disk c.read_head.new.disk l.invariant.looks
-      (looks_at_from _ _ _ _ _ _ Idx 16 l.disk c.read_head.new.disk c.read_head.ensures.reads.looks) in
-      looks_at_then _ _ _ _ _ _ Idx g.met.D.Disk.follows_trans c.args.disk.now c.read_head.new.disk c.push_row.new.disk looks
-      (looks_at_from _ _ _ _ _ _ Idx (16 * ((c.in_ok-next.field-0.head.size % 2 ^ 28 + 15) / 16)) c.read_head.new.disk c.push_row.new.disk
+      let looks = looks_at_then _ Idx g.met.D.Disk.follows_trans c.args.disk.now l.disk c.read_head.new.disk l.invariant.looks
+      (looks_at_from _ Idx 16 l.disk c.read_head.new.disk c.read_head.ensures.reads.looks) in
+      looks_at_then _ Idx g.met.D.Disk.follows_trans c.args.disk.now c.read_head.new.disk c.push_row.new.disk looks
+      (looks_at_from _ Idx (16 * ((c.in_ok-next.field-0.head.size % 2 ^ 28 + 15) / 16)) c.read_head.new.disk c.push_row.new.disk
       c.push_row.ensures.reads.looks);
   cause = search rules;
 }
@@ -46,8 +46,8 @@ returns-in_err-push_row-clause-told g c = λ told.
     let b = c.args.bucket in
     let file : Files = g.D.Disk.files c.args.disk.now in
     let s = l.invariant.so_far told in
-    let looks = looks_at_then _ _ _ _ _ _ Idx g.met.D.Disk.follows_trans c.args.disk.now l.disk c.read_head.new.disk l.invariant.looks
-    (looks_at_from _ _ _ _ _ _ Idx 16 l.disk c.read_head.new.disk c.read_head.ensures.reads.looks) in
+    let looks = looks_at_then _ Idx g.met.D.Disk.follows_trans c.args.disk.now l.disk c.read_head.new.disk l.invariant.looks
+    (looks_at_from _ Idx 16 l.disk c.read_head.new.disk c.read_head.ensures.reads.looks) in
     let fault = subst (λ (f : Files). IsFaultOf (follow (index_in B f.idx) b c.in_ok-next.field-0.head.at c.in_ok-next.field-0.head.at)
     c.in_err-push_row.field-0.0)
     ((looks.untouched told).same) (c.in_err-push_row.ensures.fault told) in
@@ -63,12 +63,12 @@ loop-at-preserved g c =
     let file : Files = g.D.Disk.files c.args.disk.now in
     let x : Index = index_in B file.idx in
     let kept = is_kept (λ p. contains nat_cmp c.args.dropped.now p) in
-    let looks = looks_at_then _ _ _ _ _ _ Idx g.met.D.Disk.follows_trans c.args.disk.now l.disk c.read_head.new.disk l.invariant.looks
-    (looks_at_from _ _ _ _ _ _ Idx 16 l.disk c.read_head.new.disk c.read_head.ensures.reads.looks) in
+    let looks = looks_at_then _ Idx g.met.D.Disk.follows_trans c.args.disk.now l.disk c.read_head.new.disk l.invariant.looks
+    (looks_at_from _ Idx 16 l.disk c.read_head.new.disk c.read_head.ensures.reads.looks) in
     record {
       linked = c.in_ok-next.ensures.next.linked;
-      looks = looks_at_then _ _ _ _ _ _ Idx g.met.D.Disk.follows_trans c.args.disk.now c.read_head.new.disk c.push_row.new.disk looks
-          (looks_at_from _ _ _ _ _ _ Idx (16 * ((c.in_ok-next.field-0.head.size % 2 ^ 28 + 15) / 16)) c.read_head.new.disk c.push_row.new.disk
+      looks = looks_at_then _ Idx g.met.D.Disk.follows_trans c.args.disk.now c.read_head.new.disk c.push_row.new.disk looks
+          (looks_at_from _ Idx (16 * ((c.in_ok-next.field-0.head.size % 2 ^ 28 + 15) / 16)) c.read_head.new.disk c.push_row.new.disk
           c.push_row.ensures.reads.looks);
       faults = omega (arith, l.invariant.faults, c.read_head.ensures.reads.cause.later, c.push_row.ensures.reads.cause.later);
       so_far = λ told.

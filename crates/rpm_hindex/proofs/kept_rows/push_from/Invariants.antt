@@ -7,7 +7,7 @@ use Rattle.rpm_hindex.proofs.kept_rows.push_from.Given as goal
 abbrev pub invariant-loop-at : goal.invariant-loop-at
 invariant-loop-at g l = record {
   linked : IsNext l.extent.buckets l.extent.used l.at;
-  looks : LooksAt g.D.Disk.tells g.D.Disk.files g.D.Disk.left_since g.D.Disk.moment g.D.Disk.bytes_read g.D.Disk.follows Idx l.initial.disk l.disk;
+  looks : LooksAt g.D.Disk Idx l.initial.disk l.disk;
   faults : g.D.Disk.faults l.initial.disk ≤ g.D.Disk.faults l.disk;
   so_far : IsTrue g.D.Disk.tells → (done : List ℕ)
       × (l.rows ≡ l.initial.rows ++ map (row_at (unit_at (g.D.Disk.files l.initial.disk).idx)) (filter (is_kept (λ p. contains nat_cmp l.dropped p)) done))

@@ -16,7 +16,7 @@ loop-i-init g c = record {
   live = omega (arith, live_none);
   adds = λ told whole. rows_none c.args.change.now (g.D.Disk.files c.args.disk.now).idx whole;
   honest = λ told is. is;
-  looks = looks_none _ _ _ _ _ _ Idx g.met.D.Disk.follows_refl c.args.disk.now;
+  looks = looks_none _ Idx g.met.D.Disk.follows_refl c.args.disk.now;
   faults = omega arith;
 }
 
@@ -59,7 +59,7 @@ loop-i-preserved g c =
           c.add_row.new.self file.idx (take i rows) (row_nth rows i) (c.loop-i.invariant.adds told whole) more);
       honest = λ told is. subst (λ (f : Files). IsHonest c.loop-i.change f.idx → IsHonest c.add_row.new.self f.idx)
           ((c.loop-i.invariant.looks.untouched told).same) (c.in_ok-add_row.ensures.added told).honest (c.loop-i.invariant.honest told is);
-      looks = looks_then _ _ _ _ _ _ Idx g.met.D.Disk.follows_trans (16 * i) 16 (16 * (i + 1)) _ _ _ (omega arith) c.loop-i.invariant.looks
+      looks = looks_then _ Idx g.met.D.Disk.follows_trans (16 * i) 16 (16 * (i + 1)) _ _ _ (omega arith) c.loop-i.invariant.looks
           c.add_row.ensures.reads.looks;
       faults = omega (arith, c.loop-i.invariant.faults, c.add_row.ensures.reads.cause.later);
     }
@@ -91,7 +91,7 @@ returns-in_err-add_row-clause-reads g c = record {
   looks =
       let i = c.loop-i.i in
       let lt : i < length c.args.rows.now = omega (arith, c.loop-i-test.true, c.len-i-end.ensures) in
-      looks_then _ _ _ _ _ _ Idx g.met.D.Disk.follows_trans (16 * i) 16 (16 * length c.args.rows.now) _ _ _ (omega (arith, lt)) c.loop-i.invariant.looks
+      looks_then _ Idx g.met.D.Disk.follows_trans (16 * i) 16 (16 * length c.args.rows.now) _ _ _ (omega (arith, lt)) c.loop-i.invariant.looks
       c.add_row.ensures.reads.looks;
   cause = search rules;
 }
@@ -99,7 +99,7 @@ returns-in_err-add_row-clause-reads g c = record {
 pub returns-clause-reads : goal.returns-clause-reads
 returns-clause-reads g c = record {
   looks =
-      looks_more _ _ _ _ _ _ Idx (16 * c.loop-i.i) (16 * length c.args.rows.now) _ _ (omega (arith, c.loop-i.invariant, c.len-i-end.ensures))
+      looks_more _ Idx (16 * c.loop-i.i) (16 * length c.args.rows.now) _ _ (omega (arith, c.loop-i.invariant, c.len-i-end.ensures))
       c.loop-i.invariant.looks;
   cause = search rules;
 }

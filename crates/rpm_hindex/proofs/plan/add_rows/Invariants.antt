@@ -14,6 +14,6 @@ invariant-loop-i g l = record {
       (changing l.initial.change (g.D.Disk.files l.initial.disk).idx) → AddsRows l.initial.change l.change (g.D.Disk.files l.initial.disk).idx
       (take l.i l.rows);
   honest : IsTrue g.D.Disk.tells → IsHonest l.initial.change (g.D.Disk.files l.initial.disk).idx → IsHonest l.change (g.D.Disk.files l.initial.disk).idx;
-  looks : Looks g.D.Disk.tells g.D.Disk.files g.D.Disk.left_since g.D.Disk.moment g.D.Disk.bytes_read g.D.Disk.follows Idx (16 * l.i) l.initial.disk l.disk;
+  looks : Looks g.D.Disk Idx (16 * l.i) l.initial.disk l.disk;
   faults : g.D.Disk.faults l.initial.disk ≤ g.D.Disk.faults l.disk;
 }

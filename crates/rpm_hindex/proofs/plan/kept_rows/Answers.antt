@@ -16,7 +16,7 @@ loop-bucket-preserved g c =
           ≡ l.rows ++ map (row_at (unit_at f.idx)) (filter kept places)) (chain (index_in B f.idx) l.bucket) tt) ((l.invariant.looks.untouched told).same)
           (c.in_default.ensures.told told) in
           kept_next (index_in B file.idx) kept l.bucket l.rows c.push_chain.new.rows said (l.invariant.so_far told);
-      looks = looks_at_then _ _ _ _ _ _ Idx g.met.D.Disk.follows_trans _ _ _ l.invariant.looks c.push_chain.ensures.reads.looks;
+      looks = looks_at_then _ Idx g.met.D.Disk.follows_trans _ _ _ l.invariant.looks c.push_chain.ensures.reads.looks;
       faults = omega (arith, l.invariant.faults, c.push_chain.ensures.reads.cause.later);
     }
 

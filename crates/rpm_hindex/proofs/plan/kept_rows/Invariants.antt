@@ -7,6 +7,6 @@ abbrev pub invariant-loop-bucket : goal.invariant-loop-bucket
 invariant-loop-bucket g l = record {
   so_far : IsTrue g.D.Disk.tells → l.rows ≡ kept_below (index_in l.extent.buckets (g.D.Disk.files l.initial.disk).idx)
       (is_kept (λ p. contains nat_cmp l.dropped p)) l.bucket;
-  looks : LooksAt g.D.Disk.tells g.D.Disk.files g.D.Disk.left_since g.D.Disk.moment g.D.Disk.bytes_read g.D.Disk.follows Idx l.initial.disk l.disk;
+  looks : LooksAt g.D.Disk Idx l.initial.disk l.disk;
   faults : g.D.Disk.faults l.initial.disk ≤ g.D.Disk.faults l.disk;
 }

@@ -89,10 +89,10 @@ returns-in-Err-BadIndex-clause-cost g c = λ told places e.
 pub returns-in-Err-BadIndex-clause-reads : goal.returns-in-Err-BadIndex-clause-reads
 returns-in-Err-BadIndex-clause-reads g c = record {
   looks =
-      let first = looks_at_from _ _ _ _ _ _ Idx 16 c.args.disk.now c.read_bucket.new.disk c.in_ok-head.ensures.reads.looks in
-      let more = looks_at_then _ _ _ _ _ _ Idx g.met.D.Disk.follows_trans c.args.disk.now c.read_bucket.new.disk c.find_from.new.disk first
+      let first = looks_at_from _ Idx 16 c.args.disk.now c.read_bucket.new.disk c.in_ok-head.ensures.reads.looks in
+      let more = looks_at_then _ Idx g.met.D.Disk.follows_trans c.args.disk.now c.read_bucket.new.disk c.find_from.new.disk first
       c.in-Err-BadIndex.ensures.reads.looks in
-      looks_at_then _ _ _ _ _ _ Idx g.met.D.Disk.follows_trans c.args.disk.now c.find_from.new.disk c.first_fault.new.disk more
+      looks_at_then _ Idx g.met.D.Disk.follows_trans c.args.disk.now c.find_from.new.disk c.first_fault.new.disk more
       c.first_fault.ensures.reads.looks;
   cause = search rules;
 }

@@ -15,7 +15,7 @@ loop-at-init g c = record {
   linked = c.requires.linked;
   before = tt;
   front = tt;
-  looks = looks_at_none _ _ _ _ _ _ Idx g.met.D.Disk.follows_refl c.args.disk.now;
+  looks = looks_at_none _ Idx g.met.D.Disk.follows_refl c.args.disk.now;
   dropped = λ p above below. absurd (omega arith);
   faults = omega arith;
   so_far = λ told front path. ([], front, refl, refl, path, refl, λ q (k, lt, e) stays. absurd (omega arith), omega arith);
@@ -41,9 +41,9 @@ returns-in_err-met-clause-cost g c = λ told front path.
 pub returns-in_err-behind-clause-reads : goal.returns-in_err-behind-clause-reads
 returns-in_err-behind-clause-reads g c = record {
   looks =
-      let looks = looks_at_then _ _ _ _ _ _ Idx g.met.D.Disk.follows_trans c.args.disk.now c.loop-at.disk c.meet.new.disk c.loop-at.invariant.looks
+      let looks = looks_at_then _ Idx g.met.D.Disk.follows_trans c.args.disk.now c.loop-at.disk c.meet.new.disk c.loop-at.invariant.looks
       c.meet.ensures.reads.looks in
-      looks_at_then _ _ _ _ _ _ Idx g.met.D.Disk.follows_trans c.args.disk.now c.meet.new.disk c.skip_dropped.new.disk looks c.skip_dropped.ensures.reads.looks;
+      looks_at_then _ Idx g.met.D.Disk.follows_trans c.args.disk.now c.meet.new.disk c.skip_dropped.new.disk looks c.skip_dropped.ensures.reads.looks;
   cause = search rules;
 }
 
@@ -54,7 +54,7 @@ returns-in_err-behind-clause-fault g c =
     let file : Files = g.D.Disk.files c.args.disk.now in
     let row : Row = record { kind = c.args.row.kind; key = c.args.row.key.now; number = c.args.row.number; place = c.args.row.place } in
     let s = l.invariant.so_far told front path in
-    let looks = looks_at_then _ _ _ _ _ _ Idx g.met.D.Disk.follows_trans c.args.disk.now l.disk c.meet.new.disk l.invariant.looks c.meet.ensures.reads.looks in
+    let looks = looks_at_then _ Idx g.met.D.Disk.follows_trans c.args.disk.now l.disk c.meet.new.disk l.invariant.looks c.meet.ensures.reads.looks in
     behind c.args.extent.buckets c.args.bucket c.args.from l.at c.args.end file (g.D.Disk.files l.disk) s.0 s.1
     ((l.invariant.looks.untouched told).same) s.3 s.4 (omega (arith, c.loop-at-test.true)) row c.in_ok-met.met (c.in_ok-met.ensures.met told)
     (λ (x : Index) (qs : List ℕ). IsPath x c.args.bucket c.args.end rest 0 → IsOutside c.in_err-behind.field-0.0) (g.D.Disk.files c.meet.new.disk)
@@ -66,7 +66,7 @@ returns-in_err-behind-clause-cost g c = λ told front path.
     let file : Files = g.D.Disk.files c.args.disk.now in
     let row : Row = record { kind = c.args.row.kind; key = c.args.row.key.now; number = c.args.row.number; place = c.args.row.place } in
     let s = l.invariant.so_far told front path in
-    let looks = looks_at_then _ _ _ _ _ _ Idx g.met.D.Disk.follows_trans c.args.disk.now l.disk c.meet.new.disk l.invariant.looks c.meet.ensures.reads.looks in
+    let looks = looks_at_then _ Idx g.met.D.Disk.follows_trans c.args.disk.now l.disk c.meet.new.disk l.invariant.looks c.meet.ensures.reads.looks in
     let all = cost_behind c.args.extent.buckets c.args.bucket c.args.from l.at c.args.end file (g.D.Disk.files l.disk) s.0 s.1
     ((l.invariant.looks.untouched told).same) s.3 s.4 (omega (arith, c.loop-at-test.true)) row c.in_ok-met.met (c.in_ok-met.ensures.met told)
     (g.D.Disk.files c.meet.new.disk) _ _ _ _ ((looks.untouched told).same) s.7 (c.in_ok-met.ensures.cost told)
@@ -76,9 +76,9 @@ returns-in_err-behind-clause-cost g c = λ told front path.
 pub returns-then-is_hit-clause-reads : goal.returns-then-is_hit-clause-reads
 returns-then-is_hit-clause-reads g c = record {
   looks =
-      let looks = looks_at_then _ _ _ _ _ _ Idx g.met.D.Disk.follows_trans c.args.disk.now c.loop-at.disk c.meet.new.disk c.loop-at.invariant.looks
+      let looks = looks_at_then _ Idx g.met.D.Disk.follows_trans c.args.disk.now c.loop-at.disk c.meet.new.disk c.loop-at.invariant.looks
       c.meet.ensures.reads.looks in
-      looks_at_then _ _ _ _ _ _ Idx g.met.D.Disk.follows_trans c.args.disk.now c.meet.new.disk c.skip_dropped.new.disk looks c.skip_dropped.ensures.reads.looks;
+      looks_at_then _ Idx g.met.D.Disk.follows_trans c.args.disk.now c.meet.new.disk c.skip_dropped.new.disk looks c.skip_dropped.ensures.reads.looks;
   cause = search rules;
 }
 
@@ -88,7 +88,7 @@ returns-then-is_hit-clause-cost g c = λ told front path.
     let file : Files = g.D.Disk.files c.args.disk.now in
     let row : Row = record { kind = c.args.row.kind; key = c.args.row.key.now; number = c.args.row.number; place = c.args.row.place } in
     let s = l.invariant.so_far told front path in
-    let looks = looks_at_then _ _ _ _ _ _ Idx g.met.D.Disk.follows_trans c.args.disk.now l.disk c.meet.new.disk l.invariant.looks c.meet.ensures.reads.looks in
+    let looks = looks_at_then _ Idx g.met.D.Disk.follows_trans c.args.disk.now l.disk c.meet.new.disk l.invariant.looks c.meet.ensures.reads.looks in
     let all = cost_behind c.args.extent.buckets c.args.bucket c.args.from l.at c.args.end file (g.D.Disk.files l.disk) s.0 s.1
     ((l.invariant.looks.untouched told).same) s.3 s.4 (omega (arith, c.loop-at-test.true)) row c.in_ok-met.met (c.in_ok-met.ensures.met told)
     (g.D.Disk.files c.meet.new.disk) _ _ _ _ ((looks.untouched told).same) s.7 (c.in_ok-met.ensures.cost told)
@@ -109,7 +109,7 @@ returns-then-is_hit-clause-found g c = record {
       let file : Files = g.D.Disk.files c.args.disk.now in
       let row : Row = record { kind = c.args.row.kind; key = c.args.row.key.now; number = c.args.row.number; place = c.args.row.place } in
       let s = l.invariant.so_far told front path in
-      let looks = looks_at_then _ _ _ _ _ _ Idx g.met.D.Disk.follows_trans c.args.disk.now l.disk c.meet.new.disk l.invariant.looks
+      let looks = looks_at_then _ Idx g.met.D.Disk.follows_trans c.args.disk.now l.disk c.meet.new.disk l.invariant.looks
       c.meet.ensures.reads.looks in
       spot_met c.args.extent.buckets c.args.bucket c.args.from l.at c.args.end file (g.D.Disk.files l.disk) s.0 s.1
       ((l.invariant.looks.untouched told).same) s.3 s.4 (omega (arith, c.loop-at-test.true)) row c.in_ok-met.met (c.in_ok-met.ensures.met told)
@@ -136,7 +136,7 @@ loop-at-preserved g c =
       front = front_last B (kept met.head.at) met.head l.before kept_now.result kept_now.ensures l.invariant.front
           (omega (arith, (l.invariant.linked some).0, here));
       dropped = c.dropped_to-last.ensures;
-      looks = looks_at_then _ _ _ _ _ _ Idx g.met.D.Disk.follows_trans c.args.disk.now l.disk c.meet.new.disk l.invariant.looks c.meet.ensures.reads.looks;
+      looks = looks_at_then _ Idx g.met.D.Disk.follows_trans c.args.disk.now l.disk c.meet.new.disk l.invariant.looks c.meet.ensures.reads.looks;
       faults = omega (arith, l.invariant.faults, c.meet.ensures.reads.cause.later);
       so_far = λ told front path.
           let s = l.invariant.so_far told front path in

@@ -9,7 +9,7 @@ invariant-loop-at g l = record {
   linked : IsNext l.extent.buckets l.extent.used l.at;
   before : IsHeadWithin l.extent.used l.before;
   front : IsFront l.extent.buckets l.before;
-  looks : LooksAt g.D.Disk.tells g.D.Disk.files g.D.Disk.left_since g.D.Disk.moment g.D.Disk.bytes_read g.D.Disk.follows Idx l.initial.disk l.disk;
+  looks : LooksAt g.D.Disk Idx l.initial.disk l.disk;
   dropped : (p : ℕ) → l.last < p → p ≤ l.at → contains nat_cmp l.dropped p ≡ false;
   faults : g.D.Disk.faults l.initial.disk ≤ g.D.Disk.faults l.disk;
   so_far : IsTrue g.D.Disk.tells → (front : List ℕ)

@@ -11,7 +11,7 @@ use Rattle.rpm_hindex.proofs.spots.skip_dropped.Goals as goal
 pub loop-at-init : goal.loop-at-init
 loop-at-init g c = record {
   linked = c.requires.linked;
-  looks = looks_at_none _ _ _ _ _ _ Idx g.met.D.Disk.follows_refl c.args.disk.now;
+  looks = looks_at_none _ Idx g.met.D.Disk.follows_refl c.args.disk.now;
   faults = omega arith;
   so_far = λ told b front path. ([], front, refl, refl, path, refl, omega arith);
 }
@@ -71,8 +71,8 @@ loop-at-preserved g c =
     let file : Files = g.D.Disk.files c.args.disk.now in
     record {
       linked = c.in_ok-ahead.ensures.next.linked;
-      looks = looks_at_then _ _ _ _ _ _ Idx g.met.D.Disk.follows_trans c.args.disk.now l.disk c.read_head.new.disk l.invariant.looks
-          (looks_at_from _ _ _ _ _ _ Idx 16 l.disk c.read_head.new.disk c.read_head.ensures.reads.looks);
+      looks = looks_at_then _ Idx g.met.D.Disk.follows_trans c.args.disk.now l.disk c.read_head.new.disk l.invariant.looks
+          (looks_at_from _ Idx 16 l.disk c.read_head.new.disk c.read_head.ensures.reads.looks);
       faults = omega (arith, l.invariant.faults, c.read_head.ensures.reads.cause.later);
       so_far = λ told b front path.
           let s = l.invariant.so_far told b front path in

@@ -6,7 +6,7 @@ use Rattle.rpm_hindex.proofs.spots.skip_dropped.Given as goal
 abbrev pub invariant-loop-at : goal.invariant-loop-at
 invariant-loop-at g l = record {
   linked : IsNext l.extent.buckets l.extent.used l.at;
-  looks : LooksAt g.D.Disk.tells g.D.Disk.files g.D.Disk.left_since g.D.Disk.moment g.D.Disk.bytes_read g.D.Disk.follows Idx l.initial.disk l.disk;
+  looks : LooksAt g.D.Disk Idx l.initial.disk l.disk;
   faults : g.D.Disk.faults l.initial.disk ≤ g.D.Disk.faults l.disk;
   so_far : IsTrue g.D.Disk.tells → (b : ℕ) (front : List ℕ)
       → IsPath (index_in l.extent.buckets (g.D.Disk.files l.initial.disk).idx) b l.from front l.end → (done : List ℕ) × (left : List ℕ)

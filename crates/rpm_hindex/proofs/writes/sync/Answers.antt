@@ -4,6 +4,6 @@ use Rattle.rpm_hindex.proofs.writes.sync.Goals as goal
 
 pub returns-clause-writes : goal.returns-clause-writes
 returns-clause-writes g c = record {
-  changes = let e = c.sync.ensures in changes_sync _ _ _ _ _ _ Idx IsSame (λ x. refl) _ _ e.same e.images e.time e.reads e.follows;
+  changes = let e = c.sync.ensures in changes_sync _ Idx IsSame (λ x. refl) _ _ e.same e.images e.time e.reads e.follows;
   cause = search rules;
 }

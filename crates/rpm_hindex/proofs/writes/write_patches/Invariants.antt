@@ -7,6 +7,6 @@ use Rattle.rpm_hindex.proofs.writes.write_patches.Given as goal
 abbrev pub invariant-loop-k : goal.invariant-loop-k
 invariant-loop-k g l = record {
   written : IsTrue g.D.Disk.tells → (g.D.Disk.files l.disk).idx ≡ after_units (take l.k l.patches) (g.D.Disk.files l.initial.disk).idx;
-  changes : Changes g.D.Disk.tells g.D.Disk.files g.D.Disk.left_since g.D.Disk.moment g.D.Disk.bytes_read g.D.Disk.follows Idx SameSeal 0 l.initial.disk l.disk;
+  changes : Changes g.D.Disk Idx SameSeal 0 l.initial.disk l.disk;
   faults : g.D.Disk.faults l.initial.disk ≤ g.D.Disk.faults l.disk;
 }

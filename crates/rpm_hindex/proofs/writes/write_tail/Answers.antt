@@ -6,7 +6,7 @@ use Rattle.rpm_hindex.proofs.writes.write_tail.Goals as goal
 pub returns-clause-writes : goal.returns-clause-writes
 returns-clause-writes g c = record {
   changes =
-      changes_weaker _ _ _ _ _ _ Idx _ SameSeal 0 0 _ _ (omega arith) (λ a b t. torn_behind c.args.used _ a b c.requires.behind
+      changes_weaker _ Idx _ SameSeal 0 0 _ _ (omega arith) (λ a b t. torn_behind c.args.used _ a b c.requires.behind
       t) c.write_units.ensures.writes.changes;
   cause = search rules;
 }

@@ -4,6 +4,6 @@ use Rattle.rpm_hindex.proofs.writes.write_units.Goals as goal
 
 pub returns-clause-writes : goal.returns-clause-writes
 returns-clause-writes g c = record {
-  changes = let e = c.write_at.ensures in changes_write _ _ _ _ _ _ Idx _ _ _ _ e.torn e.images e.time e.reads e.follows;
+  changes = let e = c.write_at.ensures in changes_write _ Idx _ _ _ _ e.torn e.images e.time e.reads e.follows;
   cause = search rules;
 }

@@ -27,7 +27,7 @@ loop-k-init g c =
       images = λ told value all quiet.
           let P = StandsStill value (D.files d).pkg in
           let keeps : Keeps (D.files d).pkg value = (quiet (D.files d) (g.met.D.Disk.as_read d told)).keeps in
-          started D.moment D.left_since d (Stops Pkg P (D.left_since d (D.moment d)))
+          started D d (Stops Pkg P (D.left_since d (D.moment d)))
           (λ image here. record {
             from = image;
             was = here;
@@ -56,7 +56,7 @@ stops d a b e slots moves k zeros_from lt told wrote so_far value all keeps quie
     let now = kept value slots moves k all.some all.same all.are lt in
     let P = StandsStill value (pkg d a) in
     stops_next d told P wrote still
-    (stops_weaker d.moment d.left_since (WhileMoved u m.place o m.to (pkg d b)) P b e
+    (stops_weaker d (WhileMoved u m.place o m.to (pkg d b)) P b e
     (λ image w. still_then value u (pkg d a) (pkg d b) image now.generation_is now.field_is (so_far.blobs_are value all keeps) (so_far.others value all keeps)
     (moves_to u m.place o m.to can (pkg d b) (so_far.keeps value all keeps) image w))
     (more u can (so_far.quiet value all quiet)))

@@ -13,7 +13,7 @@ loop-k-init g c = record {
   order = c.requires.order;
   awaits = c.requires.awaits;
   reads = record {
-    looks = looks_more _ _ _ _ _ _ Pkg 0 _ _ _ (omega arith) (looks_none _ _ _ _ _ _ Pkg g.met.D.Disk.follows_refl c.args.disk.now);
+    looks = looks_more _ Pkg 0 _ _ _ (omega arith) (looks_none _ Pkg g.met.D.Disk.follows_refl c.args.disk.now);
     cause = record { later = omega arith; failed = tt };
   };
 }

@@ -6,6 +6,6 @@ pub returns-clause-writes : goal.returns-clause-writes
 returns-clause-writes g c =
     let w = c.sync.ensures in
     record {
-      changes = changes_sync _ _ _ _ _ _ Pkg IsSame (λ x. refl) c.args.disk.now c.sync.new.self w.same w.images w.time w.reads w.follows;
+      changes = changes_sync _ Pkg IsSame (λ x. refl) c.args.disk.now c.sync.new.self w.same w.images w.time w.reads w.follows;
       cause = w.cause;
     }

@@ -13,7 +13,7 @@ pub returns-in_err-write_synced-clause-writes : goal.returns-in_err-write_synced
 returns-in_err-write_synced-clause-writes g c = record {
   changes =
       let left = c.in_ok-void.ensures.left in
-      changes_between _ _ _ _ _ _ Idx g.met.D.Disk.follows_trans VoidOrSame (Torn 1 _) VoidOrSame (λ (u : Units). unit_at u 0 ≡ blank) 0 0 0
+      changes_between _ Idx g.met.D.Disk.follows_trans VoidOrSame (Torn 1 _) VoidOrSame (λ (u : Units). unit_at u 0 ≡ blank) 0 0 0
       _ _ _ (omega arith) (λ a b p. p) (λ x y z p m q. inl (torn_behind 1 _ y z (omega arith) q ∙ m))
       (λ told. zeros _ _ _ (left.written told) refl) (λ told image lies. zeros _ _ image.idx (left.written told) (left.settled told image lies))
       c.in_ok-void.ensures.writes.changes c.in_err-write_synced.ensures.writes.changes;
@@ -24,7 +24,7 @@ pub returns-clause-writes : goal.returns-clause-writes
 returns-clause-writes g c = record {
   changes =
       let left = c.in_ok-void.ensures.left in
-      changes_between _ _ _ _ _ _ Idx g.met.D.Disk.follows_trans VoidOrSame (Torn 1 _) VoidOrSame (λ (u : Units). unit_at u 0 ≡ blank) 0 0 0
+      changes_between _ Idx g.met.D.Disk.follows_trans VoidOrSame (Torn 1 _) VoidOrSame (λ (u : Units). unit_at u 0 ≡ blank) 0 0 0
       _ _ _ (omega arith) (λ a b p. p) (λ x y z p m q. inl (torn_behind 1 _ y z (omega arith) q ∙ m))
       (λ told. zeros _ _ _ (left.written told) refl) (λ told image lies. zeros _ _ image.idx (left.written told) (left.settled told image lies))
       c.in_ok-void.ensures.writes.changes c.in_ok-write_synced.ensures.writes.changes;

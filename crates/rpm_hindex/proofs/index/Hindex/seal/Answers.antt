@@ -21,7 +21,7 @@ returns-in_err-write_synced-clause-writes g c = record {
   changes =
       let pending = ap (λ (s : State). s.pending) c.self.view_is in
       let is = c.unit_of_words-first.ensures ∙ ap (seal_unit c.args.generation) pending in
-      changes_weaker _ _ _ _ _ _ Idx _ (SealedOrSame (seal_unit c.args.generation c.args.self.now.pending)) 0 0 _ _ (omega arith)
+      changes_weaker _ Idx _ (SealedOrSame (seal_unit c.args.generation c.args.self.now.pending)) 0 0 _ _ (omega arith)
       (weaker c.args.generation c.args.self.now.pending c.unit_of_words-first.result is) c.in_err-write_synced.ensures.writes.changes;
   cause = search rules;
 }
@@ -31,7 +31,7 @@ returns-clause-writes g c = record {
   changes =
       let pending = ap (λ (s : State). s.pending) c.self.view_is in
       let is = c.unit_of_words-first.ensures ∙ ap (seal_unit c.args.generation) pending in
-      changes_weaker _ _ _ _ _ _ Idx _ (SealedOrSame (seal_unit c.args.generation c.args.self.now.pending)) 0 0 _ _ (omega arith)
+      changes_weaker _ Idx _ (SealedOrSame (seal_unit c.args.generation c.args.self.now.pending)) 0 0 _ _ (omega arith)
       (weaker c.args.generation c.args.self.now.pending c.unit_of_words-first.result is) c.in_ok-write_synced.ensures.writes.changes;
   cause = search rules;
 }

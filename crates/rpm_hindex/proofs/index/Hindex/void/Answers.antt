@@ -8,7 +8,7 @@ pub returns-in_err-write_synced-clause-writes : goal.returns-in_err-write_synced
 unfolding blank
 returns-in_err-write_synced-clause-writes g c = record {
   changes =
-      changes_weaker _ _ _ _ _ _ Idx _ VoidOrSame 0 0 _ _ (omega arith) (λ a b t. torn_void blank a b t refl)
+      changes_weaker _ Idx _ VoidOrSame 0 0 _ _ (omega arith) (λ a b t. torn_void blank a b t refl)
       c.in_err-write_synced.ensures.writes.changes;
   cause = search rules;
 }
@@ -17,7 +17,7 @@ pub returns-clause-writes : goal.returns-clause-writes
 unfolding blank
 returns-clause-writes g c = record {
   changes =
-      changes_weaker _ _ _ _ _ _ Idx _ VoidOrSame 0 0 _ _ (omega arith) (λ a b t. torn_void blank a b t refl) c.in_ok-write_synced.ensures.writes.changes;
+      changes_weaker _ Idx _ VoidOrSame 0 0 _ _ (omega arith) (λ a b t. torn_void blank a b t refl) c.in_ok-write_synced.ensures.writes.changes;
   cause = search rules;
 }
 

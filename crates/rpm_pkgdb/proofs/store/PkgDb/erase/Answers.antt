@@ -18,10 +18,10 @@ stops : {D : Type 0} (d : disk.Ghosts D) (a b : D) (st : Store) (k n : ℕ) (s :
     → StopsIn d a b (BeforeOrAfter st (with_free k st) (pkg d a)) → EraseStops d a b st n
 stops d a b st k n s has number keeps left = record {
   images =
-      stops_weaker d.moment d.left_since (BeforeOrAfter st (with_free k st) (pkg d a)) (ErasesTo st n (pkg d a)) a b
+      stops_weaker d (BeforeOrAfter st (with_free k st) (pkg d a)) (ErasesTo st n (pkg d a)) a b
       (erases_to st k n s has number (pkg d a) keeps) left;
   left =
-      stops_weaker d.moment d.left_since (BeforeOrAfter st (with_free k st) (pkg d a)) (StaysBut n None st (pkg d a)) a b
+      stops_weaker d (BeforeOrAfter st (with_free k st) (pkg d a)) (StaysBut n None st (pkg d a)) a b
       (erases_but st k n s has number (pkg d a) keeps) left;
 }
 

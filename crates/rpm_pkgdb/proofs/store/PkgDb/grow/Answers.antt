@@ -10,7 +10,7 @@ returns-in-None-clause-images g c = λ told quiet.
     let v = c.args.self.now in
     let d = c.args.disk.now in
     let P = StandsStill v (D.files d).pkg in
-    started D.moment D.left_since d (Stops Pkg P (D.left_since d (D.moment d)))
+    started D d (Stops Pkg P (D.left_since d (D.moment d)))
     (λ image here. record {
       from = image;
       was = here;

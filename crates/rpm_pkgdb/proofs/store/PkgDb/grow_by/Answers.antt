@@ -66,7 +66,7 @@ returns-clause-images g c = λ told quiet.
     let m = c.in_ok-move_all.ensures.moved told in
     let before = c.requires.keeps told in
     stops_next g.D.Disk told P c.move_all.ensures.writes (c.move_all.ensures.images told v all quiet)
-    (stops_weaker D.moment D.left_since (BeforeOrAfter mid (with_page mid) F1) P c.move_all.new.disk c.add_page.new.disk
+    (stops_weaker D (BeforeOrAfter mid (with_page mid) F1) P c.move_all.new.disk c.add_page.new.disk
     (λ image w. still_then v mid F0 F1 image refl refl (m.blobs_are v all before) (m.others v all before)
     (grows_to mid can F1 (m.keeps v all before) image w))
     (c.add_page.ensures.images told mid from (m.quiet v all quiet)))

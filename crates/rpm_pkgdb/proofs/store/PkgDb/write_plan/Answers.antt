@@ -50,9 +50,9 @@ returns-in_err-grow-clause-stops g c = λ told quiet.
     let still = c.grow.ensures.images told quiet in
     record {
       images =
-          stops_weaker D.moment D.left_since (StandsStill v F0) (PutsTo v c.args.plan.now.target c.args.blob.now F0) d c.grow.new.disk
+          stops_weaker D (StandsStill v F0) (PutsTo v c.args.plan.now.target c.args.blob.now F0) d c.grow.new.disk
           (λ image s. inl s.stands) still;
-      left = stops_weaker D.moment D.left_since (StandsStill v F0) (StaysBut n these v F0) d c.grow.new.disk (still_but n these v F0) still;
+      left = stops_weaker D (StandsStill v F0) (StaysBut n these v F0) d c.grow.new.disk (still_but n these v F0) still;
     }
 
 pub returns-clause-stops : goal.returns-clause-stops
@@ -82,14 +82,14 @@ returns-clause-stops g c = λ told quiet.
     record {
       images =
           stops_next g.D.Disk told P c.grow.ensures.writes
-          (stops_weaker D.moment D.left_since (StandsStill v F0) P a b (λ image s. inl s.stands) still)
-          (stops_weaker D.moment D.left_since (WhilePut mid plan.target gen blob F1) P b e
+          (stops_weaker D (StandsStill v F0) P a b (λ image s. inl s.stands) still)
+          (stops_weaker D (WhilePut mid plan.target gen blob F1) P b e
           (λ image w. puts_from v plan is c.requires.made blob c.requires.length F0 F1 image page.blobs_are
           (puts_to mid plan.target gen old blob can F1 image page.kept w)) second);
       left =
           stops_next g.D.Disk told B c.grow.ensures.writes
-          (stops_weaker D.moment D.left_since (StandsStill v F0) B a b (still_but n these v F0) still)
-          (stops_weaker D.moment D.left_since (WhilePut mid plan.target gen blob F1) B b e
+          (stops_weaker D (StandsStill v F0) B a b (still_but n these v F0) still)
+          (stops_weaker D (WhilePut mid plan.target gen blob F1) B b e
           (λ image w. subst (λ (g : ℕ). StaysBut n (Some (units_of (framed n g blob))) v F0 image) gen_is
           (puts_but v F0 mid plan.target gen old blob can F1 page.kept page.others image w)) second);
     }

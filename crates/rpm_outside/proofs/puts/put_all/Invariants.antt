@@ -1,6 +1,6 @@
 use Rattle.std.proofs.Common.{length, ◌-◌, ◌≤◌, take}
 use Rattle.rpm_outside.proofs.Vocabulary.{Gained}
-use Rattle.rpm_outside.proofs.sink.put_all.Given as goal
+use Rattle.rpm_outside.proofs.puts.put_all.Given as goal
 
 abbrev pub invariant-loop-done : goal.invariant-loop-done
 invariant-loop-done g l = record {

@@ -1,7 +1,7 @@
 use Rattle.std.proofs.Common.{◌++◌, sym, subst, ap, ◌∙◌}
 use Rattle.rpm_outside.proofs.Vocabulary.{Begins, handed, holds, inner}
 use Rattle.rpm_outside.proofs.Buffering.{write_grows, more_held, all_held, wrote_past}
-use Rattle.rpm_outside.proofs.buffered.BufferedSink.write.Goals as goal
+use Rattle.rpm_outside.proofs.puts.BufferedSink.write.Goals as goal
 
 pub returns-then-keep-clause-follows : goal.returns-then-keep-clause-follows
 returns-then-keep-clause-follows g c =

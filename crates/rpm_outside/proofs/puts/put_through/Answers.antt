@@ -1,5 +1,5 @@
 use Rattle.rpm_outside.proofs.Vocabulary.{flushed, stopped}
-use Rattle.rpm_outside.proofs.buffered.put_through.Goals as goal
+use Rattle.rpm_outside.proofs.puts.put_through.Goals as goal
 
 pub returns-in_err-put_all : goal.returns-in_err-put_all
 returns-in_err-put_all g c = stopped g.met.O.Sink.follows_grows c.from_residual.result c.from_residual.ensures.0 c.requires c.in_err-put_all.ensures

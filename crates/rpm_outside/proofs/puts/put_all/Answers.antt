@@ -1,7 +1,7 @@
 use Rattle.std.proofs.Common.{◌-◌, ◌≤◌, length, arith}
 use Rattle.std.proofs.lemmas.List.{length-take, length-drop}
 use Rattle.rpm_outside.proofs.Vocabulary.{taken_more}
-use Rattle.rpm_outside.proofs.sink.put_all.Goals as goal
+use Rattle.rpm_outside.proofs.puts.put_all.Goals as goal
 
 pub loop-done-preserved : goal.loop-done-preserved
 loop-done-preserved g c =
