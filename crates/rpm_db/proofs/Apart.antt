@@ -5,7 +5,8 @@ use Rattle.std.proofs.lemmas.Bool.{cases_Bool}
 use Rattle.std.proofs.lemmas.List.{drop_all}
 use Rattle.rpm_db.proofs.Vocabulary.{AreByPlace, AreWithout, Row, row_nth, same_row, StandsBefore, StandsNotBehind, times, times-append, times_none}
 use Rattle.rpm_db.proofs.Vocabulary.{times_one}
-use Rattle.rpm_db.proofs.Places.{same_is, not_same, not_behind, none_from}
+use Rattle.rpm_db.proofs.Places.{not_same, not_behind, none_from}
+use Rattle.rpm_hindex.specs.inner.RowLaws.{same_is}
 use Rattle.rpm_db.proofs.Shared.{times_from, times_rest}
 
 -- what was taken from each list so far: no row is in one of them and in the other, or still to come there

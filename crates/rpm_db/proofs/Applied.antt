@@ -32,13 +32,3 @@ held_by file image value after is s = record {
   undamaged = s.undamaged;
   is = says_state value.generation value.field (blobs file value) image s ∙ sym (state-blobs file value) ∙ is;
 }
-
--- of a value that is told otherwise
-pub put_goes : (file : Units) (value told : Store) → value ≡ told → (n : Option ℕ) (h : Header) → header h.blob ≡ Ok h
-    → state_of (finite.insert (blobs file value) (number_for n value) (Some h.blob)) (field_for n value) ≡ apply (change_for n h.blob) (state file told)
-put_goes file value told same n h own =
-    put_state file value n h own ∙ ap (λ (v : Store). apply (change_for n h.blob) (state file v)) same
-
-pub erase_goes : (file : Units) (value told : Store) → value ≡ told → (n : ℕ)
-    → state_of (finite.remove (blobs file value) n) value.field ≡ apply (Erase n) (state file told)
-erase_goes file value told same n = erase_state file value n ∙ ap (λ (v : Store). apply (Erase n) (state file v)) same

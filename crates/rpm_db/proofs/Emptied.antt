@@ -2,7 +2,7 @@
 use Rattle.std.proofs.Common.{◌≡◌, ℕ, zero, suc, List, [], length, replicate, map, not, ◌==◌, Option, Some, None, Ok, Err, refl, sym, ap, ◌∙◌, inl, inr, arith}
 use Rattle.rpm_db.proofs.Vocabulary.{begins, blank_store, blobs, bucket_count, entry_of, filter, free, get-packages, head_reason, in_file, is_blank, is_used}
 use Rattle.rpm_db.proofs.Vocabulary.{IsEmpty, IsUnsealed, IsWellFormed, live_of, made_new, made_or_damaged, made_store, option_map, package_of, packages}
-use Rattle.rpm_db.proofs.Vocabulary.{Reason, records, RewriteFault, Row, rows, rows_at, SameRows, Store, store, store_of, table, table_fault, times}
+use Rattle.rpm_db.proofs.Vocabulary.{Reason, records, RewriteFault, Row, rows, rows_at, SameRows, Store, store, table, table_fault, times}
 use Rattle.rpm_db.proofs.Vocabulary.{times-rows, unit_at, Units, units_for, unless, word}
 use Rattle.std.specs.Prelude.{codes}
 use Rattle.std.specs.FinMap as finite

@@ -57,30 +57,11 @@ module _ {D : Type 0} (d : disk.Ghosts D) (a : D) where
   abbrev Leaves : D → D → Type 0
   Leaves x y = LeavesIn d x y (IsEmptyStill (images d a))
 
-  stops_index : (b : D) (file : Units) → store file ≡ Ok blank_store → ((i : Files) → images d a i → i.pkg ≡ file)
-      → LeavesIn d a b (CameOf Remade (images d a)) → Leaves a b
-  stops_index b file none settled =
-      leaves_weaker d.moment d.left_since a b (CameOf Remade (images d a)) (IsEmptyStill (images d a)) (index_stop (images d a) file none settled)
-
-  stops_make : (b c : D) (idx : Units) → unit_at idx 0 ≡ blank → ((i : Files) → images d b i → CameOf Remade (images d a) i)
-      → ((i : Files) → images d b i → i.idx ≡ idx) → LeavesIn d b c (Stops Pkg MakesTo (images d b)) → Leaves b c
-  stops_make b c idx void before settled =
-      leaves_weaker d.moment d.left_since b c (Stops Pkg MakesTo (images d b)) (IsEmptyStill (images d a)) (make_stop (images d a) (images d b) idx void
-      before settled)
-
-  stops_seal : (b c e : D) → ((i : Files) → images d c i → d.left_since c (d.moment b) i) → Leaves b c
-      → LeavesIn d c e (CameOf Remade (images d c)) → Leaves c e
-  stops_seal b c e earlier made =
-      leaves_weaker d.moment d.left_since c e (CameOf Remade (images d c)) (IsEmptyStill (images d a)) (seal_stop (images d a) (images d c)
-      (λ i here. made.each i (earlier i here)))
-
-  two : (b c : D) → Leaves a b → Leaves b c → Leaves a c
-  two b c = leaves_then d.moment d.left_since a b c (IsEmptyStill (images d a))
-
   -- the index is made of a blank database
   pub stops_first : IsTrue d.tells → (value : Store) (b : D) → CanMake d a value → Runs d Remade a b → Leaves a b
   stops_first told value b can run =
-      stops_index b (d.files a).pkg (blank_is (d.files a).pkg (in_file value) (can.keeps told) can.blank) (can.pkg told) (run.any_moment told)
+      leaves_weaker d a b (CameOf Remade (images d a)) (IsEmptyStill (images d a)) (index_stop (images d a) (d.files a).pkg
+      (blank_is (d.files a).pkg (in_file value) (can.keeps told) can.blank) (can.pkg told)) (run.any_moment told)
 
   -- and then the store
   module _ (told : IsTrue d.tells) (value : Store) (index : hindex.State) (b c : D) (can : CanMake d a value) (run : Runs d Remade a b)
@@ -89,13 +70,16 @@ module _ {D : Type 0} (d : disk.Ghosts D) (a : D) where
     made =
         let keeps = ap store (run.reads_as told).pkg ∙ can.keeps told in
         let quiet = settled_quiet value (d.files b) (images d b) keeps (still_settled d a b told run (can.pkg told)) in
-        stops_make b c (d.files b).idx (sym (empty.kept told).first ∙ empty.voided) (run.now told) (empty.settled told) (stops quiet)
+        leaves_weaker d b c (Stops Pkg MakesTo (images d b)) (IsEmptyStill (images d a)) (make_stop (images d a) (images d b)
+        (d.files b).idx (sym (empty.kept told).first ∙ empty.voided) (run.now told) (empty.settled told)) (stops quiet)
 
     pub stops_both : Leaves a c
-    stops_both = two b c (stops_first told value b can run) made
+    stops_both = leaves_then d a b c (IsEmptyStill (images d a)) (stops_first told value b can run) made
 
     -- and then the index is sealed
     pub stops_all : ((at : D) (s t : ℕ) (i : Files) → IsTrue d.tells → s ≤ t → t ≤ d.moment at → d.left_since at t i → d.left_since at s i) → (e : D)
         → LeavesIn d c e (CameOf Remade (images d c)) → Leaves a e
     stops_all earlier e sealing =
-        two c e stops_both (stops_seal b c e (λ i here. earlier c (d.moment b) (d.moment c) i told made.later (omega arith) here) made sealing)
+        leaves_then d a c e (IsEmptyStill (images d a)) stops_both
+        (leaves_weaker d c e (CameOf Remade (images d c)) (IsEmptyStill (images d a)) (seal_stop (images d a) (images d c) (λ i here.
+        made.each i (earlier c (d.moment b) (d.moment c) i told made.later (omega arith) here))) sealing)

@@ -33,7 +33,7 @@ module _ {D : Type 0} (d : disk.Ghosts D) where
   -- nothing is written yet
   pub still_lawful : (a b : D) → IsTrue d.tells → AreLawful (images d a) → Runs d SameFiles a b
       → LeavesIn d a b (IsLawfulStill (images d a))
-  still_lawful a b told lawful run = leaves_weaker d.moment d.left_since a b (CameOf SameFiles (images d a)) (IsLawfulStill (images d a)) (λ image c. record {
+  still_lawful a b told lawful run = leaves_weaker d a b (CameOf SameFiles (images d a)) (IsLawfulStill (images d a)) (λ image c. record {
     from = c.from;
     was = c.was;
     pkg = ap (λ (f : Files). f.pkg) c.came;
@@ -48,8 +48,8 @@ module _ {D : Type 0} (d : disk.Ghosts D) where
       → Changes d Idx (IndexTo generation work (d.files b).idx) 0 b c
       → LeavesIn d a c (IsLawfulStill (images d a))
   stops_filled a b c told lawful run generation work to settled apart of writes change =
-      leaves_then d.moment d.left_since a b c (IsLawfulStill (images d a)) (still_lawful a b told lawful run)
-      (leaves_weaker d.moment d.left_since b c (Changed Idx (IndexTo generation work (d.files b).idx) (images d b)) (IsLawfulStill (images d a)) (λ image s.
+      leaves_then d a b c (IsLawfulStill (images d a)) (still_lawful a b told lawful run)
+      (leaves_weaker d b c (Changed Idx (IndexTo generation work (d.files b).idx) (images d b)) (IsLawfulStill (images d a)) (λ image s.
       (let m = run.now told s.from s.was in
       let pkg : image.pkg ≡ m.from.pkg = s.pkg ∙ ap (λ (f : Files). f.pkg) m.came in
       let idx : s.from.idx ≡ (d.files a).idx = ap (λ (f : Files). f.idx) m.came ∙ settled m.from m.was in

@@ -1,32 +1,51 @@
 -- What a change asks and leaves of the store and then of the index, from one call to the next.
-use Rattle.std.proofs.Common.{◌≡◌, ℕ, ◌+◌, ◌≤◌, true, false, sym, ap, ◌∙◌, subst, arith}
+use Rattle.std.proofs.Common.{◌≡◌, ℕ, ◌+◌, ◌≤◌, true, sym, ap, ◌∙◌, subst}
 use Rattle.std.specs.Prelude.{IsTrue}
 use Rattle.rpm_outside.specs.declared.disk.Disk as disk
-use Rattle.rpm_db.proofs.Vocabulary.{Anything, AreRead, BlobMap, blobs, BlobsTo, CanChange, Changes, File, Files, HasRows, Idx, images, IndexTo, IsApplied}
-use Rattle.rpm_db.proofs.Vocabulary.{IsChangedStill, IsQuiet, IsSealedAfter, IsStored, Keeps, LeavesIn, packages_of, Pkg, ReadAtMost, rows, Runs, SameFiles}
-use Rattle.rpm_db.proofs.Vocabulary.{StandsFor, state_of, Stops, Store, store, Units, with_spare, Work, WritesRows}
+use Rattle.rpm_db.proofs.Vocabulary.{Anything, AreLawful, AreRead, BlobMap, blobs, BlobsTo, CanChange, Changes, Files, Idx, images, IndexTo, IsApplied}
+use Rattle.rpm_db.proofs.Vocabulary.{IsChangedStill, IsLawful, IsQuiet, IsSealedAfter, IsSettled, IsStored, Keeps, LeavesIn, packages_of, Pkg, rows}
+use Rattle.rpm_db.proofs.Vocabulary.{Runs, SameFiles, StandsFor, state, state-blobs, state_of, Stops, Store, store, Units, Work, WritesRows}
+use Rattle.rpm_db.specs.State.{State}
+use Rattle.rpm_db.proofs.Vocabulary.{HasRows, nat_cmp, Package, packages, packages-blobs}
+use Rattle.std.specs.FinMap as finite
 use Rattle.rpm_hindex.specs.State as hindex
-use Rattle.rpm_db.proofs.Both.{change_stops, quiet_then, sealed_at, store_stops}
+use Rattle.rpm_db.proofs.Both.{quiet_then}
 use Rattle.rpm_db.proofs.Found.{current_in_order}
-use Rattle.rpm_db.proofs.Unwritten.{quiet_roomed, quiet_same, settled_same}
-use Rattle.rpm_db.proofs.Changed.{Fits, fits_now}
+use Rattle.rpm_db.proofs.Unwritten.{quiet_same, settled_same, stops_written}
+use Rattle.rpm_db.proofs.Changed.{Fits, index_stop, rows_sealed, store_stop}
+use Rattle.rpm_db.proofs.Raised.{stands_same}
+use Rattle.rpm_db.proofs.Vocabulary.{Changed, leaves_then, leaves_weaker}
+use Rattle.rpm_db.proofs.Making.{no_later_of_lawful, rows_of_lawful}
 
--- of Hindex.db nothing more is read
-pub reads_both : (m : ℕ) (a b c : File → ℕ) → ReadAtMost Pkg m a b → ReadAtMost Idx 0 b c → ReadAtMost Pkg m a c
-reads_both m a b c first second = record {
-  no_less = λ f. omega (arith, first.no_less f, second.no_less f);
-  pkg = omega (arith, first.pkg, second.pkg);
-  idx = omega (arith, first.idx, second.idx);
-  log = omega (arith, first.log, second.log);
+-- the state of these blobs and this number field
+pub state_written : (pkg : Units) (value : Store) (after : BlobMap) (field : ℕ) → blobs pkg value ≡ after → value.field ≡ field
+    → state pkg value ≡ state_of after field
+state_written pkg value after field is same =
+    state-blobs pkg value ∙ ap (λ (k : BlobMap). state_of k value.field) is ∙ ap (state_of after) same
+
+-- their rows, once the change of the index is sealed
+pub rows_written : (pkg from idx : Units) (value : Store) (generation : ℕ) (work : Work) (after : BlobMap) → blobs pkg value ≡ after
+    → WritesRows (rows (packages_of after)) work from → IsSealedAfter generation work from idx → HasRows (packages pkg value) idx
+rows_written pkg from idx value generation work after is writes sealed =
+    subst (λ (ps : finite.FinMap nat_cmp Package). HasRows ps idx) (sym (packages-blobs pkg value ∙ ap packages_of is))
+    (rows_sealed generation (packages_of after) work from idx writes sealed).0
+
+-- the index of lawful files fits the store of the file
+fits_lawful : (pkg idx : Units) (value : Store) → Keeps pkg value → 1 ≤ value.pages → IsLawful pkg idx → Fits value.generation (blobs pkg value) idx
+fits_lawful pkg idx value keeps made lawful = record {
+  behind = no_later_of_lawful pkg idx value keeps made lawful;
+  rows_are = λ current.
+      subst (λ (ps : finite.FinMap nat_cmp Package). HasRows ps idx) (packages-blobs pkg value)
+      (rows_of_lawful pkg idx value keeps made lawful current);
 }
 
 module _ {D : Type 0} (d : disk.Ghosts D) where
   -- the store stays as it was written while the index changes
-  pub stored_then : (value : Store) (to : BlobMap) (S : Units → Units → Type 0) (n : ℕ) (b c : D)
-      → Changes d Idx S n b c → IsStored d b value to → IsStored d c value to
-  stored_then value to S n b c run s = record {
+  pub stored_then : (value : Store) (was to : BlobMap) (S : Units → Units → Type 0) (n : ℕ) (b c : D) → (IsTrue d.tells → was ≡ to)
+      → Changes d Idx S n b c → IsStored d b value was → IsStored d c value to
+  stored_then value was to S n b c same run s = record {
     kept = λ told. ap store (run.pkg told) ∙ s.kept told;
-    blobs_are = λ told. ap (λ (u : Units). blobs u value) (run.pkg told) ∙ s.blobs_are told;
+    blobs_are = λ told. ap (λ (u : Units). blobs u value) (run.pkg told) ∙ s.blobs_are told ∙ same told;
     quiet = λ told.
         quiet_then d told value S n b c run (s.quiet told);
     stands = λ told image here.
@@ -43,74 +62,63 @@ module _ {D : Type 0} (d : disk.Ghosts D) where
     current = subst (λ (n : ℕ). hindex.is_current n after ≡ true) is s.current;
     grows = s.grows;
     kept = s.kept;
-    sealed = λ told.
-        subst (λ (n : ℕ). IsSealedAfter n work (d.files a).idx (d.files c).idx) is
-        (subst (λ (u : Units). IsSealedAfter told_as work u (d.files c).idx) (same told) (s.sealed told));
+    sealed = λ told. rw (is, same told) at (s.sealed told);
     settled = s.settled;
-  }
-
-  -- it can be changed again
-  pub changed_again : (old at : D) (value : Store) (before index : hindex.State) (to : BlobMap) (work : Work) → value.is_stopped ≡ false
-      → 1 ≤ value.pages → IsStored d at value to → IsApplied d old at before index value.generation work → CanChange d at value index
-  changed_again old at value before index to work going made s i = record {
-    going = going;
-    made = made;
-    order = i.current;
-    keeps = s.kept;
-    units = i.kept;
-    quiet = s.quiet;
-    settled = i.settled;
   }
 
   -- what can be changed can be read
   pub read_of : (at : D) (value : Store) (index : hindex.State) → CanChange d at value index → AreRead d at value index
   read_of at value index r = record { order = current_in_order value.generation index r.order; keeps = r.keeps; units = r.units }
 
-  -- and can be changed after calls that wrote nothing
-  pub same_again : (a b : D) (value : Store) (index : hindex.State) → Runs d SameFiles a b
-      → CanChange d a value index → CanChange d b value index
-  same_again a b value index run r = record {
-    going = r.going;
-    made = r.made;
-    order = r.order;
-    keeps = λ told. ap (λ (f : Files). store f.pkg) (run.reads_as told) ∙ r.keeps told;
-    units = λ told. subst (λ (f : Files). hindex.Keeps f.idx index) (sym (run.reads_as told)) (r.units told);
-    quiet = λ told. quiet_same d a b told run value (r.quiet told);
-    settled = λ told. settled_same d a b told run (r.settled told);
-  }
+  -- what crashes leave while the store is written, and then the index, told by the files from before the plan
+  module _ (a b e : D) (told : IsTrue d.tells) (lawful : AreLawful (images d a)) (now : images d a (d.files a)) (run : Runs d SameFiles a b) (value : Store)
+      (keeps : Keeps (d.files a).pkg value) (made : 1 ≤ value.pages) (quiet : IsQuiet value (d.files a) (images d a))
+      (settled : IsSettled Idx (d.files a) (images d a)) (next : ℕ) (after : BlobMap)
+      (stops : IsQuiet value (d.files a) (images d b) → LeavesIn d b e (Stops Pkg
+      (BlobsTo value.generation value.field next (blobs (d.files a).pkg value) after) (images d b))) where
+    abbrev was : BlobMap
+    was = blobs (d.files a).pkg value
 
-  -- also where the value made room in memory
-  pub roomed_again : (a b : D) (value new : Store) (index : hindex.State)
-      → Runs d SameFiles a b → new ≡ with_spare new.spare value → CanChange d a value index
-      → CanChange d b new index
-  roomed_again a b value new index run room r = record {
-    going = ap (λ (v : Store). v.is_stopped) room ∙ r.going;
-    made = omega (arith, ap (λ (v : Store). v.pages) room, r.made);
-    order = ap (λ (v : Store). hindex.is_current v.generation index) room ∙ r.order;
-    keeps = λ told. subst (Keeps (d.files b).pkg) (sym room) (ap (λ (f : Files). store f.pkg) (run.reads_as told) ∙ r.keeps told);
-    units = λ told. subst (λ (f : Files). hindex.Keeps f.idx index) (sym (run.reads_as told)) (r.units told);
-    quiet = λ told.
-        quiet_roomed d a b told run value new room (r.quiet told);
-    settled = λ told. settled_same d a b told run (r.settled told);
-  }
+    abbrev Leaves : D → Type 0
+    Leaves x = LeavesIn d a x (IsChangedStill (state (d.files a).pkg value) (state_of after next) (images d a))
 
-  -- what crashes leave while the store is written, and then the index
-  module _ (told : IsTrue d.tells) (value : Store) (index : hindex.State) (next : ℕ) (after : BlobMap) (a b : D) (ready : CanChange d a value index)
-      (has : HasRows (packages_of (blobs (d.files a).pkg value)) (d.files a).idx) (stops : IsQuiet value (d.files a) (images d a)
-      → LeavesIn d a b (Stops Pkg (BlobsTo value.generation value.field next (blobs (d.files a).pkg value) after) (images d a))) where
-    abbrev LeavesStill : D → Type 0
-    LeavesStill x = LeavesIn d a x (IsChangedStill (state_of (blobs (d.files a).pkg value) value.field) (state_of after next) (images d a))
+    since : (x : D) → LeavesIn d b x (IsChangedStill (state_of was value.field) (state_of after next) (images d b)) → Leaves x
+    since x left =
+        stops_written (state (d.files a).pkg value) (state_of after next) d a b x told lawful run
+        (subst (λ (s : State). LeavesIn d b x (IsChangedStill s (state_of after next) (images d b))) (sym (state-blobs (d.files a).pkg value)) left)
 
-    fits : Fits value.generation (blobs (d.files a).pkg value) (d.files a).idx
-    fits = fits_now _ _ _ (sealed_at value.generation (d.files a).idx index (ready.units told) ready.order) has
+    fits : Fits value.generation was (d.files b).idx
+    fits =
+        subst (λ (f : Files). Fits value.generation was f.idx) (sym (run.reads_as told))
+        (fits_lawful (d.files a).pkg (d.files a).idx value keeps made (lawful (d.files a) now))
 
-    pub half_stops : LeavesStill b
-    half_stops =
-        store_stops d told value.generation value.field next (blobs (d.files a).pkg value) after a b b fits (ready.settled told) (stops (ready.quiet told))
+    first : LeavesIn d b e (Stops Pkg (BlobsTo value.generation value.field next was after) (images d b))
+    first = stops (rw (run.reads_as told) at (quiet_same d a b told run value quiet))
+
+    still : IsSettled Idx (d.files b) (images d b)
+    still = settled_same d a b told run settled
+
+    abbrev Still : Files → Type 0
+    Still = IsChangedStill (state_of was value.field) (state_of after next) (images d b)
+
+    in_store : LeavesIn d b e Still
+    in_store = leaves_weaker d b e (Stops Pkg (BlobsTo value.generation value.field next was after) (images d b)) Still
+        (λ image s. store_stop value.generation value.field next was after (d.files b).idx fits (images d b) image s.from s.was
+        (s.idx ∙ still s.from s.was) s.log s.pkg) first
+
+    pub half_stops : Leaves e
+    half_stops = since e in_store
 
     pub both_stop : (c : D) (new : Store) (work : Work) (generation m : ℕ) → WritesRows (rows (packages_of after)) work (d.files a).idx
-        → Changes d Pkg Anything m a b → new.generation ≡ value.generation + 1 → new.field ≡ next → IsStored d b new after → generation ≡ new.generation
-        → Changes d Idx (IndexTo generation work (d.files b).idx) 0 b c → LeavesStill c
-    both_stop c new work generation m writes first raised field_is stored is second =
-        change_stops d told value.generation value.field next (blobs (d.files a).pkg value) after a b c fits (ready.settled told) work new generation m writes
-        (stops (ready.quiet told)) first raised field_is (stored.blobs_are told) (stored.stands told) (is ∙ raised) second
+        → Changes d Pkg Anything m b e → new.generation ≡ value.generation + 1 → new.field ≡ next → IsStored d e new after → generation ≡ new.generation
+        → Changes d Idx (IndexTo generation work (d.files e).idx) 0 e c → Leaves c
+    both_stop c new work generation m writes run_store raised field_is stored is run_index =
+        let idx = (d.files b).idx in
+        let writes_now = subst (λ (f : Files). WritesRows (rows (packages_of after)) work f.idx) (sym (run.reads_as told)) writes in
+        let in_index = subst (λ (u : Units). LeavesIn d e c (Changed Idx (IndexTo (value.generation + 1) work u) (images d e))) (run_store.idx told)
+        (subst (λ (n : ℕ). LeavesIn d e c (Changed Idx (IndexTo n work (d.files e).idx) (images d e))) (is ∙ raised) (run_index.any_moment told)) in
+        since c (leaves_then d b e c Still in_store
+        (leaves_weaker d e c (Changed Idx (IndexTo (value.generation + 1) work idx) (images d e)) Still (λ image s.
+        (let m = run_store.now told s.from s.was in
+        index_stop value.generation value.field next was after idx fits (images d b) work writes_now image m.from s.from m.was m.log
+        (m.idx ∙ still m.from m.was) (stands_same _ _ _ _ _ _ s.from.pkg raised field_is (stored.blobs_are told) (stored.stands told s.from s.was)) s.pkg s.log s.idx)) in_index))

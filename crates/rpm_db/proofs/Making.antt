@@ -1,7 +1,7 @@
 -- Making the index.
 use Rattle.std.proofs.Common.{◌≡◌, ◌⊎◌, ℕ, zero, suc, ◌<◌, ◌≤◌, ◌∷◌, [], List, length, true, Ok, refl, sym, ap, ◌∙◌, subst, inl, inr, arith}
 use Rattle.std.proofs.lemmas.Bool.Decides.{nat_tests}
-use Rattle.rpm_db.proofs.Vocabulary.{blank, blobs, buckets_of, Files, HasRows, in_file, is_bucket_count, is_current, is_current_at, is_in_order, is_ordered}
+use Rattle.rpm_db.proofs.Vocabulary.{blank, blobs, Files, HasRows, in_file, is_bucket_count, is_current, is_current_at, is_in_order, is_ordered}
 use Rattle.rpm_db.proofs.Vocabulary.{IsIndexOf, IsLawful, IsOfRows, IsSealed, IsUnsealed, IsWellFormed, packages, put, records, Remade, Row, rows, SameRows}
 use Rattle.rpm_db.proofs.Vocabulary.{seal_unit, sealed, SealedOrSame, State, Store, store, unit_at, Units, VoidOrSame}
 use Rattle.rpm_hindex.specs.State as hindex
@@ -60,17 +60,6 @@ voiding from image m pkg void log = record { pkg = pkg; log = log; idx = either 
     either : VoidOrSame from.idx image.idx → (image.idx ≡ from.idx) ⊎ ((unit_at image.idx 0 ≡ blank) ⊎ IsIndexOf image.pkg image.idx)
     either (inl zeros) = inr (inl zeros)
     either (inr same) = inl same
-
--- the rows of a store's packages, and its index before the seal
-pub unsealed : (g buckets : ℕ) (all : List Row) (pkg idx : Units) → IsOfRows g all pkg → IsWellFormed buckets idx → SameRows all (records buckets idx)
-    → IsUnsealed g buckets pkg idx
-unsealed g buckets all pkg idx is whole same = record {
-  value = is.value;
-  undamaged = is.undamaged;
-  generation_is = is.generation_is;
-  whole = whole;
-  same = subst (λ (rs : List Row). SameRows rs (records buckets idx)) is.rows_are same;
-}
 
 -- the packages of a value are those of its file
 pub packages-in_file : (file : Units) (value : Store) → packages file (in_file value) ≡ packages file value

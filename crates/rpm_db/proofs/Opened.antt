@@ -75,5 +75,5 @@ module _ {D : Type 0} (d : disk.Ghosts D) where
   runs_read most a b looks = runs_looks d Remade remade_none Pkg most a b refl looks
 
   -- and what crashes leave of it is lawful, where the images at the start are
-  pub stays_lawful : (a b : D) → IsTrue d.tells → Runs d Remade a b → StaysLawful d.moment d.left_since a b
+  pub stays_lawful : (a b : D) → IsTrue d.tells → Runs d Remade a b → StaysLawful d a b
   stays_lawful a b told run lawful = stops_lawful d a b lawful (run.any_moment told)

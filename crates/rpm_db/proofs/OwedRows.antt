@@ -2,15 +2,15 @@
 use Rattle.std.proofs.Common.{◌≡◌, ℕ, ◌+◌, ◌≤◌, ◌++◌, ◌==◌, List, [], eqb, max, length, true, false, Option, None, Some, is_some, Ok, inl, inr, refl, sym, ap, ◌∙◌, subst, arith}
 use Rattle.std.proofs.lemmas.Bool.{and_parts, and_from, cases_Bool, eq-eqb}
 use Rattle.std.proofs.lemmas.List.{length-replicate}
-use Rattle.std.proofs.lemmas.List.Sums.{sum_by-append}
 use Rattle.std.proofs.lemmas.Bool.Decides.{nat_tests}
 use Rattle.std.specs.FinMap as finite
 use Rattle.rpm_db.proofs.Vocabulary.{blank, Database, due, due_units, Files, HasChanged, HasRows, Header, header, header_rows, is_current, is_in_order}
-use Rattle.rpm_db.proofs.Vocabulary.{IsInOrder, IsOrdered, live_of, nat_cmp, next_number, Package, packages, packages_of, put_map, record_units, Row, rows}
+use Rattle.rpm_db.proofs.Vocabulary.{IsInOrder, IsOrdered, live_of, nat_cmp, next_number, Package, packages, packages_of, put_map, Row, rows}
 use Rattle.rpm_db.proofs.Vocabulary.{sealed, sealed_in, State, Store, times-append, times_none, Units, units_for}
 use Rattle.rpm_db.proofs.Found.{current_in_order}
 use Rattle.rpm_db.proofs.Edited.{rows_put}
 use Rattle.rpm_db.proofs.Reached.{live_none}
+use Rattle.rpm_hindex.specs.inner.RowLaws.{live-append}
 
 -- rows that come after others
 gather_more : (owed more a b c : List Row) → HasChanged [] owed a b → HasChanged [] more b c → HasChanged [] (owed ++ more) a c
@@ -59,10 +59,6 @@ sealed_of g None some is = absurd cc
 sealed_of g (Some s) some is = current_sealed g s is
 
 -- ---- how far the index is to reach
-
-live-append : (xs ys : List Row) → live_of (xs ++ ys) ≡ live_of xs + live_of ys
-unfolding live_of
-live-append xs ys = sum_by-append (λ (r : Row). record_units (length r.key)) xs ys
 
 module _ (pkg idx : Units) (db : Database) (owed : List Row) where
   due_least : (sealed_in db.index ≡ db.store.generation → owed ≡ []) → length idx + live_of owed ≤ due_units pkg idx db owed

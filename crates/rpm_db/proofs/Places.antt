@@ -1,31 +1,10 @@
 -- Rows by kind and place.
-use Rattle.std.proofs.Common.{◌≡◌, ℕ, zero, suc, ◌+◌, ◌≤◌, ◌<◌, ◌==◌, ◌&&◌, Bool, true, false, List, [], ◌∷◌, drop, length, cond, ap, ◌∙◌, inl, inr, arith, add-one}
-use Rattle.rpm_db.proofs.Vocabulary.{AreByPlace, bytes_eq, Row, row_nth, same_row, StandsBefore, StandsBeforeAll, StandsNotBehind, times, times-append}
+use Rattle.std.proofs.Common.{◌≡◌, ℕ, zero, suc, ◌+◌, ◌≤◌, ◌<◌, Bool, false, List, [], ◌∷◌, drop, length, cond, ap, ◌∙◌, inl, inr, arith, add-one}
+use Rattle.rpm_db.proofs.Vocabulary.{AreByPlace, Each, Row, row_nth, same_row, StandsBefore, StandsNotBehind, times, times-append}
 use Rattle.rpm_db.proofs.Vocabulary.{times_none, times_one}
-use Rattle.std.proofs.lemmas.Bool.{cases_Bool, and_parts}
-use Rattle.std.proofs.lemmas.Bool.Decides.{nat_tests}
-use Rattle.std.proofs.lemmas.Slice.Eq.{bytes_eq-Decides}
+use Rattle.std.proofs.lemmas.Bool.{cases_Bool}
+use Rattle.rpm_hindex.specs.inner.RowLaws.{same_is}
 use Rattle.rpm_db.proofs.Shared.{times_from}
-
-abbrev row_with : ℕ → List ℕ → ℕ → ℕ → Row
-row_with kind key number place = record { kind = kind; key = key; number = number; place = place }
-
-pub same_is : (a b : Row) → same_row a b ≡ true → a ≡ b
-same_is a b same =
-    let first = and_parts (a.kind == b.kind) (bytes_eq a.key b.key && ((a.number == b.number) && (a.place == b.place))) same in
-    let second = and_parts (bytes_eq a.key b.key) ((a.number == b.number) && (a.place == b.place)) first.1 in
-    let third = and_parts (a.number == b.number) (a.place == b.place) second.1 in
-    let kind_test : (a.kind == b.kind) ≡ true = first.0 in
-    let number_test : (a.number == b.number) ≡ true = third.0 in
-    let place_test : (a.place == b.place) ≡ true = third.1 in
-    let kind : a.kind ≡ b.kind = grind (arith, nat_tests) in
-    let number : a.number ≡ b.number = grind (arith, nat_tests) in
-    let place : a.place ≡ b.place = grind (arith, nat_tests) in
-    let key : a.key ≡ b.key = (bytes_eq-Decides a.key b.key).0 second.0 in
-    ap (λ (k : ℕ). row_with k a.key a.number a.place) kind
-    ∙ ap (λ (k : List ℕ). row_with b.kind k a.number a.place) key
-    ∙ ap (λ (n : ℕ). row_with b.kind b.key n a.place) number
-    ∙ ap (λ (p : ℕ). row_with b.kind b.key b.number p) place
 
 -- a row is no row that it stands before
 pub not_same : (a b : Row) → StandsBefore a b → same_row a b ≡ false
@@ -41,7 +20,7 @@ not_same a b before = elim (cases_Bool (same_row a b)) [
 pub not_behind : (a b : Row) → StandsBefore a b → StandsNotBehind a b
 not_behind a b before = (before.0, λ is. omega (arith, before.1 is))
 
-none_behind : (r x : Row) (rows : List Row) → StandsNotBehind r x → StandsBeforeAll x rows → times r rows ≡ 0
+none_behind : (r x : Row) (rows : List Row) → StandsNotBehind r x → Each (StandsBefore x) rows → times r rows ≡ 0
 none_behind r x [] at all = times_none r
 none_behind r x (y ∷ ys) at all =
     let le : r.kind ≤ y.kind = omega (arith, at.0, all.0.0) in
@@ -53,7 +32,7 @@ none_behind r x (y ∷ ys) at all =
     let rest : times r ys ≡ 0 = none_behind r x ys at all.1 in
     omega (arith, times-append r (y ∷ []) ys, none, rest)
 
-before_rest : (rows : List Row) (i : ℕ) → AreByPlace rows → i < length rows → StandsBeforeAll (row_nth rows i) (drop (suc i) rows)
+before_rest : (rows : List Row) (i : ℕ) → AreByPlace rows → i < length rows → Each (StandsBefore (row_nth rows i)) (drop (suc i) rows)
 before_rest [] i by_place within = absurd (omega (arith, within))
 before_rest (r ∷ rs) zero by_place within = by_place.0
 before_rest (r ∷ rs) (suc i) by_place within = before_rest rs i by_place.1 (omega (arith, within))

@@ -1,9 +1,9 @@
 -- What a fault says.
 use Rattle.std.proofs.Common.{◌≡◌, ℕ, ◌^◌, ◌≤◌, List, length, true, false, Ok, Err, refl, arith}
 use Rattle.std.specs.Prelude.{Result}
-use Rattle.rpm_db.proofs.Vocabulary.{AddIs, BadCause, BadHeader, BadIndex, ChangeFault, Database, DiskFault, EraseCause, FullCause, GenerationSpent, Header}
-use Rattle.rpm_db.proofs.Vocabulary.{header, holds, IndexFull, is_stopping, IsFull, IsOfIndex, IsOfReading, IsOfRoom, IsRefusal, LaterCause, LaterIs}
-use Rattle.rpm_db.proofs.Vocabulary.{NoMemory, NoSuch, NumbersSpent, Stopped, StoreFull, Units}
+use Rattle.rpm_db.proofs.Vocabulary.{AddIs, BadHeader, BadIndex, ChangeFault, Database, DiskFault, EraseCause, FullCause, Header}
+use Rattle.rpm_db.proofs.Vocabulary.{header, holds, IndexFull, is_stopping, IsFull, IsOfIndex, IsOfReading, IsRefusal, LaterCause, LaterIs}
+use Rattle.rpm_db.proofs.Vocabulary.{NoMemory, NoSuch, NumbersSpent, Stopped}
 use Rattle.rpm_db.specs.Database.{next_number}
 
 -- after the generation and the room in the store
@@ -36,14 +36,6 @@ erase_cause db n NoSuch going here later = absurd later
 erase_cause db n NumbersSpent going here later = absurd later
 erase_cause db n Stopped going here later = absurd later
 erase_cause db n others going here later = (going, here, later)
-
--- a fault of the store says nothing of the index, and of the disk
-pub room_index : (needed : ℕ) (idx : Units) (fault : ChangeFault) → IsOfRoom fault
-    → FullCause needed fault × (BadCause idx fault × (fault ≡ DiskFault → ⊥))
-room_index needed idx GenerationSpent is = (tt, (tt, λ e. cc))
-room_index needed idx StoreFull is = (tt, (tt, λ e. cc))
-room_index needed idx NoMemory is = (tt, (tt, λ e. cc))
-room_index needed idx others is = absurd is
 
 -- where the index has room for so many units, it is a fault of reading
 pub reading_of : (fault : ChangeFault) (needed : ℕ) → IsOfIndex fault → FullCause needed fault → needed ≤ 2 ^ 28 → IsOfReading fault

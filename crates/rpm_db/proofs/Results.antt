@@ -10,10 +10,6 @@ pub both_ok : {A E P Q R : Type 0} (r : Result A E) → (P → Q → R) → OnOk
 both_ok (Ok a) f p q = f p q
 both_ok (Err e) f p q = tt
 
-pub map_err : {A E P Q : Type 0} (r : Result A E) → (P → Q) → OnErr r P → OnErr r Q
-map_err (Ok a) f p = tt
-map_err (Err e) f p = f p
-
 pub three_ok : {A E P Q R S : Type 0} (r : Result A E) → (P → Q → R → S) → OnOk r P → OnOk r Q → OnOk r R → OnOk r S
 three_ok (Ok a) f p q x = f p q x
 three_ok (Err e) f p q x = tt
@@ -21,10 +17,6 @@ three_ok (Err e) f p q x = tt
 pub map_if_err : {A E : Type 0} {P Q : E → Type 0} (r : Result A E) → ((e : E) → P e → Q e) → IfErr r P → IfErr r Q
 map_if_err (Ok a) f p = tt
 map_if_err (Err e) f p = f e p
-
-pub on_ok : {A E P : Type 0} (r : Result A E) → P → OnOk r P
-on_ok (Ok a) p = p
-on_ok (Err e) p = tt
 
 pub on_err : {A E P : Type 0} (r : Result A E) → P → OnErr r P
 on_err (Ok a) p = tt

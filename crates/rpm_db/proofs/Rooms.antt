@@ -1,16 +1,19 @@
 -- Where a change finds room.
-use Rattle.std.proofs.Common.{◌≡◌, ℕ, ◌+◌, List, length, Option, Some, None, refl, sym, ap, ◌∙◌, subst}
-use Rattle.std.specs.Prelude.{IsSome}
-use Rattle.rpm_db.proofs.Vocabulary.{BadHeader, BadIndex, change_for, ChangeFault, DiskFault, erased, GenerationSpent, IndexFull, IsOfIndex, LaterCause}
-use Rattle.rpm_db.proofs.Vocabulary.{next_store, NoMemory, NoSuch, NumbersSpent, option_map, placed, placed_generation, Placement, placement_of, Plan, put_in}
-use Rattle.rpm_db.proofs.Vocabulary.{raised, RoomCause, Stopped, Store, StoreFull, with_placed, with_plan, with_spare}
+use Rattle.std.proofs.Common.{◌≡◌, ℕ, ◌+◌, List, length, Option, Some, None, is_none, Ok, Err, refl, sym, ap, ◌∙◌, subst}
+use Rattle.std.specs.Prelude.{IfErr, IsSome, OnOk, Result}
+use Rattle.rpm_db.proofs.Vocabulary.{BadIndex, change_for, ChangeFault, erased, HasEdit, IndexFull, IsFull, IsOfIndex, LaterCause, LaterIs}
+use Rattle.rpm_db.proofs.Vocabulary.{next_store, option_map, placed, placed_generation, Placement, placement_of, Plan, put_in}
+use Rattle.rpm_db.proofs.Vocabulary.{raised, RoomCause, Store, StoreFull, with_placed, with_plan, with_spare}
+use Rattle.rpm_db.proofs.Refused.{later_of_index}
+use Rattle.rpm_db.specs.declared.writing.Edit.TheVariants as edit
+use Rattle.rpm_db.specs.inner.Both.{FindsRoom}
 
 some_is : {X : Type 0} (said : Option X) (x : X) → said ≡ Some x → IsSome said
 some_is None x is = absurd cc
 some_is (Some y) x is = refl
 
 -- the index comes after a place
-pub room_of_index : {X : Type 0} (said : Option X) (x : X) (fault : ChangeFault) → IsOfIndex fault → said ≡ Some x → RoomCause said fault
+room_of_index : {X : Type 0} (said : Option X) (x : X) (fault : ChangeFault) → IsOfIndex fault → said ≡ Some x → RoomCause said fault
 room_of_index said x StoreFull kind is = absurd kind
 room_of_index said x (IndexFull needed) kind is = some_is said x is
 room_of_index said x (BadIndex unit) kind is = some_is said x is
@@ -27,19 +30,35 @@ mapped f o (BadIndex unit) room = some_mapped f o room
 mapped f o others room = tt
 
 -- what a place says, the store with the blob says
-pub room_put : (n : Option ℕ) (size : ℕ) (value : Store) (fault : ChangeFault) → RoomCause (placed n size value) fault
+room_put : (n : Option ℕ) (size : ℕ) (value : Store) (fault : ChangeFault) → RoomCause (placed n size value) fault
     → RoomCause (put_in n size (raised value)) fault
 room_put n size value fault room =
     mapped (λ (p : Placement). with_placed p (raised value)) (placed n size (raised value)) fault
     (subst (λ (o : Option Placement). RoomCause o fault) (sym (placed_generation n size (value.generation + 1) value)) room)
 
 -- a plan that was written
-pub put_placed : (n : Option ℕ) (size : ℕ) (old mid new : Store) (plan : Plan) → placed n size old ≡ Some (placement_of plan)
+put_placed : (n : Option ℕ) (size : ℕ) (old mid new : Store) (plan : Plan) → placed n size old ≡ Some (placement_of plan)
     → mid ≡ with_spare mid.spare old → new ≡ with_spare new.spare (with_plan plan (raised mid))
     → put_in n size (raised old) ≡ Some (with_spare old.spare new)
 put_placed n size old mid new plan said room ok =
     ap (option_map (λ (p : Placement). with_placed p (raised old))) (placed_generation n size (old.generation + 1) old ∙ said)
     ∙ ap Some (sym (ap (with_spare old.spare) (ok ∙ ap (λ (v : Store). with_spare new.spare (with_plan plan (raised v))) room)))
+
+-- a header that was planned, whatever both files answer then
+module _ (n : Option ℕ) (size : ℕ) (old mid new : Store) (plan : Plan) (later : LaterIs {A = Plan} old.generation (IsFull old (is_none n) size) (Ok plan))
+    (said : placed n size old ≡ Some (placement_of plan)) (room : mid ≡ with_spare mid.spare old) where
+  pub finds_room : {A : Type 0} (result : Result A ChangeFault) → OnOk result (HasEdit (edit.Put plan) (raised mid) new) → IfErr result IsOfIndex
+      → FindsRoom n size old new result
+  finds_room (Ok done) is kind = record { later = later; placed = put_placed n size old mid new plan said room is.is }
+  finds_room (Err fault) is kind = record {
+    later = later_of_index _ _ fault kind later.0 later.1;
+    placed = room_put n size old fault (room_of_index _ (placement_of plan) fault kind said);
+  }
+
+-- or that wasn't
+pub finds_none : {A : Type 0} (n : Option ℕ) (size : ℕ) (old new : Store) (fault : ChangeFault)
+    → LaterCause old.generation (IsFull old (is_none n) size) fault → RoomCause (placed n size old) fault → FindsRoom {A = A} n size old new (Err fault)
+finds_none n size old new fault later room = record { later = later; placed = room_put n size old fault room }
 
 -- a header under a new number, or one that is there
 pub put_next : (n : Option ℕ) (bytes : List ℕ) (value : Store) → put_in n (length bytes) (raised value) ≡ next_store (change_for n bytes) value

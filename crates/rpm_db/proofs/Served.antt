@@ -1,5 +1,5 @@
 -- What a changing call leaves of a value.
-use Rattle.std.proofs.Common.{◌≡◌, ℕ, ◌≤◌, Bool, true, Option, Some, refl, sym, ap, ◌∙◌, subst}
+use Rattle.std.proofs.Common.{◌≡◌, ◌≤◌, Bool, true, Option, Some, refl, sym, ap, ◌∙◌, subst}
 use Rattle.std.specs.Prelude.{IsTrue}
 use Rattle.rpm_db.proofs.Vocabulary.{Database, Files, HasRows, images, IsIndexed, IsLawful, IsQuiet, IsServing, packages, Runs, SameFiles, Store, store}
 use Rattle.rpm_db.proofs.Vocabulary.{Units, with_room, with_spare}
@@ -34,22 +34,17 @@ pub room_same : (value new : Store) → new ≡ value → new ≡ with_spare new
 room_same value new same = subst (λ (v : Store). v ≡ with_spare v.spare value) (sym same) refl
 
 -- the value as it was, up to that room
-pub refused_room : (value new : Store) (index changed : hindex.State) (was is : Bool) (db : Database) → database_of value (Some index) was ≡ db
-    → new ≡ with_spare new.spare value → changed ≡ index → is ≡ was → database_of new (Some changed) is ≡ with_room new.spare db
-refused_room value new index changed was is db view same same_index going =
+pub refused_room : (value new : Store) (index changed : hindex.State) (was is : Bool) → new ≡ with_spare new.spare value → changed ≡ index → is ≡ was
+    → database_of new (Some changed) is ≡ with_room new.spare (database_of value (Some index) was)
+refused_room value new index changed was is same same_index going =
     ap (λ (v : Store). database_of v (Some changed) is) same
     ∙ ap (λ (i : hindex.State). database_of (with_spare new.spare value) (Some i) is) same_index
     ∙ ap (λ (b : Bool). database_of (with_spare new.spare value) (Some index) b) going
-    ∙ ap (with_room new.spare) view
 
 -- as it was
-pub refused_same : (value new : Store) (index changed : hindex.State) (was is : Bool) (db : Database) → database_of value (Some index) was ≡ db
-    → new ≡ value → changed ≡ index → is ≡ was → database_of new (Some changed) is ≡ db
-refused_same value new index changed was is db view same same_index going =
-    ap (λ (v : Store). database_of v (Some changed) is) same
-    ∙ ap (λ (i : hindex.State). database_of value (Some i) is) same_index
-    ∙ ap (λ (b : Bool). database_of value (Some index) b) going
-    ∙ view
+pub refused_same : (value new : Store) (index changed : hindex.State) (was is : Bool) → new ≡ value → changed ≡ index → is ≡ was
+    → database_of new (Some changed) is ≡ database_of value (Some index) was
+refused_same value new index changed was is same same_index going = cc
 
 -- and it still serves
 module _ {D : Type 0} (d : disk.Ghosts D) where
@@ -58,19 +53,10 @@ module _ {D : Type 0} (d : disk.Ghosts D) where
       → IsServing (d.files a) (images d a) (database_of value (Some index) was)
       → IsServing (d.files b) (images d b) (database_of new (Some changed) is)
   serving_same a b told run value new index changed was is same same_index s =
-      let images = images d b in
       let quiet = quiet_same d a b told run value s.quiet in
       record {
         keeps = subst (pkgdb.Keeps (d.files b).pkg) (sym same) (ap (λ (f : Files). store f.pkg) (run.reads_as told) ∙ s.keeps);
-        index = subst (hindex.Keeps (d.files b).idx) (sym same_index)
-            (subst (λ (f : Files). hindex.Keeps f.idx index) (sym (run.reads_as told)) s.index);
-        quiet = subst (λ (v : Store). IsQuiet v (d.files b) images) (sym same) (quiet_room new.spare value (d.files b) images quiet);
+        index = rw (same_index, run.reads_as told) s.index;
+        quiet = subst (λ (v : Store). IsQuiet v (d.files b) (images d b)) (sym same) (quiet_room new.spare value (d.files b) (images d b) quiet);
         settled = settled_same d a b told run s.settled;
       }
-
--- what a value keeps, told by its fields
-pub serving_inside : (files : Files) (images : Files → Type 0) (value : Store) (index : Option hindex.State) (found : hindex.State) (stopped : Bool)
-    (db : Database) → database_of value index stopped ≡ db → index ≡ Some found → IsServing files images db
-    → IsServing files images (database_of value (Some found) stopped)
-serving_inside files images value index found stopped db view is s =
-    subst (λ (i : Option hindex.State). IsServing files images (database_of value i stopped)) is (subst (IsServing files images) (sym view) s)

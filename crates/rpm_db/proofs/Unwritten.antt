@@ -2,9 +2,8 @@
 use Rattle.std.proofs.Common.{◌≡◌, ◌⊎◌, inl, inr, ℕ, refl, sym, ap, ◌∙◌, subst}
 use Rattle.std.specs.Prelude.{IsTrue}
 use Rattle.rpm_db.proofs.Vocabulary.{AreLawful, CameOf, Files, Idx, images, IsBetween, IsChangedStill, IsLawful, IsQuiet, IsSettled, leaves_then}
-use Rattle.rpm_db.proofs.Vocabulary.{leaves_weaker, LeavesIn, Looks, Pkg, Runs, runs_looks, runs_then, SameFiles, SameLog, Says, StandsAs, Store, with_spare}
+use Rattle.rpm_db.proofs.Vocabulary.{leaves_weaker, LeavesIn, Looks, Pkg, Runs, runs_looks, runs_then, runs_weaker, SameFiles, SameLog, Says, StandsAs, Store}
 use Rattle.rpm_db.specs.State.{State}
-use Rattle.rpm_db.proofs.Edited.{quiet_room}
 use Rattle.rpm_outside.specs.declared.disk.Disk as disk
 
 module _ (before after : State) where
@@ -40,15 +39,15 @@ module _ (before after : State) where
     pub stops_refused : (a b : D) → IsTrue d.tells → AreLawful (images d a) → Runs d SameFiles a b
         → LeavesIn d a b (IsChangedStill before after (images d a))
     stops_refused a b told lawful run =
-        leaves_weaker d.moment d.left_since a b (CameOf SameFiles (images d a)) (IsChangedStill before after (images d a)) (same_still (images d a) lawful)
+        leaves_weaker d a b (CameOf SameFiles (images d a)) (IsChangedStill before after (images d a)) (same_still (images d a) lawful)
         (run.any_moment told)
 
     pub stops_written : (a b c : D) → IsTrue d.tells → AreLawful (images d a) → Runs d SameFiles a b
         → LeavesIn d b c (IsChangedStill before after (images d b))
         → LeavesIn d a c (IsChangedStill before after (images d a))
     stops_written a b c told lawful run next =
-        leaves_then d.moment d.left_since a b c (IsChangedStill before after (images d a)) (stops_refused a b told lawful run)
-        (leaves_weaker d.moment d.left_since b c (IsChangedStill before after (images d b)) (IsChangedStill before after (images d a))
+        leaves_then d a b c (IsChangedStill before after (images d a)) (stops_refused a b told lawful run)
+        (leaves_weaker d b c (IsChangedStill before after (images d b)) (IsChangedStill before after (images d a))
         (still_from (images d a) (images d b) (run.now told)) next)
 
 -- while nothing is written
@@ -61,13 +60,6 @@ module _ {D : Type 0} (d : disk.Ghosts D) where
       subst (λ (f : Files). StandsAs value f.pkg image.pkg) (sym (run.reads_as told))
       (subst (λ (f : Files). StandsAs value (d.files a).pkg f.pkg) (sym c.came) (quiet c.from c.was))
 
-  -- also a value that made room in memory
-  pub quiet_roomed : (a b : D) → IsTrue d.tells → Runs d SameFiles a b → (value new : Store)
-      → new ≡ with_spare new.spare value → IsQuiet value (d.files a) (images d a) → IsQuiet new (d.files b) (images d b)
-  quiet_roomed a b told run value new same quiet =
-      subst (λ (v : Store). IsQuiet v (d.files b) (images d b)) (sym same)
-      (quiet_room new.spare value (d.files b) (images d b) (quiet_same a b told run value quiet))
-
   -- and the index settled
   pub settled_same : (a b : D) → IsTrue d.tells → Runs d SameFiles a b → IsSettled Idx (d.files a) (images d a)
       → IsSettled Idx (d.files b) (images d b)
@@ -78,16 +70,7 @@ module _ {D : Type 0} (d : disk.Ghosts D) where
   -- the log too
   pub log_same : (a b : D) → Runs d SameFiles a b
       → Runs d SameLog a b
-  log_same a b run = record {
-    reads_as = λ told. ap (λ (f : Files). f.log) (run.reads_as told);
-    now = λ told image left. weaker image (run.now told image left);
-    any_moment = λ told. leaves_weaker d.moment d.left_since a b (CameOf SameFiles (images d a)) (CameOf SameLog (images d a)) weaker (run.any_moment told);
-    reads = run.reads;
-    goes_on = run.goes_on;
-  }
-    where
-      weaker : (image : Files) → CameOf SameFiles (images d a) image → CameOf SameLog (images d a) image
-      weaker image c = record { from = c.from; was = c.was; came = ap (λ (f : Files). f.log) c.came }
+  log_same a b = runs_weaker d SameFiles SameLog a b (λ x y same. ap (λ (f : Files). f.log) same)
 
   -- where the index was read, and the packages before
   pub looked_at : (n : ℕ) (a b : D) → Looks d Idx n a b → Runs d SameFiles a b

@@ -20,7 +20,7 @@ pub use Rattle.rpm_db.specs.Room.{next_store, raised, RoomCause}
 pub use Rattle.rpm_db.specs.RowLaws.{of_at, rows-insert, rows-remove, times-append, times-rows, times_none, times_one}
 pub use Rattle.rpm_db.specs.Rows.{key_row, kind_rows, kinds, package_rows, rows_at, rows_in, rows_read}
 unfoldable pub use Rattle.rpm_db.specs.Rows.{header_rows, rows}
-pub use Rattle.rpm_db.specs.Running.{runs_index, runs_looks, runs_then}
+pub use Rattle.rpm_db.specs.Running.{runs_index, runs_looks, runs_then, runs_weaker}
 pub use Rattle.rpm_db.specs.Runs.{CameOf, SameFiles, SameLog}
 pub use Rattle.rpm_db.specs.State.{above, Bad, Good, Package, package_of, read_as, state}
 unfoldable pub use Rattle.rpm_db.specs.State.{packages}
@@ -30,11 +30,13 @@ pub use Rattle.rpm_db.specs.declared.change_fault.ChangeFault.{ChangeFault}
 pub use Rattle.rpm_db.specs.declared.change_fault.ChangeFault.TheVariants.{BadHeader, BadIndex, DiskFault, GenerationSpent, IndexFull, NoMemory, NoSuch}
 pub use Rattle.rpm_db.specs.declared.change_fault.ChangeFault.TheVariants.{NumbersSpent, Stopped, StoreFull}
 pub use Rattle.rpm_db.specs.inner.Both.{AreRead, CanChange, CanTake, IsApplied, IsDone, IsRefused, IsStored, LeadsTo}
+pub use Rattle.rpm_db.specs.inner.Edits.{CanEdit, edit_cost, edited, EditReaches, EditsTo, field_edited, HasEdit, IsEdited, Suits, with_edit}
+pub use Rattle.rpm_db.specs.declared.writing.Edit.{Edit}
 pub use Rattle.rpm_db.specs.inner.Faults.{store_fault}
 pub use Rattle.rpm_db.specs.inner.Filling.{AreOfRows, IsPutAside, TakesRows}
 pub use Rattle.rpm_db.specs.inner.LawfulLaws.{remade_lawful, remade_none, remade_then, stops_lawful, void_agrees}
 pub use Rattle.rpm_db.specs.inner.Making.{CanMake, IsEmptyIndex, IsSealedHere}
-pub use Rattle.rpm_db.specs.inner.Places.{AreByPlace, AreParted, AreWithout, StandsBefore, StandsBeforeAll, StandsNotBehind}
+pub use Rattle.rpm_db.specs.inner.Places.{AreByPlace, AreParted, AreWithout, Each, StandsBefore, StandsNotBehind}
 pub use Rattle.rpm_db.specs.inner.Writes.{BlobsTo, change_for, cost_before, field_for, IndexTo, IsSealedAfter, number_for, old_rows, packages_of, put_map}
 pub use Rattle.rpm_db.specs.inner.Writes.{sealed_after, state_of, state_with, WritesRows, WritesWhole}
 pub use Rattle.rpm_header.specs.Header.{Header, header}
@@ -57,7 +59,8 @@ pub use Rattle.rpm_hindex.specs.declared.faults.RewriteFault.{RewriteFault}
 pub use Rattle.rpm_hindex.specs.declared.hits.Hit.{Hit}
 pub use Rattle.rpm_hindex.specs.declared.plan.Work.{Work}
 pub use Rattle.rpm_outside.specs.Changes.{Changed, IsSettled, OnlyIn, Stops}
-pub use Rattle.rpm_outside.specs.Crash.{bytes_for, LeavesOnly}
+pub use Rattle.rpm_outside.specs.Crash.{bytes_for}
+pub use Rattle.rpm_outside.specs.Leaves.{LeavesOnly}
 pub use Rattle.rpm_outside.specs.Files.{blank, Files, put, unit_at, Units}
 pub use Rattle.rpm_outside.specs.Frame.{Changes, images, LeavesIn, Looks}
 pub use Rattle.rpm_outside.specs.Looks.{ReadAtMost}

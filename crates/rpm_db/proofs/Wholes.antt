@@ -1,8 +1,8 @@
 -- An index that is well formed as a whole, while a change of it is worked out and written.
 use Rattle.std.proofs.Common.{◌≡◌, ℕ, List, Ok, Err, sym, subst}
 use Rattle.std.specs.Prelude.{Result, IfErr}
-use Rattle.rpm_db.proofs.Vocabulary.{BadCause, BadHeader, BadIndex, BadIndexIs, buckets_of, ChangeFault, DiskFault, Files, GenerationSpent, IndexFull}
-use Rattle.rpm_db.proofs.Vocabulary.{IsPlanFor, IsSealedAfter, IsWellFormed, IsWholeIndex, NoMemory, NoSuch, NumbersSpent, Row, Stopped, StoreFull, unit_at}
+use Rattle.rpm_db.proofs.Vocabulary.{BadCause, BadIndex, BadIndexIs, buckets_of, ChangeFault, Files}
+use Rattle.rpm_db.proofs.Vocabulary.{IsPlanFor, IsSealedAfter, IsWellFormed, IsWholeIndex, Row, unit_at}
 use Rattle.rpm_db.proofs.Vocabulary.{Units, WholeCause, Work, WritesWhole}
 use Rattle.rpm_db.proofs.Prepared.{never_bad}
 
@@ -11,12 +11,6 @@ pub whole_plan : (drops adds : List Row) (first : List ℕ) (idx : Units) (work 
     → (IsWellFormed (buckets_of first) idx → IsPlanFor drops adds (buckets_of first) idx work) → IsWholeIndex idx → WritesWhole work idx
 unfolding IsPlanFor
 whole_plan drops adds first idx work same makes whole = (makes (subst (λ (u : List ℕ). IsWellFormed (buckets_of u) idx) (sym same) whole)).whole
-
--- it is worked out on files that are the same
-pub whole_work : (work : Work) (from mid : Files) → mid ≡ from → (IsWholeIndex mid.idx → WritesWhole work mid.idx) → IsWholeIndex from.idx
-    → WritesWhole work from.idx
-whole_work work from mid same makes whole =
-    subst (λ (f : Files). WritesWhole work f.idx) same (makes (subst (λ (f : Files). IsWholeIndex f.idx) (sym same) whole))
 
 -- and written and sealed
 pub whole_sealed : (generation : ℕ) (work : Work) (from mid : Files) (idx : Units) → mid ≡ from → WritesWhole work from.idx

@@ -21,7 +21,7 @@ room db = db.store
 module _ {D : Type 0} (d : disk.Ghosts D) where
   -- the files, and what a crash leaves, came of those before as a relation says
   abbrev pub Runs : (Files → Files → Type 0) → D → D → Type 0
-  Runs = runs.Runs d.tells d.files d.left_since d.moment d.bytes_read d.follows
+  Runs = runs.Runs d
 
   -- so did they, and this answer comes only where the disk counted a fault
   pub record RunsOr (by : Files → Files → Type 0) (what : Type 0) (old new : D) : Type 0 where

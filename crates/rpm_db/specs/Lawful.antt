@@ -2,7 +2,8 @@
 use Rattle.std.specs.Prelude.{◌≡◌, ◌⊎◌, ◌≤◌, ℕ, Bool, List, true, Ok}
 use Rattle.std.specs.Ordering.{nat_cmp}
 use Rattle.std.specs.FinMap.{FinMap}
-use Rattle.rpm_outside.specs.Crash.{LeavesOnly}
+use Rattle.rpm_outside.specs.declared.disk.Disk as disk
+use Rattle.rpm_outside.specs.Frame.{LeavesIn, images}
 use Rattle.rpm_outside.specs.Files.{Units, Files, unit_at, blank}
 use Rattle.rpm_pkgdb.specs.Store.{Store, store, blank_store}
 use Rattle.rpm_hindex.specs.Index.{records}
@@ -77,6 +78,5 @@ pub record IsLawfulStill (images : Files → Type 0) (image : Files) : Type 0 wh
   pub lawful : IsLawful image.pkg image.idx
 
 -- a crash at any moment since then leaves such an image, where those at the start are lawful
-abbrev pub StaysLawful : {D : Type 0} → (D → ℕ) → (D → ℕ → Files → Type 0) → D → D → Type 0
-StaysLawful moment left_since old new =
-    AreLawful (left_since old (moment old)) → LeavesOnly moment left_since old new (IsLawfulStill (left_since old (moment old)))
+abbrev pub StaysLawful : {D : Type 0} → disk.Ghosts D → D → D → Type 0
+StaysLawful d old new = AreLawful (images d old) → LeavesIn d old new (IsLawfulStill (images d old))

@@ -53,8 +53,10 @@ pub use Rattle.rpm_db.specs.State.{Package, package_of, packages, state}
 pub use Rattle.rpm_db.specs.Verdicts.{differs, header_verdict, is_digest_wrong, verdict}
 pub use Rattle.rpm_db.specs.declared.change_fault.ChangeFault.TheVariants.{BadHeader}
 pub use Rattle.rpm_db.specs.declared.open_fault.DbOpenFault.TheVariants.{Damaged}
-pub use Rattle.rpm_db.specs.inner.Both.{ArePlanned, AreRead, AreWritten, CanApply, CanChange, CanPut, CanTake, IndexIs, IsApplied}
-pub use Rattle.rpm_db.specs.inner.Both.{FindsRoom, IsDone, IsPlaced, IsStored, LeadsTo, PlacedIs}
+pub use Rattle.rpm_db.specs.inner.Both.{AreRead, CanApply, CanChange, CanTake, IndexIs, IsApplied}
+pub use Rattle.rpm_db.specs.inner.Both.{FindsRoom, IsDone, IsPlaced, IsStored, LeadsTo}
+pub use Rattle.rpm_db.specs.inner.Edits.{CanEdit, EditReaches, EditsTo, HasEdit, IsEdited, Suits, edit_cost, edited, field_edited}
+pub use Rattle.rpm_db.specs.inner.Edits.{with_edit}
 pub use Rattle.rpm_db.specs.inner.Faults.{store_fault}
 pub use Rattle.rpm_db.specs.inner.Filling.{AreOfRows, CanFill, CanPutAside, IsFilled, IsPutAside, TakesRows}
 pub use Rattle.rpm_db.specs.inner.Making.{CanIndex, CanMake, IsEmptyIndex, IsIndexFor, IsMadeEmpty, IsRemade, IsSealedHere}

@@ -31,9 +31,20 @@ module _ {D : Type 0} (d : disk.Ghosts D) where
   runs_none stays P same e = record {
     reads_as = λ told. same (d.files e);
     now = λ told image here. record { from = image; was = here; came = same image };
-    any_moment = λ told. started d.moment d.left_since e (CameOf P (images d e)) (λ image here. record { from = image; was = here; came = same image });
+    any_moment = λ told. started d e (CameOf P (images d e)) (λ image here. record { from = image; was = here; came = same image });
     reads = record { no_less = λ f. omega arith; log = omega arith };
     goes_on = stays e;
+  }
+
+  -- what a run does, told by less
+  pub runs_weaker : (P Q : Files → Files → Type 0) (a b : D) → ((x y : Files) → P x y → Q x y) → Run P a b → Run Q a b
+  runs_weaker P Q a b weaker run = record {
+    reads_as = λ told. weaker (d.files a) (d.files b) (run.reads_as told);
+    now = λ told image left. came_weaker P Q (images d a) image (λ from was. weaker from image) (run.now told image left);
+    any_moment = λ told. leaves_weaker d a b (CameOf P (images d a)) (CameOf Q (images d a))
+        (λ image. came_weaker P Q (images d a) image (λ from was. weaker from image)) (run.any_moment told);
+    reads = run.reads;
+    goes_on = run.goes_on;
   }
 
   -- a run that only reads one of the two files
@@ -68,8 +79,8 @@ module _ {D : Type 0} (d : disk.Ghosts D) where
         reads_as = λ told. subst (P (d.files a)) (sym (files_same told)) (same (d.files a));
         now = now;
         any_moment = λ told.
-            one_more d.moment d.left_since a a b (CameOf P (images d a))
-            (started d.moment d.left_since a (CameOf P (images d a)) (λ image here. record { from = image; was = here; came = same image }))
+            one_more d a a b (CameOf P (images d a))
+            (started d a (CameOf P (images d a)) (λ image here. record { from = image; was = here; came = same image }))
             (time told) (now told);
         reads = record { no_less = λ f. omega (arith, reads f); log = omega (arith, reads Log) };
         goes_on = goes;
@@ -86,7 +97,7 @@ module _ {D : Type 0} (d : disk.Ghosts D) where
       record {
         reads_as = λ told. from (d.files a) (d.files b) (here told) (run.pkg told) (run.idx told) (run.log told);
         now = λ told image left. later told image (run.now told image left);
-        any_moment = λ told. leaves_weaker d.moment d.left_since a b (Changed Idx R (images d a)) (CameOf P (images d a)) (later told) (run.any_moment told);
+        any_moment = λ told. leaves_weaker d a b (Changed Idx R (images d a)) (CameOf P (images d a)) (later told) (run.any_moment told);
         reads = record { no_less = run.reads.no_less; log = omega (arith, run.reads.log) };
         goes_on = run.goes_on;
       }
@@ -101,10 +112,10 @@ module _ {D : Type 0} (d : disk.Ghosts D) where
         reads_as = λ told. joined (d.files a) (d.files b) (d.files c) (first.reads_as told) (second.reads_as told);
         now = λ told image left. later told image (second.now told image left);
         any_moment = λ told.
-            leaves_then d.moment d.left_since a b c (CameOf S (images d a))
-            (leaves_weaker d.moment d.left_since a b (CameOf P (images d a)) (CameOf S (images d a))
+            leaves_then d a b c (CameOf S (images d a))
+            (leaves_weaker d a b (CameOf P (images d a)) (CameOf S (images d a))
             (λ image. came_weaker P S (images d a) image (λ from was. weaker from image)) (first.any_moment told))
-            (leaves_weaker d.moment d.left_since b c (CameOf Q (images d b)) (CameOf S (images d a)) (later told) (second.any_moment told));
+            (leaves_weaker d b c (CameOf Q (images d b)) (CameOf S (images d a)) (later told) (second.any_moment told));
         reads = record {
           no_less = λ f. omega (arith, first.reads.no_less f, second.reads.no_less f);
           log = omega (arith, first.reads.log, second.reads.log);

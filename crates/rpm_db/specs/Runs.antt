@@ -1,9 +1,10 @@
 -- What a run of calls does that may change both files.
 use Rattle.std.specs.Prelude.{◌≡◌, IsTrue, ℕ, ◌≤◌, Bool}
+use Rattle.rpm_outside.specs.declared.disk.Disk as disk
 use Rattle.rpm_outside.specs.declared.disk.File.{File}
 use Rattle.rpm_outside.specs.declared.disk.File.TheVariants.{Log}
 use Rattle.rpm_outside.specs.Files.{Files}
-use Rattle.rpm_outside.specs.Crash.{LeavesOnly}
+use Rattle.rpm_outside.specs.Leaves.{LeavesOnly}
 
 -- the log stays
 abbrev pub SameLog : Files → Files → Type 0
@@ -25,10 +26,9 @@ pub record ReadsNoLog (old new : File → ℕ) : Type 0 where
   pub log : new Log ≤ old Log
 
 -- the files, and each image since the start, come so of those before
-pub record Runs {D : Type 0} (tells : Bool) (files : D → Files) (left_since : D → ℕ → Files → Type 0) (moment : D → ℕ)
-    (bytes_read : D → File → ℕ) (follows : D → D → Type 0) (P : Files → Files → Type 0) (old new : D) : Type 0 where
-  pub reads_as : IsTrue tells → P (files old) (files new)
-  pub now : IsTrue tells → (image : Files) → left_since new (moment new) image → CameOf P (left_since old (moment old)) image
-  pub any_moment : IsTrue tells → LeavesOnly moment left_since old new (CameOf P (left_since old (moment old)))
-  pub reads : ReadsNoLog (bytes_read old) (bytes_read new)
-  pub goes_on : follows old new
+pub record Runs {D : Type 0} (g : disk.Ghosts D) (P : Files → Files → Type 0) (old new : D) : Type 0 where
+  pub reads_as : IsTrue g.tells → P (g.files old) (g.files new)
+  pub now : IsTrue g.tells → (image : Files) → g.left_since new (g.moment new) image → CameOf P (g.left_since old (g.moment old)) image
+  pub any_moment : IsTrue g.tells → LeavesOnly g old new (CameOf P (g.left_since old (g.moment old)))
+  pub reads : ReadsNoLog (g.bytes_read old) (g.bytes_read new)
+  pub goes_on : g.follows old new

@@ -1,5 +1,6 @@
 -- What stays within the crate.
 pub mod Both
+pub mod Edits
 pub mod Faults
 pub mod Filling
 pub mod LawfulLaws

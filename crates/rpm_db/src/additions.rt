@@ -49,12 +49,14 @@ impl Additions {
     /// gathers its rows. Bytes after the header aren't kept. The index isn't written, and is read only where its counts
     /// leave it open whether it has room for the rows.
     ///
-    /// A crash at any moment leaves a database that is lawful, with the packages from before or with this one.
+    /// Where each image at the start is lawful, a crash at any moment leaves a database that is lawful, with the
+    /// packages from before or with this one.
     ///
     /// # Errors
     ///
-    /// Those of [`Db::add`], in the same order. After `BadHeader` all is as it was; after any other but `DiskFault` the
-    /// files are, and the additions aren't to be used further.
+    /// Those of [`Db::add`], in the same order, and `IndexFull` exactly so where the index held the rows as the
+    /// additions began. After `BadHeader` all is as it was; after any other but `DiskFault` the files are, and the
+    /// additions aren't to be used further.
     pub fn add<D: Disk>(
         &mut self,
         alloc: Global,
@@ -90,8 +92,9 @@ impl Additions {
     /// Ends the additions: all their rows go into the index, which is sealed once. Where there were none nothing is
     /// written.
     ///
-    /// Until the seal is written the index is that of an earlier generation, or has none: a crash at any moment leaves
-    /// the packages as they are, and a database that is lawful.
+    /// Until the seal is written the index is that of an earlier generation, or has none. Where each image at the start
+    /// is lawful, and the index held the rows as the additions began, a crash at any moment leaves the packages as they
+    /// are, and a database that is lawful.
     ///
     /// # Errors
     ///

@@ -6,7 +6,7 @@ ghost use Rattle.rpm_db.specs.Prelude.{BadHeader};
 use rpm_header::HeaderFault;
 use thiserror::Error;
 
-/// Why a database isn't changed. After each but `DiskFault` and `Stopped` its files are as they were.
+/// Why a database isn't changed. After each but `DiskFault` its files are as they were.
 #[derive(Clone, Copy, Debug, PartialEq, Eq, Error)]
 pub enum ChangeFault {
     /// The blob is no header: its first fault.

@@ -1,85 +1,66 @@
-//! A change that is planned, in both files.
+//! A change that goes through both files.
 
-ghost use Rattle.std.specs.Prelude.{◌≡◌, ℕ, ◌+◌, ◌<◌, ◌≤◌, max, IsTrue, IsSome, true, false, length, Some, None, OnOk, IfOk};
+ghost use Rattle.std.specs.Prelude.{◌≡◌, ℕ, ◌+◌, ◌≤◌, IsTrue, Err, OnOk, IfErr};
 ghost use Rattle.std.specs.FinMap as finite;
-ghost use Rattle.rpm_db.specs.Prelude.{AreWritten, blobs, CanApply, CanChange, CanPut, DiskCause, erased, field_after, HasRows, images, IsChangedStill, LeavesIn, moves_of, moving_cost, next_field, packages_of, Pkg, ReachesTo, ReadAtMost, rows, Runs, SameLog, slot_with, state_of, with_generation, with_plan, with_spare, WritesRows};
-ghost use Rattle.rpm_outside.specs.Changes.{IsSettled};
-ghost use Rattle.rpm_hindex.specs.State as hindex;
+ghost use Rattle.rpm_db.specs.Prelude.{AreByPlace, AreLawful, blobs, CanChange, CanEdit, cost_before, edit_cost, edited, EditReaches, field_edited, HasChanged, HasEdit, HasRows, images, IndexIs, IsChangedStill, IsDone, IsOfIndex, IsRefusal, LeavesIn, live_of, old_rows, packages, packages_of, Pkg, raised, rows, RunsOr, SameLog, state, state_of, units_for};
+ghost use Rattle.rpm_db.specs.inner.Both.{IsRefused};
 
-use crate::writing::{erase_raised, put_raised, write_rows};
-use rpm_hindex::{Hindex, IndexDiskFault, IndexPlan};
+use crate::change_fault::ChangeFault;
+use crate::preparing::prepare_change;
+use crate::writing::{Edit, edit_raised, write_rows};
+use rpm_hindex::{Hindex, Rows};
 use rpm_outside::Disk;
-use rpm_pkgdb::{PkgDb, Plan};
+use rpm_pkgdb::PkgDb;
+use std::alloc::Global;
 
-/// Puts a planned blob under a raised generation, writes the rows that change with it, and seals them at that
-/// generation.
+/// Changes both files: works out what rows make of the index in place of those of the package that a number has, none
+/// for a new number; changes the store under a raised generation; writes the rows that change with it, and seals them
+/// at that generation.
 ///
 /// Until the seal is written the index is that of an earlier generation, or has none.
-pub fn write_put<D: Disk>(
+pub fn change_both<D: Disk>(
+    alloc: Global,
     disk: &mut D,
     store: &mut PkgDb,
     index: &mut Hindex,
-    plan: Plan,
-    change: IndexPlan,
+    n: Option<u32>,
+    adds: Rows,
+    edit: Edit,
     blob: &[u8],
-) -> Result<(), IndexDiskFault>
+) -> Result<(), ChangeFault>
     requires ready { CanChange D.Disk disk.old store.old index.old }
-    requires plan { CanPut store.old plan }
-    requires length { plan.target.length ≡ length blob.now }
-    requires change { CanApply index.old.units change.work }
+    requires can { CanEdit edit blob.now store.old }
+    requires order { AreByPlace adds }
+    requires rows { HasChanged (old_rows n (packages (D.files disk.old).pkg store.old)) adds
+        (rows (packages (D.files disk.old).pkg store.old))
+        (rows (packages_of (edited edit blob.now (blobs (D.files disk.old).pkg store.old)))) }
     ensures made { 1 ≤ store.new.pages }
-    ensures written { OnOk result (AreWritten D.Disk disk.old disk.new index.old index.new store.new
-        (with_spare store.new.spare (with_plan plan (with_generation (store.old.generation + 1) store.old)))
-        (finite.insert (blobs (D.files disk.old).pkg store.old) plan.target.number (Some blob.now)) change.work) }
-    ensures stops { IsTrue D.tells → HasRows (packages_of (blobs (D.files disk.old).pkg store.old))
-        (D.files disk.old).idx → WritesRows (rows
-        (packages_of (finite.insert (blobs (D.files disk.old).pkg store.old) plan.target.number (Some blob.now))))
-        change.work (D.files disk.old).idx → LeavesIn D.Disk disk.old disk.new
-        (IsChangedStill (state_of (blobs (D.files disk.old).pkg store.old) store.old.field)
-        (state_of (finite.insert (blobs (D.files disk.old).pkg store.old) plan.target.number (Some blob.now))
-        (field_after (next_field plan.target) store.old.field)) (images D.Disk disk.old)) }
-    ensures end { OnOk result (IsTrue D.tells → ReachesTo store.new (D.files disk.old).pkg (D.files disk.new).pkg) }
-    ensures reads { ReadAtMost Pkg (moving_cost store.old.slots (moves_of plan.page)) (D.bytes_read disk.old)
-        (D.bytes_read disk.new) }
-    ensures runs { Runs D.Disk SameLog disk.old disk.new }
-    ensures cause { DiskCause D.Disk result disk.old disk.new }
-{
-    let Ok(_) = put_raised(disk, store, plan, blob) else {
-        return Err(IndexDiskFault);
-    };
-    write_rows(disk, index, change, store.generation())
-}
-
-/// Erases a package under a raised generation, takes its rows out, and seals the index at that generation.
-pub fn write_erase<D: Disk>(
-    disk: &mut D,
-    store: &mut PkgDb,
-    index: &mut Hindex,
-    n: u32,
-    change: IndexPlan,
-) -> Result<(), IndexDiskFault>
-    requires ready { CanChange D.Disk disk.old store.old index.old }
-    requires left { store.old.generation < 4294967295 }
-    requires held { IsSome (slot_with n store.old.slots) }
-    requires change { CanApply index.old.units change.work }
-    ensures made { 1 ≤ store.new.pages }
-    ensures written { OnOk result (AreWritten D.Disk disk.old disk.new index.old index.new store.new
-        (erased n (with_generation (store.old.generation + 1) store.old))
-        (finite.remove (blobs (D.files disk.old).pkg store.old) n) change.work) }
-    ensures stops { IsTrue D.tells → HasRows (packages_of (blobs (D.files disk.old).pkg store.old))
-        (D.files disk.old).idx → WritesRows (rows
-        (packages_of (finite.remove (blobs (D.files disk.old).pkg store.old) n))) change.work (D.files disk.old).idx
-        → LeavesIn D.Disk disk.old disk.new (IsChangedStill
-        (state_of (blobs (D.files disk.old).pkg store.old) store.old.field)
-        (state_of (finite.remove (blobs (D.files disk.old).pkg store.old) n) store.old.field)
+    ensures edit { OnOk result (HasEdit edit (raised store.old) store.new) }
+    ensures done { OnOk result (IsDone D.Disk disk.old disk.new store.old store.new index.new
+        (edited edit blob.now (blobs (D.files disk.old).pkg store.old)) (field_edited edit store.old.field)
+        (index.old.units + live_of adds)) }
+    ensures index { IndexIs D.Disk disk.old (packages (D.files disk.old).pkg store.old)
+        (units_for (rows (packages_of (edited edit blob.now (blobs (D.files disk.old).pkg store.old))))) result }
+    ensures end { OnOk result (IsTrue D.tells
+        → EditReaches edit store.new (D.files disk.old).pkg (D.files disk.new).pkg) }
+    ensures refused { IfErr result (λ e. IsRefusal e
+        → IsRefused D.Disk disk.old disk.new store.old store.new index.old index.new) }
+    ensures kinds { IfErr result IsOfIndex }
+    ensures stops { IsTrue D.tells → AreLawful (images D.Disk disk.old)
+        → HasRows (packages (D.files disk.old).pkg store.old) (D.files disk.old).idx
+        → LeavesIn D.Disk disk.old disk.new (IsChangedStill (state (D.files disk.old).pkg store.old)
+        (state_of (edited edit blob.now (blobs (D.files disk.old).pkg store.old)) (field_edited edit store.old.field))
         (images D.Disk disk.old)) }
-    ensures end { OnOk result (IsTrue D.tells → length (D.files disk.new).pkg ≤ length (D.files disk.old).pkg) }
-    ensures reads { ReadAtMost Pkg 0 (D.bytes_read disk.old) (D.bytes_read disk.new) }
-    ensures runs { Runs D.Disk SameLog disk.old disk.new }
-    ensures cause { DiskCause D.Disk result disk.old disk.new }
+    ensures reads { D.bytes_read disk.new Pkg
+        ≤ D.bytes_read disk.old Pkg + cost_before n store.old + edit_cost edit store.old }
+    ensures runs { RunsOr D.Disk SameLog (result ≡ Err ChangeFault.DiskFault) disk.old disk.new }
 {
-    let Ok(()) = erase_raised(disk, store, n) else {
-        return Err(IndexDiskFault);
+    let change = match prepare_change(alloc, disk, store, index, n, adds) {
+        Ok(change) => change,
+        Err(fault) => return Err(fault),
+    };
+    let Ok(()) = edit_raised(disk, store, edit, blob) else {
+        return Err(ChangeFault::DiskFault);
     };
     write_rows(disk, index, change, store.generation())
 }

@@ -56,7 +56,7 @@ impl Db {
     pub fn open<D: Disk>(alloc: Global, disk: &mut D) -> Result<Db, DbOpenFault>
         ensures opened { IsTrue D.tells → IsOpened (D.files disk.old) (D.files disk.new) result }
         ensures served { IfOk result (IsOpenedOn D.Disk disk.old disk.new) }
-        ensures stops { IsTrue D.tells → StaysLawful D.moment D.left_since disk.old disk.new }
+        ensures stops { IsTrue D.tells → StaysLawful D.Disk disk.old disk.new }
         ensures reads { IsTrue D.tells → OpeningReads (D.files disk.old) (D.bytes_read disk.old File.Pkg)
             (D.bytes_read disk.new File.Pkg) }
         ensures units { D.bytes_read disk.new File.Idx ≤ D.bytes_read disk.old File.Idx + 32 }
@@ -90,7 +90,7 @@ impl Db {
         requires idx { IsTrue D.tells → IsSettled D.Disk Idx disk.old }
         ensures opened { IsTrue D.tells → IsOpened (D.files disk.old) (D.files disk.new) result }
         ensures served { IfOk result (IsOpenedOn D.Disk disk.old disk.new) }
-        ensures stops { IsTrue D.tells → StaysLawful D.moment D.left_since disk.old disk.new }
+        ensures stops { IsTrue D.tells → StaysLawful D.Disk disk.old disk.new }
         ensures reads { IsTrue D.tells → OpeningReads (D.files disk.old) (D.bytes_read disk.old File.Pkg)
             (D.bytes_read disk.new File.Pkg) }
         ensures units { D.bytes_read disk.new File.Idx ≤ D.bytes_read disk.old File.Idx + 32 }

@@ -18,7 +18,8 @@ impl Db {
     /// number field are written; then its rows; and then the seal. Where no slot is free a slot page is added before,
     /// and the blobs in its way move: each of their blocks is read once. Nothing else of `Packages.db` is read.
     ///
-    /// A crash at any moment leaves a database that is lawful, with the packages from before or with this one.
+    /// Where each image at the start is lawful, a crash at any moment leaves a database that is lawful, with the
+    /// packages from before or with this one.
     ///
     /// # Errors
     ///
@@ -29,7 +30,8 @@ impl Db {
     /// - `NumbersSpent` exactly where the next number is 4294967295.
     /// - `GenerationSpent` exactly where the generation is 4294967295.
     /// - `StoreFull` exactly where the blob, or one in the way of its slot page, fits nowhere below 4 GiB.
-    /// - `IndexFull` exactly where the rows after the change need more than 268435456 units.
+    /// - `IndexFull`, where the index holds the rows, exactly where those after the change need more than 268435456
+    ///   units.
     /// - `BadIndex` only where a chain of the index isn't well formed, or unit 1 counts too little; never where the
     ///   index holds the rows.
     ///
@@ -73,7 +75,8 @@ impl Db {
     /// read, each once. Then the generation rises; the blob and its slot are written; then the rows that change; and
     /// then the seal.
     ///
-    /// A crash at any moment leaves a database that is lawful, with the old package or the new one.
+    /// Where each image at the start is lawful, a crash at any moment leaves a database that is lawful, with the old
+    /// package or the new one.
     ///
     /// # Errors
     ///
@@ -84,7 +87,8 @@ impl Db {
     /// - `NoSuch` exactly where there is no package of this number.
     /// - `GenerationSpent` exactly where the generation is 4294967295.
     /// - `StoreFull` exactly where the blob, as it replaces the old one, fits nowhere below 4 GiB.
-    /// - `IndexFull` exactly where the rows after the change need more than 268435456 units.
+    /// - `IndexFull`, where the index holds the rows, exactly where those after the change need more than 268435456
+    ///   units.
     /// - `BadIndex` only where a chain of the index isn't well formed, or unit 1 counts too little; never where the
     ///   index holds the rows.
     ///
@@ -131,7 +135,8 @@ impl Db {
     /// once. Then the generation rises; the slot is set free and the blocks become zeros; then the rows are taken
     /// out; and then the seal is written.
     ///
-    /// A crash at any moment leaves a database that is lawful, with the package or without it.
+    /// Where each image at the start is lawful, a crash at any moment leaves a database that is lawful, with the
+    /// package or without it.
     ///
     /// # Errors
     ///
@@ -140,7 +145,8 @@ impl Db {
     /// - `Stopped` exactly where an earlier changing call failed at the disk, or additions go on.
     /// - `NoSuch` exactly where there is no package of this number.
     /// - `GenerationSpent` exactly where the generation is 4294967295.
-    /// - `IndexFull` exactly where the rows after the change need more than 268435456 units.
+    /// - `IndexFull`, where the index holds the rows, exactly where those after the change need more than 268435456
+    ///   units.
     /// - `BadIndex` only where a chain of the index isn't well formed, or unit 1 counts too little; never where the
     ///   index holds the rows.
     ///

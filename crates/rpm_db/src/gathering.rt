@@ -10,9 +10,9 @@ use crate::change_fault::ChangeFault;
 use crate::preparing::prepare_rows;
 use crate::putting::plan_blob;
 use crate::rows::push_header;
-use crate::writing::{put_raised, write_rows};
+use crate::writing::{Edit, edit_raised, write_rows};
 use rpm_header::View;
-use rpm_hindex::{Hindex, IndexDiskFault, Rows};
+use rpm_hindex::{Hindex, Rows};
 use rpm_outside::Disk;
 use rpm_pkgdb::PkgDb;
 use std::alloc::Global;
@@ -70,15 +70,16 @@ pub fn store_header<D: Disk>(
         Ok(plan) => plan,
         Err(fault) => return Err(fault),
     };
-    let Ok(()) = push_header(owed, view, store.next_number()) else {
+    let number = store.next_number();
+    let Ok(()) = push_header(owed, view, number) else {
         return Err(ChangeFault::NoMemory);
     };
     match expect_room(alloc, disk, index, owed) {
         Ok(()) => {}
         Err(fault) => return Err(fault),
     }
-    match put_raised(disk, store, plan, view.blob()) {
-        Ok(number) => Ok(number),
+    match edit_raised(disk, store, Edit::Put(plan), view.blob()) {
+        Ok(()) => Ok(number),
         Err(_) => Err(ChangeFault::DiskFault),
     }
 }
@@ -118,8 +119,5 @@ pub fn fill_index<D: Disk>(
         Ok(plan) => plan,
         Err(fault) => return Err(fault),
     };
-    match write_rows(disk, index, plan, generation) {
-        Ok(()) => Ok(()),
-        Err(IndexDiskFault) => Err(ChangeFault::DiskFault),
-    }
+    write_rows(disk, index, plan, generation)
 }

@@ -5,7 +5,7 @@ ghost use Rattle.rpm_db.specs.Prelude.{BadIndexIs, CanTake, change_for, DiskFaul
 
 use crate::change_fault::ChangeFault;
 use crate::database::Db;
-use crate::putting::write_header;
+use crate::putting::{number_of, write_header};
 use rpm_header::View;
 use rpm_outside::Disk;
 use std::alloc::Global;
@@ -42,11 +42,12 @@ impl Db {
         ensures runs { Runs D.Disk SameLog disk.old disk.new }
         ensures cause { DiskFault D.Disk (result ≡ Err ChangeFault.DiskFault) disk.old disk.new }
     {
+        let number = number_of(&self.store, n);
         let Some(index) = &mut self.index else {
             unreachable!()
         };
         match write_header(alloc, disk, &mut self.store, index, n, view) {
-            Ok(number) => Ok(number),
+            Ok(()) => Ok(number),
             Err(fault) => {
                 self.is_stopped = is_stopping(fault);
                 Err(fault)

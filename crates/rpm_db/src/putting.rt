@@ -1,22 +1,23 @@
-//! Changes of one value, in both files.
+//! Putting a header under a number and erasing a number: what each plans, before both files change.
 
 ghost use Rattle.std.specs.Prelude.{◌≡◌, ℕ, ◌+◌, ◌≤◌, IsTrue, IsSome, true, length, is_none, None, Ok, Err, OnOk, IfOk, IfErr};
 ghost use Rattle.std.specs.FinMap as finite;
-ghost use Rattle.rpm_db.specs.Prelude.{AreLawful, ArePlanned, AreRead, blobs, CanChange, CanPut, CanTake, cost_before, DiskFault, erased, field_for, FindsRoom, HasRows, header, header_rows, images, IndexIs, IsChangedStill, IsDone, IsFull, IsOfRoom, IsPlaced, IsRefusal, LaterIs, LeavesIn, live_of, number_for, packages, packages_of, Pkg, PlacedIs, put_map, raised, ReachesTo, ReadsAtMost, rows, Runs, RunsOr, SameFiles, SameLog, slot_with, state, state_of, units_for, with_spare};
+ghost use Rattle.rpm_db.specs.Prelude.{AreLawful, blobs, CanChange, CanEdit, CanTake, field_for, FindsRoom, HasEdit, HasRows, header, header_rows, images, IndexIs, IsChangedStill, IsDone, IsFull, IsOfRoom, IsPlaced, IsRefusal, LaterIs, LeavesIn, live_of, number_for, packages, packages_of, Pkg, put_map, raised, ReachesTo, ReadsAtMost, rows, RunsOr, SameLog, slot_with, state, state_of, units_for, with_spare};
 ghost use Rattle.rpm_pkgdb.specs.Costs.{cost};
 ghost use Rattle.rpm_db.specs.inner.Both.{IsRefused};
 
 use crate::change_fault::ChangeFault;
-use crate::changing::{write_erase, write_put};
-use crate::preparing::{prepare_change, rows_behind};
+use crate::changing::change_both;
+use crate::preparing::rows_behind;
+use crate::writing::Edit;
 use rpm_header::View;
-use rpm_hindex::{Hindex, IndexDiskFault, IndexPlan, Rows};
+use rpm_hindex::{Hindex, Rows};
 use rpm_outside::Disk;
 use rpm_pkgdb::{PkgDb, Plan, PlanFault};
 use std::alloc::Global;
 
 /// The number that a header goes under: this one, or the next one.
-fn number_of(store: &PkgDb, n: Option<u32>) -> u32
+pub fn number_of(store: &PkgDb, n: Option<u32>) -> u32
     ensures { result ≡ number_for n store.now }
 {
     match n {
@@ -35,9 +36,10 @@ pub fn plan_blob(
     requires made { 1 ≤ store.old.pages }
     requires takes { CanTake n store.old }
     ensures value { store.new ≡ with_spare store.new.spare store.old }
+    ensures made { 1 ≤ store.new.pages }
     ensures later { LaterIs store.old.generation (IsFull store.old (is_none n) (length view.now.blob)) result }
     ensures placed { IsPlaced n (length view.now.blob) store.old result }
-    ensures plan { IfOk result (CanPut store.new) }
+    ensures plan { IfOk result (λ plan. CanEdit (Edit.Put plan) view.now.blob store.new) }
     ensures own { OnOk result (header view.now.blob ≡ Ok view.now) }
     ensures kinds { IfErr result IsOfRoom }
 {
@@ -52,43 +54,6 @@ pub fn plan_blob(
     }
 }
 
-/// Plans a header under a number that is there, or for `None` under a new one, in both files. Writes nothing, and
-/// takes all memory.
-fn plan_put<D: Disk>(
-    alloc: Global,
-    disk: &mut D,
-    store: &mut PkgDb,
-    index: &Hindex,
-    n: Option<u32>,
-    view: &View<'_>,
-) -> Result<(Plan, IndexPlan), ChangeFault>
-    requires read { AreRead D.Disk disk.old store.old index.now }
-    requires made { 1 ≤ store.old.pages }
-    requires takes { CanTake n store.old }
-    ensures value { store.new ≡ with_spare store.new.spare store.old }
-    ensures later { LaterIs store.old.generation (IsFull store.old (is_none n) (length view.now.blob)) result }
-    ensures placed { PlacedIs n (length view.now.blob) store.old result }
-    ensures planned { IfOk result (ArePlanned D.Disk disk.old store.old store.new index.now n view.now) }
-    ensures index { IndexIs D.Disk disk.old (packages (D.files disk.old).pkg store.old)
-        (units_for (rows (packages_of (put_map (D.files disk.old).pkg store.old n view.now.blob)))) result }
-    ensures reads { D.bytes_read disk.new Pkg ≤ D.bytes_read disk.old Pkg + cost_before n store.old }
-    ensures runs { Runs D.Disk SameFiles disk.old disk.new }
-    ensures cause { DiskFault D.Disk (result ≡ Err ChangeFault.DiskFault) disk.old disk.new }
-{
-    let plan = match plan_blob(alloc, store, n, view) {
-        Ok(plan) => plan,
-        Err(fault) => return Err(fault),
-    };
-    let number = number_of(store, n);
-    let Ok(rows) = rows_behind(alloc, number, view) else {
-        return Err(ChangeFault::NoMemory);
-    };
-    match prepare_change(alloc, disk, store, index, n, rows) {
-        Ok(change) => Ok((plan, change)),
-        Err(fault) => Err(fault),
-    }
-}
-
 /// Puts a header under a number that is there, or for `None` under a new one: plans both files, and then writes them.
 pub fn write_header<D: Disk>(
     alloc: Global,
@@ -97,11 +62,10 @@ pub fn write_header<D: Disk>(
     index: &mut Hindex,
     n: Option<u32>,
     view: &View<'_>,
-) -> Result<u32, ChangeFault>
+) -> Result<(), ChangeFault>
     requires ready { CanChange D.Disk disk.old store.old index.old }
     requires takes { CanTake n store.old }
     ensures room { FindsRoom n (length view.now.blob) store.old store.new result }
-    ensures number { IfOk result (λ m. m ≡ number_for n store.old) }
     ensures made { 1 ≤ store.new.pages }
     ensures done { OnOk result (IsDone D.Disk disk.old disk.new store.old store.new index.new
         (put_map (D.files disk.old).pkg store.old n view.now.blob) (field_for n store.old)
@@ -119,15 +83,24 @@ pub fn write_header<D: Disk>(
     ensures reads { ReadsAtMost n store.old (D.bytes_read disk.old Pkg) (D.bytes_read disk.new Pkg) }
     ensures runs { RunsOr D.Disk SameLog (result ≡ Err ChangeFault.DiskFault) disk.old disk.new }
 {
-    let number = number_of(store, n);
-    let (plan, change) = match plan_put(alloc, disk, store, index, n, view) {
-        Ok(planned) => planned,
+    let plan = match plan_blob(alloc, store, n, view) {
+        Ok(plan) => plan,
         Err(fault) => return Err(fault),
     };
-    match write_put(disk, store, index, plan, change, view.blob()) {
-        Ok(()) => Ok(number),
-        Err(IndexDiskFault) => Err(ChangeFault::DiskFault),
-    }
+    let number = number_of(store, n);
+    let Ok(rows) = rows_behind(alloc, number, view) else {
+        return Err(ChangeFault::NoMemory);
+    };
+    change_both(
+        alloc,
+        disk,
+        store,
+        index,
+        n,
+        rows,
+        Edit::Put(plan),
+        view.blob(),
+    )
 }
 
 /// Takes a number that is there out: works out the index, and then writes both files.
@@ -141,7 +114,7 @@ pub fn erase_number<D: Disk>(
     requires ready { CanChange D.Disk disk.old store.old index.old }
     requires held { IsSome (slot_with n store.old.slots) }
     ensures later { LaterIs store.old.generation ⊥ result }
-    ensures ok { OnOk result (store.new ≡ erased n (raised store.old)) }
+    ensures edit { OnOk result (HasEdit (Edit.Erase n) (raised store.old) store.new) }
     ensures made { 1 ≤ store.new.pages }
     ensures done { OnOk result (IsDone D.Disk disk.old disk.new store.old store.new index.new
         (finite.remove (blobs (D.files disk.old).pkg store.old) n) store.old.field index.old.units) }
@@ -161,12 +134,14 @@ pub fn erase_number<D: Disk>(
     if store.generation() == u32::MAX {
         return Err(ChangeFault::GenerationSpent);
     }
-    let change = match prepare_change(alloc, disk, store, index, Some(n), Rows::new(alloc)) {
-        Ok(change) => change,
-        Err(fault) => return Err(fault),
-    };
-    match write_erase(disk, store, index, n, change) {
-        Ok(()) => Ok(()),
-        Err(IndexDiskFault) => Err(ChangeFault::DiskFault),
-    }
+    change_both(
+        alloc,
+        disk,
+        store,
+        index,
+        Some(n),
+        Rows::new(alloc),
+        Edit::Erase(n),
+        &[],
+    )
 }

@@ -54,7 +54,7 @@ impl Db {
     ///
     /// # Errors
     ///
-    /// - `Stopped` exactly where an earlier changing call failed at the disk.
+    /// - `Stopped` exactly where an earlier changing call failed at the disk, or additions go on.
     /// - `IndexFull` exactly where the index needs more than 268435456 units.
     /// - `DiskFault` only where the disk's count of faults rose. The value is stopped then.
     /// - `NoMemory` where a package or the rows find no memory. It answers no other fault.
@@ -66,7 +66,7 @@ impl Db {
         ensures rebuilt { IsTrue D.tells → IsRebuilt (D.files disk.old) (D.files disk.new) self.old self.new result }
         ensures still { IsStill self.old self.new result }
         ensures renewed { OnOk result (IsRenewed D.Disk disk.old disk.new self.old self.new) }
-        ensures stops { IsTrue D.tells → StaysLawful D.moment D.left_since disk.old disk.new }
+        ensures stops { IsTrue D.tells → StaysLawful D.Disk disk.old disk.new }
         ensures reads { ReadAtMost Pkg (cost_all self.old) (D.bytes_read disk.old) (D.bytes_read disk.new) }
         ensures runs { Runs D.Disk Remade disk.old disk.new }
         ensures cause { DiskFault D.Disk (result ≡ Err ChangeFault.DiskFault) disk.old disk.new }

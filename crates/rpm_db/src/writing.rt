@@ -1,74 +1,79 @@
 //! Writing a change: the store after a raise of its generation, and then the index.
 
-ghost use Rattle.std.specs.Prelude.{◌≡◌, ℕ, ◌+◌, ◌<◌, ◌≤◌, ◌^◌, IsTrue, IsSome, true, false, length, Some, OnOk, OnErr, IfOk};
-ghost use Rattle.std.specs.FinMap as finite;
-ghost use Rattle.rpm_db.specs.Prelude.{Anything, blobs, BlobsTo, CanApply, CanPut, erased, field_after, Idx, images, IndexTo, IsApplied, IsQuiet, IsStored, Keeps, LeavesIn, moves_of, moving_cost, next_field, Pkg, ReachesTo, slot_with, Stops, with_generation, with_plan, with_spare, Writes};
+ghost use Rattle.std.specs.Prelude.{◌≡◌, ℕ, ◌+◌, ◌<◌, ◌≤◌, ◌^◌, IsTrue, true, false, Err, OnOk, OnErr, IfErr};
+ghost use Rattle.rpm_db.specs.Prelude.{Anything, blobs, BlobsTo, CanApply, CanEdit, edit_cost, edited, EditReaches, EditsTo, field_edited, HasEdit, Idx, images, IndexTo, IsApplied, IsEdited, IsQuiet, IsStored, LeavesIn, Pkg, raised, Stops, Suits, Writes};
+ghost use Rattle.rpm_outside.specs.Frame.{WritesOr};
+ghost use Rattle.rpm_pkgdb.specs.Frame as pkgdb;
 ghost use Rattle.rpm_hindex.specs.State as hindex;
 
+use crate::change_fault::ChangeFault;
 use rpm_hindex::{Hindex, IndexDiskFault, IndexPlan};
 use rpm_outside::Disk;
 use rpm_pkgdb::{DiskFault, PkgDb, Plan};
 
-/// Raises the generation, and puts a planned blob.
-pub fn put_raised<D: Disk>(
-    disk: &mut D,
-    store: &mut PkgDb,
-    plan: Plan,
-    blob: &[u8],
-) -> Result<u32, DiskFault>
-    requires going { store.old.is_stopped ≡ false }
-    requires keeps { IsTrue D.tells → Keeps (D.files disk.old).pkg store.old }
-    requires made { 1 ≤ store.old.pages }
-    requires plan { CanPut store.old plan }
-    requires length { plan.target.length ≡ length blob.now }
-    ensures number { IfOk result (λ n. n ≡ plan.target.number) }
-    ensures ok { OnOk result (store.new ≡ with_spare store.new.spare
-        (with_plan plan (with_generation (store.old.generation + 1) store.old))) }
-    ensures err { OnErr result (store.new.pages ≡ store.old.pages) }
-    ensures stored { OnOk result (IsStored D.Disk disk.new store.new
-        (finite.insert (blobs (D.files disk.old).pkg store.old) plan.target.number (Some blob.now))) }
-    ensures images { IsTrue D.tells → IsQuiet store.old (D.files disk.old) (images D.Disk disk.old)
-        → LeavesIn D.Disk disk.old disk.new (Stops Pkg
-        (BlobsTo store.old.generation store.old.field (field_after (next_field plan.target) store.old.field)
-        (blobs (D.files disk.old).pkg store.old)
-        (finite.insert (blobs (D.files disk.old).pkg store.old) plan.target.number (Some blob.now)))
-        (images D.Disk disk.old)) }
-    ensures end { OnOk result (IsTrue D.tells → ReachesTo store.new (D.files disk.old).pkg (D.files disk.new).pkg) }
-    ensures writes { Writes D.Disk Pkg Anything (moving_cost store.old.slots (moves_of plan.page)) result disk.old
-        disk.new }
-{
-    let Ok(()) = store.raise(disk) else {
-        return Err(DiskFault);
-    };
-    store.put(disk, plan, blob)
+/// What becomes of a store: a planned blob is put, or the package of a number is erased.
+#[derive(Drop)]
+pub enum Edit {
+    Put(Plan),
+    Erase(u32),
 }
 
-/// Raises the generation, and erases a package.
-pub fn erase_raised<D: Disk>(disk: &mut D, store: &mut PkgDb, n: u32) -> Result<(), DiskFault>
-    requires going { store.old.is_stopped ≡ false }
-    requires keeps { IsTrue D.tells → Keeps (D.files disk.old).pkg store.old }
-    requires made { 1 ≤ store.old.pages }
-    requires left { store.old.generation < 4294967295 }
-    requires held { IsSome (slot_with n store.old.slots) }
-    ensures ok { OnOk result (store.new ≡ erased n (with_generation (store.old.generation + 1) store.old)) }
+/// Changes the store so.
+fn edit_store<D: Disk>(
+    disk: &mut D,
+    store: &mut PkgDb,
+    edit: Edit,
+    blob: &[u8],
+) -> Result<(), DiskFault>
+    requires ready { pkgdb.IsReady D.Disk disk.old store.old }
+    requires suits { Suits edit blob.now store.old }
+    ensures edit { OnOk result (HasEdit edit store.old store.new) }
+    ensures err { OnErr result (store.new.pages ≡ store.old.pages) }
+    ensures edited { OnOk result (IsTrue D.tells
+        → IsEdited D.Disk disk.old disk.new store.old store.new edit blob.now) }
+    ensures stops { IsTrue D.tells → IsQuiet store.old (D.files disk.old) (images D.Disk disk.old)
+        → LeavesIn D.Disk disk.old disk.new (Stops Pkg (EditsTo store.old edit blob.now (D.files disk.old).pkg)
+        (images D.Disk disk.old)) }
+    ensures writes { Writes D.Disk Pkg Anything (edit_cost edit store.old) result disk.old disk.new }
+{
+    match edit {
+        Edit::Put(plan) => match store.put(disk, plan, blob) {
+            Ok(_) => Ok(()),
+            Err(DiskFault) => Err(DiskFault),
+        },
+        Edit::Erase(n) => store.erase(disk, n),
+    }
+}
+
+/// Raises the generation, and then changes the store so.
+pub fn edit_raised<D: Disk>(
+    disk: &mut D,
+    store: &mut PkgDb,
+    edit: Edit,
+    blob: &[u8],
+) -> Result<(), DiskFault>
+    requires ready { pkgdb.IsReady D.Disk disk.old store.old }
+    requires can { CanEdit edit blob.now store.old }
+    ensures edit { OnOk result (HasEdit edit (raised store.old) store.new) }
     ensures err { OnErr result (store.new.pages ≡ store.old.pages) }
     ensures stored { OnOk result (IsStored D.Disk disk.new store.new
-        (finite.remove (blobs (D.files disk.old).pkg store.old) n)) }
+        (edited edit blob.now (blobs (D.files disk.old).pkg store.old))) }
     ensures images { IsTrue D.tells → IsQuiet store.old (D.files disk.old) (images D.Disk disk.old)
-        → LeavesIn D.Disk disk.old disk.new (Stops Pkg
-        (BlobsTo store.old.generation store.old.field store.old.field (blobs (D.files disk.old).pkg store.old)
-        (finite.remove (blobs (D.files disk.old).pkg store.old) n)) (images D.Disk disk.old)) }
-    ensures end { OnOk result (IsTrue D.tells → length (D.files disk.new).pkg ≤ length (D.files disk.old).pkg) }
-    ensures writes { Writes D.Disk Pkg Anything 0 result disk.old disk.new }
+        → LeavesIn D.Disk disk.old disk.new (Stops Pkg (BlobsTo store.old.generation store.old.field
+        (field_edited edit store.old.field) (blobs (D.files disk.old).pkg store.old)
+        (edited edit blob.now (blobs (D.files disk.old).pkg store.old))) (images D.Disk disk.old)) }
+    ensures end { OnOk result (IsTrue D.tells
+        → EditReaches edit store.new (D.files disk.old).pkg (D.files disk.new).pkg) }
+    ensures writes { Writes D.Disk Pkg Anything (edit_cost edit store.old) result disk.old disk.new }
 {
     match store.raise(disk) {
-        Ok(()) => store.erase(disk, n),
+        Ok(()) => edit_store(disk, store, edit, blob),
         Err(DiskFault) => Err(DiskFault),
     }
 }
 
 /// Writes a change of the index, and seals it once it is durable.
-pub fn write_rows<D: Disk>(
+fn apply_sealed<D: Disk>(
     disk: &mut D,
     index: &mut Hindex,
     plan: IndexPlan,
@@ -84,4 +89,24 @@ pub fn write_rows<D: Disk>(
         return Err(IndexDiskFault);
     };
     index.seal(disk, generation)
+}
+
+/// The same, with its fault told as one of a change.
+pub fn write_rows<D: Disk>(
+    disk: &mut D,
+    index: &mut Hindex,
+    plan: IndexPlan,
+    generation: u32,
+) -> Result<(), ChangeFault>
+    requires change { CanApply index.old.units plan.work }
+    requires keeps { IsTrue D.tells → hindex.Keeps (D.files disk.old).idx index.old }
+    ensures applied { OnOk result (IsApplied D.Disk disk.old disk.new index.old index.new generation plan.work) }
+    ensures kind { IfErr result (λ e. e ≡ ChangeFault.DiskFault) }
+    ensures writes { WritesOr D.Disk Idx (IndexTo generation plan.work (D.files disk.old).idx) 0
+        (result ≡ Err ChangeFault.DiskFault) disk.old disk.new }
+{
+    match apply_sealed(disk, index, plan, generation) {
+        Ok(()) => Ok(()),
+        Err(IndexDiskFault) => Err(ChangeFault::DiskFault),
+    }
 }

@@ -1,8 +1,7 @@
 -- A store and its index while one change goes through both: what it asks, its plan, what it leaves.
-use Rattle.std.specs.Prelude.{◌≡◌, ◌≢◌, ℕ, ◌+◌, ◌<◌, ◌≤◌, max, List, true, false, IsTrue, IsSome, IfSome, is_none, Option, Some, None, Result, Ok, Err}
+use Rattle.std.specs.Prelude.{◌≡◌, ◌≢◌, ℕ, ◌+◌, ◌≤◌, max, List, true, false, IsTrue, IsSome, IfSome, is_none, Option, Some, None, Result, Ok, Err}
 use Rattle.std.specs.Ordering.{nat_cmp}
 use Rattle.std.specs.FinMap.{FinMap}
-use Rattle.rpm_header.specs.Header.{Header}
 use Rattle.rpm_outside.specs.declared.disk.Disk as disk
 use Rattle.rpm_outside.specs.declared.disk.File.TheVariants.{Idx}
 use Rattle.rpm_outside.specs.Changes.{IsSettled}
@@ -10,11 +9,10 @@ use Rattle.rpm_outside.specs.Files.{Files}
 use Rattle.rpm_pkgdb.specs.declared.plan.Plan.{Plan}
 use Rattle.rpm_pkgdb.specs.Blobs.{blobs}
 use Rattle.rpm_pkgdb.specs.Placing.{placed, placement_of, put_in}
-use Rattle.rpm_pkgdb.specs.Planned.{IsFor, IsFull, IsPlan}
+use Rattle.rpm_pkgdb.specs.Planned.{IsFor, IsFull}
 use Rattle.rpm_pkgdb.specs.Quiet.{BlobMap, IsQuiet, StandsFor}
 use Rattle.rpm_pkgdb.specs.Slots.{slot_with}
 use Rattle.rpm_pkgdb.specs.Store.{Keeps, Store, next_number}
-use Rattle.rpm_hindex.specs.declared.plan.IndexPlan.{IndexPlan}
 use Rattle.rpm_hindex.specs.declared.plan.Work.{Work}
 use Rattle.rpm_hindex.specs.Plans.{CanWrite, LeavesOrder, units_after}
 use Rattle.rpm_hindex.specs.Rows.{Row}
@@ -24,22 +22,16 @@ use Rattle.rpm_db.specs.declared.change_fault.ChangeFault.{ChangeFault}
 use Rattle.rpm_db.specs.Lawful.{HasRows, IsWholeIndex}
 use Rattle.rpm_db.specs.Refusals.{BadIndexIs, FullIndexIs, LaterIs}
 use Rattle.rpm_db.specs.Room.{RoomCause, RoomIs, raised}
-use Rattle.rpm_db.specs.Rows.{header_rows, rows}
+use Rattle.rpm_db.specs.Rows.{rows}
 use Rattle.rpm_db.specs.Runs.{SameFiles}
 use Rattle.rpm_db.specs.State.{Package, packages, state}
-use Rattle.rpm_db.specs.inner.Writes.{IsSealedAfter, WritesRows, WritesWhole, number_for, packages_of, put_map, state_of}
+use Rattle.rpm_db.specs.inner.Writes.{IsSealedAfter, WritesRows, packages_of, state_of}
 use Rattle.rpm_db.specs.Frame.{Runs}
 
 -- a number that is there, or that there is a next one
 pub record CanTake (n : Option ℕ) (value : Store) : Type 0 where
   pub held : IfSome n (λ m. IsSome (slot_with m value.slots))
   pub left : n ≡ None → next_number value ≢ 4294967295
-
--- a plan of a store that can be written: the generation can rise, and the memory is taken
-pub record CanPut (value : Store) (plan : Plan) : Type 0 where
-  pub left : value.generation < 4294967295
-  pub room : 1 ≤ value.spare
-  pub plan_is : IsPlan value plan
 
 -- a change of an index of so many units that can be written, and leaves it in order
 pub record CanApply (units : ℕ) (work : Work) : Type 0 where
@@ -50,11 +42,6 @@ pub record CanApply (units : ℕ) (work : Work) : Type 0 where
 abbrev pub IsPlaced : Option ℕ → ℕ → Store → Result Plan ChangeFault → Type 0
 IsPlaced n length value (Ok plan) = (placed n length value ≡ Some (placement_of plan)) × IsFor n length plan
 IsPlaced n length value (Err fault) = RoomCause (placed n length value) fault
-
--- and so is its change of the index
-abbrev pub PlacedIs : Option ℕ → ℕ → Store → Result (Plan × IndexPlan) ChangeFault → Type 0
-PlacedIs n length value (Ok planned) = IsPlaced n length value (Ok planned.0)
-PlacedIs n length value (Err fault) = IsPlaced n length value (Err fault)
 
 -- for a header of this length there was a generation left and room, or it was refused for the first that wasn't
 pub record FindsRoom {A : Type 0} (n : Option ℕ) (size : ℕ) (before after : Store)
@@ -112,23 +99,7 @@ module _ {D : Type 0} (d : disk.Ghosts D) where
     pub sealed : IsTrue d.tells → IsSealedAfter generation work (d.files old).idx (d.files new).idx
     pub settled : IsTrue d.tells → IsSettled Idx (d.files new) (d.left_since new (d.moment new))
 
-  -- a header is planned in both files: both plans can be written, and the index then holds the rows of the packages after it
-  pub record ArePlanned (at : D) (value room : Store) (index : hindex.State) (n : Option ℕ) (h : Header)
-      (planned : Plan × IndexPlan) : Type 0 where
-    pub put : CanPut room planned.0
-    pub change : CanApply index.units planned.1.work
-    pub leads : LeadsTo at index.units (packages (d.files at).pkg value)
-        (packages_of (put_map (d.files at).pkg value n h.blob)) (header_rows (number_for n value) h) planned.1.work
-    pub whole : IsTrue d.tells → IsWholeIndex (d.files at).idx → WritesWhole planned.1.work (d.files at).idx
-
-  -- a change was written to both files: this is the store, with these blobs, and the index has the change
-  pub record AreWritten (old new : D) (before after : hindex.State) (is value : Store) (to : BlobMap)
-      (work : Work) : Type 0 where
-    pub ok : is ≡ value
-    pub stored : IsStored new is to
-    pub applied : IsApplied old new before after is.generation work
-
-  -- both were, to these blobs and this number field; of an index with so many units at least
+  -- a change was written to both files: these are the blobs and the number field; of an index with so many units at least
   pub record IsDone (old new : D) (before after : Store) (index : hindex.State) (to : BlobMap)
       (field least : ℕ) : Type 0 where
     pub ready : CanChange new after index

@@ -1,5 +1,5 @@
 -- Lawful files, and what making the index anew leaves of them.
-use Rattle.std.proofs.Common.{◌≡◌, ◌⊎◌, ℕ, length, false, eqb, refl, sym, ap, ◌∙◌, subst, inl, inr, arith}
+use Rattle.std.proofs.Common.{◌≡◌, ◌⊎◌, length, false, eqb, refl, sym, ap, ◌∙◌, subst, inl, inr, arith}
 use Rattle.std.proofs.lemmas.Bool.{and_parts}
 use Rattle.rpm_outside.specs.Files.{Units, Files, unit_at, blank}
 use Rattle.rpm_pkgdb.specs.Store.{Store}
@@ -67,7 +67,7 @@ remade_then a b c first second = record {
 pub stops_lawful : {D : Type 0} (d : disk.Ghosts D) (a b : D) → AreLawful (images d a)
     → LeavesIn d a b (CameOf Remade (images d a)) → LeavesIn d a b (IsLawfulStill (images d a))
 stops_lawful d a b lawful =
-    leaves_weaker d.moment d.left_since a b (CameOf Remade (images d a)) (IsLawfulStill (images d a))
+    leaves_weaker d a b (CameOf Remade (images d a)) (IsLawfulStill (images d a))
     (λ image c. record {
       from = c.from;
       was = c.was;

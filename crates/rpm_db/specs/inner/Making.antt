@@ -1,11 +1,10 @@
 -- Making an index, and a database: what is asked of its store, and what is left.
-use Rattle.std.specs.Prelude.{◌≡◌, ℕ, ◌≤◌, [], length, max, true, false, IsTrue, Option, None}
+use Rattle.std.specs.Prelude.{◌≡◌, ℕ, ◌≤◌, [], length, max, true, false, IsTrue, Option}
 use Rattle.rpm_outside.specs.declared.disk.Disk as disk
 use Rattle.rpm_outside.specs.declared.disk.File.TheVariants.{Pkg, Idx}
 use Rattle.rpm_outside.specs.Changes.{IsSettled}
 use Rattle.rpm_outside.specs.Files.{blank}
 use Rattle.rpm_pkgdb.specs.Quiet.{IsQuiet}
-use Rattle.rpm_pkgdb.specs.Slots.{slot_with}
 use Rattle.rpm_pkgdb.specs.Store.{Keeps, Store}
 use Rattle.rpm_hindex.specs.Index.{records}
 use Rattle.rpm_hindex.specs.Rows.{SameRows}

@@ -10,13 +10,14 @@ StandsBefore a b = (a.kind ≤ b.kind) × (a.kind ≡ b.kind → a.place < b.pla
 abbrev pub StandsNotBehind : Row → Row → Type 0
 StandsNotBehind a b = (a.kind ≤ b.kind) × (a.kind ≡ b.kind → a.place ≤ b.place)
 
-abbrev pub StandsBeforeAll : Row → List Row → Type 0
-StandsBeforeAll a [] = Unit {0}
-StandsBeforeAll a (b ∷ bs) = StandsBefore a b × StandsBeforeAll a bs
+-- each of these rows is so
+abbrev pub Each : (Row → Type 0) → List Row → Type 0
+Each P [] = Unit {0}
+Each P (row ∷ rows) = P row × Each P rows
 
 abbrev pub AreByPlace : List Row → Type 0
 AreByPlace [] = Unit {0}
-AreByPlace (row ∷ rows) = StandsBeforeAll row rows × AreByPlace rows
+AreByPlace (row ∷ rows) = Each (StandsBefore row) rows × AreByPlace rows
 
 -- these rows without those, each as often as it is here more often
 abbrev pub AreWithout : List Row → List Row → List Row → Type 0

@@ -3,7 +3,7 @@ use Rattle.std.specs.Prelude.{◌≡◌, ◌⊎◌, ℕ, ◌+◌, List, ◌∷�
 use Rattle.std.specs.Prelude as lists
 use Rattle.std.specs.Ordering.{nat_cmp}
 use Rattle.std.specs.FinMap as finite
-use Rattle.rpm_outside.specs.Files.{Units, Files, unit_at, blank, put}
+use Rattle.rpm_outside.specs.Files.{Units, unit_at, blank, put}
 use Rattle.rpm_pkgdb.specs.Blobs.{blobs}
 use Rattle.rpm_pkgdb.specs.Costs.{cost}
 use Rattle.rpm_pkgdb.specs.Store.{Store, next_number}

@@ -1,7 +1,6 @@
 use Rattle.std.proofs.Common.{ℕ, List, [], sym, subst}
-use Rattle.rpm_db.proofs.Vocabulary.{buckets_of, HasChanged, IsWellFormed, records, Row, rows}
+use Rattle.rpm_db.proofs.Vocabulary.{buckets_of, HasChanged, IsWellFormed, records, rows}
 use Rattle.rpm_db.proofs.Prepared.{of_records}
-use Rattle.rpm_db.proofs.Unwritten.{looked_at}
 use Rattle.rpm_db.proofs.gathering.expect_room.Goals as goal
 
 pub returns-then-has_room_for-clause-takes : goal.returns-then-has_room_for-clause-takes
@@ -16,25 +15,3 @@ returns-then-has_room_for-clause-takes g c = record {
       (of_records [] owed before after idx has changed)));
   bad = λ told. tt;
 }
-
-pub returns-in-Ok-clause-takes : goal.returns-in-Ok-clause-takes
-returns-in-Ok-clause-takes g c = record {
-  full = λ told before after has changed.
-      c.in-Ok.ensures.full told before after has
-      (subst (λ (rs : List Row). HasChanged rs c.args.owed.now (rows before) (rows after)) (sym c.new.ensures) changed);
-  bad = λ told. tt;
-}
-
-pub returns-clause-takes : goal.returns-clause-takes
-returns-clause-takes g c = record {
-  full = λ told before after has changed.
-      c.in-Err.ensures.full told before after has
-      (subst (λ (rs : List Row). HasChanged rs c.args.owed.now (rows before) (rows after)) (sym c.new.ensures) changed);
-  bad = λ told. c.in-Err.ensures.bad told;
-}
-
-pub returns-in-Ok-clause-runs : goal.returns-in-Ok-clause-runs
-returns-in-Ok-clause-runs g c = looked_at g.D.Disk _ _ _ c.in-Ok.ensures.looks
-
-pub returns-clause-runs : goal.returns-clause-runs
-returns-clause-runs g c = looked_at g.D.Disk _ _ _ c.in-Err.ensures.looks

@@ -1,25 +1,9 @@
-use Rattle.std.proofs.Common.{◌≡◌, ℕ, length, arith, true, false, refl, ap, sym, ◌∙◌, subst}
+use Rattle.std.proofs.Common.{◌≡◌, ℕ, true, false, ap, sym, ◌∙◌, subst}
 use Rattle.std.specs.Prelude.{IsTrue}
-use Rattle.rpm_db.proofs.Vocabulary.{Files, HasRows, Idx, is_current, is_current_at, packages, ReachesMade, Remade, remade_none, remade_then, rows}
-use Rattle.rpm_db.proofs.Vocabulary.{runs_looks, runs_then, store, units_for}
+use Rattle.rpm_db.proofs.Vocabulary.{Files, HasRows, is_current, is_current_at, packages}
+use Rattle.rpm_db.proofs.Vocabulary.{store}
 use Rattle.rpm_db.proofs.Making.{rows_of_lawful, rows_of_index, current_same}
 use Rattle.rpm_db.proofs.indexing.index_for.Goals as goal
-
-pub returns-in-Err-DiskFault-clause-runs : goal.returns-in-Err-DiskFault-clause-runs
-returns-in-Err-DiskFault-clause-runs g c =
-    runs_then g.D.Disk g.met.D.Disk.follows_trans Remade Remade Remade c.args.disk.now c.open.new.disk c.make_index.new.disk (λ x y r. r) remade_then
-    (runs_looks g.D.Disk Remade remade_none Idx 32 c.args.disk.now c.open.new.disk refl c.in-Ok.ensures.reads.looks) c.in-Err-DiskFault.ensures.runs
-
-pub returns-then-is_current-clause-reach : goal.returns-then-is_current-clause-reach
-returns-then-is_current-clause-reach g c = λ told.
-    omega (arith, ap (λ (f : Files). length f.idx) (c.in-Ok.ensures.reads.looks.untouched told).same)
-
-pub returns-in-Ok-make_index-clause-reach : goal.returns-in-Ok-make_index-clause-reach
-returns-in-Ok-make_index-clause-reach g c = λ told.
-    let value = c.args.store.now in
-    let same = (c.in-Ok.ensures.reads.looks.untouched told).same in
-    let new = g.D.Disk.files c.make_index.new.disk in
-    subst (λ (f : Files). ReachesMade (units_for (rows (packages f.pkg value))) f.idx new.idx) same (c.in-Ok-make_index.ensures.reach told)
 
 pub returns-then-is_current-clause-index : goal.returns-then-is_current-clause-index
 returns-then-is_current-clause-index g c =

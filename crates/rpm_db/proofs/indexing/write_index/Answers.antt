@@ -1,4 +1,3 @@
-use Rattle.std.proofs.Common.{arith}
 use Rattle.rpm_db.proofs.Vocabulary.{Remade, remade_then, runs_index, runs_then, VoidOrSame}
 use Rattle.rpm_db.proofs.Making.{voiding, ordered_pending}
 use Rattle.rpm_db.proofs.indexing.write_index.Goals as goal
@@ -20,6 +19,3 @@ returns-in-Err-clause-runs g c =
     Remade Remade Remade c.args.disk.now c.rewrite.new.disk c.seal_index.new.disk (λ x y r. r) remade_then
     (runs_index g.D.Disk Remade VoidOrSame (λ f. Unit {0}) 0
     c.args.disk.now c.rewrite.new.disk voiding (λ told. tt) (λ told image left. tt) c.in_ok-rewrite.ensures.writes.changes) c.in-Err.ensures.runs
-
-pub returns-in-Ok-clause-grows : goal.returns-in-Ok-clause-grows
-returns-in-Ok-clause-grows g c = omega (arith, c.in_ok-rewrite.ensures.grows, c.in-Ok.ensures.units)

@@ -1,13 +1,11 @@
-use Rattle.std.proofs.Common.{◌≡◌, ℕ, ◌≤◌, List, Option, IsTrue, refl, sym, subst, arith}
+use Rattle.std.proofs.Common.{◌≡◌, ℕ, ◌≤◌, List, Option, IsTrue, sym, subst, arith}
 use Rattle.std.specs.FinMap as finite
-use Rattle.rpm_db.proofs.Vocabulary.{AreByPlace, AreParted, AreWithout, Files, HasChanged, HasRows, live_of, nat_cmp, old_rows, Package, packages, Pkg, Row}
-use Rattle.rpm_db.proofs.Vocabulary.{rows, runs_looks, SameFiles, WritesRows}
-use Rattle.rpm_hindex.specs.State as hindex
+use Rattle.rpm_db.proofs.Vocabulary.{AreByPlace, AreParted, AreWithout, Files, HasChanged, HasRows, live_of, nat_cmp, old_rows, Package, packages, Row}
+use Rattle.rpm_db.proofs.Vocabulary.{rows, WritesRows}
 use Rattle.rpm_db.proofs.ByPlace.{by_place_old}
 use Rattle.rpm_db.proofs.Reached.{live_less}
 use Rattle.rpm_db.proofs.Shared.{changed_still}
 use Rattle.rpm_db.proofs.Unwritten.{looked_both}
-use Rattle.rpm_db.proofs.Wholes.{whole_work}
 use Rattle.rpm_db.proofs.preparing.prepare_change.Goals as goal
 
 -- the rows that go and come, where those that go were read
@@ -23,14 +21,6 @@ module _ (n : Option ℕ) (packages : finite.FinMap nat_cmp Package) (adds drops
 
   less : live_of new ≤ live_of adds
   less = live_less new adds (λ r. omega (arith, both.1 r))
-
-pub prepare_rows-requires-clause-keeps : goal.prepare_rows-requires-clause-keeps
-prepare_rows-requires-clause-keeps g c = λ told.
-    subst (λ (f : Files). hindex.Keeps f.idx c.args.index.now) (sym (c.in-Ok.ensures.looks.untouched told).same) (c.requires.read.units told)
-
-pub returns-in-Ok-prepare_rows-clause-whole : goal.returns-in-Ok-prepare_rows-clause-whole
-returns-in-Ok-prepare_rows-clause-whole g c = λ told whole.
-    whole_work c.in-Ok-prepare_rows.plan.work _ _ (c.in-Ok.ensures.looks.untouched told).same (c.in-Ok-prepare_rows.ensures.whole told) whole
 
 pub returns-in-Ok-prepare_rows-clause-full : goal.returns-in-Ok-prepare_rows-clause-full
 returns-in-Ok-prepare_rows-clause-full g c = λ told new has changed.
@@ -67,28 +57,6 @@ returns-in-Ok-prepare_rows-clause-leads g c = λ new changed.
           );
     }
 
-pub returns-in-Err-clause-runs : goal.returns-in-Err-clause-runs
-returns-in-Err-clause-runs g c = runs_looks g.D.Disk SameFiles (λ f. refl) Pkg _ _ _ refl c.in-Err.ensures.looks
-
-pub returns-in_default-clause-runs : goal.returns-in_default-clause-runs
-returns-in_default-clause-runs g c = runs_looks g.D.Disk SameFiles (λ f. refl) Pkg _ _ _ refl c.in-Ok.ensures.looks
-
 pub returns-in-Ok-prepare_rows-clause-runs : goal.returns-in-Ok-prepare_rows-clause-runs
 returns-in-Ok-prepare_rows-clause-runs g c =
     looked_both g.D.Disk g.met.D.Disk.follows_trans _ _ _ _ _ c.in-Ok.ensures.looks c.in-Ok-prepare_rows.ensures.looks
-
-pub returns-clause-runs : goal.returns-clause-runs
-returns-clause-runs g c =
-    looked_both g.D.Disk g.met.D.Disk.follows_trans _ _ _ _ _ c.in-Ok.ensures.looks c.in-Err-prepare_rows.ensures.looks
-
-pub returns-in-Err-clause-reads : goal.returns-in-Err-clause-reads
-returns-in-Err-clause-reads g c = omega (arith, c.in-Err.ensures.looks.reads.pkg)
-
-pub returns-in_default-clause-reads : goal.returns-in_default-clause-reads
-returns-in_default-clause-reads g c = omega (arith, c.in-Ok.ensures.looks.reads.pkg)
-
-pub returns-in-Ok-prepare_rows-clause-reads : goal.returns-in-Ok-prepare_rows-clause-reads
-returns-in-Ok-prepare_rows-clause-reads g c = omega (arith, c.in-Ok.ensures.looks.reads.pkg, c.in-Ok-prepare_rows.ensures.looks.reads.pkg)
-
-pub returns-clause-reads : goal.returns-clause-reads
-returns-clause-reads g c = omega (arith, c.in-Ok.ensures.looks.reads.pkg, c.in-Err-prepare_rows.ensures.looks.reads.pkg)

@@ -1,7 +1,6 @@
-use Rattle.std.proofs.Common.{ℕ, ◌^◌, ◌<◌, List, sym, subst, arith}
-use Rattle.rpm_db.proofs.Vocabulary.{buckets_of, HasChanged, HasRoomFor, IsBad, IsPlanFor, IsWellFormed, ReachesFor, records, rows}
-use Rattle.rpm_hindex.specs.declared.faults.PrepareFault.TheVariants.{BadIndex}
-use Rattle.rpm_db.proofs.Prepared.{of_records, writes_rows, never_bad}
+use Rattle.std.proofs.Common.{ℕ, ◌^◌, ◌<◌, List, sym, subst}
+use Rattle.rpm_db.proofs.Vocabulary.{buckets_of, HasChanged, IsPlanFor, IsWellFormed, ReachesFor, records, rows}
+use Rattle.rpm_db.proofs.Prepared.{of_records, writes_rows}
 use Rattle.rpm_db.proofs.Wholes.{whole_plan}
 use Rattle.rpm_db.proofs.preparing.prepare_rows.Goals as goal
 
@@ -9,16 +8,6 @@ pub returns-in-Ok-clause-whole : goal.returns-in-Ok-clause-whole
 returns-in-Ok-clause-whole g c = λ told whole.
     whole_plan c.args.drops.now c.args.adds.now c.args.index.now.first (g.D.Disk.files c.args.disk.now).idx c.in-Ok.plan.work
     (c.requires.keeps told).first (λ well. (c.in-Ok.ensures.prepared.change told well).makes) whole
-
-pub returns-in-Ok-clause-full : goal.returns-in-Ok-clause-full
-returns-in-Ok-clause-full g c = λ told old new has changed.
-    let idx = (g.D.Disk.files c.args.disk.now).idx in
-    let first = (c.requires.keeps told).first in
-    let drops = c.args.drops.now in
-    let adds = c.args.adds.now in
-    let whole = subst (λ (u : List ℕ). IsWellFormed (buckets_of u) idx) (sym first) has.whole in
-    let room = subst (λ (u : List ℕ). HasRoomFor drops adds (records (buckets_of u) idx)) first (c.in-Ok.ensures.prepared.change told whole).room in
-    room (rows new) (of_records drops adds old new idx has changed)
 
 pub returns-in-Err-IndexFull-clause-full : goal.returns-in-Err-IndexFull-clause-full
 returns-in-Err-IndexFull-clause-full g c = λ told old new has changed.
@@ -32,23 +21,6 @@ returns-in-Err-IndexFull-clause-full g c = λ told old new has changed.
     large.1 (rows new) (subst (λ (u : List ℕ). HasChanged drops adds (records (buckets_of u) idx) (rows new)) (sym first)
     (of_records drops adds old new idx has changed)) in
     (subst (λ (n : ℕ). 2 ^ 28 < n) is large.0, is)
-
-pub returns-in-Err-BadIndex-clause-full : goal.returns-in-Err-BadIndex-clause-full
-returns-in-Err-BadIndex-clause-full g c = λ told old new has changed.
-    let idx = (g.D.Disk.files c.args.disk.now).idx in
-    let first = (c.requires.keeps told).first in
-    let whole = subst (λ (u : List ℕ). IsWellFormed (buckets_of u) idx) (sym first) has.whole in
-    let bad = rw c.in-Err-BadIndex.field-0-is at (c.in-Err-BadIndex.ensures.refused.bad told) in
-    absurd (never_bad (buckets_of c.args.index.now.first) c.in-Err-BadIndex.unit idx whole bad)
-
-pub returns-in-Err-BadIndex-clause-bad : goal.returns-in-Err-BadIndex-clause-bad
-returns-in-Err-BadIndex-clause-bad g c = λ told.
-    let idx = (g.D.Disk.files c.args.disk.now).idx in
-    subst (λ (u : List ℕ). IsBad (buckets_of u) idx (BadIndex c.in-Err-BadIndex.unit)) (c.requires.keeps told).first
-    (rw c.in-Err-BadIndex.field-0-is at (c.in-Err-BadIndex.ensures.refused.bad told))
-
-pub returns-in-Ok-clause-change : goal.returns-in-Ok-clause-change
-returns-in-Ok-clause-change g c = record { can = c.in-Ok.ensures.can; ordered = c.in-Ok.ensures.prepared.ordered }
 
 pub returns-in-Ok-clause-leads : goal.returns-in-Ok-clause-leads
 returns-in-Ok-clause-leads g c = λ old new changed.

@@ -1,141 +1,68 @@
-use Rattle.std.proofs.Common.{◌+◌, refl, length, sym, ap, ◌∙◌, subst, arith, rules}
-use Rattle.rpm_db.proofs.Vocabulary.{Files, ReachesTo, Store}
-use Rattle.rpm_db.proofs.Halves.{changed_again, read_of, roomed_again}
-use Rattle.rpm_db.proofs.Planning.{reads_of_put, state_put, rows_put, stops_put}
-use Rattle.rpm_db.proofs.Puts.{reads_planned}
-use Rattle.rpm_db.proofs.Rooms.{put_placed, room_put}
-use Rattle.rpm_db.proofs.Unwritten.{log_same, log_then, stops_refused}
-use Rattle.rpm_db.proofs.Wholes.{whole_sealed}
+use Rattle.std.proofs.Common.{◌+◌, ℕ, List, sym, ap, ◌∙◌, subst}
+use Rattle.rpm_db.proofs.Vocabulary.{AreByPlace, BlobMap, HasChanged, header_rows, live_of}
+use Rattle.rpm_db.proofs.Vocabulary.{old_rows, packages, packages_of, Row, rows}
+use Rattle.rpm_db.proofs.ByPlace.{by_place_header}
+use Rattle.rpm_db.proofs.Planning.{done_roomed, field_is, index_planned, map_is, planned, rows_roomed, state_is, state_same}
+use Rattle.rpm_db.proofs.Puts.{number_same, reads_put, rows_planned}
+use Rattle.rpm_db.proofs.Results.{map_ok}
+use Rattle.rpm_db.proofs.Rooms.{finds_none, finds_room}
+use Rattle.rpm_db.proofs.Unwritten.{stops_told}
 use Rattle.rpm_db.proofs.putting.write_header.Goals as goal
 
--- ---- what the write asks for
-
-pub plan_put-requires-clause-read : goal.plan_put-requires-clause-read
-plan_put-requires-clause-read g c = read_of g.D.Disk _ _ _ c.requires.ready
-
-pub write_put-requires-clause-ready : goal.write_put-requires-clause-ready
-write_put-requires-clause-ready g c = roomed_again g.D.Disk _ _ _ _ _ c.in-Ok.ensures.runs c.in-Ok.ensures.value c.requires.ready
-
-pub write_put-requires-clause-length : goal.write_put-requires-clause-length
-write_put-requires-clause-length g c = c.in-Ok.ensures.placed.1.length_is ∙ ap length (sym c.blob.ensures.value)
-
-pub returns-in-Err-clause-stops : goal.returns-in-Err-clause-stops
-returns-in-Err-clause-stops g c = λ told lawful has. stops_refused _ _ g.D.Disk _ _ told lawful c.in-Err.ensures.runs
-
-pub returns-in-Err-clause-runs : goal.returns-in-Err-clause-runs
-returns-in-Err-clause-runs g c = record { files = log_same g.D.Disk _ _ c.in-Err.ensures.runs; cause = search rules }
-
-pub returns-in-Ok-write_put-clause-stops : goal.returns-in-Ok-write_put-clause-stops
-returns-in-Ok-write_put-clause-stops g c = λ told lawful has.
-    let e = c.in-Ok.ensures in
-    stops_put g.D.Disk _ _ _ told e.runs (record { room = e.value; plan_is = e.planned.put.plan_is; asked = e.placed.1; own = c.blob.ensures.value })
-    c.in-Ok.planned.1.work lawful has (e.planned.leads.makes told has) (c.in-Ok-write_put.ensures.stops told)
-
-pub returns-in-Err-write_put-clause-stops : goal.returns-in-Err-write_put-clause-stops
-returns-in-Err-write_put-clause-stops g c = λ told lawful has.
-    let e = c.in-Ok.ensures in
-    stops_put g.D.Disk _ _ _ told e.runs (record { room = e.value; plan_is = e.planned.put.plan_is; asked = e.placed.1; own = c.blob.ensures.value })
-    c.in-Ok.planned.1.work lawful has (e.planned.leads.makes told has) (c.in-Err-write_put.ensures.stops told)
-
-pub returns-in-Ok-write_put-clause-room : goal.returns-in-Ok-write_put-clause-room
-returns-in-Ok-write_put-clause-room g c = record {
-  later = c.in-Ok.ensures.later;
-  placed = put_placed _ _ _ _ _ c.in-Ok.planned.0 c.in-Ok.ensures.placed.0 c.in-Ok.ensures.value c.in-Ok-write_put.ensures.written.ok;
-}
-
-pub returns-in-Err-write_put-clause-room : goal.returns-in-Err-write_put-clause-room
-returns-in-Err-write_put-clause-room g c = record {
-  later = c.in-Ok.ensures.later.0;
-  placed = tt;
-}
+-- ---- it wasn't planned
 
 pub returns-in-Err-clause-room : goal.returns-in-Err-clause-room
-returns-in-Err-clause-room g c = record {
-  later = c.in-Err.ensures.later;
-  placed = room_put c.args.n (length c.args.view.now.blob) c.args.store.now c.in-Err.fault c.in-Err.ensures.placed;
-}
+returns-in-Err-clause-room g c = finds_none _ _ _ _ c.in-Err.fault c.in-Err.ensures.later c.in-Err.ensures.placed
 
-pub returns-in-Ok-write_put-clause-reads : goal.returns-in-Ok-write_put-clause-reads
-returns-in-Ok-write_put-clause-reads g c =
+-- ---- what the change of both files asks for
+
+pub change_both-requires-clause-order : goal.change_both-requires-clause-order
+change_both-requires-clause-order g c =
+    subst AreByPlace (sym c.in-Ok-rows_behind.ensures) (by_place_header c.number_of-number.result c.args.view.now)
+
+pub change_both-requires-clause-rows : goal.change_both-requires-clause-rows
+change_both-requires-clause-rows g c =
+    let file = (g.D.Disk.files c.args.disk.now).pkg in
     let e = c.in-Ok.ensures in
-    reads_of_put (record { room = e.value; plan_is = e.planned.put.plan_is; asked = e.placed.1; own = c.blob.ensures.value }) _ _ _ e.reads
-    c.in-Ok-write_put.ensures.reads.pkg
+    subst (λ (k : BlobMap). HasChanged (old_rows c.args.n (packages file c.plan_blob.new.store)) c.in-Ok-rows_behind.rows
+    (rows (packages file c.plan_blob.new.store)) (rows (packages_of k)))
+    (sym (map_is file (planned e.value e.plan.suits.plan_is e.placed.1 c.blob.ensures.value)))
+    (rows_planned file c.args.store.now c.plan_blob.new.store e.value c.args.n _ c.number_of-number.ensures _ c.in-Ok-rows_behind.ensures e.own)
 
-pub returns-in-Err-write_put-clause-reads : goal.returns-in-Err-write_put-clause-reads
-returns-in-Err-write_put-clause-reads g c =
+-- ---- both were changed, or refused
+
+pub returns-clause-room : goal.returns-clause-room
+returns-clause-room g c =
+    finds_room _ _ _ _ _ c.in-Ok.plan c.in-Ok.ensures.later c.in-Ok.ensures.placed.0 c.in-Ok.ensures.value c.change_both.result c.change_both.ensures.edit
+    c.change_both.ensures.kinds
+
+pub returns-clause-index : goal.returns-clause-index
+returns-clause-index g c =
+    let file = (g.D.Disk.files c.args.disk.now).pkg in
     let e = c.in-Ok.ensures in
-    reads_of_put (record { room = e.value; plan_is = e.planned.put.plan_is; asked = e.placed.1; own = c.blob.ensures.value }) _ _ _ e.reads
-    c.in-Err-write_put.ensures.reads.pkg
+    index_planned g.D.Disk _ _ e.value c.args.disk.now _ _ c.change_both.result
+    (map_is file (planned e.value e.plan.suits.plan_is e.placed.1 c.blob.ensures.value)) c.change_both.ensures.index
 
-pub returns-in-Err-clause-reads : goal.returns-in-Err-clause-reads
-returns-in-Err-clause-reads g c = reads_planned c.args.n c.args.store.now _ _ c.in-Err.ensures.reads
-
-pub returns-in-Ok-write_put-clause-runs : goal.returns-in-Ok-write_put-clause-runs
-returns-in-Ok-write_put-clause-runs g c = record {
-  files = log_then g.D.Disk g.met.D.Disk.follows_trans _ _ _ c.in-Ok.ensures.runs c.in-Ok-write_put.ensures.runs;
-  cause = search rules;
-}
-
-pub returns-in-Err-write_put-clause-runs : goal.returns-in-Err-write_put-clause-runs
-returns-in-Err-write_put-clause-runs g c = record {
-  files = log_then g.D.Disk g.met.D.Disk.follows_trans _ _ _ c.in-Ok.ensures.runs c.in-Err-write_put.ensures.runs;
-  cause = search rules;
-}
-
-pub returns-in-Ok-write_put-clause-end : goal.returns-in-Ok-write_put-clause-end
-returns-in-Ok-write_put-clause-end g c = λ told.
-    let f = g.D.Disk.files in
-    subst (λ (old : Files). ReachesTo c.write_put.new.store old.pkg (f c.write_put.new.disk).pkg) (c.in-Ok.ensures.runs.reads_as told)
-    (c.in-Ok-write_put.ensures.end told)
-
-pub returns-in-Ok-write_put-clause-done : goal.returns-in-Ok-write_put-clause-done
-returns-in-Ok-write_put-clause-done g c =
+pub returns-clause-done : goal.returns-clause-done
+returns-clause-done g c =
     let D = g.D.Disk in
+    let file = (D.files c.args.disk.now).pkg in
     let e = c.in-Ok.ensures in
-    let w = c.in-Ok-write_put.ensures in
-    let st = c.args.store.now in
-    let after = c.write_put.new.store in
-    record {
-      ready = changed_again D _ _ after _ _ _ _
-          (ap (λ (v : Store). v.is_stopped) w.written.ok ∙ ap (λ (v : Store). v.is_stopped) e.value ∙ c.requires.ready.going) w.made w.written.stored
-          w.written.applied;
-      generation_is = ap (λ (v : Store). v.generation) w.written.ok ∙ ap (λ (v : Store). v.generation + 1) e.value;
-      state_is = λ told.
-          state_put g.D.Disk _ _ c.write_put.new.disk told e.runs (record {
-            room = e.value;
-            plan_is = e.planned.put.plan_is;
-            asked = e.placed.1;
-            own
-                = c.blob.ensures.value;
-          })
-          after (w.written.stored.blobs_are told) (ap (λ (v : Store). v.field) w.written.ok);
-      stands = w.written.stored.stands;
-      rows_are = λ told has.
-          rows_put g.D.Disk _ _ c.write_put.new.disk told e.runs (record {
-            room = e.value;
-            plan_is = e.planned.put.plan_is;
-            asked = e.placed.1;
-            own
-                = c.blob.ensures.value;
-          })
-          after c.in-Ok.planned.1.work (w.written.stored.blobs_are told) (e.planned.leads.makes told has) (w.written.applied.sealed told);
-      reach = λ told has. omega (arith, e.planned.leads.reach told has, w.written.applied.grows);
-      whole = λ told whole. whole_sealed _ c.in-Ok.planned.1.work _ _ _ (e.runs.reads_as told) (e.planned.whole told whole) (w.written.applied.sealed told);
-    }
+    let p = planned e.value e.plan.suits.plan_is e.placed.1 c.blob.ensures.value in
+    let number = c.number_of-number.ensures ∙ number_same c.args.n c.args.store.now c.plan_blob.new.store e.value in
+    let units = ap (λ (rs : List Row). c.args.index.now.units + live_of rs)
+    (c.in-Ok-rows_behind.ensures ∙ ap (λ (k : ℕ). header_rows k c.args.view.now) number) in
+    map_ok c.change_both.result (done_roomed D _ _ e.value _ _ _ _ _ _ _ _ _ _ (map_is file p) (field_is file p) units) c.change_both.ensures.done
 
-pub returns-in-Ok-write_put-clause-index : goal.returns-in-Ok-write_put-clause-index
-returns-in-Ok-write_put-clause-index g c =
-    record { full = λ told has. c.in-Ok.ensures.index.full told has; bad = λ told. c.in-Ok.ensures.index.bad told }
+pub returns-clause-stops : goal.returns-clause-stops
+returns-clause-stops g c = λ told lawful has.
+    let file = (g.D.Disk.files c.args.disk.now).pkg in
+    let e = c.in-Ok.ensures in
+    stops_told g.D.Disk _ _ _ _ _ _ _ (state_same file _ _ e.value)
+    (state_is file (planned e.value e.plan.suits.plan_is e.placed.1 c.blob.ensures.value))
+    (c.change_both.ensures.stops told lawful (rows_roomed g.D.Disk _ _ e.value c.args.disk.now has))
 
-pub returns-in-Err-write_put-clause-index : goal.returns-in-Err-write_put-clause-index
-returns-in-Err-write_put-clause-index g c = record { full = λ told has. tt; bad = λ told. tt }
-
-pub returns-in-Err-clause-index : goal.returns-in-Err-clause-index
-returns-in-Err-clause-index g c =
-    record { full = λ told has. c.in-Err.ensures.index.full told has; bad = λ told. c.in-Err.ensures.index.bad told }
-
-pub returns-in-Err-clause-made : goal.returns-in-Err-clause-made
-returns-in-Err-clause-made g c = omega (arith, ap (λ (v : Store). v.pages) c.in-Err.ensures.value, c.requires.ready.made)
-
-pub returns-in-Err-clause-refused : goal.returns-in-Err-clause-refused
-returns-in-Err-clause-refused g c = λ refusal. record { store_is = c.in-Err.ensures.value; index_is = refl; runs = c.in-Err.ensures.runs }
+pub returns-clause-reads : goal.returns-clause-reads
+returns-clause-reads g c =
+    let e = c.in-Ok.ensures in
+    reads_put c.args.n c.args.store.now _ e.value _ c.in-Ok.plan e.plan.suits.plan_is e.placed.1 _ _ c.change_both.ensures.reads

@@ -9,9 +9,9 @@ pub loop-number-init : goal.loop-number-init
 loop-number-init g c = record {
   keeps = c.requires.keeps;
   looks =
-      looks_more g.D.Disk.tells g.D.Disk.files g.D.Disk.left_since g.D.Disk.moment g.D.Disk.bytes_read g.D.Disk.follows Pkg 0
+      looks_more g.D.Disk Pkg 0
       (cost_to 0 c.args.store.now) c.args.disk.now c.args.disk.now (omega arith)
-      (looks_none g.D.Disk.tells g.D.Disk.files g.D.Disk.left_since g.D.Disk.moment g.D.Disk.bytes_read g.D.Disk.follows Pkg g.met.D.Disk.follows_refl
+      (looks_none g.D.Disk Pkg g.met.D.Disk.follows_refl
       c.args.disk.now);
   faults = omega arith;
   same = λ told.
@@ -32,7 +32,7 @@ loop-number-preserved g c =
     record {
       keeps = e.kept;
       looks =
-          looks_then g.D.Disk.tells g.D.Disk.files g.D.Disk.left_since g.D.Disk.moment g.D.Disk.bytes_read g.D.Disk.follows Pkg g.met.D.Disk.follows_trans
+          looks_then g.D.Disk Pkg g.met.D.Disk.follows_trans
           (cost_to k store) (cost m store) (cost_to m store) c.args.disk.now c.loop-number.disk c.push_package.new.disk
           (cost_to_more store k m c.in-Some.ensures.0) inv.looks e.looks;
       faults = omega (arith, inv.faults, e.cause.later);
@@ -46,13 +46,13 @@ returns-in_err-room-clause-looks g c =
     let store = c.args.store.now in
     let k = c.loop-number.passed in
     let m = c.in-Some.number in
-    looks_then g.D.Disk.tells g.D.Disk.files g.D.Disk.left_since g.D.Disk.moment g.D.Disk.bytes_read g.D.Disk.follows Pkg g.met.D.Disk.follows_trans
+    looks_then g.D.Disk Pkg g.met.D.Disk.follows_trans
     (cost_to k store) (cost m store) (cost_all store) c.args.disk.now c.loop-number.disk c.push_package.new.disk
     (omega (arith, cost_to_more store k m c.in-Some.ensures.0, cost_to-cost_all store m)) c.loop-number.invariant.looks c.in_err-room.ensures.looks
 
 pub returns-clause-looks : goal.returns-clause-looks
 returns-clause-looks g c =
-    looks_more g.D.Disk.tells g.D.Disk.files g.D.Disk.left_since g.D.Disk.moment g.D.Disk.bytes_read g.D.Disk.follows Pkg
+    looks_more g.D.Disk Pkg
     (cost_to c.loop-number.passed c.args.store.now) (cost_all c.args.store.now) c.args.disk.now c.loop-number.disk
     (cost_to-cost_all c.args.store.now c.loop-number.passed) c.loop-number.invariant.looks
 

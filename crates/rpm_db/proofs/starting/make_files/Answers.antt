@@ -1,27 +1,16 @@
-use Rattle.std.proofs.Common.{◌≡◌, length, sym, ap, ◌∙◌, subst, arith}
-use Rattle.rpm_db.proofs.Vocabulary.{IsUnsealed, SameOutside, Store, store, Units}
+use Rattle.std.proofs.Common.{sym, ap, ◌∙◌, subst}
+use Rattle.rpm_db.proofs.Vocabulary.{IsUnsealed, SameOutside, store, Units}
 use Rattle.rpm_pkgdb.specs.Store as pkgdb
-use Rattle.rpm_hindex.specs.State as hindex
 use Rattle.rpm_db.proofs.Emptied.{empty_unsealed}
 use Rattle.rpm_db.proofs.EmptyStops.{stops_all, stops_both, stops_first}
 use Rattle.rpm_db.proofs.Making.{ordered_pending}
 use Rattle.rpm_db.proofs.Opened.{still_quiet}
-use Rattle.rpm_db.proofs.SameLogs.{log_remade, log_made, log_sealed}
+use Rattle.rpm_db.proofs.SameLogs.{log_made, log_sealed}
 use Rattle.rpm_db.proofs.starting.make_files.Goals as goal
 
 pub seal_index-requires-clause-written : goal.seal_index-requires-clause-written
 seal_index-requires-clause-written g c =
     ordered_pending c.in-Ok.index.pending c.in-Ok.index.units c.in-Ok.index.second c.in-Ok.ensures.empty.ordered
-
-pub seal_index-requires-clause-keeps : goal.seal_index-requires-clause-keeps
-seal_index-requires-clause-keeps g c = λ told.
-    subst (λ (u : Units). hindex.Keeps u c.in-Ok.index) (sym (c.in-Ok-make.ensures.writes.changes.idx told)) (c.in-Ok.ensures.empty.kept told)
-
-pub seal_index-requires-clause-settled : goal.seal_index-requires-clause-settled
-seal_index-requires-clause-settled g c = λ told image here.
-    let m = c.in-Ok-make.ensures.writes.changes in
-    let s = m.now told image here in
-    s.idx ∙ c.in-Ok.ensures.empty.settled told s.from s.was ∙ sym (m.idx told)
 
 pub seal_index-requires-clause-here : goal.seal_index-requires-clause-here
 seal_index-requires-clause-here g c = λ told.
@@ -71,10 +60,6 @@ returns-in-Ok-seal_index-clause-empty g c =
       settled = s.sealed.settled;
     }
 
-pub returns-in-Err-clause-runs : goal.returns-in-Err-clause-runs
-returns-in-Err-clause-runs g c =
-    log_remade g.D.Disk c.args.disk.now c.empty_index.new.disk c.in-Err.ensures.runs
-
 pub returns-in_default-clause-runs : goal.returns-in_default-clause-runs
 returns-in_default-clause-runs g c =
     log_made g.D.Disk g.met.D.Disk.follows_trans
@@ -91,12 +76,3 @@ returns-in-Err-seal_index-clause-runs g c =
     log_sealed g.D.Disk g.met.D.Disk.follows_trans
     (SameOutside 0 256) 0 c.args.disk.now c.empty_index.new.disk c.make.new.disk c.seal_index.new.disk c.in-Ok.ensures.runs c.in-Ok-make.ensures.writes.changes
     c.in-Err-seal_index.ensures.runs
-
-pub returns-in-Ok-seal_index-clause-reach : goal.returns-in-Ok-seal_index-clause-reach
-returns-in-Ok-seal_index-clause-reach g c = λ told.
-    let s = c.in-Ok-seal_index.ensures in omega (arith, c.in-Ok.ensures.empty.reach told, s.units, (s.sealed.kept told).units)
-
-pub returns-in-Ok-seal_index-clause-end : goal.returns-in-Ok-seal_index-clause-end
-returns-in-Ok-seal_index-clause-end g c = λ told.
-    let first = ap length (c.in-Ok.ensures.runs.reads_as told).pkg in
-    let last = ap length (c.in-Ok-seal_index.ensures.runs.reads_as told).pkg in omega (arith, (c.in-Ok-make.ensures.made told).reach, first, last)

@@ -9,7 +9,7 @@ use Rattle.rpm_db.specs.State.{State}
 use Rattle.rpm_db.proofs.Applied.{put_state}
 use Rattle.rpm_db.proofs.FillStops.{taken_ok}
 use Rattle.rpm_db.proofs.OwedRows.{due_more, gathered_rows}
-use Rattle.rpm_db.proofs.Planning.{state_written}
+use Rattle.rpm_db.proofs.Halves.{state_written}
 use Rattle.rpm_db.proofs.Reached.{added_is}
 use Rattle.rpm_db.proofs.Refused.{add_is}
 use Rattle.rpm_db.proofs.Results.{both_ok, map_if_err, on_err}
@@ -100,7 +100,7 @@ returns-clause-gathers g c = λ h is.
           subst (λ (s : State). FullIndexIs (units_for (rows s.packages)) c.store_header.result) goes
           (e.rows.full told o.from to o.has (gathered_rows old.pkg st v own owed all refl (rows o.from) o.changed));
       stops = λ told lawful.
-          subst (λ (s : State). LeavesOnly D.moment D.left_since a b (IsChangedStill (state old.pkg st) s images)) goes (e.stops told lawful);
+          subst (λ (s : State). LeavesOnly D a b (IsChangedStill (state old.pkg st) s images)) goes (e.stops told lawful);
     })
 
 pub returns-clause-causes : goal.returns-clause-causes

@@ -3,7 +3,7 @@ use Rattle.rpm_db.proofs.Vocabulary.{AreOfRows, HasRows, IsOrdered, KeepsUnits, 
 use Rattle.rpm_hindex.specs.State as hindex
 use Rattle.rpm_db.proofs.Refused.{reading_of}
 use Rattle.rpm_db.proofs.FillStops.{rows_quiet}
-use Rattle.rpm_db.proofs.Served.{database_of, indexed_as, refused_same}
+use Rattle.rpm_db.proofs.Served.{indexed_as, refused_same}
 use Rattle.rpm_db.proofs.additions.Additions.finish.Goals as goal
 
 pub fill_index-requires : goal.fill_index-requires
@@ -88,16 +88,14 @@ returns-clause-stops g c =
 pub returns-clause-left : goal.returns-clause-left
 returns-clause-left g c =
     let was = rw (sym c.db.view_is) at c.requires.gathering in
-    let st = c.db.inside.store in
-    let on = c.db.inside.is_stopped in
     let e = c.in-Err.ensures in
-    let view = ap (λ (i : Option hindex.State). database_of st i on) (sym c.in-Some.is) ∙ c.db.view_is in
-    record {
+    let on = c.db.inside.is_stopped in
+    rw (sym c.db.view_is, c.in-Some.is) (record {
       indexed = refl;
       stopped = was.suspends;
-      refused = λ refusal. refused_same st st c.in-Some.index c.fill_index.new.index on on c.args.db.now view refl (e.refused refusal).0 refl;
+      refused = λ refusal. refused_same c.db.inside.store _ c.in-Some.index c.fill_index.new.index on on refl (e.refused refusal).0 refl;
       same = λ refusal. (e.refused refusal).1;
-    }
+    })
 
 pub invariant_of-db-in-Err : goal.invariant_of-db-in-Err
 invariant_of-db-in-Err g c =

@@ -3,7 +3,7 @@ use Rattle.rpm_db.proofs.Vocabulary.{changes_between, changes_weaker, Idx, Index
 use Rattle.rpm_db.proofs.Making.{ordered_some, ordered_pending}
 use Rattle.rpm_db.proofs.Results.{three_ok}
 use Rattle.rpm_db.proofs.SealedRows.{IsWritten, unsealed_yet, sealed_now, sealing_rows, is_written}
-use Rattle.rpm_db.proofs.writing.write_rows.Goals as goal
+use Rattle.rpm_db.proofs.writing.apply_sealed.Goals as goal
 
 pub seal-requires-clause-written : goal.seal-requires-clause-written
 seal-requires-clause-written g c =
@@ -15,7 +15,7 @@ returns-in_default-clause-writes g c =
     let D = g.D.Disk in
     let file = (D.files c.args.disk.now).idx in
     record {
-      changes = changes_weaker D.tells D.files D.left_since D.moment D.bytes_read D.follows Idx VoidOrSameSeal (IndexTo c.args.generation c.args.plan.work
+      changes = changes_weaker D Idx VoidOrSameSeal (IndexTo c.args.generation c.args.plan.work
           file) 0 0
           c.args.disk.now c.apply.new.disk (omega arith) (unsealed_yet c.args.generation c.args.plan.work file) c.in_default.ensures.writes.changes;
       cause = search rules;
@@ -34,7 +34,7 @@ returns-clause-writes g c =
     let unit = seal_unit n i.pending in
     let some = ordered_some i.pending i.units i.second (e.ordered c.requires.change.ordered) in
     record {
-      changes = changes_between D.tells D.files D.left_since D.moment D.bytes_read D.follows Idx g.met.D.Disk.follows_trans VoidOrSameSeal (SealedOrSame unit)
+      changes = changes_between D Idx g.met.D.Disk.follows_trans VoidOrSameSeal (SealedOrSame unit)
           (IndexTo n work file) (IsWritten n work file) 0 0 0 c.args.disk.now b c.seal.new.disk (omega arith) (unsealed_yet n work file)
           (sealing_rows n work file unit (ap (seal_unit n) e.value.pending))
           (λ told. is_written n work file i.pending mid mid e.value.pending (e.left.written told) (omega (arith, (e.left.kept told).units, some))

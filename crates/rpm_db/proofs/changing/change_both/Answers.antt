@@ -1,0 +1,87 @@
+use Rattle.std.proofs.Common.{refl, ap, ◌∙◌, arith, rules}
+use Rattle.rpm_db.proofs.Vocabulary.{Anything, blobs, edited, Files, IsApplied, IsStored}
+use Rattle.rpm_db.proofs.Both.{runs_both, runs_store}
+use Rattle.rpm_db.proofs.Halves.{applied_since, both_stop, half_stops, read_of, rows_written, state_written, stored_then}
+use Rattle.rpm_db.proofs.Results.{map_ok}
+use Rattle.rpm_db.proofs.Unwritten.{log_same, log_then}
+use Rattle.rpm_db.proofs.Wholes.{whole_sealed}
+use Rattle.rpm_db.proofs.changing.change_both.Goals as goal
+
+-- ---- what the calls ask for
+
+pub prepare_change-requires-clause-read : goal.prepare_change-requires-clause-read
+prepare_change-requires-clause-read g c = read_of g.D.Disk _ _ _ c.requires.ready
+
+-- ---- nothing was written
+
+pub returns-in-Err-clause-runs : goal.returns-in-Err-clause-runs
+returns-in-Err-clause-runs g c = record { files = log_same g.D.Disk _ _ c.in-Err.ensures.runs; cause = search rules }
+
+-- ---- the store was, in part
+
+pub returns-in_default-clause-stops : goal.returns-in_default-clause-stops
+returns-in_default-clause-stops g c = λ told lawful has.
+    let r = c.requires.ready in
+    half_stops g.D.Disk _ _ _ told lawful (g.met.D.Disk.as_read c.args.disk.now told) c.in-Ok.ensures.runs c.args.store.now (r.keeps told) r.made (r.quiet told)
+    (r.settled told) _ _ (rw (c.in-Ok.ensures.runs.reads_as told) at (c.in_default.ensures.images told))
+
+pub returns-in_default-clause-runs : goal.returns-in_default-clause-runs
+returns-in_default-clause-runs g c = record {
+  files = log_then g.D.Disk g.met.D.Disk.follows_trans _ _ _ c.in-Ok.ensures.runs (runs_store g.D.Disk Anything _ _ _ c.in_default.ensures.writes.changes);
+  cause = search rules;
+}
+
+-- ---- both were
+
+pub returns-clause-stops : goal.returns-clause-stops
+returns-clause-stops g c = λ told lawful has.
+    let r = c.requires.ready in
+    let e = c.in-Ok.ensures in
+    let w = c.in-Ok-edit_raised.ensures in
+    both_stop g.D.Disk _ _ _ told lawful (g.met.D.Disk.as_read c.args.disk.now told) e.runs c.args.store.now (r.keeps told) r.made (r.quiet told)
+    (r.settled told) _ _ (rw (e.runs.reads_as told) at (w.images told)) _ c.edit_raised.new.store c.in-Ok.change.work _ _
+    ((e.leads _ c.requires.rows).makes told has) w.writes.changes w.edit.generation w.edit.field (rw (e.runs.reads_as told) at w.stored)
+    c.generation.ensures.value c.write_rows.ensures.writes.changes
+
+pub returns-clause-runs : goal.returns-clause-runs
+returns-clause-runs g c = record {
+  files = log_then g.D.Disk g.met.D.Disk.follows_trans _ _ _ c.in-Ok.ensures.runs (runs_both g.D.Disk g.met.D.Disk.follows_trans Anything _ _ _ _ _ _
+      c.in-Ok-edit_raised.ensures.writes.changes c.write_rows.ensures.writes.changes);
+  cause = search rules;
+}
+
+pub returns-clause-done : goal.returns-clause-done
+returns-clause-done g c =
+    let D = g.D.Disk in
+    let st = c.args.store.now in
+    let old = D.files c.args.disk.now in
+    let new = D.files c.write_rows.new.disk in
+    let e = c.in-Ok.ensures in
+    let w = c.in-Ok-edit_raised.ensures in
+    let after = c.edit_raised.new.store in
+    let index = c.write_rows.new.index in
+    let work = c.in-Ok.change.work in
+    let to = edited c.args.edit c.args.blob.now (blobs old.pkg st) in
+    let leads = e.leads _ c.requires.rows in
+    let stored : IsStored D c.write_rows.new.disk after to = stored_then D after _ to _ 0 _ _ (λ told.
+    ap (λ (f : Files). edited c.args.edit c.args.blob.now (blobs f.pkg st)) (e.runs.reads_as told)) c.write_rows.ensures.writes.changes w.stored in
+    map_ok c.write_rows.result (λ (done : IsApplied D c.edit_raised.new.disk c.write_rows.new.disk c.args.index.now index c.generation.result work).
+    let applied : IsApplied D c.args.disk.now c.write_rows.new.disk c.args.index.now index after.generation work =
+    applied_since D _ _ _ _ _ _ _ _ (λ told. w.writes.changes.idx told ∙ ap (λ (f : Files). f.idx) (e.runs.reads_as told)) c.generation.ensures.value done in
+    record {
+      ready = record {
+        going = w.edit.going ∙ c.requires.ready.going;
+        made = omega (arith, w.edit.pages, c.requires.ready.made);
+        order = applied.current;
+        keeps = stored.kept;
+        units = applied.kept;
+        quiet = stored.quiet;
+        settled = applied.settled;
+      };
+      generation_is = w.edit.generation;
+      state_is = λ told. state_written new.pkg after to _ (stored.blobs_are told) w.edit.field;
+      stands = stored.stands;
+      rows_are = λ told has. rows_written new.pkg old.idx new.idx after _ work to (stored.blobs_are told) (leads.makes told has) (applied.sealed told);
+      reach = λ told has. omega (arith, leads.reach told has, applied.grows);
+      whole = λ told whole. whole_sealed _ work old old new.idx refl (e.whole told whole) (applied.sealed told);
+    }) c.write_rows.ensures.applied
