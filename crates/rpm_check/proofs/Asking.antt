@@ -69,7 +69,7 @@ module _ {D : Type 0} (d : disk.Ghosts D) where
   asking_none same a db asked = record {
     keeps = asked.keeps;
     keeps_index = asked.keeps_index;
-    looks = glances_none d.tells d.files d.left_since d.moment d.bytes_read d.follows same a;
+    looks = glances_none d same a;
     faults = omega arith;
   }
 
@@ -78,7 +78,7 @@ module _ {D : Type 0} (d : disk.Ghosts D) where
   asking_then trans a b c db first second = record {
     keeps = second.kept;
     keeps_index = second.kept_index;
-    looks = glances_then d.tells d.files d.left_since d.moment d.bytes_read d.follows trans a b c first.looks second.looks;
+    looks = glances_then d trans a b c first.looks second.looks;
     faults = omega (arith, first.faults, second.cause.later);
   }
 
@@ -90,7 +90,7 @@ module _ {D : Type 0} (d : disk.Ghosts D) where
     kept_index = asked.keeps_index;
     broken = λ told. memory_unbroken r (d.files a).idx is;
     lawful = λ told rows. memory_lawful r is;
-    looks = glances_none d.tells d.files d.left_since d.moment d.bytes_read d.follows same a;
+    looks = glances_none d same a;
     cause = record { later = omega arith; rose = λ hit. absurd (memory_no_fault r is hit) };
   }
 
@@ -102,6 +102,6 @@ module _ {D : Type 0} (d : disk.Ghosts D) where
     kept_index = made.kept_index;
     broken = λ told. broken_from keys (d.files a).idx fault (made.broken told);
     lawful = λ told rows. of_index_in fault ∙ made.lawful told rows;
-    looks = glances_index d.tells d.files d.left_since d.moment d.bytes_read d.follows a b made.looks;
+    looks = glances_index d a b made.looks;
     cause = record { later = made.cause.later; rose = λ is. made.cause.rose (ap (unpicked Y) (disk_in fault (err_in X _ _ is))) };
   }

@@ -1,13 +1,13 @@
 -- Runs of calls that read packages and an index.
 use Rattle.std.proofs.Common.{ℕ, Bool, refl, ◌∙◌, arith}
+use Rattle.rpm_outside.specs.declared.disk.Disk as disk
 use Rattle.rpm_check.proofs.Vocabulary.{File, Files, Glances, Idx, Looks, LooksAt, Pkg}
 
-module _ {D : Type 0} (tells : Bool) (files : D → Files) (left_since : D → ℕ → Files → Type 0) (moment : D → ℕ)
-    (bytes_read : D → File → ℕ) (follows : D → D → Type 0) where
+module _ {D : Type 0} (g : disk.Ghosts D) where
   abbrev Glanced : D → D → Type 0
-  Glanced = Glances tells files left_since moment bytes_read follows
+  Glanced = Glances g
 
-  pub glances_none : ((d : D) → follows d d) → (d : D) → Glanced d d
+  pub glances_none : ((d : D) → g.follows d d) → (d : D) → Glanced d d
   glances_none same d = record {
     untouched = λ told. record { same = refl; images = λ t i x. x; kept = λ t i x. x };
     moment_stays = refl;
@@ -16,7 +16,7 @@ module _ {D : Type 0} (tells : Bool) (files : D → Files) (left_since : D → �
     goes_on = same d;
   }
 
-  pub glances_then : ((a b c : D) → follows a b → follows b c → follows a c) → (a b c : D) → Glanced a b → Glanced b c → Glanced a c
+  pub glances_then : ((a b c : D) → g.follows a b → g.follows b c → g.follows a c) → (a b c : D) → Glanced a b → Glanced b c → Glanced a c
   glances_then trans a b c first second = record {
     untouched = λ told.
         let f = first.untouched told in
@@ -29,7 +29,7 @@ module _ {D : Type 0} (tells : Bool) (files : D → Files) (left_since : D → �
   }
 
   -- packages
-  pub glances_packages : (most : ℕ) (a b : D) → Looks tells files left_since moment bytes_read follows Pkg most a b → Glanced a b
+  pub glances_packages : (most : ℕ) (a b : D) → Looks g Pkg most a b → Glanced a b
   glances_packages most a b looks = record {
     untouched = looks.untouched;
     moment_stays = looks.moment_stays;
@@ -39,7 +39,7 @@ module _ {D : Type 0} (tells : Bool) (files : D → Files) (left_since : D → �
   }
 
   -- the index
-  pub glances_index : (a b : D) → LooksAt tells files left_since moment bytes_read follows Idx a b → Glanced a b
+  pub glances_index : (a b : D) → LooksAt g Idx a b → Glanced a b
   glances_index a b looks = record {
     untouched = looks.untouched;
     moment_stays = looks.moment_stays;

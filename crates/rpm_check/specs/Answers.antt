@@ -1,5 +1,6 @@
 -- What a report answers, and what it reads.
 use Rattle.std.specs.Prelude.{◌≡◌, ℕ, ◌≤◌, List, Bool, true, false, IsTrue, Result, Ok, Err}
+use Rattle.rpm_outside.specs.declared.disk.Disk as disk
 use Rattle.rpm_outside.specs.declared.disk.File.{File}
 use Rattle.rpm_outside.specs.declared.disk.File.TheVariants.{Log}
 use Rattle.rpm_outside.specs.Crash.{Untouched}
@@ -32,10 +33,9 @@ is_broken (Ok x) = false
 is_broken (Err fault) = is_of_index fault
 
 -- the files, their images and the moment stay, and of Hlog.db nothing is read
-pub record Glances {D : Type 0} (tells : Bool) (files : D → Files) (left_since : D → ℕ → Files → Type 0) (moment : D → ℕ)
-    (bytes_read : D → File → ℕ) (follows : D → D → Type 0) (old new : D) : Type 0 where
-  pub untouched : IsTrue tells → Untouched (files old) (files new) (left_since old) (left_since new)
-  pub moment_stays : moment new ≡ moment old
-  pub no_less : (f : File) → bytes_read old f ≤ bytes_read new f
-  pub log : bytes_read new Log ≤ bytes_read old Log
-  pub goes_on : follows old new
+pub record Glances {D : Type 0} (g : disk.Ghosts D) (old new : D) : Type 0 where
+  pub untouched : IsTrue g.tells → Untouched (g.files old) (g.files new) (g.left_since old) (g.left_since new)
+  pub moment_stays : g.moment new ≡ g.moment old
+  pub no_less : (f : File) → g.bytes_read old f ≤ g.bytes_read new f
+  pub log : g.bytes_read new Log ≤ g.bytes_read old Log
+  pub goes_on : g.follows old new

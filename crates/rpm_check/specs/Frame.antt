@@ -14,7 +14,7 @@ use Rattle.rpm_check.specs.Answers.{IsBroken, is_broken}
 module _ {D : Type 0} (d : disk.Ghosts D) where
   -- files, images and moment stay, and the log isn't read
   abbrev pub Glances : D → D → Type 0
-  Glances = answers.Glances d.tells d.files d.left_since d.moment d.bytes_read d.follows
+  Glances = answers.Glances d
 
   -- a database was asked: it can be asked further, nothing but reading happened, and a fault has its cause
   pub record Asks {X : Type 0} (old new : D) (db : Database) (result : Result X CheckFault) : Type 0 where

@@ -1,5 +1,5 @@
 -- One more number in the list of its class, and one more end in the row of a class.
-use Rattle.std.proofs.Common.{◌≡◌, ℕ, ◌+◌, ◌<◌, ◌++◌, ◌⊎◌, List, [], ◌∷◌, length, get_or, inl, inr, refl, sym, ap, subst, ◌∙◌, arith}
+use Rattle.std.proofs.Common.{◌≡◌, ℕ, ◌+◌, ◌<◌, ◌++◌, ◌⊎◌, List, [], ◌∷◌, length, get_or, inl, inr, sym, ap, subst, ◌∙◌, arith}
 use Rattle.rpm_graph.proofs.Vocabulary.{Contains, GainEnds, Goes, HaveMembers, IsRising, with_link}
 use Rattle.std.proofs.lemmas.Bool.{cases_lt, cases_eq}
 use Rattle.std.proofs.lemmas.List.{length-set}
@@ -39,14 +39,6 @@ module _ (numbers classes : List ℕ) (rises : IsRising numbers) (k : ℕ) (memb
     ];
     rises = rises_then;
   }
-
-pub ends_none : (classes : List ℕ) (class : ℕ) (ends : List ℕ) (rows : List (List ℕ)) → GainEnds classes class ends 0 rows rows
-ends_none classes class ends rows = record {
-  sized = refl;
-  keeps = λ c d goes. goes;
-  there = λ i lt. absurd (omega (arith, lt));
-  only = λ c d goes. inl goes;
-}
 
 module _ (classes : List ℕ) (class : ℕ) (row : List ℕ) (k : ℕ) (before after : List (List ℕ)) (gain : GainEnds classes class row k before after) where
   more_only : (c d : ℕ) → Goes after c d → Goes before c d

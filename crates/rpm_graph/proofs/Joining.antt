@@ -1,5 +1,5 @@
 -- The search with fewer levels, where an edge of the last one goes back to the path or to a closed class.
-use Rattle.std.proofs.Common.{◌≡◌, ℕ, ◌+◌, ◌-◌, ◌≤◌, ◌<◌, ◌⊎◌, List, length, get_or, inl, inr, sym, ap, subst, ◌∙◌, arith}
+use Rattle.std.proofs.Common.{◌≡◌, ℕ, ◌-◌, ◌≤◌, ◌<◌, ◌⊎◌, List, length, get_or, inl, inr, sym, ap, subst, ◌∙◌, arith}
 use Rattle.rpm_graph.proofs.Vocabulary.{Contains, Follows, Goes, IsCut, IsNoHigher, IsOpen, IsSearch, Leads, Link, link}
 use Rattle.std.proofs.lemmas.Bool.{cases_lt}
 use Rattle.std.proofs.lemmas.List.{get_or-take, get_or_default}
@@ -84,6 +84,3 @@ module _ (rows : List (List ℕ)) (ranks path roots : List ℕ) (pending kept : 
     roots_rise = roots_rise_then;
     first = λ filled. in_fewer 0 (s.first filled) some;
   }
-
-  pub joined_work : (unseen : ℕ) → length kept < length pending → length kept + length fewer + unseen < length pending + length roots + unseen
-  joined_work unseen less = omega (arith, less, cut.shorter)

@@ -2,7 +2,7 @@
 use Rattle.std.proofs.Common.{◌≡◌, ℕ, ◌+◌, ◌<◌, ◌++◌, ◌⊎◌, List, [], ◌∷◌, zero, suc, length, get_or, replicate, inl, inr, refl, sym, ap, subst, ◌∙◌, arith}
 use Rattle.rpm_graph.proofs.Vocabulary.{Contains, edge, edge_at, Goes, HasEdge, HaveEdges, Network, with_link}
 use Rattle.std.proofs.lemmas.Bool.{cases_lt, cases_eq}
-use Rattle.std.proofs.lemmas.List.{length-set, length-replicate, get_or-set_same, get_or-set_other, get_or_default}
+use Rattle.std.proofs.lemmas.List.{length-set, get_or-set_same, get_or-set_other, get_or_default}
 use Rattle.std.proofs.lemmas.List.Elements.{Contains-append_left, Contains-push, Contains-push_cases}
 
 module _ (rows : List (List ℕ)) (v w : ℕ) (lt : v < length rows) where
@@ -42,14 +42,6 @@ pub no_goes : (n v w : ℕ) → Goes (replicate n []) v w → ⊥
 no_goes n v w goes =
     let none : Contains [] w = subst (λ l. Contains l w) (empty_row n v) goes in
     omega (arith, none.1)
-
-pub have_none : (g : Network) → HaveEdges g 0 (replicate (length g.numbers) [])
-have_none g = record {
-  sized = length-replicate (length g.numbers) [];
-  within = λ v w goes. absurd (no_goes (length g.numbers) v w goes);
-  there = λ k lt. absurd (omega (arith, lt));
-  back = λ v w goes. absurd (no_goes (length g.numbers) v w goes);
-}
 
 module _ (g : Network) (k : ℕ) (rows : List (List ℕ)) (have : HaveEdges g k rows) (in_edges : k < length g.edges) (v w : ℕ)
     (v_in : v < length g.numbers) (v_is : get_or g.numbers v 0 ≡ (edge_at g.edges k).from) (w_in : w < length g.numbers)

@@ -13,9 +13,6 @@ use Rattle.base64.proofs.Canonical.{encode_symbols-append}
 pub escaped-append : (a b : List ℕ) → escaped_text (a ++ b) ≡ escaped_text a ++ escaped_text b
 escaped-append a b = ap concat (map-append escaped a b) ∙ concat-append (map escaped a) (map escaped b)
 
-pub length-in_quotes : (text : List ℕ) → length (in_quotes text) ≡ length text + 2
-length-in_quotes text = omega (arith, length-append (codes "'" ++ text) (codes "'"), length-append (codes "'") text)
-
 -- ---- in hex
 
 pub length-hex : (bytes : List ℕ) → length (hex_text bytes) ≡ 2 * length bytes

@@ -66,8 +66,7 @@ pub fn print_direct<O: Sink>(
     number: u32,
     sink: &mut O,
 ) -> Result<(), DirectFault>
-    ensures prints { Prints O.tells O.taken O.faults O.follows (meaning view.now number format.now) sink.old sink.new
-        (ending result) }
+    ensures prints { Prints O.Sink (meaning view.now number format.now) sink.old sink.new (ending result) }
 
     // The number of the date that is printed of a day is that of the day.
     ensures dates { (day : ℕ) → day_number (year_of day) (month_of day) (day_of day) ≡ day }
@@ -94,8 +93,7 @@ pub fn print<O: Sink>(
     number: u32,
     sink: &mut O,
 ) -> Result<(), EvalFault>
-    ensures { Prints O.tells O.taken O.faults O.follows (meaning view.now number format.now) sink.old sink.new
-        (eval_ending result) }
+    ensures { Prints O.Sink (meaning view.now number format.now) sink.old sink.new (eval_ending result) }
 {
     let _ = alloc;
     match print_direct(format, view, number, sink) {

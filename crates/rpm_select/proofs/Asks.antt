@@ -18,7 +18,7 @@ module _ {D : Type 0} (d : disk.Ghosts D) where
       → AsksPackages d most a b db (Ok x)
   asks_done m most a b db x le kept looks later = record {
     kept = kept;
-    looks = looks_more d.tells d.files d.left_since d.moment d.bytes_read d.follows Pkg m most a b le looks;
+    looks = looks_more d Pkg m most a b le looks;
     cause = record { later = later; rose = λ is. absurd cc };
     unbroken = refl;
   }
@@ -26,7 +26,7 @@ module _ {D : Type 0} (d : disk.Ghosts D) where
   module _ (trans : (a b c : D) → d.follows a b → d.follows b c → d.follows a c) (m n most : ℕ) (a b c : D) (db : Database) (le : m + n ≤ most)
       (before : Looks d Pkg m a b) (later : d.faults a ≤ d.faults b) where
     both : Looks d Pkg n b c → Looks d Pkg most a c
-    both looks = looks_then d.tells d.files d.left_since d.moment d.bytes_read d.follows Pkg trans m n most a b c le before looks
+    both looks = looks_then d Pkg trans m n most a b c le before looks
 
     -- an answer after one more
     pub asks_then : {X Y : Type 0} {r : Result Y PickFault} (x : X) → AsksPackages d n b c db r → AsksPackages d most a c db (Ok x)

@@ -49,3 +49,9 @@ at_most m k costs = elim (cases_Bool (nat_le m k)) [
 
 pub own_all : (sel : Selection) (db : Database) (k before now : ℕ) → ReadsOwnTo k sel db before now → ReadsOwn sel db before now
 own_all sel db k before now so_far = λ m is. omega (arith, so_far m is, at_most m k (λ i. cost i db))
+
+-- the next number is the last that is read
+pub own_last : (sel : Selection) (db : Database) (k n before mid now : ℕ) → k < n → ReadsOwnTo k sel db before mid → now ≤ mid + cost n db
+    → (is_elsewhere sel n ≡ true → now ≡ mid)
+    → ReadsOwn sel db before now
+own_last sel db k n before mid now below so_far more unread = own_all sel db n before now (own_then sel db k n before mid now below so_far more unread)

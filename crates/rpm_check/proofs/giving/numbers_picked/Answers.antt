@@ -22,7 +22,7 @@ loop-numbers-init g c =
         keeps = λ told. subst (λ (f : Files). Keeps f.pkg db) (sym (begun.looks.untouched told).same) (c.requires.asked.keeps told);
         keeps_index = begun.kept_index;
         looks =
-            glances_index g.D.Disk.tells g.D.Disk.files g.D.Disk.left_since g.D.Disk.moment g.D.Disk.bytes_read g.D.Disk.follows c.args.disk.now
+            glances_index g.D.Disk c.args.disk.now
             c.new.new.disk begun.looks;
         faults = omega (arith, begun.cause.later);
       };
@@ -46,9 +46,9 @@ loop-numbers-preserved g c =
         keeps = done.asks.kept;
         keeps_index = λ told. subst (λ (f : Files). KeepsIndex f.idx db) (sym (done.asks.looks.untouched told).same) (inv.asking.keeps_index told);
         looks =
-            glances_then g.D.Disk.tells g.D.Disk.files g.D.Disk.left_since g.D.Disk.moment g.D.Disk.bytes_read g.D.Disk.follows g.met.D.Disk.follows_trans
+            glances_then g.D.Disk g.met.D.Disk.follows_trans
             c.args.disk.now c.loop-numbers.disk c.next_number_after.new.disk inv.asking.looks
-            (glances_packages g.D.Disk.tells g.D.Disk.files g.D.Disk.left_since g.D.Disk.moment g.D.Disk.bytes_read g.D.Disk.follows _
+            (glances_packages g.D.Disk _
             c.loop-numbers.disk c.next_number_after.new.disk done.asks.looks);
         faults = omega (arith, inv.asking.faults, done.asks.cause.later);
       };

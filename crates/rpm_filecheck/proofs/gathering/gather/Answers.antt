@@ -12,9 +12,9 @@ loop-number-init g c =
     record {
       keeps = c.requires.keeps;
       looks =
-          looks_more g.D.Disk.tells g.D.Disk.files g.D.Disk.left_since g.D.Disk.moment g.D.Disk.bytes_read g.D.Disk.follows Pkg 0
+          looks_more g.D.Disk Pkg 0
           (cost_to 0 db) c.args.disk.now c.args.disk.now (omega arith)
-          (looks_none g.D.Disk.tells g.D.Disk.files g.D.Disk.left_since g.D.Disk.moment g.D.Disk.bytes_read g.D.Disk.follows Pkg g.met.D.Disk.follows_refl
+          (looks_none g.D.Disk Pkg g.met.D.Disk.follows_refl
           c.args.disk.now);
       faults = omega arith;
       same = λ told.
@@ -33,7 +33,7 @@ loop-number-preserved g c =
     record {
       keeps = e.asks.kept;
       looks =
-          looks_then g.D.Disk.tells g.D.Disk.files g.D.Disk.left_since g.D.Disk.moment g.D.Disk.bytes_read g.D.Disk.follows Pkg g.met.D.Disk.follows_trans
+          looks_then g.D.Disk Pkg g.met.D.Disk.follows_trans
           (cost_to k db) (cost m db) (cost_to m db) c.args.disk.now c.loop-number.disk c.add_package.new.disk
           (omega (arith, cost_more db k m c.in-Some.ensures.next.0)) inv.looks e.asks.looks;
       faults = omega (arith, inv.faults, e.asks.cause.later);
@@ -52,7 +52,7 @@ returns-in_err-add_package-clause-asks g c =
     record {
       kept = done.kept;
       looks =
-          looks_then g.D.Disk.tells g.D.Disk.files g.D.Disk.left_since g.D.Disk.moment g.D.Disk.bytes_read g.D.Disk.follows Pkg g.met.D.Disk.follows_trans
+          looks_then g.D.Disk Pkg g.met.D.Disk.follows_trans
           (cost_to c.loop-number.passed db) (cost m db) (cost_all db) c.args.disk.now c.loop-number.disk c.add_package.new.disk
           (omega (arith, cost_more db c.loop-number.passed m c.in-Some.ensures.next.0, cost_some db m)) inv.looks done.looks;
       cause = search rules;
@@ -65,7 +65,7 @@ returns-clause-asks g c =
     record {
       kept = inv.keeps;
       looks =
-          looks_more g.D.Disk.tells g.D.Disk.files g.D.Disk.left_since g.D.Disk.moment g.D.Disk.bytes_read g.D.Disk.follows Pkg
+          looks_more g.D.Disk Pkg
           (cost_to c.loop-number.passed db) (cost_all db) c.args.disk.now c.loop-number.disk (omega (arith, cost_some db c.loop-number.passed)) inv.looks;
       cause = search rules;
     }

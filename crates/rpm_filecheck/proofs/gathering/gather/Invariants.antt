@@ -7,7 +7,7 @@ use Rattle.rpm_filecheck.proofs.gathering.gather.Given as goal
 abbrev pub invariant-loop-number : goal.invariant-loop-number
 invariant-loop-number g l = record {
   keeps : IsTrue g.D.Disk.tells → Keeps (g.D.Disk.files l.disk).pkg l.db;
-  looks : Looks g.D.Disk.tells g.D.Disk.files g.D.Disk.left_since g.D.Disk.moment g.D.Disk.bytes_read g.D.Disk.follows Pkg
+  looks : Looks g.D.Disk Pkg
       (cost_to l.passed l.db) l.initial.disk l.disk;
   faults : g.D.Disk.faults l.initial.disk ≤ g.D.Disk.faults l.disk;
   same : IsTrue g.D.Disk.tells → with_packages (above l.passed (finite.entries (packages (g.D.Disk.files l.initial.disk).pkg (room l.db)))) l.found

@@ -15,7 +15,7 @@ invariant-loop-left g l = record {
       → AllByRecursion (HasChain (g.D.Disk.files l.initial.disk).idx) l.left
       × (g.D.Disk.bytes_read l.disk Idx + keys_cost (g.D.Disk.files l.initial.disk).idx l.left
       ≤ g.D.Disk.bytes_read l.initial.disk Idx + keys_cost (g.D.Disk.files l.initial.disk).idx l.keys);
-  looks : LooksAt g.D.Disk.tells g.D.Disk.files g.D.Disk.left_since g.D.Disk.moment g.D.Disk.bytes_read g.D.Disk.follows Idx l.initial.disk l.disk;
+  looks : LooksAt g.D.Disk Idx l.initial.disk l.disk;
   faults : g.D.Disk.faults l.initial.disk ≤ g.D.Disk.faults l.disk;
 }
 

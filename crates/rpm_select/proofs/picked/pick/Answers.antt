@@ -14,6 +14,6 @@ pub returns-then-is_elsewhere-clause-asks : goal.returns-then-is_elsewhere-claus
 returns-then-is_elsewhere-clause-asks g c =
     let db = c.args.db.now in
     let here = c.args.disk.now in
-    let nothing = looks_none g.D.Disk.tells g.D.Disk.files g.D.Disk.left_since g.D.Disk.moment g.D.Disk.bytes_read g.D.Disk.follows Pkg
+    let nothing = looks_none g.D.Disk Pkg
     g.met.D.Disk.follows_refl here in
     asks_done g.D.Disk 0 (cost c.args.number db) here here db None (omega arith) c.requires.keeps nothing (omega arith)

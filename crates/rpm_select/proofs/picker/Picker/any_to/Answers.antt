@@ -15,9 +15,9 @@ loop-next-init g c = record {
   below = omega arith;
   within = cost_up c.args.db.now 0 c.args.n (omega arith);
   looks =
-      looks_more g.D.Disk.tells g.D.Disk.files g.D.Disk.left_since g.D.Disk.moment g.D.Disk.bytes_read g.D.Disk.follows Pkg 0
+      looks_more g.D.Disk Pkg 0
       (cost_to 0 c.args.db.now) c.args.disk.now c.args.disk.now (omega arith)
-      (looks_none g.D.Disk.tells g.D.Disk.files g.D.Disk.left_since g.D.Disk.moment g.D.Disk.bytes_read g.D.Disk.follows Pkg g.met.D.Disk.follows_refl
+      (looks_none g.D.Disk Pkg g.met.D.Disk.follows_refl
       c.args.disk.now);
   own = λ m is. omega arith;
   reads = omega arith;
@@ -78,7 +78,7 @@ loop-next-preserved-in-Ok-None-3 g c =
       below = c.if-next-n.false;
       within = cost_up db m c.args.n c.if-next-n.false;
       looks =
-          looks_then g.D.Disk.tells g.D.Disk.files g.D.Disk.left_since g.D.Disk.moment g.D.Disk.bytes_read g.D.Disk.follows Pkg g.met.D.Disk.follows_trans
+          looks_then g.D.Disk Pkg g.met.D.Disk.follows_trans
           (cost_to k db) (cost m db) (cost_to m db) c.args.disk.now c.loop-next.disk c.pick.new.disk more inv.looks done.asks.looks;
       own =
           own_then c.args.selection.now db k m (g.D.Disk.bytes_read c.args.disk.now Pkg) (g.D.Disk.bytes_read c.loop-next.disk Pkg)

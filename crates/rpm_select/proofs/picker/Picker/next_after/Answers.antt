@@ -24,7 +24,7 @@ loop-next-preserved g c =
       later = omega (arith, inv.later, c.in-Some.ensures.0);
       more = omega (arith, more, inv.more);
       looks =
-          looks_then g.D.Disk.tells g.D.Disk.files g.D.Disk.left_since g.D.Disk.moment g.D.Disk.bytes_read g.D.Disk.follows Pkg g.met.D.Disk.follows_trans
+          looks_then g.D.Disk Pkg g.met.D.Disk.follows_trans
           (cost_to k db - cost_to n db) (cost m db) (cost_to m db - cost_to n db) c.args.disk.now c.loop-next.disk c.pick.new.disk
           (omega (arith, more, inv.more)) inv.looks done.asks.looks;
       own =

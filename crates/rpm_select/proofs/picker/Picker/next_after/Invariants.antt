@@ -10,7 +10,7 @@ invariant-loop-next g l = record {
   keeps : IsTrue g.D.Disk.tells → Keeps (g.D.Disk.files l.disk).pkg l.db;
   later : l.n ≤ l.passed;
   more : cost_to l.n l.db ≤ cost_to l.passed l.db;
-  looks : Looks g.D.Disk.tells g.D.Disk.files g.D.Disk.left_since g.D.Disk.moment g.D.Disk.bytes_read g.D.Disk.follows Pkg
+  looks : Looks g.D.Disk Pkg
       (cost_to l.passed l.db - cost_to l.n l.db) l.initial.disk l.disk;
   own : ReadsOwnTo l.passed l.selection l.db (g.D.Disk.bytes_read l.initial.disk Pkg) (g.D.Disk.bytes_read l.disk Pkg);
   up : reach_to l.n l.self l.db ≤ reach_to l.passed l.self l.db;

@@ -24,7 +24,7 @@ loop-next-preserved g c =
       later = omega (arith, inv.later, c.in-Some.ensures.0);
       up = omega (arith, inv.up, more);
       looks =
-          looks_then g.D.Disk.tells g.D.Disk.files g.D.Disk.left_since g.D.Disk.moment g.D.Disk.bytes_read g.D.Disk.follows Pkg g.met.D.Disk.follows_trans
+          looks_then g.D.Disk Pkg g.met.D.Disk.follows_trans
           (reach_to k r db - reach_to n r db) (cost m db) (reach_to m r db - reach_to n r db) c.args.disk.now c.loop-next.disk c.picks.new.disk
           (omega (arith, more, inv.up)) inv.looks done.asks.looks;
       faults = omega (arith, inv.faults, done.asks.cause.later);

@@ -9,7 +9,7 @@ invariant-loop-next g l = record {
   keeps : IsTrue g.D.Disk.tells → Keeps (g.D.Disk.files l.disk).pkg l.db;
   later : l.n ≤ l.passed;
   up : reach_to l.n l.self l.db ≤ reach_to l.passed l.self l.db;
-  looks : Looks g.D.Disk.tells g.D.Disk.files g.D.Disk.left_since g.D.Disk.moment g.D.Disk.bytes_read g.D.Disk.follows Pkg
+  looks : Looks g.D.Disk Pkg
       (reach_to l.passed l.self l.db - reach_to l.n l.self l.db) l.initial.disk l.disk;
   faults : g.D.Disk.faults l.initial.disk ≤ g.D.Disk.faults l.disk;
   start : l.passed ≡ l.n → (g.D.Disk.bytes_read l.disk Pkg ≡ g.D.Disk.bytes_read l.initial.disk Pkg) × (l.recent ≡ l.initial.recent);

@@ -2,7 +2,7 @@
 use Rattle.std.proofs.Common.{true, false, ap, arith}
 use Rattle.rpm_select.proofs.Vocabulary.{cost, cost_more, cost_to, cost_up, Pkg, Reach, reach_more, reach_of, reach_to, reach_up}
 use Rattle.rpm_select.proofs.Asks.{asks_done, asks_then, asks_failed}
-use Rattle.rpm_select.proofs.Owning.{own_then, own_all}
+use Rattle.rpm_select.proofs.Owning.{own_last, own_all}
 use Rattle.rpm_select.proofs.picker.Picker.any_to.Goals as goal
 
 pub returns-in-Ok-Some-clause-asks : goal.returns-in-Ok-Some-clause-asks
@@ -88,18 +88,14 @@ returns-in-Ok-Some-clause-reads g c =
 pub returns-in-Ok-Some-clause-own : goal.returns-in-Ok-Some-clause-own
 returns-in-Ok-Some-clause-own g c =
     let done = c.in-Ok-Some.ensures in
-    own_all c.args.selection.now c.args.db.now c.in-Some.next (g.D.Disk.bytes_read c.args.disk.now Pkg) (g.D.Disk.bytes_read c.pick.new.disk Pkg)
-    (own_then c.args.selection.now c.args.db.now c.loop-next.passed c.in-Some.next (g.D.Disk.bytes_read c.args.disk.now Pkg)
-    (g.D.Disk.bytes_read c.loop-next.disk Pkg) (g.D.Disk.bytes_read c.pick.new.disk Pkg)
-    c.in-Some.ensures.0 c.loop-next.invariant.own done.asks.looks.reads.pkg done.unread)
+    own_last c.args.selection.now c.args.db.now c.loop-next.passed c.in-Some.next _ _ _ c.in-Some.ensures.0 c.loop-next.invariant.own
+    done.asks.looks.reads.pkg done.unread
 
 pub returns-in-Err-clause-own : goal.returns-in-Err-clause-own
 returns-in-Err-clause-own g c =
     let done = c.in-Err.ensures in
-    own_all c.args.selection.now c.args.db.now c.in-Some.next (g.D.Disk.bytes_read c.args.disk.now Pkg) (g.D.Disk.bytes_read c.pick.new.disk Pkg)
-    (own_then c.args.selection.now c.args.db.now c.loop-next.passed c.in-Some.next (g.D.Disk.bytes_read c.args.disk.now Pkg)
-    (g.D.Disk.bytes_read c.loop-next.disk Pkg) (g.D.Disk.bytes_read c.pick.new.disk Pkg)
-    c.in-Some.ensures.0 c.loop-next.invariant.own done.asks.looks.reads.pkg done.unread)
+    own_last c.args.selection.now c.args.db.now c.loop-next.passed c.in-Some.next _ _ _ c.in-Some.ensures.0 c.loop-next.invariant.own
+    done.asks.looks.reads.pkg done.unread
 
 pub returns-clause-own : goal.returns-clause-own
 returns-clause-own g c =
