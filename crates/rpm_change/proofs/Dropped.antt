@@ -1,9 +1,9 @@
 -- The packages that rebuilding drops, by rising number.
-use Rattle.std.proofs.Common.{◌≡◌, ℕ, [], ◌<◌, ◌≤◌, Ok, true, false, Option, Some, None, is_some, refl, sym, ap, ◌∙◌, subst, arith, nat_eq, Err, Result}
+use Rattle.std.proofs.Common.{◌≡◌, ℕ, ◌<◌, ◌≤◌, Ok, true, false, Option, Some, None, is_some, refl, sym, ap, ◌∙◌, arith, nat_eq, Err, Result}
 use Rattle.rpm_outside.specs.declared.disk.Disk as disk
-use Rattle.rpm_change.proofs.Vocabulary.{above, apply_all, Bad, Course, Database, drop_each, dropped, eq_by_cmp, Files, Good, Halt, HasCauseAt, idle, IsNext}
-use Rattle.rpm_change.proofs.Vocabulary.{IsReady, IsWholeIndex, joined, left_none, left_read, LeftOn, LimitsTurn, Looks, looks_run, nat_cmp, next_above}
-use Rattle.rpm_change.proofs.Vocabulary.{none_is, none_made, nothing_above, Package, Pkg, room, State, state, state_in, Tally, uncounted, unsigned_tied, Went}
+use Rattle.rpm_change.proofs.Vocabulary.{above, apply_all, Bad, Course, Database, drop_each, dropped, eq_by_cmp, Good, Halt, HasCauseAt, idle, IsNext}
+use Rattle.rpm_change.proofs.Vocabulary.{IsReady, joined, left_none, left_read, LeftOn, Looks, looks_run, nat_cmp, next_above}
+use Rattle.rpm_change.proofs.Vocabulary.{none_is, none_made, nothing_above, Package, Pkg, room, State, state_in, Tally, uncounted, unsigned_tied, Went}
 use Rattle.std.specs.FinMap as finite
 use Rattle.std.proofs.lemmas.Cmp.{nat_cmp_total}
 use Rattle.std.proofs.lemmas.Bool.Decides.{nat_tests}
@@ -17,7 +17,7 @@ abbrev pub package_or : Option Package → Package
 package_or None = Bad
 package_or (Some p) = p
 
-some_is : (o : Option Package) → is_some o ≡ true → o ≡ Some (package_or o)
+pub some_is : (o : Option Package) → is_some o ≡ true → o ≡ Some (package_or o)
 some_is None some = absurd cc
 some_is (Some p) some = refl
 
@@ -65,13 +65,9 @@ module _ {D : Type 0} (d : disk.Ghosts D) (stays : (x : D) → d.follows x x) (j
   looked_went later tells {E = E} ends =
       let same = λ (told : IsTrue d.tells). (looks.untouched told).same in
       record {
-        ended = λ told.
-            let s = state_in d old db in
-            let is : state_in d new db ≡ s = ap (λ (f : Files). state f.pkg (room db)) (same (tells told)) in
-            subst (λ (t : State). E idle s t (Ok uncounted)) (sym is) (ends s);
+        ended = λ told. rw (same (tells told)) (ends (state_in d old db));
         limits = λ told i rows.
-            subst (λ (f : Files). LimitsTurn i (state_in d old db) (room db) (room db) (d.files old) f [] (Ok uncounted)) (sym (same (tells told)))
-            (none_made i (state_in d old db) (room db) (room db) (room db).spare uncounted refl);
-        whole = λ told was. subst (λ (f : Files). IsWholeIndex f.idx) (sym (same told)) was;
+            rw (same (tells told)) (none_made i (state_in d old db) (room db) (room db) (room db).spare uncounted refl);
+        whole = λ told was. rw (same told) was;
         left = left_looked (Ok uncounted) (record { later = later; rose = λ is. absurd cc });
       }

@@ -1,8 +1,6 @@
 pub mod Arguments
 pub mod Bounds
 pub mod Dropped
-pub mod Drops
-pub mod Erased
 pub mod Filed
 pub mod Imported
 pub mod Listed

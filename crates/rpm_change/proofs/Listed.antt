@@ -7,32 +7,24 @@ use Rattle.rpm_change.proofs.Vocabulary.{ListFault, Short, size_in, sized, some_
 
 -- ---- what follows a header is shorter
 
-shorter_sized : (bytes : List ℕ) (said : Result ℕ ListFault) (found : Found) → sized bytes said ≡ Ok found → length found.rest + 8 ≤ length bytes
+shorter_sized : (bytes : List ℕ) (said : Result ℕ ListFault) (found : Found) → some_found (sized bytes said) ≡ Ok (Some found)
+    → length found.rest + 8 ≤ length bytes
 shorter_sized bytes (Err fault) found is = absurd cc
 shorter_sized bytes (Ok size) found is = elim (cases_Bool (nat_lt (length bytes) (8 + size))) [
-  | inl cut ↦ (let none : Err Short ≡ Ok found = rw cut at is in absurd cc)
+  | inl cut ↦ (let none : Err Short ≡ Ok (Some found) = rw cut at is in absurd cc)
   | inr whole ↦
       (let fits : 8 + size ≤ length bytes = grind (arith, nat_tests) in
-      let same : Ok (record { blob = take size (drop 8 bytes); rest = drop (8 + size) bytes }) ≡ Ok found = rw whole at is in
+      let same : Ok (Some (record { blob = take size (drop 8 bytes); rest = drop (8 + size) bytes })) ≡ Ok (Some found) = rw whole at is in
       let rest : found.rest ≡ drop (8 + size) bytes = cc in
       rw rest (omega (arith, length-drop (8 + size) bytes)))
 ]
 
-some_of : (r : Result Found ListFault) (found : Found) → some_found r ≡ Ok (Some found) → r ≡ Ok found
-some_of (Ok f) found is = cc
-some_of (Err fault) found is = absurd cc
-
-shorter_front : (bytes : List ℕ) (found : Found) → front_header bytes ≡ Ok found → length found.rest + 8 ≤ length bytes
+shorter : (bytes : List ℕ) (found : Found) → some_found (front_header bytes) ≡ Ok (Some found) → length found.rest + 8 ≤ length bytes
 unfolding front_header
-shorter_front bytes found is = elim (cases_Bool (nat_lt (length bytes) 16)) [
-  | inl cut ↦ (let none : Err Short ≡ Ok found = rw cut at is in absurd cc)
+shorter bytes found is = elim (cases_Bool (nat_lt (length bytes) 16)) [
+  | inl cut ↦ (let none : Err Short ≡ Ok (Some found) = rw cut at is in absurd cc)
   | inr whole ↦ shorter_sized bytes (size_in bytes) found (rw whole at is)
 ]
-
-shorter : (byte : ℕ) (bytes : List ℕ) (found : Found) → list_head (byte ∷ bytes) ≡ Ok (Some found) → length found.rest ≤ length bytes
-shorter byte bytes found is =
-    let less = shorter_front (byte ∷ bytes) found (some_of (front_header (byte ∷ bytes)) found is) in
-    omega arith
 
 -- ---- so many turns are enough
 
@@ -52,14 +44,14 @@ enough zero m (x ∷ xs) a b = absurd (omega arith)
 enough (suc n) zero (x ∷ xs) a b = absurd (omega arith)
 enough (suc n) (suc m) (x ∷ xs) a b =
     next_same (listed_in n) (listed_in m) (list_head (x ∷ xs))
-    (λ found is. let less = shorter x xs found is in enough n m found.rest (omega arith) (omega arith))
+    (λ found is. let less = shorter (x ∷ xs) found is in enough n m found.rest (omega arith) (omega arith))
 
 -- what stands in front, and then the list after it
 pub listed_step : (bytes : List ℕ) → listed bytes ≡ listed_next listed (list_head bytes)
 listed_step [] = refl
 listed_step (x ∷ xs) =
     next_same (listed_in (length xs)) listed (list_head (x ∷ xs))
-    (λ found is. enough (length xs) (length found.rest) found.rest (shorter x xs found is) (omega arith))
+    (λ found is. let less = shorter (x ∷ xs) found is in enough (length xs) (length found.rest) found.rest (omega arith) (omega arith))
 
 -- ---- courses
 

@@ -1,8 +1,7 @@
 -- A line that is written for an argument.
-use Rattle.std.proofs.Common.{◌≡◌, ℕ, Bool, List, [], ◌++◌, Result, Err, take, refl, sym, ap, ◌∙◌, subst}
+use Rattle.std.proofs.Common.{ℕ, Bool, List, [], ◌++◌, Err, take, refl, sym, ap, ◌∙◌}
 use Rattle.std.proofs.lemmas.List.{append-nil}
-use Rattle.rpm_outside.specs.declared.sink.Sink as sink
-use Rattle.rpm_change.proofs.Vocabulary.{Bearer, Buffered, Done, Ended, failing, Fails, Gained, gained_none, GainedPart, Halt, outputs, State, Tally, ToErr}
+use Rattle.rpm_change.proofs.Vocabulary.{Bearer, Done, Ended, failing, Gained, gained_none, GainedPart, outputs, State, ToErr}
 use Rattle.rpm_change.specs.declared.tally.Halt.TheVariants as halt
 
 pub line_done : (ot et : Bool) (o e e' line : List ℕ) (for : Bearer) (s : State) → Gained et e e' line
@@ -25,8 +24,3 @@ line_cut ot et o e e' line for s p = record {
   bytes = p.0;
   through = record { out = gained_none ot o; err = λ told. p.2 told ∙ ap (λ (b : List ℕ). e ++ b) (sym (append-nil (take p.0 line))) };
 }
-
-module _ {E : Type 0} (e : sink.Ghosts E) where
-  -- it is this line
-  pub of_line : (line wanted : List ℕ) {x y : Buffered E} {r : Result Tally Halt} → line ≡ wanted → Fails e line x y r → Fails e wanted x y r
-  of_line line wanted {x = x} {y = y} {r = r} is = subst (λ (l : List ℕ). Fails e l x y r) is

@@ -1,37 +1,35 @@
 -- The words of proofs, from one place.
-pub use Rattle.rpm_change.specs.Adding.{add_file, add_files, as_installed, change_at, GivesInstalled, put_file, put_found, put_installed, put_read, replaced}
+pub use Rattle.rpm_change.specs.Adding.{add_file, add_files, as_installed, change_at, GivesInstalled, put_file, replace}
 pub use Rattle.rpm_change.specs.Adding.{stop_in}
-pub use Rattle.rpm_change.specs.Endings.{Done, Ended, halt_of, Outputs, outputs, WholeTurn}
-pub use Rattle.rpm_change.specs.Erasing.{erase, erase_one, erased, missing}
+pub use Rattle.rpm_change.specs.Endings.{Done, Ended, halt_of, outputs}
+pub use Rattle.rpm_change.specs.Erasing.{erase, erase_one, missing}
 pub use Rattle.rpm_change.specs.Exercise.{generated, numbered, package_items, version}
 pub use Rattle.rpm_change.specs.Importing.{ending, import_list, import_listed, imported, Listed, listed, listed_in, listed_next, once, place_fails, with_blob}
-pub use Rattle.rpm_change.specs.Limits.{first_limit, is_limit, LimitsTurn, next_stores, StopsAt}
-pub use Rattle.rpm_change.specs.Lines.{Fails}
-pub use Rattle.rpm_change.specs.Reaches.{ReachedAnew}
+pub use Rattle.rpm_change.specs.Limits.{is_limit, LimitsTurn}
 pub use Rattle.rpm_change.specs.Rebuilding.{drop_each, dropped, dropped_line, rebuild}
 pub use Rattle.rpm_change.specs.Singles.{MakesOne}
-pub use Rattle.rpm_change.specs.Steps.{apply_all, Bearer, bearer, changing, Course, failing, idle, in_turn, joined, ToErr, ToOut, whole}
-pub use Rattle.rpm_change.specs.Texts.{absent_line, header_text, place_line, refused_line}
+pub use Rattle.rpm_change.specs.Steps.{apply_all, Bearer, bearer, changing, Course, failing, idle, in_turn, joined, ToErr, whole}
+pub use Rattle.rpm_change.specs.Texts.{absent_line, header_text, refused_line}
 unfoldable pub use Rattle.rpm_change.specs.Texts.{file_text}
 pub use Rattle.rpm_change.specs.Turns.{from_place, Leaves, StopIs, turn, turn_found}
-pub use Rattle.rpm_change.specs.Went.{CarriedOn, EndedOnErr, EndedOnOut, IsOwing, LeftBy, LeftOn, Went, WentOwing}
-pub use Rattle.rpm_change.specs.declared.add.Placing.{Placing}
+pub use Rattle.rpm_change.specs.Went.{CarriedOn, EndedOnErr, EndedOnOut, IsOwing, LeftOn, Went, WentOwing}
 pub use Rattle.rpm_change.specs.declared.tally.Halt.{Halt}
 pub use Rattle.rpm_change.specs.declared.tally.Tally.{Tally}
-pub use Rattle.rpm_change.specs.inner.Courses.{refused_quietly, stop_by, stopped_by, through_none}
+pub use Rattle.rpm_change.specs.inner.Courses.{refused_quietly, stop_by, through_none}
 pub use Rattle.rpm_change.specs.inner.Going.{Going, going_end, going_more, going_start, going_stop, halted_went, line_went, none_went, reading_went}
 pub use Rattle.rpm_change.specs.inner.Going.{stopped_went, went_as, went_behind}
 pub use Rattle.rpm_change.specs.inner.Handing.{err_is}
 pub use Rattle.rpm_change.specs.inner.Joins.{err_joins, err_none, err_refused, err_stopped, hand_then, out_gone, out_joins, out_none, out_refused, took}
 pub use Rattle.rpm_change.specs.inner.Joins.{uncounted}
-pub use Rattle.rpm_change.specs.inner.Leaving.{after_by, carried_then, halted_by, left_after, left_made, left_none, remade_log, remade_then, state_remade}
+pub use Rattle.rpm_change.specs.inner.Leaving.{carried_then, halted_by, left_after, left_made, left_none, remade_log, remade_then}
 pub use Rattle.rpm_change.specs.inner.Leaving.{then_by, whole_halt}
-pub use Rattle.rpm_change.specs.inner.LimitLaws.{makes_small}
+pub use Rattle.rpm_change.specs.inner.LimitLaws.{limits_counted, makes_small}
 pub use Rattle.rpm_change.specs.inner.ReachLaws.{idx_more, reached_anew}
 pub use Rattle.rpm_change.specs.inner.Reading.{left_read, looks_run}
 pub use Rattle.rpm_change.specs.inner.Ready.{GoingOn, on_more, on_stop, ready_line, ready_none, ready_stopped}
 pub use Rattle.rpm_change.specs.inner.Single.{add_fault, erase_fault, fault_kind, fault_spent, FaultIs, HasNumber, none_made, one_made, one_refused}
 pub use Rattle.rpm_change.specs.inner.Single.{other_stop, put_fault}
+pub use Rattle.rpm_change.specs.inner.Telling.{told_all, told_none, told_part}
 pub use Rattle.rpm_db.specs.Above.{next_above, none_is, nothing_above}
 pub use Rattle.rpm_db.specs.Changed.{IsLeft, IsReady, Makes}
 pub use Rattle.rpm_db.specs.Changes.{Add, Change, Erase, next, Put}
@@ -39,19 +37,18 @@ pub use Rattle.rpm_db.specs.Database.{Database, is_indexed, IsNext, next_number}
 pub use Rattle.rpm_db.specs.Frame.{IsIndexed, packages_in, room, Runs, state_in}
 pub use Rattle.rpm_db.specs.Gathering.{due, due_units, IsGathering, IsOrdered, IsSettledUp, OwesOn, resumed, sealed_in, suspended}
 pub use Rattle.rpm_db.specs.Lawful.{IsWholeIndex, Remade}
-pub use Rattle.rpm_db.specs.Reaches.{needed, ReachesMade}
+pub use Rattle.rpm_db.specs.Reaches.{needed}
 pub use Rattle.rpm_db.specs.Refusals.{AddIs, FullCause, IsOfIndex, IsOfReading, WholeCause}
 pub use Rattle.rpm_db.specs.Room.{next_store, RoomCause}
 pub use Rattle.rpm_db.specs.RowLaws.{times_none}
-pub use Rattle.rpm_db.specs.Rows.{rows}
 pub use Rattle.rpm_db.specs.Runs.{SameLog}
-pub use Rattle.rpm_db.specs.State.{above, Bad, Good, Package, packages, State, state}
+pub use Rattle.rpm_db.specs.State.{above, Bad, Good, Package, packages, State}
 pub use Rattle.rpm_db.specs.StateLaws.{next-state}
 pub use Rattle.rpm_db.specs.declared.change_fault.ChangeFault.{ChangeFault}
 pub use Rattle.rpm_file.specs.Answers.{IsListFault}
 pub use Rattle.rpm_file.specs.List.{Found, list_head, size_in, sized, some_found}
 unfoldable pub use Rattle.rpm_file.specs.List.{front_header}
-pub use Rattle.rpm_file.specs.Package.{entries_or_none, package_header, read_again}
+pub use Rattle.rpm_file.specs.Package.{package_header, read_again}
 pub use Rattle.rpm_file.specs.declared.fault.FileFault.{FileFault}
 pub use Rattle.rpm_file.specs.declared.fault.ListFault.{ListFault}
 pub use Rattle.rpm_file.specs.declared.fault.ListFault.TheVariants.{Short}
@@ -61,11 +58,10 @@ pub use Rattle.rpm_header.specs.Laid.{end_of}
 unfoldable pub use Rattle.rpm_header.specs.Laid.{bytes_in, data_from, offset_of}
 pub use Rattle.rpm_header.specs.declared.form.Form.{Form}
 pub use Rattle.rpm_hindex.specs.Rows.{Row, times}
-pub use Rattle.rpm_hindex.specs.Sizes.{units_for}
 pub use Rattle.rpm_outside.specs.Browses.{left}
 pub use Rattle.rpm_outside.specs.Buffered.{inner}
 pub use Rattle.rpm_outside.specs.Causes.{HasCauseAt, Rose}
-pub use Rattle.rpm_outside.specs.Files.{blank, Files, Units}
+pub use Rattle.rpm_outside.specs.Files.{blank, Files}
 pub use Rattle.rpm_outside.specs.Frame.{Looks}
 pub use Rattle.rpm_outside.specs.Shelves.{bytes_at, Paths}
 pub use Rattle.rpm_outside.specs.Sinks.{Gained, GainedPart}
@@ -74,7 +70,6 @@ pub use Rattle.rpm_outside.specs.declared.disk.File.TheVariants.{Pkg}
 pub use Rattle.rpm_outside.specs.inner.Taken.{gained_none}
 pub use Rattle.rpm_pkgdb.specs.Reaches.{ReachesTo}
 pub use Rattle.rpm_pkgdb.specs.Store.{Store}
-pub use Rattle.rpm_pkgdb.specs.Written.{with_spare}
 pub use Rattle.std.specs.Cmp.{unsigned_tied}
 pub use Rattle.std.specs.Fmt.{decimal}
 pub use Rattle.std.specs.Int.{next_multiple_of}

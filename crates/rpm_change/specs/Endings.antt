@@ -1,10 +1,8 @@
 -- How far a command went, and why it was stopped.
-use Rattle.std.specs.Prelude.{◌≡◌, ◌⊎◌, ℕ, List, [], ◌∷◌, ◌++◌, length, Bool, true, false, IsTrue, Result, Ok, Err}
+use Rattle.std.specs.Prelude.{◌≡◌, ◌⊎◌, ℕ, List, [], ◌∷◌, ◌++◌, length, Bool, true, false, Result, Ok, Err}
 use Rattle.std.specs.List.{flat_map}
 use Rattle.rpm_outside.specs.Sinks.{Gained}
-use Rattle.rpm_outside.specs.Files.{Units, Files}
-use Rattle.rpm_db.specs.Changes.{IsServing}
-use Rattle.rpm_db.specs.Database.{Database, IsIndexed}
+use Rattle.rpm_outside.specs.Files.{Units}
 use Rattle.rpm_db.specs.Lawful.{IsWholeIndex}
 use Rattle.rpm_db.specs.State.{State}
 use Rattle.rpm_db.specs.declared.change_fault.ChangeFault.{ChangeFault}
@@ -53,12 +51,6 @@ pub record Done (course : Course) (s t : State) (tally : Tally) (old new : Outpu
   pub failed : course.failed ≡ tally.failed
   pub changes : length course.changes ≡ tally.changes
   pub state_is : t ≡ apply_all course.changes s
-
--- what a command leaves that isn't stopped: the database can be changed further, and its index holds the rows where it did before
-pub record IsCarried (tells : Bool) (old new : Files) (images : Files → Type 0) (before after : Database) : Type 0 where
-  pub going : after.stopped ≡ false
-  pub serving : IsTrue tells → IsServing new images after
-  pub index : IsTrue tells → IsIndexed old.pkg old.idx before → IsIndexed new.pkg new.idx after
 
 -- how a course ended
 abbrev pub Ended : Course → State → State → Result Tally Halt → Outputs → Outputs → Type 0

@@ -1,14 +1,19 @@
 -- One change of the database by its answer: what it is never stopped for, and what is left.
-use Rattle.std.specs.Prelude.{◌≡◌, ◌≢◌, ℕ, List, IsTrue, IfOk, IfErr, Result}
+use Rattle.std.specs.Prelude.{◌≡◌, ◌≢◌, ℕ, true, IsTrue, IfOk, IfErr, Option, Some, None, Result}
 use Rattle.rpm_outside.specs.declared.disk.Disk as disk
 use Rattle.rpm_db.specs.Changes.{Change, Put, Erase}
-use Rattle.rpm_db.specs.Database.{Database, next_number}
+use Rattle.rpm_db.specs.Database.{Database, holds, next_number}
 use Rattle.rpm_change.specs.declared.tally.Tally.{Tally}
 use Rattle.rpm_change.specs.declared.tally.Halt.{Halt}
 use Rattle.rpm_change.specs.declared.tally.Halt.TheVariants as halt
 use Rattle.rpm_change.specs.Steps.{changing}
 use Rattle.rpm_change.specs.Went.{EndedQuietly, Went}
 use Rattle.rpm_db.specs.Frame.{room}
+
+-- a header goes under a new number, or under one that a package has
+abbrev pub IsHeld : Option ℕ → Database → Type 0
+IsHeld None db = Unit {0}
+IsHeld (Some n) db = holds n db ≡ true
 
 -- no number, no generation is left in this value
 abbrev pub IsSpent : Database → Halt → Type 0

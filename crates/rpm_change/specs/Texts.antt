@@ -51,5 +51,5 @@ list_text list.ReadFault = []
 list_text list.NoMemory = []
 
 -- of the header at this place of a list, from 1
-abbrev pub place_line : ℕ → List ℕ → List ℕ
+unfoldable pub place_line : ℕ → List ℕ → List ℕ
 place_line k text = codes "error: header " ++ decimal k ++ codes ": " ++ text ++ codes "\n"

@@ -1,16 +1,16 @@
 -- How a course went on a disk and a database: how far, which limit stopped it, and what it left.
-use Rattle.std.specs.Prelude.{◌≡◌, ℕ, List, Bool, true, IsTrue, IfOk, Result, Err}
+use Rattle.std.specs.Prelude.{◌≡◌, ℕ, List, Bool, true, false, IsTrue, IfOk, Result, Err}
 use Rattle.rpm_outside.specs.declared.disk.Disk as disk
 use Rattle.rpm_outside.specs.declared.sink.Sink as sink
 use Rattle.rpm_outside.specs.declared.buffered.Buffered.{Buffered}
 use Rattle.rpm_outside.specs.Buffered.{inner}
 use Rattle.rpm_outside.specs.Files.{Files}
-use Rattle.rpm_outside.specs.Frame.{DiskFault, images}
+use Rattle.rpm_outside.specs.Frame.{DiskFault}
 use Rattle.rpm_hindex.specs.Rows.{Row}
 use Rattle.rpm_db.specs.Changed.{IsReady}
 use Rattle.rpm_db.specs.Changes.{Change}
 use Rattle.rpm_db.specs.Database.{Database, is_indexed}
-use Rattle.rpm_db.specs.Frame.{IsIndexed, Runs, state_in}
+use Rattle.rpm_db.specs.Frame.{IsIndexed, Runs, Serving, room, state_in}
 use Rattle.rpm_db.specs.Gathering.{IsGathering, OwesOn, due}
 use Rattle.rpm_db.specs.Lawful.{IsWholeIndex}
 use Rattle.rpm_db.specs.State.{State}
@@ -18,10 +18,9 @@ use Rattle.rpm_db.specs.Runs.{SameLog}
 use Rattle.rpm_change.specs.declared.tally.Tally.{Tally}
 use Rattle.rpm_change.specs.declared.tally.Halt.{Halt}
 use Rattle.rpm_change.specs.declared.tally.Halt.TheVariants as halt
-use Rattle.rpm_change.specs.Endings.{Outputs, outputs, Ended, IsCarried, WholeTurn}
+use Rattle.rpm_change.specs.Endings.{Outputs, outputs, Ended, WholeTurn}
 use Rattle.rpm_change.specs.Limits.{LimitsTurn}
 use Rattle.rpm_change.specs.Steps.{Course}
-use Rattle.rpm_db.specs.Frame.{room}
 
 -- ---- the sinks
 
@@ -55,8 +54,10 @@ module _ {S : Type 0} (of : sink.Ghosts S) where
 
 module _ {D : Type 0} (d : disk.Ghosts D) where
   -- it can be changed further, and its index holds the rows where it did before
-  abbrev pub CarriedOn : (old new : D) (before after : Database) → Type 0
-  CarriedOn old new before after = IsCarried d.tells (d.files old) (d.files new) (images d new) before after
+  pub record CarriedOn (old new : D) (before after : Database) : Type 0 where
+    pub going : after.stopped ≡ false
+    pub serving : Serving d new after
+    pub index : IsTrue d.tells → IsIndexed d old before → IsIndexed d new after
 
   -- the first of these changes that is refused decides; the index is asked where it held the rows
   abbrev pub LimitsOn : D → D → Database → Database → List Change → Result Tally Halt → Type 0

@@ -10,3 +10,4 @@ pub mod Reading
 pub mod Ready
 pub mod Single
 pub mod Stores
+pub mod Telling

@@ -1,7 +1,7 @@
 //! Adding package files.
 
 ghost use Rattle.std.specs.Prelude.{◌≡◌, ℕ, ◌+◌, ◌^◌, ◌<◌, Some, None, length, map, IsTrue, Ok, Err, IfOk, IfErr};
-ghost use Rattle.rpm_change.specs.Prelude.{add_files, EndedOnErr, Hand, KeepsShelf, IsOfPutting, IsReady, left, put_file, put_read, state_in, stop_in, Went};
+ghost use Rattle.rpm_change.specs.Prelude.{add_files, EndedOnErr, Hand, IsHeld, KeepsShelf, IsOfPutting, IsReady, put_file, state_in, stop_in, Went};
 
 use crate::faults::{put_absent, put_refused};
 use crate::install::read_installed;
@@ -31,33 +31,6 @@ fn stop_in(fault: FileFault) -> Option<Halt>
     }
 }
 
-/// Puts the package file that is open into the database, or writes to err that it is refused.
-fn put_opened<D: Disk, S: Shelf, E: Sink + Drop>(
-    alloc: Global,
-    db: &mut Db,
-    disk: &mut D,
-    shelf: &mut S,
-    how: Placing,
-    path: &[u8],
-    err: &mut Buffered<E>,
-) -> Result<Tally, Halt>
-    requires ready { IsReady D.Disk disk.old db.old }
-    ensures went { (j : ℕ) → Went D.Disk (IsTrue D.tells × IsTrue S.tells) disk.old disk.new db.old db.new result
-        (EndedOnErr E.Sink err.old err.new) (put_read how j path.now (left (S.rest shelf.old))) }
-    ensures one { IfOk result (λ tally. tally.failed + tally.changes ≡ 1) }
-    ensures kinds { IfErr result (IsOfPutting how.number) }
-    ensures shelf { KeepsShelf S.Shelf (result ≡ Err Halt.ShelfFault) shelf.old shelf.new }
-    ensures err { Hand E.Sink (result ≡ Err Halt.ErrFault) err.old err.new }
-{
-    match read_installed(alloc, shelf, how.moment) {
-        Ok(blob) => put_blob(alloc, db, disk, how.number, &blob),
-        Err(fault) => match stop_in(fault) {
-            Some(halt) => Err(halt),
-            None => put_refused(alloc, err, path, fault),
-        },
-    }
-}
-
 /// Puts the package file under a path into the database, or writes to err why it doesn't go.
 pub fn put_file<D: Disk, S: Shelf, E: Sink + Drop>(
     alloc: Global,
@@ -69,6 +42,7 @@ pub fn put_file<D: Disk, S: Shelf, E: Sink + Drop>(
     err: &mut Buffered<E>,
 ) -> Result<Tally, Halt>
     requires ready { IsReady D.Disk disk.old db.old }
+    requires held { IsHeld how.number db.old }
     ensures went { (j : ℕ) → Went D.Disk (IsTrue D.tells × IsTrue S.tells) disk.old disk.new db.old db.new result
         (EndedOnErr E.Sink err.old err.new) (put_file how (S.paths shelf.old) j path.now) }
     ensures one { IfOk result (λ tally. tally.failed + tally.changes ≡ 1) }
@@ -77,7 +51,13 @@ pub fn put_file<D: Disk, S: Shelf, E: Sink + Drop>(
     ensures err { Hand E.Sink (result ≡ Err Halt.ErrFault) err.old err.new }
 {
     match shelf.open(path) {
-        Ok(()) => put_opened(alloc, db, disk, shelf, how, path.as_bytes(), err),
+        Ok(()) => match read_installed(alloc, shelf, how.moment) {
+            Ok(blob) => put_blob(alloc, db, disk, how.number, &blob),
+            Err(fault) => match stop_in(fault) {
+                Some(halt) => Err(halt),
+                None => put_refused(alloc, err, path.as_bytes(), fault),
+            },
+        },
         Err(Absent) => put_absent(alloc, err, path.as_bytes()),
     }
 }

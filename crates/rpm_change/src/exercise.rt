@@ -8,6 +8,7 @@ use rpm_header::{BuildFault, Builder, Form, TextList};
 use std::alloc::{AllocError, Global};
 
 /// A word and a number.
+#[tactic(auto, using(crate::proofs::Texts::numbered_text))]
 fn numbered(alloc: Global, word: &[u8], n: u32) -> Result<Vec<u8>, AllocError>
     requires { IsText word.now }
     ensures value { IfOk result (λ text. text.items ≡ numbered word.now n) }
@@ -21,6 +22,7 @@ fn numbered(alloc: Global, word: &[u8], n: u32) -> Result<Vec<u8>, AllocError>
 }
 
 /// The version of package `i`.
+#[tactic(auto, using(crate::proofs::Texts::version_text))]
 fn version(alloc: Global, i: u32, m: u32) -> Result<Vec<u8>, AllocError>
     ensures value { IfOk result (λ text. text.items ≡ version i m) }
     ensures text { IfOk result (λ text. IsText text.items) }
@@ -163,6 +165,7 @@ fn lay_out(alloc: Global, builder: &Builder) -> Result<Vec<u8>, AllocError>
 /// # Errors
 ///
 /// `AllocError` where no memory is found.
+#[tactic(auto, using(crate::proofs::Bounds::generated_within))]
 pub fn generated(alloc: Global, i: u32, m: u32) -> Result<Vec<u8>, AllocError>
     requires { i < 4294967295 }
     ensures laid { IfOk result (λ blob. blob.items ≡ laid false (generated i m)) }

@@ -49,29 +49,6 @@ fn import_all<D: Disk, S: Shelf, E: Sink + Drop>(
     Ok(Tally { failed, changes })
 }
 
-/// Imports the list that is open, of at most so many headers, with one change of the index.
-fn import_open<D: Disk, S: Shelf, E: Sink + Drop>(
-    alloc: Global,
-    db: &mut Db,
-    disk: &mut D,
-    shelf: &mut S,
-    most: u32,
-    err: &mut Buffered<E>,
-) -> Result<Tally, Halt>
-    requires few { most < 2 ^ 31 }
-    requires ready { IsReady D.Disk disk.old db.old }
-    ensures went { Went D.Disk (IsTrue D.tells × IsTrue S.tells) disk.old disk.new db.old db.new result
-        (EndedOnErr E.Sink err.old err.new) (import_listed most (listed (left (S.rest shelf.old)))) }
-    ensures kinds { IfErr result IsOfImporting }
-    ensures shelf { KeepsShelf S.Shelf (result ≡ Err Halt.ShelfFault) shelf.old shelf.new }
-    ensures err { Hand E.Sink (result ≡ Err Halt.ErrFault) err.old err.new }
-{
-    let mut additions = Additions::begin(alloc, db);
-    let tally = import_all(alloc, db, disk, shelf, &mut additions, most, err)?;
-    additions.finish(alloc, db, disk)?;
-    Ok(tally)
-}
-
 /// Imports the list under the path `-` as [`import_list`] does, of at most `most` headers, which are below 2^31: a
 /// header after them ends the list with a line of its own.
 pub fn import_most<D: Disk, S: Shelf, E: Sink + Drop>(
@@ -92,7 +69,9 @@ pub fn import_most<D: Disk, S: Shelf, E: Sink + Drop>(
 {
     match shelf.open("-") {
         Ok(()) => {
-            let tally = import_open(alloc, db, disk, shelf, most, err)?;
+            let mut additions = Additions::begin(alloc, db);
+            let tally = import_all(alloc, db, disk, shelf, &mut additions, most, err)?;
+            additions.finish(alloc, db, disk)?;
             let failed = tally.failed.min(1);
             let changes = tally.changes;
             Ok(Tally { failed, changes })

@@ -1,4 +1,4 @@
-//! Lines of the headers of a list.
+//! The lines on err for a header of a list that is none, and for a fault of the list.
 
 ghost use Rattle.std.specs.Prelude.{◌≡◌, IfOk};
 ghost use Rattle.rpm_change.specs.Prelude.{Fails, header_text, list_text, place_line};
@@ -12,7 +12,7 @@ use rpm_header::HeaderFault;
 use rpm_outside::{Buffered, Sink};
 use std::alloc::{AllocError, Global};
 
-/// What is told of a fault of a list: of the last two, which are of no list, nothing.
+/// What is told of a fault of a list: of `ReadFault` and `NoMemory`, which are none, nothing.
 #[tactic(auto, unfolding(crate::specs::Texts::list_text))]
 pub fn list_text(fault: ListFault) -> &'static [u8]
     ensures { result.now ≡ list_text fault }
@@ -28,6 +28,7 @@ pub fn list_text(fault: ListFault) -> &'static [u8]
 }
 
 /// The line of the header at a place, from 1.
+#[tactic(auto, unfolding(crate::specs::Texts::place_line))]
 fn place_line(alloc: Global, place: u32, text: &[u8]) -> Result<Vec<u8>, AllocError>
     ensures { IfOk result (λ line. line.items ≡ place_line place text.now) }
 {

@@ -2,8 +2,7 @@
 
 ghost use Rattle.std.specs.Prelude.{◌≡◌, ◌+◌, ◌≤◌, true, IsTrue, Some, Err, IfOk, IfErr, OnOk};
 ghost use Rattle.std.specs.FinMap as finite;
-ghost use Rattle.rpm_change.specs.Prelude.{Bad, DiskFault, dropped, dropped_line, EndedOnOut, first_limit, Hand, is_indexed, IsCurrent, IsOfRebuilding, IsReady, next_stores, Package, ReachedAnew, rebuild, room, Runs, SameLog, state_in, StopsAt, Went, with_spare};
-ghost use Rattle.rpm_db.specs.Database as database;
+ghost use Rattle.rpm_change.specs.Prelude.{Bad, DiskFault, dropped, dropped_line, EndedOnOut, first_limit, Hand, holds, is_indexed, IsCurrent, IsOfRebuilding, IsReady, next_stores, Package, ReachedAnew, rebuild, room, Runs, SameLog, state_in, StopsAt, Went, with_spare};
 
 use crate::single::take_out;
 use crate::tally::{Halt, IDLE, Tally};
@@ -34,6 +33,7 @@ fn drop_bad<D: Disk, O: Sink + Drop>(
     number: u32,
     out: &mut Buffered<O>,
 ) -> Result<Tally, Halt>
+    requires held { holds number db.old ≡ true }
     requires ready { IsReady D.Disk disk.old db.old }
     ensures went { Went D.Disk (IsTrue D.tells) disk.old disk.new db.old db.new result
         (EndedOnOut O.Sink out.old out.new) (dropped number Bad) }
@@ -59,7 +59,7 @@ fn drop_one<D: Disk, O: Sink + Drop>(
     buffer: &mut Vec<u8>,
     out: &mut Buffered<O>,
 ) -> Result<Tally, Halt>
-    requires held { database.holds number db.old ≡ true }
+    requires held { holds number db.old ≡ true }
     requires ready { IsReady D.Disk disk.old db.old }
     ensures went { (p : Package) → Went D.Disk
         (IsTrue D.tells × (finite.get (state_in D.Disk disk.old db.old).packages number ≡ Some p))

@@ -1,19 +1,19 @@
 //! One change of the database.
 
-ghost use Rattle.std.specs.Prelude.{◌≡◌, Ok};
-ghost use Rattle.rpm_change.specs.Prelude.{change_at, Erase, header, IsReady, MakesOne, read_again};
+ghost use Rattle.std.specs.Prelude.{◌≡◌, true, Ok};
+ghost use Rattle.rpm_change.specs.Prelude.{change_at, Erase, header, holds, IsHeld, IsReady, MakesOne, read_again};
 
 use crate::tally::{CHANGED, Halt, Tally};
 use rpm_db::Db;
 use rpm_outside::Disk;
 use std::alloc::Global;
 
-/// Puts a header under a new number, or in place of the package that a number has. Counts one change.
+/// Puts a header under a new number, or in place of the package that this number has. Counts one change.
 ///
 /// # Errors
 ///
 /// The first of these limits that it meets: `NumbersSpent`, under a new number alone; `GenerationSpent`; `StoreFull`;
-/// `IndexFull`. Besides `BadIndex` and `DiskFault`; and `NoMemory`, also where the number has no package.
+/// `IndexFull`. Besides `BadIndex` and `DiskFault`; and `NoMemory` where the change finds none.
 pub fn put_blob<D: Disk>(
     alloc: Global,
     db: &mut Db,
@@ -22,6 +22,7 @@ pub fn put_blob<D: Disk>(
     blob: &[u8],
 ) -> Result<Tally, Halt>
     requires ready { IsReady D.Disk disk.old db.old }
+    requires held { IsHeld number db.old }
     requires own { header blob.now ≡ Ok (read_again blob.now) }
     ensures { MakesOne D.Disk (change_at number blob.now) disk.old disk.new db.old db.new result }
 {
@@ -37,12 +38,12 @@ pub fn put_blob<D: Disk>(
     }
 }
 
-/// Takes the package of a number out, Good or Bad. Counts one change.
+/// Takes the package that this number has out, Good or Bad. Counts one change.
 ///
 /// # Errors
 ///
 /// The first of these limits that it meets: `GenerationSpent`; `IndexFull`. Besides `BadIndex` and `DiskFault`; and
-/// `NoMemory`, also where the number has no package.
+/// `NoMemory` where the change finds none.
 pub fn take_out<D: Disk>(
     alloc: Global,
     db: &mut Db,
@@ -50,6 +51,7 @@ pub fn take_out<D: Disk>(
     number: u32,
 ) -> Result<Tally, Halt>
     requires ready { IsReady D.Disk disk.old db.old }
+    requires held { holds number db.old ≡ true }
     ensures { MakesOne D.Disk (Erase number) disk.old disk.new db.old db.new result }
 {
     db.erase(alloc, disk, number)?;

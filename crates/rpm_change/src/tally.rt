@@ -56,8 +56,9 @@ pub enum Halt {
     NoMemory,
 }
 
-/// What a fault of a change makes of a command. Of the last three none comes of a header that was read, under a number
-/// that is there, on a disk that keeps what it is given.
+/// What a fault of a change makes of a command. `BadHeader` doesn't come of a header that was read, `NoSuch` of a
+/// number that a package has, nor `Stopped` of a database that can be changed: so these three have no answer of their
+/// own.
 impl From<ChangeFault> for Halt {
     ghost from_gives = { λ fault e. e ≡ halt_of fault };
 

@@ -1,7 +1,7 @@
 //! One step through a list of headers.
 
 ghost use Rattle.std.specs.Prelude.{◌≡◌, ◌+◌, ◌<◌, ◌≤◌, true, IsTrue, Err, IfOk, IfErr};
-ghost use Rattle.rpm_change.specs.Prelude.{EndedOnErr, Hand, header, imported, IsGathering, IsOfHeaders, IsOfImporting, KeepsShelf, Leaves, left, list_head, StopIs, tally_of, turn, turn_found, WentOwing};
+ghost use Rattle.rpm_change.specs.Prelude.{EndedOnErr, Hand, IsGathering, IsOfHeaders, IsOfImporting, KeepsShelf, Leaves, left, list_head, StopIs, tally_of, turn, turn_found, WentOwing};
 
 use crate::places::{list_text, put_bad_header, put_place};
 use crate::tally::{CHANGED, Halt, IDLE, Tally};
@@ -31,32 +31,8 @@ fn stop_of(fault: ListFault) -> Option<Halt>
     }
 }
 
-/// Adds the header at a place of the list, or writes to err that it is none.
+/// Adds the header at a place of the list, or writes to err that it is none, or one too many.
 fn import_header<D: Disk, E: Sink + Drop>(
-    alloc: Global,
-    db: &mut Db,
-    disk: &mut D,
-    additions: &mut Additions,
-    place: u32,
-    blob: &[u8],
-    err: &mut Buffered<E>,
-) -> Result<Tally, Halt>
-    requires gathering { IsGathering D.Disk disk.old db.old additions.old }
-    ensures went { WentOwing D.Disk (IsTrue D.tells) disk.old disk.new db.old db.new additions.old additions.new result
-        (EndedOnErr E.Sink err.old err.new) (imported place (header blob.now)) }
-    ensures one { IfOk result (λ tally. tally.failed + tally.changes ≡ 1) }
-    ensures kinds { IfErr result IsOfHeaders }
-    ensures err { Hand E.Sink (result ≡ Err Halt.ErrFault) err.old err.new }
-{
-    match additions.add(alloc, db, disk, blob) {
-        Ok(_) => Ok(CHANGED),
-        Err(ChangeFault::BadHeader(fault)) => put_bad_header(alloc, err, place, fault),
-        Err(fault) => Err(Halt::from(fault)),
-    }
-}
-
-/// Imports the header at a place of the list, or writes to err that there is one too many.
-fn import_within<D: Disk, E: Sink + Drop>(
     alloc: Global,
     db: &mut Db,
     disk: &mut D,
@@ -74,9 +50,12 @@ fn import_within<D: Disk, E: Sink + Drop>(
     ensures err { Hand E.Sink (result ≡ Err Halt.ErrFault) err.old err.new }
 {
     if most < place {
-        put_place(alloc, err, place, b"too many headers")
-    } else {
-        import_header(alloc, db, disk, additions, place, blob, err)
+        return put_place(alloc, err, place, b"too many headers");
+    }
+    match additions.add(alloc, db, disk, blob) {
+        Ok(_) => Ok(CHANGED),
+        Err(ChangeFault::BadHeader(fault)) => put_bad_header(alloc, err, place, fault),
+        Err(fault) => Err(Halt::from(fault)),
     }
 }
 
@@ -108,7 +87,7 @@ pub fn import_next<D: Disk, S: Shelf, E: Sink + Drop>(
     match read_header(shelf, room) {
         Ok(Some(size)) => {
             let blob = &room[..size];
-            let tally = import_within(alloc, db, disk, additions, most, place, blob, err)?;
+            let tally = import_header(alloc, db, disk, additions, most, place, blob, err)?;
             let is_last = most < place;
             Ok(Turn { tally, is_last })
         }

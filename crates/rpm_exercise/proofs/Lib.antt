@@ -1,6 +1,5 @@
 pub mod Asking
 pub mod Halts
-pub mod Limited
 pub mod Named
 pub mod Parts
 pub mod Through

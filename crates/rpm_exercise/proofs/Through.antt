@@ -1,5 +1,5 @@
 -- Changes of the exercise on a disk and a database.
-use Rattle.std.proofs.Common.{◌≡◌, true, List, [], ◌∷◌, ◌++◌, Result, Ok, Err, refl, sym, ap, subst, ◌+◌, ℕ}
+use Rattle.std.proofs.Common.{true, List, [], ◌∷◌, ◌++◌, Result, Ok, Err, refl, sym, ap, ◌+◌, ℕ}
 use Rattle.std.specs.Prelude.{IsTrue, IfErr}
 use Rattle.rpm_outside.specs.declared.disk.Disk as disk
 use Rattle.rpm_exercise.proofs.Vocabulary.{carried_then, Change, counted_went, Database, EndedQuietly, Halt, IsOfChange, IsOfChanges, IsReady, left_none}
@@ -31,14 +31,6 @@ module _ {D : Type 0} (d : disk.Ghosts D) where
           (left_none d stays at db ready (Err halt.NoMemory) (λ is. absurd cc));
       spent = tt;
       kinds = (λ is. cc, λ is. cc, λ is. cc);
-    }
-
-    pub memory_one : (change : Change) → MakesOne d change at at db db (Err halt.NoMemory)
-    memory_one change = record {
-      went = (memory_through (change ∷ [])).course;
-      one = tt;
-      kinds = (λ is. cc, λ is. cc, λ is. cc, tt);
-      spent = tt;
     }
 
     -- nothing was done
@@ -77,9 +69,3 @@ module _ {D : Type 0} (d : disk.Ghosts D) where
       → WentThrough d xs old new before after (Err h) → WentThrough d (xs ++ ys) old new before after (Err h)
   through_ahead {xs = xs} ys went =
       record { course = went_ahead d quiet_joins.ahead (making xs) (making ys) went.course; spent = went.spent; kinds = went.kinds }
-
-  -- of the same changes
-  pub through_as : {old new : D} {before after : Database} {r : Result Tally Halt} {xs ys : List Change} → xs ≡ ys
-      → WentThrough d xs old new before after r → WentThrough d ys old new before after r
-  through_as {old = old} {new = new} {before = before} {after = after} {r = r} =
-      subst (λ (cs : List Change). WentThrough d cs old new before after r)

@@ -1,66 +1,30 @@
--- What the exercise leaves once its changes are made.
-use Rattle.std.proofs.Common.{◌≡◌, ℕ, true, List, [], ◌++◌, Result, Ok, Err, take, refl, sym, ap, ◌∙◌, subst}
-use Rattle.std.proofs.lemmas.List.{append-nil}
+-- What the exercise leaves where packages are read once its changes are made.
+use Rattle.std.proofs.Common.{Some, None, Ok, Err, true}
 use Rattle.std.specs.Prelude.{IsTrue}
 use Rattle.rpm_outside.specs.declared.disk.Disk as disk
 use Rattle.rpm_outside.specs.declared.sink.Sink as sink
-use Rattle.rpm_exercise.proofs.Vocabulary.{apply_all, Buffered, changes, Database, EndedOnOut, exercise, Files, Gained, gained_none, GainedPart, Halt}
-use Rattle.rpm_exercise.proofs.Vocabulary.{HasIndexRows, IsCutOff, IsOfTelling, none_gone, packages, packages_in, room, State, state, state_in, summary}
-use Rattle.rpm_exercise.proofs.Vocabulary.{Tally, took, ToOut, WentThrough, whole}
-use Rattle.rpm_change.specs.declared.tally.Halt.TheVariants as halt
+use Rattle.rpm_exercise.proofs.Vocabulary.{Asks, Buffered, Course, Database, EndedOnOut, EndedQuietly, Halt, HasRows, left_read, other_stop, out_gone, state_in}
+use Rattle.rpm_exercise.proofs.Vocabulary.{stopped_by, Tally, Went}
+use Rattle.rpm_exercise.proofs.Halts.{asking_is, reading_is}
 
--- ---- files that stay
+module _ {D : Type 0} (d : disk.Ghosts D) (joins : (x y z : D) → d.follows x y → d.follows y z → d.follows x z) {old at new : D} {before db : Database}
+    {tally : Tally} {course : Course} (went : Went d (IsTrue d.tells) old at before db (Ok tally) EndedQuietly course) where
+  pub read_done : Asks d at new db None → Went d (IsTrue d.tells) old new before db (Ok tally) EndedQuietly course
+  read_done said = record {
+    ended = λ told. rw (said.runs.reads_as told) (went.ended told);
+    limits = λ told i rows. rw (said.runs.reads_as told) (went.limits told i rows);
+    whole = λ told was. rw (said.runs.reads_as told) (went.whole told was);
+    left = left_read d joins went.left said.runs (Ok tally) (record { later = said.disk.later; rose = λ is. absurd cc });
+  }
 
-pub rows_same : (f g : Files) (db : Database) → g ≡ f → HasIndexRows db f.pkg f.idx → HasIndexRows db g.pkg g.idx
-rows_same f g db same r = subst (λ (h : Files). HasIndexRows db h.pkg h.idx) (sym same) r
-
-pub packages_same : (f g : Files) (db : Database) → g ≡ f → packages g.pkg (room db) ≡ packages f.pkg (room db)
-packages_same f g db same = ap (λ (h : Files). packages h.pkg (room db)) same
-
--- ---- how it ends
-
--- the changes were made, and the summary was told or not
-module _ {D S : Type 0} (d : disk.Ghosts D) (of : sink.Ghosts S) (n : ℕ) {old at new : D} {before db : Database} {tally : Tally}
-    (went : WentThrough d (changes n (state_in d old before)) old at before db (Ok tally)) (same : IsTrue d.tells → d.files new ≡ d.files at)
-    (x y : Buffered S) (told : IsTrue d.tells) where
-  text_is : summary (packages_in d at db) ≡ summary (apply_all (changes n (state_in d old before)) (state_in d old before)).packages
-  text_is = ap (λ (v : State). summary v.packages) (went.course.ended told true true [] []).state_is
-
-  told_cut : GainedPart of.tells (took of x) (took of y) (summary (packages_in d at db))
-      → EndedOnOut of x y (exercise n (state_in d old before)) (state_in d old before) (state_in d new db) (Err halt.OutFault)
-  told_cut part = λ et e.
-      let text = summary (apply_all (changes n (state_in d old before)) (state_in d old before)).packages in
-      record {
-        done = [];
-        step = ToOut (whole 0) text;
-        rest = [];
-        all_is = refl;
-        sink = refl;
-        bytes = part.0;
-        through = record {
-          out = λ is. part.2 is ∙ ap (λ (b : List ℕ). took of x ++ b) (ap (take part.0) text_is ∙ sym (append-nil (take part.0 text)));
-          err = gained_none et e;
-        };
-      }
-
-  pub told_done : Gained of.tells (took of x) (took of y) (summary (packages_in d at db))
-      → EndedOnOut of x y (exercise n (state_in d old before)) (state_in d old before) (state_in d new db) (Ok tally)
-  told_done gained = λ et e.
-      let text = summary (apply_all (changes n (state_in d old before)) (state_in d old before)).packages in
-      let made = went.course.ended told true true [] [] in
-      record {
-        steps = record {
-          out = λ is. gained is ∙ ap (λ (b : List ℕ). took of x ++ b) (text_is ∙ sym (append-nil text));
-          err = gained_none et e;
-        };
-        failed = made.failed;
-        changes = made.changes;
-        state_is = ap (λ (f : Files). state f.pkg (room db)) (same told) ∙ made.state_is;
-      }
-
-  pub told_halted : (h : Halt) → IsOfTelling h → IsCutOff of.tells (took of x) (took of y) (summary (packages_in d at db)) h
-      → EndedOnOut of x y (exercise n (state_in d old before)) (state_in d old before) (state_in d new db) (Err h)
-  told_halted halt.OutFault kind part = told_cut part
-  told_halted halt.ErrFault kind none = absurd kind
-  told_halted others kind none = λ et e.
-      none_gone (exercise n (state_in d old before)) _ _ (record { out = none; err = gained_none et e })
+  -- or reading stopped it, and nothing was told
+  pub read_stopped : {S : Type 0} (of : sink.Ghosts S) (x : Buffered S) (all : Course) {h : Halt} → (IsTrue d.tells → HasRows d at db)
+      → Asks d at new db (Some h) → Went d (IsTrue d.tells) old new before db (Err h) (EndedOnOut of x x) all
+  read_stopped of x all {h = h} rows said = record {
+    ended = λ told et e.
+        let kind = asking_is db h said.kinds in
+        stopped_by all (state_in d old before) (state_in d new db) h _ _ kind.0 kind.1 (out_gone of x all et e);
+    limits = λ told i asked. other_stop i _ _ _ all.changes h (reading_is i (d.files new).idx h (said.lawful told (rows told))).0;
+    whole = λ told was. (reading_is true (d.files new).idx h (said.lawful told (rows told))).1;
+    left = left_read d joins went.left said.runs (Err h) (record { later = said.disk.later; rose = λ is. said.disk.rose (cc) });
+  }

@@ -1,7 +1,6 @@
 -- How the exercise ends.
-use Rattle.std.specs.Prelude.{◌≡◌, ℕ, Bool, List, [], Option, Some, None, Result, Ok, Err}
+use Rattle.std.specs.Prelude.{◌≡◌, ℕ, Option, Some, None, Result, Ok, Err}
 use Rattle.rpm_outside.specs.Files.{Files}
-use Rattle.rpm_outside.specs.Sinks.{Gained, GainedPart}
 use Rattle.rpm_db.specs.Reaches.{ReachesMade}
 use Rattle.rpm_select.specs.declared.picked.PickFault.{PickFault}
 use Rattle.rpm_select.specs.declared.picked.PickFault.TheVariants as pick
@@ -17,6 +16,11 @@ pick_halt (pick.BadIndex unit) = halt.BadIndex unit
 pick_halt pick.DiskFault = halt.DiskFault
 pick_halt pick.NoMemory = halt.NoMemory
 
+-- of a question
+abbrev pub stop_of : {X : Type 0} → Result X PickFault → Option Halt
+stop_of (Ok x) = None
+stop_of (Err fault) = Some (pick_halt fault)
+
 -- what asking a sound index is stopped by
 abbrev pub IsOfReading : Halt → Type 0
 IsOfReading halt.DiskFault = Unit {0}
@@ -29,29 +33,6 @@ IsOfAsking (halt.BadIndex unit) = Unit {0}
 IsOfAsking halt.DiskFault = Unit {0}
 IsOfAsking halt.NoMemory = Unit {0}
 IsOfAsking others = ⊥
-
--- what telling is stopped by
-abbrev pub IsOfTelling : Halt → Type 0
-IsOfTelling (halt.BadIndex unit) = Unit {0}
-IsOfTelling halt.DiskFault = Unit {0}
-IsOfTelling halt.OutFault = Unit {0}
-IsOfTelling halt.NoMemory = Unit {0}
-IsOfTelling others = ⊥
-
--- the index isn't said to be broken
-abbrev pub IsUnbroken : Halt → Type 0
-IsUnbroken (halt.BadIndex unit) = ⊥
-IsUnbroken others = Unit {0}
-
--- telling was cut off: out took the first of a text where it failed, and nothing where telling was stopped before
-abbrev pub IsCutOff : Bool → List ℕ → List ℕ → List ℕ → Halt → Type 0
-IsCutOff tells old new text halt.OutFault = GainedPart tells old new text
-IsCutOff tells old new text others = Gained tells old new []
-
--- or out took all of it
-abbrev pub IsTold : {X : Type 0} → Bool → List ℕ → List ℕ → List ℕ → Result X Halt → Type 0
-IsTold tells old new text (Ok x) = Gained tells old new text
-IsTold tells old new text (Err h) = IsCutOff tells old new text h
 
 -- the exercise reads no shelf and writes no line to err
 abbrev pub IsOfExercise : Halt → Type 0

@@ -1,5 +1,5 @@
 -- What the exercise tells of the packages that are left.
-use Rattle.std.specs.Prelude.{ℕ, List, [], ◌∷◌, ◌++◌, length, codes, decimal}
+use Rattle.std.specs.Prelude.{◌≡◌, ℕ, List, [], ◌∷◌, ◌++◌, length, codes, decimal}
 use Rattle.std.specs.List.{flat_map, range_with_len}
 use Rattle.std.specs.Ordering.{nat_cmp}
 use Rattle.std.specs.FinMap.{FinMap}
@@ -13,6 +13,7 @@ use Rattle.rpm_select.specs.declared.selection.Selection.TheVariants as question
 use Rattle.rpm_select.specs.Selections.{picks}
 use Rattle.rpm_change.specs.Exercise.{numbered}
 use Rattle.rpm_change.specs.Steps.{Course, ToOut, whole, apply_all}
+use Rattle.rpm_exercise.specs.declared.survey.Found.{Found}
 use Rattle.rpm_exercise.specs.Rounds.{changes}
 
 -- ---- the export
@@ -26,15 +27,21 @@ exported (n, Bad) = []
 abbrev pub export_bytes : FinMap nat_cmp Package → List ℕ
 export_bytes packages = flat_map exported (picks packages question.All)
 
+-- ---- a question
+
+-- how many packages a question picks
+abbrev pub picked : FinMap nat_cmp Package → Selection → ℕ
+picked packages sel = length (picks packages sel)
+
+-- what is found of it: how many it picks, and the digest of what an export of these would write
+abbrev pub IsFound : FinMap nat_cmp Package → Selection → Found → Type 0
+IsFound packages sel found = (found.count ≡ picked packages sel) × (found.digest ≡ sha256 (flat_map exported (picks packages sel)))
+
 -- ---- the lines
 
 -- a word and how many
 abbrev pub count_line : List ℕ → ℕ → List ℕ
 count_line word n = word ++ (codes " " ++ (decimal n ++ codes "\n"))
-
--- how many packages a question picks
-abbrev pub picked : FinMap nat_cmp Package → Selection → ℕ
-picked packages sel = length (picks packages sel)
 
 -- in any version
 abbrev pub capability_named : List ℕ → CapabilityParts

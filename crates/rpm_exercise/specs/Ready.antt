@@ -1,5 +1,5 @@
 -- What a part of the exercise leaves of the database.
-use Rattle.std.specs.Prelude.{◌≡◌, List, true, IsTrue, IfErr, Result, Err}
+use Rattle.std.specs.Prelude.{◌≡◌, List, true, IsTrue, IfErr, IfSome, Option, Some, Result}
 use Rattle.rpm_outside.specs.declared.disk.Disk as disk
 use Rattle.rpm_outside.specs.Frame.{DiskFault}
 use Rattle.rpm_db.specs.Changes.{Change}
@@ -16,18 +16,12 @@ use Rattle.rpm_exercise.specs.Endings.{IsOfReading, IsOfAsking, IsOfExercise}
 use Rattle.rpm_exercise.specs.Rounds.{IsOfChanges, making}
 
 module _ {D : Type 0} (d : disk.Ghosts D) where
-  -- packages were read, and nothing else happened
-  pub record ReadsPackages {X : Type 0} (old new : D) (r : Result X Halt) : Type 0 where
-    pub kinds : IfErr r IsOfReading
+  -- questions were asked, and nothing else happened; what stopped them, if anything did, is none of the index where that has the rows of the packages
+  pub record Asks (old new : D) (db : Database) (stop : Option Halt) : Type 0 where
+    pub lawful : IsTrue d.tells → HasRows d old db → IfSome stop IsOfReading
+    pub kinds : IfSome stop IsOfAsking
     pub runs : Runs d SameFiles old new
-    pub disk : DiskFault d (r ≡ Err halt.DiskFault) old new
-
-  -- an index was asked too, which is sound where it has the rows of the packages
-  pub record Asks {X : Type 0} (old new : D) (db : Database) (r : Result X Halt) : Type 0 where
-    pub lawful : IsTrue d.tells → HasRows d old db → IfErr r IsOfReading
-    pub kinds : IfErr r IsOfAsking
-    pub runs : Runs d SameFiles old new
-    pub disk : DiskFault d (r ≡ Err halt.DiskFault) old new
+    pub disk : DiskFault d (stop ≡ Some halt.DiskFault) old new
 
   -- these changes were made, or the first that is refused stopped them; and what is left
   pub record WentThrough (changes : List Change) (old new : D) (before after : Database)

@@ -5,11 +5,10 @@
 //! is the same on every machine.
 #![tactic(auto)]
 
-mod counts;
-mod digest;
 mod lines;
 mod rounds;
 mod running;
 mod summary;
+mod survey;
 
 pub use running::{ExerciseFault, exercise};

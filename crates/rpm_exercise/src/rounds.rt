@@ -1,7 +1,7 @@
 //! The changes of the exercise, round by round.
 
-ghost use Rattle.std.specs.Prelude.{◌≡◌, ◌+◌, ◌<◌, ◌≤◌, IfOk, IfErr};
-ghost use Rattle.rpm_exercise.specs.Prelude.{change_at, changes, IsReady, made, MakesOne, round_changes, state_in, turn, WentThrough};
+ghost use Rattle.std.specs.Prelude.{◌≡◌, ◌+◌, ◌<◌, ◌≤◌, [], ◌∷◌, true, IfOk, IfErr};
+ghost use Rattle.rpm_exercise.specs.Prelude.{change_at, changes, holds, IsHeld, IsReady, made, round_changes, state_in, turn, WentThrough};
 
 use rpm_change::{Halt, IDLE, Tally, generated, put_blob, take_out};
 use rpm_db::Db;
@@ -30,20 +30,23 @@ fn put_one<D: Disk>(
 ) -> Result<Tally, Halt>
     requires small { i < 4294967295 }
     requires ready { IsReady D.Disk disk.old db.old }
-    ensures { MakesOne D.Disk (change_at number (made i m)) disk.old disk.new db.old db.new result }
+    requires held { IsHeld number db.old }
+    ensures went { WentThrough D.Disk (change_at number (made i m) ∷ []) disk.old disk.new db.old db.new result }
+    ensures few { IfOk result (λ tally. tally.changes ≤ 1) }
 {
     let blob = generated(alloc, i, m)?;
     put_blob(alloc, db, disk, number, &blob)
 }
 
-/// The number of header `i`. It was given before, so it is one.
-fn number_of(b: u32, i: u32) -> Result<u32, Halt>
+/// The number of header `i`. It was given before, so a package has it.
+fn number_of(db: &Db, b: u32, i: u32) -> Result<u32, Halt>
     ensures value { IfOk result (λ number. number ≡ b + i) }
+    ensures held { IfOk result (λ number. holds number db.now ≡ true) }
     ensures kinds { IfErr result (λ halt. halt ≡ Halt.NoMemory) }
 {
     match b.checked_add(i) {
-        Some(number) => Ok(number),
-        None => Err(Halt::NoMemory),
+        Some(number) if db.holds(number) => Ok(number),
+        _ => Err(Halt::NoMemory),
     }
 }
 
@@ -67,14 +70,14 @@ fn take_turn<D: Disk>(
             if i % 3 != 0 {
                 return Ok(IDLE);
             }
-            let number = number_of(b, i)?;
+            let number = number_of(db, b, i)?;
             put_one(alloc, db, disk, Some(number), i, 2)
         }
         Round::Erasing => {
             if i % 5 != 0 {
                 return Ok(IDLE);
             }
-            let number = number_of(b, i)?;
+            let number = number_of(db, b, i)?;
             take_out(alloc, db, disk, number)
         }
     }

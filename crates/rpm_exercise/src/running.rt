@@ -1,7 +1,7 @@
 //! The exercise as a whole.
 
 ghost use Rattle.std.specs.Prelude.{◌≡◌, ℕ, ◌≤◌, Bool, List, true, IsTrue, Ok, Err, OnOk, IfOk, IfErr};
-ghost use Rattle.rpm_exercise.specs.Prelude.{changes, DiskFault, Ended, EndedOnOut, exercise, Hand, HasRows, inner, is_indexed, IsAskable, IsCurrent, IsIndexed, IsNext, IsOfReading, IsOfTelling, IsReady, IsRefused, IsStop, IsTold, IsUnbroken, LeftOn, LimitsOn, LimitsTurn, OnceBegun, packages_in, ReachesMade, Remade, Renewed, room, Runs, SameFiles, SameLog, state_in, summary, units_needed, with_out};
+ghost use Rattle.rpm_exercise.specs.Prelude.{changes, DiskFault, Ended, EndedOnOut, exercise, Hand, is_indexed, IsCurrent, IsNext, IsOfReading, IsReady, IsRefused, IsStop, LimitsTurn, OnceBegun, ReachesMade, Remade, Renewed, room, Runs, SameLog, state_in, units_needed, Went, with_out};
 ghost use Rattle.rpm_db.specs.Database as database;
 
 use crate::rounds::change_all;
@@ -20,31 +20,6 @@ pub enum ExerciseFault {
     Halted(Halt),
 }
 
-/// Writes to out what is told of the packages.
-fn tell<D: Disk, O: Sink + Drop>(
-    alloc: Global,
-    db: &Db,
-    disk: &mut D,
-    out: &mut Buffered<O>,
-) -> Result<(), Halt>
-    requires asked { IsAskable D.Disk disk.old db.now }
-    ensures told { IsTrue D.tells → HasRows D.Disk disk.old db.now
-        → IsTold O.tells (O.taken (inner out.old)) (O.taken (inner out.new))
-        (summary (packages_in D.Disk disk.old db.now)) result }
-    ensures lawful { IsTrue D.tells → HasRows D.Disk disk.old db.now → IfErr result IsUnbroken }
-    ensures kinds { IfErr result IsOfTelling }
-    ensures runs { Runs D.Disk SameFiles disk.old disk.new }
-    ensures disk { DiskFault D.Disk (result ≡ Err Halt.DiskFault) disk.old disk.new }
-    ensures out { Hand O.Sink (result ≡ Err Halt.OutFault) out.old out.new }
-{
-    let text = summary(alloc, db, disk)?;
-    out.clear();
-    match put_and_flush(out, &text) {
-        Ok(()) => Ok(()),
-        Err(_) => Err(Halt::OutFault),
-    }
-}
-
 /// Makes the changes, and writes to out what is told of the packages that are left.
 fn change_and_tell<D: Disk, O: Sink + Drop>(
     alloc: Global,
@@ -54,19 +29,19 @@ fn change_and_tell<D: Disk, O: Sink + Drop>(
     out: &mut Buffered<O>,
 ) -> Result<Tally, Halt>
     requires few { n ≤ 100000 }
-    requires ready { IsReady D.Disk disk.old db.old }
-    ensures ended { IsTrue D.tells → IsIndexed D.Disk disk.old db.old
-        → EndedOnOut O.Sink out.old out.new (exercise n (state_in D.Disk disk.old db.old))
-        (state_in D.Disk disk.old db.old) (state_in D.Disk disk.new db.new) result }
-    ensures limits { IsTrue D.tells → LimitsOn D.Disk disk.old disk.new db.old db.new
-        (changes n (state_in D.Disk disk.old db.old)) result }
-    ensures left { LeftOn D.Disk disk.old disk.new db.old db.new result }
+    requires current { IsCurrent D.Disk disk.old db.old }
+    ensures went { Went D.Disk (IsTrue D.tells) disk.old disk.new db.old db.new result
+        (EndedOnOut O.Sink out.old out.new) (exercise n (state_in D.Disk disk.old db.old)) }
     ensures stop { IfErr result (IsStop db.new) }
     ensures out { Hand O.Sink (result ≡ Err Halt.OutFault) out.old out.new }
 {
     let tally = change_all(alloc, db, disk, n)?;
-    tell(alloc, db, disk, out)?;
-    Ok(tally)
+    let text = summary(alloc, db, disk)?;
+    out.clear();
+    match put_and_flush(out, &text) {
+        Ok(()) => Ok(tally),
+        Err(_) => Err(Halt::OutFault),
+    }
 }
 
 /// Makes the index anew, whatever it was. There are no packages, so it has room.
@@ -121,7 +96,7 @@ fn exercise_all<D: Disk, O: Sink + Drop>(
 /// the leading number 2, then erases each that is divisible by 5: `n + n / 3 + n / 5` changes, and nothing fails. The
 /// next number may be any; so the headers may begin anywhere. First the index is rebuilt, from no packages, so that
 /// what is told doesn't rest on what it was. What is told is asked of the database with that index, as any question is:
-/// all packages are read once to count them and once for the digest, and the candidates of each capability once. One
+/// all packages are read once, to count them and for the digest, and the candidates of each capability once. One
 /// header is held at a time, and the lines.
 ///
 /// The disk may be an overlay: then all changes can be committed as one. After an `Err` but `NotEmpty` the database

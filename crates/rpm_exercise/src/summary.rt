@@ -1,12 +1,10 @@
 //! What is told of the packages that are left.
 
-ghost use Rattle.std.specs.Prelude.{◌≡◌, ◌++◌, ◌<◌, codes, IsTrue, OnOk, IfOk};
-ghost use Rattle.rpm_exercise.specs.Prelude.{Asks, capability_line, capability_lines, count_line, HasRows, IsAskable, packages_in, picked, summary};
-ghost use Rattle.rpm_select.specs.declared.selection.Selection.TheVariants as question;
+ghost use Rattle.std.specs.Prelude.{◌≡◌, ◌++◌, ◌<◌, IsTrue, OnOk, IfOk};
+ghost use Rattle.rpm_exercise.specs.Prelude.{Asks, capability_line, capability_lines, HasRows, IsAskable, packages_in, result_err, summary};
 
-use crate::counts::{count_picked, count_provided};
-use crate::digest::digest;
 use crate::lines::{capability_name, push_count, push_digest};
+use crate::survey::{count_provided, survey};
 use rpm_change::Halt;
 use rpm_db::Db;
 use rpm_outside::Disk;
@@ -25,7 +23,7 @@ fn push_capability<D: Disk>(
     requires asked { IsAskable D.Disk disk.old db.now }
     ensures told { IsTrue D.tells → HasRows D.Disk disk.old db.now
         → OnOk result (text.new.items ≡ text.old.items ++ capability_line (packages_in D.Disk disk.old db.now) c) }
-    ensures asks { Asks D.Disk disk.old disk.new db.now result }
+    ensures asks { Asks D.Disk disk.old disk.new db.now (result_err result) }
 {
     let name = capability_name(alloc, c)?;
     let count = count_provided(alloc, db, disk, &name)?;
@@ -43,29 +41,11 @@ fn push_capabilities<D: Disk>(
     requires asked { IsAskable D.Disk disk.old db.now }
     ensures told { IsTrue D.tells → HasRows D.Disk disk.old db.now
         → OnOk result (text.new.items ≡ text.old.items ++ capability_lines (packages_in D.Disk disk.old db.now)) }
-    ensures asks { Asks D.Disk disk.old disk.new db.now result }
+    ensures asks { Asks D.Disk disk.old disk.new db.now (result_err result) }
 {
     for c in 0..7u32 {
         push_capability(alloc, db, disk, text, c)?;
     }
-    Ok(())
-}
-
-/// Appends how many packages there are.
-fn push_packages<D: Disk>(
-    alloc: Global,
-    db: &Db,
-    disk: &mut D,
-    text: &mut Vec<u8>,
-) -> Result<(), Halt>
-    requires asked { IsAskable D.Disk disk.old db.now }
-    ensures told { IsTrue D.tells → HasRows D.Disk disk.old db.now
-        → OnOk result (text.new.items ≡ text.old.items ++ count_line (codes "packages")
-        (picked (packages_in D.Disk disk.old db.now) question.All)) }
-    ensures asks { Asks D.Disk disk.old disk.new db.now result }
-{
-    let count = count_picked(alloc, db, disk, &Selection::All)?;
-    push_count(text, b"packages", count)?;
     Ok(())
 }
 
@@ -74,12 +54,12 @@ pub fn summary<D: Disk>(alloc: Global, db: &Db, disk: &mut D) -> Result<Vec<u8>,
     requires asked { IsAskable D.Disk disk.old db.now }
     ensures told { IsTrue D.tells → HasRows D.Disk disk.old db.now
         → IfOk result (λ text. text.items ≡ summary (packages_in D.Disk disk.old db.now)) }
-    ensures asks { Asks D.Disk disk.old disk.new db.now result }
+    ensures asks { Asks D.Disk disk.old disk.new db.now (result_err result) }
 {
     let mut text = Vec::new(alloc);
-    push_packages(alloc, db, disk, &mut text)?;
+    let all = survey(alloc, db, disk, &Selection::All)?;
+    push_count(&mut text, b"packages", all.count)?;
     push_capabilities(alloc, db, disk, &mut text)?;
-    let digest = digest(alloc, db, disk)?;
-    push_digest(alloc, &mut text, &digest)?;
+    push_digest(alloc, &mut text, &all.digest)?;
     Ok(text)
 }

@@ -9,7 +9,7 @@ invariant-loop-path g l = record {
   goes : GoingOn g.D.Disk (IsTrue g.D.Disk.tells × IsTrue g.S.Shelf.tells) l.initial.disk l.disk l.initial.db l.db
       (record { failed = l.failed; changes = l.changes }) (EndedOnErr g.E.Sink l.initial.err l.err)
       (add_files (g.S.Shelf.paths l.initial.shelf) l.fn.now (state_in g.D.Disk l.initial.disk l.initial.db) (map bytes l.paths))
-      (in_turn (add_file l.fn.now (g.S.Shelf.paths l.initial.shelf)) (state_in g.D.Disk l.disk l.db) l.path-index (map bytes (drop l.path-index l.paths)));
+      (in_turn (add_file l.fn.now (g.S.Shelf.paths l.initial.shelf)) (state_in g.D.Disk l.disk l.db) l.path-index (drop l.path-index (map bytes l.paths)));
   few : l.failed + l.changes ≡ l.path-index;
   paths : IsTrue g.S.Shelf.tells → g.S.Shelf.paths l.shelf ≡ g.S.Shelf.paths l.initial.shelf;
   shelf : g.S.Shelf.faults l.initial.shelf ≤ g.S.Shelf.faults l.shelf;

@@ -1,24 +1,38 @@
-use Rattle.std.proofs.Common.{ℕ, List, sym, ap, ◌∙◌}
-use Rattle.rpm_change.proofs.Vocabulary.{absent_line, bytes_at, failing, left, put_file, put_found, put_read, ready_line, ToErr, went_as, whole}
-use Rattle.rpm_change.proofs.Filed.{opened_is}
+use Rattle.std.proofs.Common.{refl, sym}
+use Rattle.rpm_change.proofs.Vocabulary.{absent_line, as_installed, bytes_at, change_at, changing, failing, left, package_header, put_file, ready_line}
+use Rattle.rpm_change.proofs.Vocabulary.{ready_stopped, refused_line, ToErr, took, went_as, whole}
+use Rattle.rpm_change.proofs.Filed.{opened_is, own_fault}
+use Rattle.rpm_change.proofs.Stops.{stop_kind}
 use Rattle.rpm_change.proofs.add.put_file.Goals as goal
 
-pub returns-in-Ok-clause-went : goal.returns-in-Ok-clause-went
-returns-in-Ok-clause-went g c = λ j.
-    let how = c.args.how in
+pub returns-in-Ok-read_installed-clause-went : goal.returns-in-Ok-read_installed-clause-went
+returns-in-Ok-read_installed-clause-went g c = λ j.
+    let paths = g.S.Shelf.paths c.args.shelf.now in
+    let path = c.args.path.now in
+    went_as g.D.Disk (changing (change_at c.args.how.number c.deref.result.now)) (put_file c.args.how paths j path) (λ both. both.0)
+    (λ both. let opened = c.in-Ok.ensures.opened both.1 in
+    rw (opened_is (bytes_at paths path) _ opened.0 opened.1, c.in-Ok-read_installed.ensures.gives both.1, c.deref.ensures.value) refl)
+    (λ s t e. λ ot o. e ot g.E.Sink.tells o (took g.E.Sink c.args.err.now)) c.put_blob.ensures.went
+
+pub returns-in-Some-clause-went : goal.returns-in-Some-clause-went
+returns-in-Some-clause-went g c = λ j.
+    ready_stopped g.D.Disk g.met.D.Disk.follows_refl c.requires.ready g.E.Sink c.args.err.now
+    (put_file c.args.how (g.S.Shelf.paths c.args.shelf.now) j c.args.path.now) c.in-Some.halt (stop_kind _ c.in-Some.halt (sym c.in-Some.ensures))
+
+pub returns-in-None-clause-went : goal.returns-in-None-clause-went
+returns-in-None-clause-went g c = λ j.
+    let paths = g.S.Shelf.paths c.args.shelf.now in
     let path = c.args.path.now in
     let rest = g.S.Shelf.rest c.open.new.self in
-    let found = bytes_at (g.S.Shelf.paths c.args.shelf.now) path in
-    let read = λ (p : List ℕ). put_read how j p (left rest) in
-    went_as g.D.Disk (read c.as_bytes.result.now) (put_found how j path found) (λ both. both)
-    (λ both. let opened = c.in-Ok.ensures.opened both.1 in
-    ap read c.as_bytes.ensures.value ∙ sym (opened_is how j path found rest opened.0 opened.1)) (λ s t e. e) (c.put_opened.ensures.went j)
+    let fault = own_fault (as_installed c.args.how.moment (package_header (left rest))) c.in-Err-read_installed.fault (sym c.in-None.ensures) in
+    went_as g.D.Disk (failing (ToErr (whole j) (refused_line c.as_bytes.result.now c.in-Err-read_installed.fault))) (put_file c.args.how paths j path)
+    (λ both. both) (λ both. let opened = c.in-Ok.ensures.opened both.1 in
+    rw (opened_is (bytes_at paths path) rest opened.0 opened.1, fault (c.in-Err-read_installed.ensures.gives both.1), c.as_bytes.ensures.value) refl)
+    (λ s t e. e) (ready_line g.D.Disk g.met.D.Disk.follows_refl c.requires.ready g.E.Sink c.put_refused.result (whole j) c.put_refused.ensures)
 
 pub returns-in-Err-clause-went : goal.returns-in-Err-clause-went
 returns-in-Err-clause-went g c = λ j.
-    let how = c.args.how in
-    let path = c.args.path.now in
-    let line = λ (p : List ℕ). failing (ToErr (whole j) (absent_line p)) in
-    went_as g.D.Disk (line c.as_bytes-in-Err.result.now) (put_file how (g.S.Shelf.paths c.args.shelf.now) j path) (λ both. both)
-    (λ both. ap line c.as_bytes-in-Err.ensures.value ∙ sym (ap (put_found how j path) (c.in-Err.ensures.opened both.1).1)) (λ s t e. e)
+    went_as g.D.Disk (failing (ToErr (whole j) (absent_line c.as_bytes-in-Err.result.now)))
+    (put_file c.args.how (g.S.Shelf.paths c.args.shelf.now) j c.args.path.now) (λ both. both)
+    (λ both. rw ((c.in-Err.ensures.opened both.1).1, c.as_bytes-in-Err.ensures.value) refl) (λ s t e. e)
     (ready_line g.D.Disk g.met.D.Disk.follows_refl c.requires.ready g.E.Sink c.put_absent.result (whole j) c.put_absent.ensures)

@@ -1,19 +1,18 @@
-use Rattle.std.proofs.Common.{sym, ◌∙◌}
-use Rattle.rpm_change.proofs.Vocabulary.{changing, Erase, erase_one, missing, ready_line, state_in, took, went_as, whole}
-use Rattle.rpm_change.proofs.Erased.{none_missing, some_erased}
+use Rattle.std.proofs.Common.{refl, sym, ◌∙◌}
+use Rattle.rpm_change.proofs.Vocabulary.{changing, Erase, erase_one, missing, none_is, ready_line, state_in, took, went_as, whole}
+use Rattle.rpm_change.proofs.Dropped.{some_is}
 use Rattle.rpm_change.proofs.erase.erase_one.Goals as goal
 
 pub returns-then-holds-clause-went : goal.returns-then-holds-clause-went
 returns-then-holds-clause-went g c = λ j.
     let n = c.args.number in
-    let held = sym (c.holds.ensures.told (g.D.Disk.files c.args.disk.now).pkg) ∙ c.if-holds.true in
-    went_as g.D.Disk (changing (Erase n)) (erase_one (state_in g.D.Disk c.args.disk.now c.args.db.now) j n) (λ told. told)
-    (λ told. sym (some_erased _ j n held)) (λ s t e. λ ot o. e ot g.E.Sink.tells o (took g.E.Sink c.args.err.now)) c.take_out.ensures.went
+    let held = some_is _ (sym (c.holds.ensures.told (g.D.Disk.files c.args.disk.now).pkg) ∙ c.if-holds.true) in
+    went_as g.D.Disk (changing (Erase n)) (erase_one (state_in g.D.Disk c.args.disk.now c.args.db.now) j n) (λ told. told) (λ told. rw held refl)
+    (λ s t e. λ ot o. e ot g.E.Sink.tells o (took g.E.Sink c.args.err.now)) c.take_out.ensures.went
 
 pub returns-else-holds-clause-went : goal.returns-else-holds-clause-went
 returns-else-holds-clause-went g c = λ j.
     let n = c.args.number in
-    let not = sym (c.holds.ensures.told (g.D.Disk.files c.args.disk.now).pkg) ∙ c.if-holds.false in
-    went_as g.D.Disk (missing j n) (erase_one (state_in g.D.Disk c.args.disk.now c.args.db.now) j n) (λ told. told)
-    (λ told. sym (none_missing _ j n not)) (λ s t e. e)
-    (ready_line g.D.Disk g.met.D.Disk.follows_refl c.requires.ready g.E.Sink c.put_missing.result (whole j) c.put_missing.ensures)
+    let none = none_is _ (sym (c.holds.ensures.told (g.D.Disk.files c.args.disk.now).pkg) ∙ c.if-holds.false) in
+    went_as g.D.Disk (missing j n) (erase_one (state_in g.D.Disk c.args.disk.now c.args.db.now) j n) (λ told. told) (λ told. rw none refl)
+    (λ s t e. e) (ready_line g.D.Disk g.met.D.Disk.follows_refl c.requires.ready g.E.Sink c.put_missing.result (whole j) c.put_missing.ensures)

@@ -1,25 +1,26 @@
-use Rattle.std.proofs.Common.{Err, refl, ◌∙◌}
-use Rattle.rpm_change.proofs.Vocabulary.{Bad, dropped, err_is, left_none, out_gone, stopped_went}
+use Rattle.std.proofs.Common.{[], ◌∷◌, Err, refl, ◌∙◌}
+use Rattle.rpm_change.proofs.Vocabulary.{Bad, bearer, dropped, dropped_line, Erase, err_is, left_none, out_gone, stopped_went, told_all, told_none, told_part}
 use Rattle.rpm_change.specs.declared.tally.Halt.TheVariants as halt
-use Rattle.rpm_change.proofs.Drops.{drop_cut, drop_done, drop_stopped}
 use Rattle.rpm_change.proofs.rebuilding.drop_bad.Goals as goal
 
 pub returns-in-Ok-clause-went : goal.returns-in-Ok-clause-went
 returns-in-Ok-clause-went g c =
-    drop_done g.D.Disk g.O.Sink c.args.number c.in_ok-tally.ensures c.args.out.now c.put_and_flush.new.sink c.deref.result.now
-    (c.deref.ensures.value ∙ c.in_ok-line.ensures)
-    (rw c.clear.ensures.inner at c.in-Ok.ensures.writes.ok)
+    let n = c.args.number in
+    told_all g.D.Disk g.O.Sink (Erase n ∷ []) (bearer 0 n) (dropped_line n) c.in_ok-tally.ensures.went c.args.out.now c.put_and_flush.new.sink
+    (λ told. rw (c.clear.ensures.inner, c.deref.ensures.value ∙ c.in_ok-line.ensures) at c.in-Ok.ensures.writes.ok)
 
 pub returns-clause-went : goal.returns-clause-went
 returns-clause-went g c =
-    drop_cut g.D.Disk g.O.Sink c.args.number c.in_ok-tally.ensures c.args.out.now c.put_and_flush.new.sink c.deref.result.now
-    (c.deref.ensures.value ∙ c.in_ok-line.ensures)
-    (rw c.clear.ensures.inner at c.in-Err.ensures.writes.err)
+    let n = c.args.number in
+    told_part g.D.Disk g.O.Sink (Erase n ∷ []) (bearer 0 n) (dropped_line n) c.in_ok-tally.ensures.went c.args.out.now c.put_and_flush.new.sink
+    (λ told. rw (c.clear.ensures.inner, c.deref.ensures.value ∙ c.in_ok-line.ensures) at c.in-Err.ensures.writes.err)
 
 pub returns-in_err-tally-clause-went : goal.returns-in_err-tally-clause-went
 returns-in_err-tally-clause-went g c =
-    rw (err_is c.from_residual-in_err-tally.result c.from_residual-in_err-tally.ensures)
-    (drop_stopped g.D.Disk g.O.Sink c.args.number c.in_err-tally.field-0.0 c.in_err-tally.ensures c.args.out.now)
+    let n = c.args.number in
+    let said = c.in_err-tally.ensures in
+    rw (err_is c.from_residual-in_err-tally.result c.from_residual-in_err-tally.ensures) (told_none g.D.Disk g.O.Sink (Erase n ∷ []) (bearer 0 n)
+    (dropped_line n) c.in_err-tally.field-0.0 said.went said.kinds.1 said.kinds.2 c.args.out.now)
 
 pub returns-in_err-line-clause-went : goal.returns-in_err-line-clause-went
 returns-in_err-line-clause-went g c =

@@ -1,19 +1,16 @@
-use Rattle.std.proofs.Common.{refl, sym, ap, Err}
-use Rattle.std.specs.FinMap as finite
-use Rattle.rpm_change.proofs.Vocabulary.{Bad, carried_then, dropped, EndedOnOut, idle, out_gone, out_joins, out_none, packages_in, stopped_went, went_as}
+use Rattle.std.proofs.Common.{◌≡◌, refl, Err}
+use Rattle.rpm_change.proofs.Vocabulary.{Bad, carried_then, Good, dropped, EndedOnOut, idle, out_gone, out_joins, out_none, stopped_went, went_as}
 use Rattle.rpm_change.proofs.Vocabulary.{went_behind}
 use Rattle.rpm_change.specs.declared.tally.Halt.TheVariants as halt
 use Rattle.rpm_change.proofs.Dropped.{left_looked, looked_went}
-use Rattle.rpm_change.proofs.Drops.{bad_is, good_is}
 use Rattle.rpm_change.proofs.rebuilding.drop_one.Goals as goal
 
 pub returns-in-Ok-clause-went : goal.returns-in-Ok-clause-went
 returns-in-Ok-clause-went g c = λ p.
     let n = c.args.number in
     let said = c.in-Ok.ensures in
-    let found = finite.get (packages_in g.D.Disk c.args.disk.now c.args.db.now) n in
     went_as g.D.Disk {E = EndedOnOut g.O.Sink c.args.out.now c.args.out.now} idle (dropped n p) (λ both. both)
-    (λ both. sym (ap (dropped n) (good_is found p c.in-Ok.good.items (said.told both.0) both.1))) (λ s t e. e)
+    (λ both. let same : p ≡ Good c.in-Ok.good.items = (let there = said.told both.0 in let is = both.1 in cc) in rw same refl) (λ s t e. e)
     (looked_went g.D.Disk g.met.D.Disk.follows_refl g.met.D.Disk.follows_trans c.requires.ready said.looks said.cause.later (λ both. both.0)
     (out_none g.O.Sink c.args.out.now))
 
@@ -22,9 +19,9 @@ returns-in-Err-Bad-clause-went g c = λ p.
     let n = c.args.number in
     let db = c.args.db.now in
     let said = rw c.in-Err-Bad.field-0-is at c.in-Err-Bad.ensures in
-    let found = finite.get (packages_in g.D.Disk c.args.disk.now db) n in
     let look = c.get_in.ensures in
-    went_as g.D.Disk (dropped n Bad) (dropped n p) (λ both. both.0) (λ both. sym (ap (dropped n) (bad_is found p (said.told both.0) both.1))) (λ s t e. e)
+    went_as g.D.Disk (dropped n Bad) (dropped n p) (λ both. both.0)
+    (λ both. let same : p ≡ Bad = (let there = said.told both.0 in let is = both.1 in cc) in rw same refl) (λ s t e. e)
     (went_behind g.D.Disk g.met.D.Disk.follows_trans (out_joins g.O.Sink c.args.out.now c.args.out.now c.drop_bad.new.out)
     (carried_then g.D.Disk c.args.disk.now c.get_in.new.disk c.drop_bad.new.disk db db c.drop_bad.new.db) (λ carried told rows. carried.index told rows)
     (dropped n Bad) c.drop_bad.result

@@ -1,26 +1,28 @@
-use Rattle.rpm_change.proofs.Vocabulary.{err_is, out_refused, rebuild, remade_log, remade_then, state_in}
-use Rattle.rpm_change.proofs.Rebuilt.{remade_limits, remade_reached, remade_stores}
+use Rattle.std.proofs.Common.{true}
+use Rattle.rpm_change.proofs.Vocabulary.{err_is, makes_small, out_refused, reached_anew, rebuild, remade_log, remade_then, room, state_in}
+use Rattle.rpm_change.proofs.Rebuilt.{remade_limits, told_ok}
 use Rattle.rpm_change.proofs.rebuilding.rebuild.Goals as goal
 
 pub returns-clause-limits : goal.returns-clause-limits
-returns-clause-limits g c =
+returns-clause-limits g c = λ told.
     let said = c.in_ok-rebuild.ensures in
-    remade_limits g.D.Disk g.O.Sink c.args.db.now c.args.out.now c.drop_each.new.out c.drop_each.result said.runs.reads_as said.still.store
-    (λ told. (said.rebuilt told).3) c.drop_each.ensures.went
-    (λ told. (said.rebuilt told).0)
+    let s = state_in g.D.Disk c.args.disk.now c.args.db.now in
+    rw (makes_small true s (room c.args.db.now) (rebuild s).changes (λ is. (said.rebuilt told).0))
+    (remade_limits g.D.Disk c.args.db.now said.runs.reads_as said.still.store (λ told. (said.rebuilt told).3) c.drop_each.ensures.went told).first
 
 pub returns-clause-stores : goal.returns-clause-stores
 returns-clause-stores g c =
     let said = c.in_ok-rebuild.ensures in
-    remade_stores g.D.Disk g.O.Sink c.args.db.now c.args.out.now c.drop_each.new.out c.drop_each.result said.runs.reads_as said.still.store
-    (λ told. (said.rebuilt told).3) c.drop_each.ensures.went
+    told_ok c.drop_each.result (λ told is. is) (λ told. (remade_limits g.D.Disk c.args.db.now said.runs.reads_as said.still.store
+    (λ told. (said.rebuilt told).3) c.drop_each.ensures.went told).stores)
 
 pub returns-clause-reach : goal.returns-clause-reach
 returns-clause-reach g c =
     let said = c.in_ok-rebuild.ensures in
-    remade_reached g.D.Disk g.O.Sink c.args.db.now c.args.out.now c.drop_each.new.out c.drop_each.result said.runs.reads_as said.still.store
-    (λ told. (said.rebuilt told).3) c.drop_each.ensures.went
-    said.renewed.reach
+    told_ok c.drop_each.result (λ told. reached_anew (state_in g.D.Disk c.args.disk.now c.args.db.now) (room c.args.db.now) _ (g.D.Disk.files c.args.disk.now)
+    (g.D.Disk.files c.rebuild.new.disk) (g.D.Disk.files c.drop_each.new.disk) (said.runs.reads_as told).pkg (said.renewed.reach told))
+    (λ told. (remade_limits g.D.Disk c.args.db.now said.runs.reads_as said.still.store (λ told. (said.rebuilt told).3) c.drop_each.ensures.went
+    told).reached)
 
 pub returns-clause-runs : goal.returns-clause-runs
 returns-clause-runs g c =

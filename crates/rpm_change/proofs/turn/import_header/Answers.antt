@@ -1,22 +1,29 @@
-use Rattle.std.proofs.Common.{refl, sym, subst, ap, ◌∙◌}
-use Rattle.rpm_change.proofs.Vocabulary.{Add, changing, EndedOnErr, err_refused, halted_went, header, header_text, imported, IsWholeIndex, line_went}
-use Rattle.rpm_change.proofs.Vocabulary.{next-state, one_made, place_fails, resumed, room, state_in, through_none, took, went_as, whole}
-use Rattle.rpm_change.proofs.Imported.{imported_good, add_limits}
-use Rattle.rpm_change.proofs.Owing.{owing_none, owing_same}
+use Rattle.std.proofs.Common.{◌≡◌, true, false, refl, sym, ◌∙◌, arith, nat_lt}
+use Rattle.std.proofs.lemmas.Bool.Decides.{nat_tests}
+use Rattle.rpm_change.proofs.Vocabulary.{Add, changing, EndedOnErr, err_refused, halted_went, header_text, line_went, next-state, one_made}
+use Rattle.rpm_change.proofs.Vocabulary.{place_fails, resumed, room, state_in, through_none, took, turn_found, went_as, whole}
+use Rattle.rpm_change.proofs.Imported.{add_limits}
+use Rattle.rpm_change.proofs.Owing.{owing_none}
 use Rattle.rpm_change.proofs.turn.import_header.Goals as goal
+
+pub returns-then-most-place-clause-went : goal.returns-then-most-place-clause-went
+returns-then-most-place-clause-went g c =
+    let past : nat_lt c.args.most c.args.place ≡ true = grind (arith, nat_tests) in
+    rw past (line_went g.D.Disk g.met.D.Disk.follows_refl (owing_none g.D.Disk c.requires.gathering) _ _ c.requires.gathering.indexed g.E.Sink
+    c.put_place.result (whole 0) c.put_place.ensures)
 
 pub returns-in-Ok-clause-went : goal.returns-in-Ok-clause-went
 returns-in-Ok-clause-went g c =
     let k = c.args.place in
+    let within : nat_lt c.args.most k ≡ false = grind (arith, nat_tests) in
     let done = c.in-Ok.ensures in
     let put = done.causes.1 in
     let gathers = done.gathers put.own put.read in
     let made = gathers.gathered in
-    let v = (room c.args.db.now) in
+    let v = room c.args.db.now in
     let law = next-state (g.D.Disk.files c.args.disk.now).pkg v in
-    went_as g.D.Disk {E = EndedOnErr g.E.Sink c.args.err.now c.args.err.now} (changing (Add put.own.blob)) (imported k (header c.args.blob.now))
-    (λ told. told)
-    (λ told. sym (imported_good k c.args.blob.now put.own put.read)) (λ s t e. e)
+    went_as g.D.Disk {E = EndedOnErr g.E.Sink c.args.err.now c.args.err.now} (changing (Add put.own.blob))
+    (turn_found c.args.most k c.args.blob.now) (λ told. told) (λ told. rw (within, put.read) refl) (λ s t e. e)
     (record {
       ended = λ told ot o. record {
         steps = through_none {ot = ot} {et = g.E.Sink.tells} o (took g.E.Sink c.args.err.now);
@@ -28,7 +35,7 @@ returns-in-Ok-clause-went g c =
           one_made i (state_in g.D.Disk c.args.disk.now c.args.db.now) (Add put.own.blob) v (room c.add.new.db) (record { failed = 0; changes = 1 })
           (λ is. done.causes.0 (sym law ∙ is)) put.later.0 gathers.room made.generation
           (λ is. gathers.full told (rows is)) (done.end told) (λ is. made.reach told (rows is));
-      whole = λ told whole. subst IsWholeIndex (sym (done.index told)) whole;
+      whole = λ told whole. rw (done.index told) whole;
       left = record {
         carried = record { gathering = made.gathering; owes = λ told has. made.owes told has };
         indexed = done.left.indexed;
@@ -41,13 +48,12 @@ pub returns-in-Err-BadHeader-clause-went : goal.returns-in-Err-BadHeader-clause-
 returns-in-Err-BadHeader-clause-went g c =
     let D = g.D.Disk in
     let k = c.args.place in
+    let within : nat_lt c.args.most k ≡ false = grind (arith, nat_tests) in
     let fault = c.in-Err-BadHeader.fault in
     let said = rw c.in-Err-BadHeader.field-0-is at c.in-Err-BadHeader.ensures in
     let same = said.refused fault refl in
-    owing_same D _ c.args.disk.now c.add.new.disk c.args.db.now c.add.new.db c.args.additions.now c.add.new.self c.put_bad_header.result _ _
-    same.0 same.1 same.2
-    (went_as D (place_fails k (header_text fault)) (imported k (header c.args.blob.now)) (λ told. told)
-    (λ told. sym (ap (imported k) said.causes.1)) (λ s t e. e)
+    rw (same.0, same.1, same.2) (went_as D (place_fails k (header_text fault)) (turn_found c.args.most k c.args.blob.now) (λ told. told)
+    (λ told. rw (within, said.causes.1) refl) (λ s t e. e)
     (line_went D g.met.D.Disk.follows_refl (owing_none D c.requires.gathering) _ _ c.requires.gathering.indexed g.E.Sink c.put_bad_header.result (whole 0)
     c.put_bad_header.ensures))
 
@@ -57,8 +63,9 @@ returns-in-Err-clause-went g c =
     let f = c.in-Err.fault in
     let db = c.args.db.now in
     let law = next-state (g.D.Disk.files c.args.disk.now).pkg (room db) in
-    let course = imported c.args.place (header c.args.blob.now) in
+    let within : nat_lt c.args.most c.args.place ≡ false = grind (arith, nat_tests) in
+    let course = turn_found c.args.most c.args.place c.args.blob.now in
     halted_went g.D.Disk course f c.from.result c.from.ensures (err_refused g.E.Sink c.args.err.now course f)
-    (λ told i rows. add_limits i (resumed db) (state_in g.D.Disk c.args.disk.now db) (room c.add.new.db) c.args.place c.args.blob.now law f said.causes
-    (λ h read. (said.gathers h read).room) (λ is h read. (said.gathers h read).full told (rows is)))
+    (λ told i rows. rw within (add_limits i (resumed db) (state_in g.D.Disk c.args.disk.now db) (room c.add.new.db) c.args.place c.args.blob.now law f
+    said.causes (λ h read. (said.gathers h read).room) (λ is h read. (said.gathers h read).full told (rows is))))
     (λ told whole. said.whole told whole) said.left.indexed said.runs said.cause (λ is. cc)

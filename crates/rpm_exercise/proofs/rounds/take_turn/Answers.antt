@@ -1,12 +1,12 @@
-use Rattle.std.proofs.Common.{◌≡◌, ◌∷◌, [], ◌+◌, true, false, arith}
+use Rattle.std.proofs.Common.{◌≡◌, true, false, arith}
 use Rattle.std.specs.Prelude.{◌==◌, ◌%◌}
 use Rattle.std.proofs.lemmas.Bool.Decides.{nat_tests}
-use Rattle.rpm_exercise.proofs.Vocabulary.{Erase, err_is, made, Put}
+use Rattle.rpm_exercise.proofs.Vocabulary.{err_is}
 use Rattle.rpm_exercise.proofs.Through.{memory_through, none_through, one_through}
 use Rattle.rpm_exercise.proofs.rounds.take_turn.Goals as goal
 
 pub returns-in-Adding-clause-went : goal.returns-in-Adding-clause-went
-returns-in-Adding-clause-went g c = rw c.in-Adding.is (one_through g.D.Disk c.put_one.ensures)
+returns-in-Adding-clause-went g c = rw c.in-Adding.is c.put_one.ensures.went
 
 pub returns-then-i-ne0-clause-went : goal.returns-then-i-ne0-clause-went
 returns-then-i-ne0-clause-went g c =
@@ -21,7 +21,7 @@ returns-then-i-ne0-2-clause-went g c =
 pub returns-in_ok-number-in-Replacing-clause-went : goal.returns-in_ok-number-in-Replacing-clause-went
 returns-in_ok-number-in-Replacing-clause-went g c =
     let third : (c.args.i % 3 == 0) ≡ true = grind (arith, nat_tests) in
-    rw (c.in-Replacing.is, third, ← c.in_ok-number-in-Replacing.ensures.value) (one_through g.D.Disk c.put_one-in-Replacing.ensures)
+    rw (c.in-Replacing.is, third, ← c.in_ok-number-in-Replacing.ensures.value) c.put_one-in-Replacing.ensures.went
 
 pub returns-in_ok-number-in-Erasing-clause-went : goal.returns-in_ok-number-in-Erasing-clause-went
 returns-in_ok-number-in-Erasing-clause-went g c =
