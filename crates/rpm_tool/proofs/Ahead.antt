@@ -1,6 +1,6 @@
 -- Changes that put no package under a new number of their own: then the field goes on above each number, and the numbers that are given rise.
 use Rattle.std.proofs.Common.{◌≡◌, ℕ, ◌+◌, ◌≤◌, ◌<◌, List, [], ◌∷◌, ◌++◌, sym, subst, arith}
-use Rattle.rpm_tool.proofs.Vocabulary.{Add, apply, apply_all, Change, Erase, Good, IsAhead, next, numbers_given, Put, RiseWithin, State}
+use Rattle.rpm_tool.proofs.Vocabulary.{Add, AllByRecursion, apply, apply_all, Change, Erase, Good, IsAhead, next, numbers_given, Put, RiseWithin, State}
 use Rattle.rpm_tool.proofs.Greatest.{HeldBelow, held_below, greatest_below, insert_below, remove_below, later_below}
 
 -- ---- one change
@@ -32,38 +32,40 @@ erased_ahead n s ahead = record { some = ahead.some; below = remove_below s.pack
 
 -- ---- several
 
--- what is put under a number of its own goes below the field, at its turn
+-- what is put under a number of its own goes below f
+abbrev pub Under : ℕ → Change → Type 0
+Under f (Put n bytes) = n < f
+Under f others = Unit {0}
+
+-- below the field, at its turn
 abbrev pub Fits : List Change → State → Type 0
 Fits [] s = Unit {0}
-Fits (Put n bytes ∷ changes) s = (n < s.field) × Fits changes (apply (Put n bytes) s)
-Fits (Add bytes ∷ changes) s = Fits changes (apply (Add bytes) s)
-Fits (Erase n ∷ changes) s = Fits changes (apply (Erase n) s)
+Fits (c ∷ cs) s = Under s.field c × Fits cs (apply c s)
 
 pub fits_then : (cs ds : List Change) (s : State) → Fits cs s → Fits ds (apply_all cs s) → Fits (cs ++ ds) s
 fits_then [] ds s first second = second
-fits_then (Put n bytes ∷ cs) ds s first second = (first.0, fits_then cs ds (apply (Put n bytes) s) first.1 second)
-fits_then (Add bytes ∷ cs) ds s first second = fits_then cs ds (apply (Add bytes) s) first second
-fits_then (Erase n ∷ cs) ds s first second = fits_then cs ds (apply (Erase n) s) first second
+fits_then (c ∷ cs) ds s first second = (first.0, fits_then cs ds (apply c s) first.1 second)
 
 -- or below f, whatever the state
 abbrev pub PutsUnder : ℕ → List Change → Type 0
-PutsUnder f [] = Unit {0}
-PutsUnder f (Put n bytes ∷ changes) = (n < f) × PutsUnder f changes
-PutsUnder f (Add bytes ∷ changes) = PutsUnder f changes
-PutsUnder f (Erase n ∷ changes) = PutsUnder f changes
+PutsUnder f = AllByRecursion (Under f)
 
 pub under_then : (f : ℕ) (cs ds : List Change) → PutsUnder f cs → PutsUnder f ds → PutsUnder f (cs ++ ds)
 under_then f [] ds first second = second
-under_then f (Put n bytes ∷ cs) ds first second = (first.0, under_then f cs ds first.1 second)
-under_then f (Add bytes ∷ cs) ds first second = under_then f cs ds first second
-under_then f (Erase n ∷ cs) ds first second = under_then f cs ds first second
+under_then f (c ∷ cs) ds first second = (first.0, under_then f cs ds first.1 second)
+
+under_later : (c : Change) (f g : ℕ) → f ≤ g → Under f c → Under g c
+under_later (Put n bytes) f g le is = omega (arith, le, is)
+under_later others f g le is = tt
 
 -- the field never falls
+field_later : (c : Change) (f : ℕ) (s : State) → f ≤ s.field → f ≤ (apply c s).field
+field_later (Add bytes) f s le = omega (arith, le)
+field_later others f s le = le
+
 pub under_fits : (f : ℕ) (cs : List Change) (s : State) → f ≤ s.field → PutsUnder f cs → Fits cs s
 under_fits f [] s le under = tt
-under_fits f (Put n bytes ∷ cs) s le under = (omega (arith, le, under.0), under_fits f cs (apply (Put n bytes) s) le under.1)
-under_fits f (Add bytes ∷ cs) s le under = under_fits f cs (apply (Add bytes) s) (omega (arith, le)) under
-under_fits f (Erase n ∷ cs) s le under = under_fits f cs (apply (Erase n) s) le under
+under_fits f (c ∷ cs) s le under = (under_later c f s.field le under.0, under_fits f cs (apply c s) (field_later c f s le) under.1)
 
 field_rises : (cs : List Change) (s : State) → Ahead s → Fits cs s
     → RiseWithin s.field (numbers_given cs s) (apply_all cs s).field × Ahead (apply_all cs s)
@@ -71,9 +73,9 @@ field_rises [] s ahead fits = (omega arith, ahead)
 field_rises (Put n bytes ∷ cs) s ahead fits = field_rises cs (apply (Put n bytes) s) (put_ahead n bytes s fits.0 ahead) fits.1
 field_rises (Add bytes ∷ cs) s ahead fits =
     let is : next s ≡ s.field = is_ahead s ahead in
-    let rest = field_rises cs (apply (Add bytes) s) (added_ahead bytes s ahead) fits in
+    let rest = field_rises cs (apply (Add bytes) s) (added_ahead bytes s ahead) fits.1 in
     ((omega (arith, is), rest.0), rest.1)
-field_rises (Erase n ∷ cs) s ahead fits = field_rises cs (apply (Erase n) s) (erased_ahead n s ahead) fits
+field_rises (Erase n ∷ cs) s ahead fits = field_rises cs (apply (Erase n) s) (erased_ahead n s ahead) fits.1
 
 pub changes_rise : (cs : List Change) (s : State) → IsAhead s → Fits cs s
     → RiseWithin (next s) (numbers_given cs s) (next (apply_all cs s)) × IsAhead (apply_all cs s)

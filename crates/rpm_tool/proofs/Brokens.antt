@@ -1,7 +1,7 @@
 -- A command that finds the index bad: it was broken when the command found it.
-use Rattle.rpm_tool.proofs.Vocabulary.{BadBy, Damage, Database, done_why, EndsAs, Files, Halt, is_blank, is_current_at, IsBroken, IsOpened, IsUncommitted}
-use Rattle.rpm_tool.proofs.Vocabulary.{IsWholeIndex, must_make, OpensBy, room, Store, store, Tally, Units, WholeTurn, Why, why_of, why_of_halt}
-use Rattle.std.proofs.Common.{◌≡◌, ℕ, Bool, ◌&&◌, true, false, not, Result, Ok, Err, refl, sym, ◌∙◌, subst, inl, inr, ⊎_elim}
+use Rattle.rpm_tool.proofs.Vocabulary.{Damage, Database, done_why, Files, Halt, is_blank, is_current_at, IsBroken, IsOpened, IsWholeIndex, must_make, OpensBy}
+use Rattle.rpm_tool.proofs.Vocabulary.{room, Store, store, Units, WholeTurn, Why, why_of_halt}
+use Rattle.std.proofs.Common.{◌≡◌, ℕ, Bool, ◌&&◌, true, false, not, Result, Ok, Err, refl, sym, ◌∙◌, subst}
 use Rattle.rpm_change.specs.declared.tally.Halt.TheVariants as halt
 use Rattle.rpm_tool.specs.declared.answer.Why.TheVariants as why
 use Rattle.rpm_tool.proofs.Outcomes.{by_done_why}
@@ -18,16 +18,6 @@ open_unbroken old new (Err d) w unit opens is = subst (λ (v : Why). OpensBy old
 pub halt_unbroken : (idx : Units) (h : Halt) (unit : ℕ) → WholeTurn idx (Err h) → why_of_halt h ≡ why.BadIndex unit → ⊥
 halt_unbroken idx (halt.BadIndex u) unit turn is = turn
 halt_unbroken idx others unit turn is = cc
-
--- ---- it ends as it was worked
-
-pub bad_ended : (changing : Bool) (pkg idx : Units) (ended : Result Tally Why) (given : Why) (n : ℕ) → EndsAs ended given n
-    → BadBy changing pkg idx (why_of ended) → BadBy changing pkg idx given
-bad_ended changing pkg idx (Ok tally) given n (inl both) bad = λ unit is. bad unit (sym both.0 ∙ is)
-bad_ended changing pkg idx (Ok tally) given n (inr both) bad = λ unit is. absurd (subst IsUncommitted is both.1)
-bad_ended changing pkg idx (Err was) given n (none, inl same) bad = λ unit is. bad unit (sym same ∙ is)
-bad_ended changing pkg idx (Err was) given n (none, inr both) bad = λ unit is.
-    absurd (let wrong : why.NoMemory ≡ why.BadIndex unit = sym both.1 ∙ is in cc)
 
 -- ---- what opening finds
 

@@ -1,6 +1,6 @@
 -- What holds of each ending of a kind, by what holds of those that are of it.
-use Rattle.std.proofs.Common.{◌≡◌, ℕ, Bool, true, false, Err}
-use Rattle.rpm_tool.proofs.Vocabulary.{Files, is_done, IsUncommitted, OpensIn, State, unless_starved, Why}
+use Rattle.std.proofs.Common.{◌≡◌, ℕ, Bool, true, false, Result, Ok, Err, inl, inr}
+use Rattle.rpm_tool.proofs.Vocabulary.{done_why, EndsAs, Files, is_done, IsUncommitted, OpensIn, State, Tally, unless_starved, Why}
 use Rattle.rpm_tool.specs.declared.answer.Why.TheVariants as why
 
 pub by_done : (P : Why → Type 0) → P why.Done → ((n : ℕ) → P (why.Failed n)) → (w : Why) → is_done w ≡ true → P w
@@ -13,6 +13,15 @@ by_uncommitted P full fault memory (why.LogFull u) un = full u
 by_uncommitted P full fault memory why.DiskFault un = fault
 by_uncommitted P full fault memory why.NoMemory un = memory
 by_uncommitted P full fault memory others un = absurd un
+
+-- how a group ends: committed, not committed, or stopped before, where want of memory may be told in place of a fault of the disk
+pub by_ends : (P : Result Tally Why → Why → ℕ → Type 0) → ((tally : Tally) → P (Ok tally) (done_why tally.failed) tally.changes)
+    → ((tally : Tally) (w : Why) → IsUncommitted w → P (Ok tally) w 0) → ((w : Why) → P (Err w) w 0) → P (Err why.DiskFault) why.NoMemory 0
+    → (ended : Result Tally Why) (given : Why) (n : ℕ) → EndsAs ended given n → P ended given n
+by_ends P done un stopped starved (Ok tally) given n (inl both) = rw (both.0, both.1) (done tally)
+by_ends P done un stopped starved (Ok tally) given n (inr both) = rw both.0 (un tally given both.1)
+by_ends P done un stopped starved (Err was) given n (none, inl same) = rw (none, same) (stopped was)
+by_ends P done un stopped starved (Err was) given n (none, inr both) = rw (none, both.0, both.1) starved
 
 -- not opened to be changed, though its store could be read
 pub by_opening : (making : Bool) (needed : ℕ) (s : State) (new : Files) (P : Why → Type 0)

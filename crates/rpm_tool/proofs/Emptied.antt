@@ -1,54 +1,77 @@
 -- Whether a command found packages where it asks for none, up to its ending.
-use Rattle.std.proofs.Common.{◌≡◌, ℕ, Bool, true, false, Result, Ok, Err, refl, sym, ap, subst, inl, inr}
-use Rattle.std.specs.Prelude.{IfOk, IfErr}
-use Rattle.rpm_tool.proofs.Vocabulary.{done_why, EmptyBy, EmptyIs, EndsAs, Files, FinMap, is_held, IsUncommitted, nat_cmp, Package, packages, Store, store}
-use Rattle.rpm_tool.proofs.Vocabulary.{Tally, Units, Why, why_of}
-use Rattle.rpm_tool.specs.declared.answer.Why.TheVariants as why
+use Rattle.std.proofs.Common.{◌≡◌, ℕ, Bool, true, false, Result, Ok, Err, refl, subst, Option, Some, None, is_some, ◌∙◌}
+use Rattle.std.specs.Prelude.{IfOk}
+use Rattle.rpm_tool.proofs.Vocabulary.{Damage, Database, done_why, EmptyBy, EmptyIs, EmptyOn, EndsAs, ExerciseFault, Files, FinMap, FoundAs, Halt, Halted}
+use Rattle.rpm_tool.proofs.Vocabulary.{holds, is_held, is_there, IsNext, IsRefused, must_make, nat_cmp, NotEmpty, OpensBy, OpensIn, Package, packages, room}
+use Rattle.rpm_tool.proofs.Vocabulary.{State, state, Store, store, Tally, Units, units_needed, Why, why_of, why_of_exercise, why_of_halt}
 use Rattle.rpm_tool.proofs.Standing.{if_ok, if_ok_at}
+use Rattle.rpm_tool.proofs.ByEnding.{by_ends, by_opening, by_uncommitted}
 use Rattle.rpm_tool.proofs.Outcomes.{by_done_why}
-use Rattle.rpm_tool.proofs.ByEnding.{by_uncommitted}
+use Rattle.rpm_tool.proofs.Works.{if_found}
+use Rattle.rpm_tool.specs.declared.answer.Why.TheVariants as why
+use Rattle.std.specs.FinMap as finite
+use Rattle.rpm_change.specs.declared.tally.Halt.TheVariants as halt
 
 -- a command that was done isn't refused so
-done_unheld : (k : ℕ) → is_held (done_why k) ≡ false
+pub done_unheld : (k : ℕ) → is_held (done_why k) ≡ false
 done_unheld k = by_done_why (λ (w : Why). is_held w ≡ false) k (λ zero. refl) (λ some. refl)
-
-pub unheld : (files : Files) (r : Result Tally Why) → IfErr r (λ w. is_held w ≡ false) → EmptyBy false files (why_of r)
-unheld files (Ok tally) is = done_unheld tally.failed
-unheld files (Err w) is = is
 
 -- files with the same packages
 pub same_empty : (asks : Bool) (f g : Files) (w : Why) → f.pkg ≡ g.pkg → EmptyBy asks f w → EmptyBy asks g w
 same_empty true f g w same empty = subst (λ (u : Units). IfOk (store u) (λ value. EmptyIs (packages u value) w)) same empty
 same_empty false f g w same empty = empty
 
--- ---- a command that didn't begin
+-- where one ending says it the other does
+empty_as : (v w : Why) → ((map : FinMap nat_cmp Package) → EmptyIs map v → EmptyIs map w) → is_held w ≡ false → (asks : Bool) (files : Files)
+    → EmptyBy asks files v → EmptyBy asks files w
+empty_as v w each other true files empty =
+    if_ok (store files.pkg) (λ value is. each (packages files.pkg value) (if_ok_at _ (store files.pkg) value is empty))
+empty_as v w each other false files empty = other
 
-outside_empty : (files : Files) (w : Why) → ((value : Store) → EmptyIs (packages files.pkg value) w) → is_held w ≡ false → (asks : Bool)
-    → EmptyBy asks files w
-outside_empty files w each other true = if_ok (store files.pkg) (λ value is. each value)
-outside_empty files w each other false = other
-
+-- a command that didn't begin
 pub memory_empty : (asks : Bool) (files : Files) → EmptyBy asks files why.NoMemory
-memory_empty asks files = outside_empty files why.NoMemory (λ value. tt) refl asks
+memory_empty true files = if_ok (store files.pkg) (λ value is. tt)
+memory_empty false files = refl
 
--- ---- how the group ends
-
--- a log that is full is told of one that was done
-full_empty : (map : FinMap nat_cmp Package) (k : ℕ) (units : ℕ) → EmptyIs map (done_why k) → EmptyIs map (why.LogFull units)
-full_empty map k units = by_done_why (λ (w : Why). EmptyIs map w → EmptyIs map (why.LogFull units)) k (λ zero done. done) (λ some done. done)
-
-full_by : (asks : Bool) (files : Files) (k u : ℕ) → EmptyBy asks files (done_why k) → EmptyBy asks files (why.LogFull u)
-full_by true files k u done =
-    if_ok (store files.pkg) (λ value is. full_empty (packages files.pkg value) k u (if_ok_at _ (store files.pkg) value is done))
-full_by false files k u done = refl
-
-uncommitted_empty : (asks : Bool) (files : Files) (k : ℕ) (w : Why) → IsUncommitted w → EmptyBy asks files (done_why k) → EmptyBy asks files w
-uncommitted_empty asks files k w un done = by_uncommitted (EmptyBy asks files) (λ u. full_by asks files k u done)
-    (outside_empty files why.DiskFault (λ value. tt) refl asks) (memory_empty asks files) w un
-
+-- how the group ends: a log that is full is told of one that was done
 pub group_empty : (asks : Bool) (files : Files) (ended : Result Tally Why) (given : Why) (n : ℕ) → EndsAs ended given n → EmptyBy asks files (why_of ended)
     → EmptyBy asks files given
-group_empty asks files (Ok tally) given n (inl both) empty = subst (λ (w : Why). EmptyBy asks files w) (sym both.0) empty
-group_empty asks files (Ok tally) given n (inr both) empty = uncommitted_empty asks files tally.failed given both.1 empty
-group_empty asks files (Err was) given n (none, inl same) empty = subst (λ (w : Why). EmptyBy asks files w) (sym same) empty
-group_empty asks files (Err was) given n (none, inr both) empty = subst (λ (w : Why). EmptyBy asks files w) (sym both.1) (memory_empty asks files)
+group_empty asks files = by_ends (λ ended given n. EmptyBy asks files (why_of ended) → EmptyBy asks files given) (λ tally empty. empty)
+    (λ tally. by_uncommitted (λ (w : Why). EmptyBy asks files (done_why tally.failed) → EmptyBy asks files w)
+    (λ u. empty_as (done_why tally.failed) (why.LogFull u)
+    (λ map. by_done_why (λ (w : Why). EmptyIs map w → EmptyIs map (why.LogFull u)) tally.failed (λ zero done. done) (λ some done. done)) refl asks files)
+    (empty_as (done_why tally.failed) why.DiskFault (λ map done. tt) refl asks files) (λ done. memory_empty asks files))
+    (λ w empty. empty) (λ empty. memory_empty asks files)
+
+empty_in : (packages : finite.FinMap nat_cmp Package) (making : _) (needed : ℕ) (s : State) (new : Files) (w : Why) → OpensIn making needed s new (Err w)
+    → EmptyIs packages w
+empty_in packages making needed s new w opens = by_opening making needed s new (EmptyIs packages) (λ u full. tt) tt tt w opens
+
+pub empty_unopened : (old new : Files) (w : Why) → OpensBy old (store old.pkg) new (Err w) → EmptyOn old w
+empty_unopened old new w opens = if_ok (store old.pkg)
+    (λ s is. empty_in (packages old.pkg s) (must_make old.idx (Ok s)) (units_needed old.pkg (Ok s)) (state old.pkg s) new w
+    (subst (λ (sr : Result Store Damage). OpensBy old sr new (Err w)) is opens))
+
+-- a database that was opened says it as its packages do
+next_there : (file : Units) (db : Database) (o : Option ℕ) → IsNext (λ m. holds m db) 0 o → IsNext (λ n. is_some (finite.get (packages file (room db)) n)) 0 o
+next_there file db None none = λ k above. is_there file db k ∙ none k above
+next_there file db (Some m) next = (next.0, is_there file db m ∙ next.1, λ k above below. is_there file db k ∙ next.2 k above below)
+
+empty_halt : (packages : finite.FinMap nat_cmp Package) (h : Halt) → IsNext (λ n. is_some (finite.get packages n)) 0 None → EmptyIs packages (why_of_halt h)
+empty_halt packages (halt.IndexFull u) none = tt
+empty_halt packages halt.DiskFault none = tt
+empty_halt packages halt.NoMemory none = tt
+empty_halt packages others none = none
+
+module _ (old mid : Files) (db : Database) (opens : OpensBy old (store old.pkg) mid (Ok db)) (is : FoundAs old mid db) where
+  empty_at : (w : Why) → EmptyIs (packages mid.pkg (room db)) w → EmptyOn old w
+  empty_at w empty = if_found old mid db opens is (λ value s v. EmptyIs s.packages w) empty
+
+  pub empty_stopped : (fault : ExerciseFault) → IsRefused (IsNext (λ m. holds m db) 0) (Err fault) → EmptyOn old (why_of_exercise fault)
+  empty_stopped (NotEmpty held) next = empty_at (why.NotEmpty held) (next_there mid.pkg db (Some held) next)
+  empty_stopped (Halted h) none = empty_at (why_of_halt h) (empty_halt (packages mid.pkg (room db)) h (next_there mid.pkg db None none))
+
+  pub empty_done : (k : ℕ) → IsNext (λ m. holds m db) 0 None → EmptyOn old (done_why k)
+  empty_done k none =
+      let there = next_there mid.pkg db None none in
+      empty_at (done_why k) (by_done_why (EmptyIs (packages mid.pkg (room db))) k (λ zero. there) (λ some. there))

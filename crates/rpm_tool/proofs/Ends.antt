@@ -6,10 +6,11 @@ use Rattle.rpm_tool.proofs.Vocabulary.{EndsGroup, File, Files, images, is_done, 
 use Rattle.rpm_tool.proofs.Vocabulary.{reopened, ReopensAs, started, unless_starved, unlogged, Why}
 use Rattle.rpm_tool.specs.declared.answer.Why.TheVariants as why
 use Rattle.rpm_tool.proofs.ByEnding.{by_starved}
-use Rattle.rpm_tool.proofs.Standing.{shut_stands}
 use Rattle.rpm_tool.proofs.Starved.{starved_is}
+use Rattle.rpm_tool.proofs.Regrouped.{leaves_on}
+use Rattle.rpm_tool.proofs.Standing.{shut_stands}
 
-halt_undone : (w : Why) → is_halt w ≡ true → is_done w ≡ true → ⊥
+pub halt_undone : (w : Why) → is_halt w ≡ true → is_done w ≡ true → ⊥
 halt_undone why.Done halts is = cc
 halt_undone others halts is = cc
 
@@ -31,14 +32,13 @@ module _ {D : Type 0} (d : disk.Ghosts D) (after : Files) (old new : D) (shut : 
   }
 
   released : LeavesIn d old new (ReopensAs before)
-  released = subst (λ (it : D). LeavesIn d old it (ReopensAs before)) (sym same) (started d.moment d.left_since old (ReopensAs before) as_before)
+  released = subst (λ (it : D). LeavesIn d old it (ReopensAs before)) (sym same) (started d old (ReopensAs before) as_before)
 
   pub release_ends : (starved : Bool) (was : Why) → is_halt was ≡ true → EndsGroup d (Err was) (unless_starved starved was) 0 after old new
   release_ends starved was halts = record {
     says = (refl, starved_is starved was);
     done = λ is. absurd (let_go_undone starved was halts is);
     shut = λ is. absurd (let_go_undone starved was halts is);
-    stays = λ no. ap d.files same;
     leaves = released;
     unmade = λ no. released;
   }
@@ -46,12 +46,11 @@ module _ {D : Type 0} (d : disk.Ghosts D) (after : Files) (old new : D) (shut : 
 -- ---- the disk below an overlay
 
 module _ {D : Type 0} (d : disk.Ghosts D) (first mid last : D) (ro rn : File → ℕ) (looks : LooksAt d Log first mid)
-    (keeps : KeepsBelow d.tells d.files d.moment d.left_since d.bytes_read d.follows d.faults mid last ro rn) (told : IsTrue d.tells) where
+    (keeps : KeepsBelow d mid last ro rn) (told : IsTrue d.tells) where
   pub below_same : d.files last ≡ d.files first
   below_same = keeps.same told ∙ (looks.untouched told).same
 
-  pub below_back : (t : ℕ) (image : Files) → d.left_since last t image → d.left_since first t image
-  below_back t image left = (looks.untouched told).images t image (keeps.images told t image left)
-
-  pub below_moment : d.moment last ≡ d.moment first
-  below_moment = keeps.moment_same ∙ looks.moment_stays
+  -- so whatever a crash leaves is as before
+  pub below_run : (old : D) (P : Files → Type 0) → LeavesIn d old first P → LeavesIn d old last P
+  below_run old P run = leaves_on d old first last P (keeps.moment_same ∙ looks.moment_stays)
+      (λ t image left. (looks.untouched told).images t image (keeps.images told t image left)) run

@@ -12,7 +12,7 @@ if_under f changes false under = tt
 module _ (f b : ℕ) where
   added_under : (k len : ℕ) → PutsUnder f (flat_map (turn round.Adding b) (range_with_len k len))
   added_under k zero = tt
-  added_under k (suc len) = added_under (k + 1) len
+  added_under k (suc len) = (tt, added_under (k + 1) len)
 
   put_under : (k len : ℕ) → b + k + len ≤ f → PutsUnder f (flat_map (turn round.Replacing b) (range_with_len k len))
   put_under k zero le = tt
@@ -24,7 +24,7 @@ module _ (f b : ℕ) where
   erased_each k zero = tt
   erased_each k (suc len) =
       under_then f (turn round.Erasing b k) (flat_map (turn round.Erasing b) (range_with_len (k + 1) len))
-      (if_under f (Erase (b + k) ∷ []) (k % 5 == 0) tt) (erased_each (k + 1) len)
+      (if_under f (Erase (b + k) ∷ []) (k % 5 == 0) (tt, tt)) (erased_each (k + 1) len)
 
 added_field : (b k len : ℕ) (s : State) → s.field + len ≤ (apply_all (flat_map (turn round.Adding b) (range_with_len k len)) s).field
 added_field b k zero s = omega arith

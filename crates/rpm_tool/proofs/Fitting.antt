@@ -18,7 +18,7 @@ IsUnder f (Some n) = n < f
 
 installed_under : (f : ℕ) (number : Option ℕ) → IsUnder f number → (j : ℕ) (path : List ℕ) (r : Result Header FileFault)
     → PutsUnder f (put_installed number j path r).changes
-installed_under f None under j path (Ok h) = tt
+installed_under f None under j path (Ok h) = (tt, tt)
 installed_under f (Some n) under j path (Ok h) = (under, tt)
 installed_under f number under j path (Err fault) = tt
 
@@ -43,12 +43,12 @@ turns_under f each so s j (x ∷ xs) =
 
 erased_under : (f : ℕ) (o : Option Package) (j n : ℕ) → PutsUnder f (erased o j n).changes
 erased_under f None j n = tt
-erased_under f (Some p) j n = tt
+erased_under f (Some p) j n = (tt, tt)
 
 -- ---- lists, and rebuilding
 
 imported_under : (f k : ℕ) (r : Result Header HeaderFault) → PutsUnder f (imported k r).changes
-imported_under f k (Ok h) = tt
+imported_under f k (Ok h) = (tt, tt)
 imported_under f k (Err fault) = tt
 
 end_under : (f k : ℕ) (fault : Option ListFault) → PutsUnder f (import_end k fault).changes
@@ -73,7 +73,7 @@ list_under f most (Some bytes) = import_under f most 1 (listed bytes).blobs (lis
 drop_under : (f : ℕ) (es : List (ℕ × Package)) → PutsUnder f (drop_each es).changes
 drop_under f [] = tt
 drop_under f ((n, Good bytes) ∷ es) = drop_under f es
-drop_under f ((n, Bad) ∷ es) = drop_under f es
+drop_under f ((n, Bad) ∷ es) = (tt, drop_under f es)
 
 -- ---- each command
 

@@ -1,34 +1,11 @@
 -- The numbers of the packages that are there, all below a number.
-use Rattle.std.proofs.Common.{◌≡◌, ℕ, ◌+◌, ◌≤◌, ◌<◌, true, false, ◌==◌, List, [], ◌∷◌, max, None, is_some, refl, sym, ap, ◌∙◌, inl, inr, arith}
+use Rattle.std.proofs.Common.{◌≡◌, ℕ, ◌+◌, ◌≤◌, ◌<◌, true, false, ◌==◌, None, is_some, sym, ap, ◌∙◌, refl, inl, inr, arith}
 use Rattle.rpm_tool.proofs.Vocabulary.{eq_by_cmp, FinMap, greatest_in, nat_cmp, Package, unsigned_tied}
+use Rattle.rpm_db.specs.StateLaws.{below_greatest, found_greatest}
 use Rattle.std.specs.FinMap as finite
 use Rattle.std.proofs.lemmas.Bool.{cases_Bool}
 use Rattle.std.proofs.lemmas.Bool.Decides.{nat_tests}
 use Rattle.std.proofs.lemmas.Cmp.{nat_cmp_total}
-
-module _ {X : Type 0} where
-  below_greatest : (es : List (ℕ × X)) (n : ℕ) → is_some (finite.find nat_cmp n es) ≡ true → n ≤ greatest_in es
-  below_greatest [] n there = absurd cc
-  below_greatest (e ∷ es) n there = elim (cases_Bool (n == e.0)) [
-    | inl same ↦ (let is : n ≡ e.0 = grind (arith, nat_tests) in omega (arith, is))
-    | inr other ↦
-        (let tied : eq_by_cmp nat_cmp n e.0 ≡ false = unsigned_tied n e.0 ∙ other in
-        let rest = below_greatest es n (rw tied at there) in
-        omega (arith, rest))
-  ]
-
-  found_greatest : (es : List (ℕ × X)) → 0 < greatest_in es → is_some (finite.find nat_cmp (greatest_in es) es) ≡ true
-  found_greatest [] some = absurd (omega (arith, some))
-  found_greatest (e ∷ es) some =
-      let n = max e.0 (greatest_in es) in
-      elim (cases_Bool (n == e.0)) [
-        | inl same ↦ (let tied : eq_by_cmp nat_cmp n e.0 ≡ true = unsigned_tied n e.0 ∙ same in rw tied refl)
-        | inr other ↦
-            (let apart : n ≡ e.0 → ⊥ = λ is. grind (arith, nat_tests) in
-            let rest : n ≡ greatest_in es = omega (arith, apart) in
-            let tied : eq_by_cmp nat_cmp n e.0 ≡ false = unsigned_tied n e.0 ∙ other in
-            rw tied (ap (λ (k : ℕ). is_some (finite.find nat_cmp k es)) rest ∙ found_greatest es (omega (arith, some, rest))))
-      ]
 
 -- each number that has a package is below b
 abbrev pub HeldBelow : FinMap nat_cmp Package → ℕ → Type 0

@@ -1,18 +1,13 @@
 -- The limits of a command that changes packages, from the opening to its end.
-use Rattle.rpm_tool.proofs.Vocabulary.{begun, Change, command_limit, Course, Damage, Database, done_why, ended_as, Files, first_limit, first_refusal, Halt}
-use Rattle.rpm_tool.proofs.Vocabulary.{is_limit, LimitsOn, made_new, makes, makes_large, makes_small, MeetsFirst, must_make, never_bad_made, OpensBy, OpensIn}
-use Rattle.rpm_tool.proofs.Vocabulary.{room, rows, State, state, stops_unasked, StopsAt, Store, store, Tally, Units, units_for, Why, why_of, why_of_halt}
-use Rattle.std.proofs.Common.{◌≡◌, ℕ, ◌^◌, ◌<◌, ◌≤◌, ◌==◌, ◌&&◌, if◌then◌else◌, Bool, true, false, List, Option, Some, None, Result, Ok, Err, refl, sym, ap, ◌∙◌, subst, inl, inr}
-use Rattle.std.specs.Prelude.{IfOk, nat_lt}
+use Rattle.rpm_tool.proofs.Vocabulary.{begun, Change, command_limit, Course, Damage, done_why, Files, first_limit, first_refusal, Halt, is_limit, LimitsOn}
+use Rattle.rpm_tool.proofs.Vocabulary.{makes, makes_large, makes_small, MeetsFirst, must_make, never_bad_made, OpensBy, OpensIn, rows, State, state}
+use Rattle.rpm_tool.proofs.Vocabulary.{stops_unasked, StopsAt, Store, store, Tally, Units, units_for, Why, why_of_halt}
+use Rattle.std.proofs.Common.{◌≡◌, ℕ, ◌^◌, ◌<◌, ◌≤◌, ◌&&◌, if◌then◌else◌, Bool, true, false, List, Option, Some, None, Result, Ok, Err, refl, sym, ap, ◌∙◌, subst}
+use Rattle.std.specs.Prelude.{nat_lt}
 use Rattle.rpm_change.specs.declared.tally.Halt.TheVariants as halt
-use Rattle.rpm_tool.specs.declared.answer.Why.TheVariants as why
-use Rattle.rpm_tool.proofs.Standing.{if_ok, if_ok_at}
-use Rattle.rpm_tool.proofs.Outcomes.{by_done_why}
+use Rattle.rpm_tool.proofs.Standing.{if_ok}
 use Rattle.rpm_tool.proofs.ByEnding.{by_opening}
-
--- a store is read as one value
-pub stored_one : (x : Result Store Damage) (value other : Store) → x ≡ Ok value → x ≡ Ok other → other ≡ value
-stored_one x value other is was = cc
+use Rattle.rpm_tool.proofs.Outcomes.{by_done_why}
 
 -- ---- not opened
 
@@ -52,7 +47,7 @@ module _ (indexed made : Bool) (s : State) (v : Store) (changes : List Change) w
   abbrev meets : Option Halt
   meets = command_limit indexed made s v changes
 
-  limits_halt : (h : Halt) → StopsAt indexed meets (Err h) → MeetsFirst indexed meets (why_of_halt h)
+  pub limits_halt : (h : Halt) → StopsAt indexed meets (Err h) → MeetsFirst indexed meets (why_of_halt h)
   limits_halt halt.NumbersSpent stops = stops refl
   limits_halt halt.GenerationSpent stops = stops refl
   limits_halt halt.StoreFull stops = stops refl
@@ -60,14 +55,14 @@ module _ (indexed made : Bool) (s : State) (v : Store) (changes : List Change) w
   limits_halt (halt.BadIndex u) stops = bad_command indexed made s v changes u stops
   limits_halt others stops = tt
 
-limits_done : (indexed : Bool) (first : Option Halt) (k : ℕ) → first ≡ None → MeetsFirst indexed first (done_why k)
+pub limits_done : (indexed : Bool) (first : Option Halt) (k : ℕ) → first ≡ None → MeetsFirst indexed first (done_why k)
 limits_done indexed first k none = by_done_why (MeetsFirst indexed first) k (λ zero. none) (λ some. none)
 
 pub none_done : (indexed : Bool) (first : Option Halt) (k : ℕ) → MeetsFirst indexed first (done_why k) → first ≡ None
 none_done indexed first k = by_done_why (λ (w : Why). MeetsFirst indexed first w → first ≡ None) k (λ zero meets. meets) (λ some meets. meets)
 
 -- an index that is made has room, so the first change that is refused decides
-small_command : (indexed made : Bool) (s : State) (v : Store) (changes : List Change) → (made ≡ true → units_for (rows s.packages) ≤ 2 ^ 28)
+pub small_command : (indexed made : Bool) (s : State) (v : Store) (changes : List Change) → (made ≡ true → units_for (rows s.packages) ≤ 2 ^ 28)
     → command_limit indexed made s v changes ≡ first_refusal indexed s v changes
 small_command true made s v changes fits = makes_small made s v changes fits
 small_command false made s v changes fits = refl
@@ -96,42 +91,3 @@ pub made_stops : (indexed made : Bool) (s : State) (v : Store) (changes : List C
 made_stops true made s v changes r stops = stops
 made_stops false made s v changes r stops =
     unasked_by (made && nat_lt (2 ^ 28) (units_for (rows s.packages))) (units_for (rows s.packages)) s v changes r stops
-
--- ---- a database that was opened
-
-module _ (indexed anew : Bool) (course : State → Course) (old mid : Files) (db : Database) (opens : OpensBy old (store old.pkg) mid (Ok db))
-    (begins : IfOk (store old.pkg) (λ value. (room db) ≡ begun value)) where
-  -- the state that was found
-  abbrev found : State
-  found = state mid.pkg (room db)
-
-  -- what its command meets first
-  abbrev Meets : (Option Halt → Type 0) → Type 0
-  Meets P = (s : Store) → store old.pkg ≡ Ok s → P (command_limit indexed (makes anew old.idx s) found (room db) (course found).changes)
-
-  limits_at : (w : Why) → Meets (λ first. MeetsFirst indexed first w) → LimitsOn indexed anew course old w
-  limits_at w is = if_ok (store old.pkg) (λ s stored.
-      (let same = (subst (λ (sr : Result Store Damage). OpensBy old sr mid (Ok db)) stored opens).0 in
-      let from = if_ok_at (λ (value : Store). (room db) ≡ begun value) (store old.pkg) s stored begins in
-      subst (λ (x : State). MeetsFirst indexed (command_limit indexed (makes anew old.idx s) x (begun s) (course x).changes) w) same
-      (subst (λ (v : Store). MeetsFirst indexed (command_limit indexed (makes anew old.idx s) found v (course found).changes) w) from (is s stored))))
-
-  pub limits_went : (r : Result Tally Halt) → Meets (λ first. StopsAt indexed first r) → LimitsOn indexed anew course old (why_of (ended_as r))
-  limits_went (Ok tally) stops = limits_at (done_why tally.failed) (λ s stored. limits_done indexed _ tally.failed (stops s stored))
-  limits_went (Err h) stops = limits_at (why_of_halt h) (λ s stored.
-      limits_halt indexed (makes anew old.idx s) found (room db) (course found).changes h (stops s stored))
-
-  -- an exercise that was refused meets no limit
-  pub limits_refused : (held : ℕ) → LimitsOn indexed anew course old (why.NotEmpty held)
-  limits_refused held = limits_at (why.NotEmpty held) (λ s stored. tt)
-
--- of a command that makes no index anew: where opening made one it had room
-pub plain_stops : (indexed : Bool) (course : State → Course) (old mid : Files) (db : Database) (opens : OpensBy old (store old.pkg) mid (Ok db))
-    (r : Result Tally Halt) → StopsAt indexed (first_refusal indexed (state mid.pkg (room db)) (room db) (course (state mid.pkg (room db))).changes) r
-    → (s : Store) → store old.pkg ≡ Ok s
-    → StopsAt indexed (command_limit indexed (makes false old.idx s) (state mid.pkg (room db)) (room db) (course (state mid.pkg (room db))).changes) r
-plain_stops indexed course old mid db opens r stops s stored =
-    let opened = subst (λ (sr : Result Store Damage). OpensBy old sr mid (Ok db)) stored opens in
-    subst (λ (first : Option Halt). StopsAt indexed first r)
-    (sym (small_command indexed (makes false old.idx s) (state mid.pkg (room db)) (room db) (course (state mid.pkg (room db))).changes
-    (λ made. subst (λ (x : State). units_for (rows x.packages) ≤ 2 ^ 28) (sym opened.0) (opened.1 made)))) stops

@@ -1,70 +1,77 @@
--- Lines of a report: how far they were gone through, one after the other.
-use Rattle.std.proofs.Common.{◌≡◌, ℕ, ◌+◌, ◌≤◌, ◌++◌, Bool, List, [], ◌∷◌, map, drop, Ok, Err, length, refl, sym, ap, ◌∙◌, subst}
-use Rattle.std.proofs.lemmas.List.{append-nil}
-use Rattle.rpm_tool.proofs.Vocabulary.{Bearer, fails, is_some_of, Outputs, outputs, PartIs, Portion, Reached, Step, Stop, Through, together}
-use Rattle.rpm_tool.proofs.Answering.{none_left}
-use Rattle.rpm_tool.proofs.Reaching.{Goes, through_more, goes_start, goes_more, goes_stop, goes_end}
+-- Lines of a report to both sinks, for each of which the argument fails: how far they were gone through.
+use Rattle.std.proofs.Common.{◌≡◌, ◌≤◌, Bool, List, [], ◌∷◌, map, Ok, Err, refl, sym, ap, ◌∙◌, subst, arith}
+use Rattle.rpm_outside.specs.declared.sink.Sink as sink
+use Rattle.rpm_tool.proofs.Vocabulary.{Bearer, Buffered, fails, Halt, Hand, inner, is_some_of, PartIs, Reached, shown, Step, Through, together}
+use Rattle.rpm_tool.proofs.Reaching.{Goes, goes_start, goes_more, goes_stop, goes_end}
 
--- ---- lines for each of which the argument fails
-
-pub failing_steps : (steps : List Step) → (together (map fails steps)).steps ≡ steps
+failing_steps : (steps : List Step) → (together (map fails steps)).steps ≡ steps
 failing_steps [] = refl
 failing_steps (s ∷ steps) = ap (λ (rest : List Step). s ∷ rest) (failing_steps steps)
 
-pub failing_any : (steps : List Step) → (together (map fails steps)).fails ≡ is_some_of steps
+failing_any : (steps : List Step) → (together (map fails steps)).fails ≡ is_some_of steps
 failing_any [] = refl
 failing_any (s ∷ steps) = refl
 
--- ---- a line more
+module _ {O E : Type 0} (o : sink.Ghosts O) (e : sink.Ghosts E) where
+  -- what was written so far of all lines, and those that are left
+  pub record Written (all left : List Step) (out : Buffered O) (err : Buffered E) (out' : Buffered O) (err' : Buffered E) : Type 0 where
+    pub out_later : o.faults (inner out) ≤ o.faults (inner out')
+    pub out_rest : o.follows (inner out) (inner out')
+    pub err_later : e.faults (inner err) ≤ e.faults (inner err')
+    pub err_rest : e.follows (inner err) (inner err')
+    pub goes : Goes o.tells e.tells all left (o.taken (inner out)) (e.taken (inner err)) (o.taken (inner out')) (e.taken (inner err'))
 
-module _ {X : Type 0} (step : X → Step) (xs : List X) (i : ℕ) (x : X) (here : drop i xs ≡ x ∷ drop (i + 1) xs) {ot et : Bool}
-    {o o' e e' : List ℕ} (goes : Goes ot et (map step xs) (map step (drop i xs)) o e o' e') (o'' e'' : List ℕ) where
-  pub line_more : Through (step x ∷ []) (outputs ot o' et e') (outputs ot o'' et e'') → Goes ot et (map step xs) (map step (drop (i + 1) xs)) o e o'' e''
-  line_more one =
-      goes_more ot et (map step xs) (map step (drop i xs)) (step x ∷ []) (map step (drop (i + 1) xs)) o o' o'' e e' e'' (ap (map step) here) goes one
-
-  pub line_stop : (T T' : Type 0) (what : Stop) (reads_to : Bearer → Type 0)
-      → Reached {T = T} (step x ∷ []) (Err what) (outputs ot o' et e') (outputs ot o'' et e'') reads_to
-      → Reached {T = T'} (map step xs) (Err what) (outputs ot o et e) (outputs ot o'' et e'') reads_to
-  line_stop T T' what reads_to one =
-      goes_stop ot et (map step xs) (map step (drop i xs)) (step x ∷ []) (map step (drop (i + 1) xs)) o o' o'' e e' e'' (ap (map step) here) goes T T' what
-      reads_to one
-
-pub line_end : {X : Type 0} (step : X → Step) (xs : List X) (i : ℕ) {ot et : Bool} {o o' e e' : List ℕ} → length xs ≤ i
-    → Goes ot et (map step xs) (map step (drop i xs)) o e o' e' → Through (map step xs) (outputs ot o et e) (outputs ot o' et e')
-line_end step xs i {ot = ot} {et = et} {o = o} {o' = o'} {e = e} {e' = e'} past goes =
-    goes_end ot et (map step xs) (map step (drop i xs)) o o' e e' (ap (map step) (none_left xs i past)) goes
-
--- ---- lines on err, and then lines on out
-
-module _ (unread told : List Step) (ot et : Bool) (o o' e e' : List ℕ) (reads_to : Bearer → Type 0) where
-  abbrev part : Portion
-  part = together (map fails (unread ++ told))
-
-  stopped : (what : Stop) (new : Outputs) → Reached {T = Bool} (unread ++ told) (Err what) (outputs ot o et e) new reads_to
-      → PartIs part (Err what) (outputs ot o et e) new reads_to
-  stopped what new reached = record {
-    steps = subst (λ (ss : List Step). Reached {T = Bool} ss (Err what) (outputs ot o et e) new reads_to) (sym (failing_steps (unread ++ told))) reached;
-    fails = tt;
+  pub written_none : ((x : O) → o.follows x x) → ((x : E) → e.follows x x) → {all left : List Step} → all ≡ left → (out : Buffered O) (err : Buffered E)
+      → Written all left out err out err
+  written_none keeps stays {all = all} {left = left} is out err = record {
+    out_later = omega arith;
+    out_rest = keeps (inner out);
+    err_later = omega arith;
+    err_rest = stays (inner err);
+    goes = goes_start o.tells e.tells all left (o.taken (inner out)) (e.taken (inner err)) is;
   }
 
-  pub part_unread : (T : Type 0) (what : Stop) → Reached {T = T} unread (Err what) (outputs ot o et e) (outputs ot o et e') reads_to
-      → PartIs part (Err what) (outputs ot o et e) (outputs ot o et e') reads_to
-  part_unread T what stop =
-      stopped what (outputs ot o et e') (goes_stop ot et (unread ++ told) (unread ++ told) unread told o o o e e e' refl
-      (goes_start ot et (unread ++ told) (unread ++ told) o e refl) T Bool what reads_to stop)
+  module _ {all left rest : List Step} {s : Step} (is : left ≡ s ∷ rest) {out out' : Buffered O} {err err' : Buffered E}
+      (w : Written all left out err out' err') where
+    -- a line more on out, or on err
+    pub written_out : ((x y z : O) → o.follows x y → o.follows y z → o.follows x z) → {Fails : Type 0} {to : Buffered O} → Hand o Fails out' to
+        → Through (s ∷ []) (shown o e out' err') (shown o e to err') → Written all rest out err to err'
+    written_out joins {to = to} hand one = record {
+      out_later = omega (arith, w.out_later, hand.cause.later);
+      out_rest = joins (inner out) (inner out') (inner to) w.out_rest hand.goes_on;
+      err_later = w.err_later;
+      err_rest = w.err_rest;
+      goes = goes_more o.tells e.tells all left (s ∷ []) rest (o.taken (inner out)) (o.taken (inner out')) (o.taken (inner to)) (e.taken (inner err))
+          (e.taken (inner err')) (e.taken (inner err')) is w.goes one;
+    }
 
-  pub part_told : (T : Type 0) (what : Stop) → Through unread (outputs ot o et e) (outputs ot o et e')
-      → Reached {T = T} told (Err what) (outputs ot o et e') (outputs ot o' et e') reads_to
-      → PartIs part (Err what) (outputs ot o et e) (outputs ot o' et e') reads_to
-  part_told T what went stop =
-      stopped what (outputs ot o' et e') (goes_stop ot et (unread ++ told) told told [] o o o' e e' e' (sym (append-nil told))
-      (record { done = unread; parts = refl; went = went }) T Bool what reads_to stop)
+    pub written_err : ((x y z : E) → e.follows x y → e.follows y z → e.follows x z) → {Fails : Type 0} {to : Buffered E} → Hand e Fails err' to
+        → Through (s ∷ []) (shown o e out' err') (shown o e out' to) → Written all rest out err out' to
+    written_err joins {to = to} hand one = record {
+      out_later = w.out_later;
+      out_rest = w.out_rest;
+      err_later = omega (arith, w.err_later, hand.cause.later);
+      err_rest = joins (inner err) (inner err') (inner to) w.err_rest hand.goes_on;
+      goes = goes_more o.tells e.tells all left (s ∷ []) rest (o.taken (inner out)) (o.taken (inner out')) (o.taken (inner out')) (e.taken (inner err))
+          (e.taken (inner err')) (e.taken (inner to)) is w.goes one;
+    }
 
-  pub part_done : (any : Bool) → any ≡ is_some_of (unread ++ told) → Through unread (outputs ot o et e) (outputs ot o et e')
-      → Through told (outputs ot o et e') (outputs ot o' et e') → PartIs part (Ok any) (outputs ot o et e) (outputs ot o' et e') reads_to
-  part_done any is first second = record {
-    steps = subst (λ (ss : List Step). Through ss (outputs ot o et e) (outputs ot o' et e')) (sym (failing_steps (unread ++ told)))
-        (through_more {ot = ot} {et = et} unread told o o o' e e' e' first second);
-    fails = failing_any (unread ++ told) ∙ sym is;
+    -- a line that stops
+    pub written_stop : (to : Buffered O) (to_err : Buffered E) {what : Halt} {P : Bearer → Type 0}
+        → Reached {T = Bool} (s ∷ []) (Err what) (shown o e out' err') (shown o e to to_err) P
+        → PartIs (together (map fails all)) (Err what) (shown o e out err) (shown o e to to_err) P
+    written_stop to to_err {what = what} {P = P} stop = record {
+      steps = subst (λ (ss : List Step). Reached {T = Bool} ss (Err what) (shown o e out err) (shown o e to to_err) P) (sym (failing_steps all))
+          (goes_stop o.tells e.tells all left (s ∷ []) rest (o.taken (inner out)) (o.taken (inner out')) (o.taken (inner to)) (e.taken (inner err))
+          (e.taken (inner err')) (e.taken (inner to_err)) is w.goes Bool Bool what P stop);
+      fails = tt;
+    }
+
+  -- all were written
+  pub written_all : {all left : List Step} {out out' : Buffered O} {err err' : Buffered E} {any : Bool} {P : Bearer → Type 0} → left ≡ []
+      → Written all left out err out' err' → is_some_of all ≡ any → PartIs (together (map fails all)) (Ok any) (shown o e out err) (shown o e out' err') P
+  written_all {all = all} {left = left} {out = out} {out' = out'} {err = err} {err' = err'} none w any = record {
+    steps = subst (λ (ss : List Step). Through ss (shown o e out err) (shown o e out' err')) (sym (failing_steps all))
+        (goes_end o.tells e.tells all left (o.taken (inner out)) (o.taken (inner out')) (e.taken (inner err)) (e.taken (inner err')) none w.goes);
+    fails = failing_any all ∙ any;
   }

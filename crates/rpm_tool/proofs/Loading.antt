@@ -1,8 +1,7 @@
 -- A command on the files that a disk's files stand for.
 use Rattle.std.proofs.Common.{ℕ, ◌+◌, ◌≤◌, true, false, [], Result, Ok, Err, refl, sym, subst, arith}
-use Rattle.rpm_tool.proofs.Vocabulary.{Bearer, Course, Damage, Deeds, IsSound, Loaded, LoadFault, LoadSays, LogState, Malformed, Opened, Outputs, Refused}
-use Rattle.rpm_tool.proofs.Vocabulary.{Store, Through, Went, Why, why_of_load}
-use Rattle.rpm_group.specs.declared.load.LoadFault.TheVariants as load
+use Rattle.rpm_tool.proofs.Vocabulary.{Bearer, Course, Damage, Deeds, IsSound, Loaded, LogState, Malformed, Opened, Outputs, Refused}
+use Rattle.rpm_tool.proofs.Vocabulary.{Store, Through, Went, Why}
 use Rattle.rpm_tool.specs.declared.answer.Why.TheVariants as why
 use Rattle.rpm_tool.proofs.Stopping.{within_reads}
 
@@ -24,12 +23,6 @@ module _ (Do : Deeds) (s : Result Store Damage) where
     pub loaded_memory : ((t : Store) → Do t why.NoMemory x x) → (log : LogState) → Loaded Do s log why.NoMemory x x
     loaded_memory does (Malformed unit) = (tt, none)
     loaded_memory does others = opened_memory does s
-
-    pub loaded_refused : ((t : Store) → Do t why.DiskFault x x) → ((t : Store) → Do t why.NoMemory x x) → (log : LogState) (fault : LoadFault)
-        → LoadSays log (Err fault) → Loaded Do s log (why_of_load fault) x x
-    loaded_refused fault memory log (load.BadLog unit) says = subst (λ (l : LogState). Loaded Do s l (why.BadLog unit) x x) (sym says) (refl, none)
-    loaded_refused fault memory log load.DiskFault says = loaded_fault fault log
-    loaded_refused fault memory log load.NoMemory says = loaded_memory memory log
 
   pub loaded_sound : (log : LogState) (w : Why) (old new : Outputs) → IsSound log → Opened Do s w old new → Loaded Do s log w old new
   loaded_sound (Malformed unit) w old new sound opened = absurd sound

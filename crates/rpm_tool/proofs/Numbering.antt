@@ -1,19 +1,19 @@
 -- The numbers that command lines give to new packages rise, and each image that a crash leaves has a next number above them.
-use Rattle.std.proofs.Common.{◌≡◌, ℕ, Bool, true, false, List, [], ◌++◌, refl, sym, subst, ⊎_elim}
+use Rattle.std.proofs.Common.{◌≡◌, ℕ, Bool, true, false, List, [], ◌++◌, refl, sym, ap, subst, ⊎_elim}
 use Rattle.std.specs.Prelude.{Result, Ok, Err, if◌then◌else◌}
 use Rattle.rpm_tool.proofs.Vocabulary.{after, Course, Damage, Files, given_in, given_on, idle, is_done, IsAhead, Moves, next, numbers_given, reopened}
 use Rattle.rpm_tool.proofs.Vocabulary.{RiseWithin, State, state, Store, store, Why}
 use Rattle.rpm_tool.proofs.Ahead.{Ahead, Fits, ahead_of, changes_rise, rise_least, rise_later, rise_then}
-use Rattle.rpm_tool.proofs.MovesTo.{moves_one}
+use Rattle.rpm_tool.proofs.Histories.{moves_are}
 
 -- ---- what is given
 
 -- nothing, by a command that changes nothing
-pub given_idle : (files : Files) (w : Why) → given_on (λ s. idle) files w ≡ []
-given_idle files w = by_done (is_done w) (store (reopened files).pkg)
+pub given_nothing : (course : State → Course) → ((s : State) → course s ≡ idle) → (files : Files) (w : Why) → given_on course files w ≡ []
+given_nothing course nothing files w = by_done (is_done w) (store (reopened files).pkg)
   where
-    by_done : (b : Bool) (r : Result Store Damage) → (if b then given_in (λ s. idle) (reopened files).pkg r else []) ≡ []
-    by_done true (Ok value) = refl
+    by_done : (b : Bool) (r : Result Store Damage) → (if b then given_in course (reopened files).pkg r else []) ≡ []
+    by_done true (Ok value) = ap (λ (c : Course). numbers_given c.changes (state (reopened files).pkg value)) (nothing (state (reopened files).pkg value))
     by_done true (Err damage) = refl
     by_done false r = refl
 
@@ -46,4 +46,4 @@ module _ (course : State → Course) (fits : (s : State) → Ahead s → Fits (c
         rise_later from (next s) (next (after course s)) given (rise_least (next s) (next (after course s)) (numbers_given (course s).changes s)
             rises.0) is.1,
       )))
-      (moves_one w s (after course s) t moves)
+      ((moves_are w s (after course s)).3 t moves)

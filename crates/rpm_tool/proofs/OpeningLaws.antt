@@ -1,35 +1,33 @@
 -- A database that is opened with its index, and then asked.
-use Rattle.rpm_tool.proofs.Vocabulary.{asked_reaches, AskParts, BadIs, Bearer, CameOf, CauseIs, Damage, Database, File, Files, has_index, HasIndex}
-use Rattle.rpm_tool.proofs.Vocabulary.{HasIndexRows, is_blank, is_current_at, is_indexed, IsLawful, IsOpened, LeavesOnly, must_make, no_index_rows, packages}
-use Rattle.rpm_tool.proofs.Vocabulary.{Peeks, Reach, reach_sum, reached_by, room, Store, store, unindexed, Units, Why}
+use Rattle.rpm_tool.proofs.Vocabulary.{asked_reaches, AskParts, BadIs, Bearer, CauseIs, Damage, Database, Files, has_index, HasIndex}
+use Rattle.rpm_tool.proofs.Vocabulary.{HasIndexRows, is_blank, is_current_at, is_indexed, IsLawful, IsOpened, must_make, no_index_rows, packages}
+use Rattle.rpm_tool.proofs.Vocabulary.{Peeks, Reach, reach_sum, reached_by, room, Runs, Store, store, unindexed, Units, Why}
+use Rattle.rpm_outside.specs.declared.disk.Disk as disk
+use Rattle.rpm_outside.specs.Frame.{LeavesIn}
 use Rattle.std.proofs.Common.{◌≡◌, ℕ, ◌≤◌, Bool, true, false, not, ◌&&◌, List, Result, Ok, refl, sym, ap, ◌∙◌, subst, inl, inr, arith}
 use Rattle.std.specs.Prelude.{IsTrue}
 use Rattle.std.proofs.lemmas.Bool.{cases_Bool, eqb-true}
-use Rattle.rpm_db.specs.Runs.{Runs}
 use Rattle.rpm_tool.specs.declared.answer.Why.TheVariants as why
 use Rattle.rpm_tool.proofs.Sums.{store_by, store_sum}
 
 -- ---- a run of calls that opened the database, and then looked things up
 
-module _ {D : Type 0} (tells : Bool) (files : D → Files) (left_since : D → ℕ → Files → Type 0) (moment : D → ℕ)
-    (bytes_read : D → File → ℕ) (follows : D → D → Type 0) (indexed : Bool) (a b c : D)
-    (peeks : Peeks tells files left_since moment bytes_read follows indexed b c) where
-  pub leaves_peeks : (P : Files → Type 0) → IsTrue tells → LeavesOnly moment left_since a b P → LeavesOnly moment left_since a c P
-  leaves_peeks P told first = record {
+module _ {D : Type 0} (d : disk.Ghosts D) {indexed : Bool} {a b c : D} (peeks : Peeks d indexed b c) where
+  pub leaves_peeks : {P : Files → Type 0} → IsTrue d.tells → LeavesIn d a b P → LeavesIn d a c P
+  leaves_peeks told first = record {
     later = omega (arith, first.later, peeks.moment_stays);
-    each = λ image is. first.each image ((peeks.untouched told).images (moment a) image is);
+    each = λ image is. first.each image ((peeks.untouched told).images (d.moment a) image is);
     before = λ t image le is. first.before t image le ((peeks.untouched told).images t image is);
   }
 
-  pub runs_peeks : ((a b c : D) → follows a b → follows b c → follows a c) → (P : Files → Files → Type 0)
-      → Runs tells files left_since moment bytes_read follows P a b → Runs tells files left_since moment bytes_read follows P a c
-  runs_peeks trans P runs = record {
-    reads_as = λ told. subst (λ (f : Files). P (files a) f) (sym (peeks.untouched told).same) (runs.reads_as told);
+  pub runs_peeks : ((x y z : D) → d.follows x y → d.follows y z → d.follows x z) → {P : Files → Files → Type 0} → Runs d P a b → Runs d P a c
+  runs_peeks goes {P = P} runs = record {
+    reads_as = λ told. subst (λ (f : Files). P (d.files a) f) (sym (peeks.untouched told).same) (runs.reads_as told);
     now = λ told image is.
-        runs.now told image (subst (λ (t : ℕ). left_since b t image) peeks.moment_stays ((peeks.untouched told).images (moment c) image is));
-    any_moment = λ told. leaves_peeks (CameOf P (left_since a (moment a))) told (runs.any_moment told);
+        runs.now told image (subst (λ (t : ℕ). d.left_since b t image) peeks.moment_stays ((peeks.untouched told).images (d.moment c) image is));
+    any_moment = λ told. leaves_peeks told (runs.any_moment told);
     reads = record { no_less = λ f. omega (arith, runs.reads.no_less f, peeks.no_less f); log = omega (arith, runs.reads.log, peeks.log) };
-    goes_on = trans a b c runs.goes_on peeks.goes_on;
+    goes_on = goes a b c runs.goes_on peeks.goes_on;
   }
 
 -- ---- what is read

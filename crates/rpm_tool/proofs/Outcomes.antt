@@ -1,11 +1,11 @@
 -- The endings of a command that changes packages, one by one.
-use Rattle.std.proofs.Common.{◌≡◌, ℕ, ◌<◌, Bool, true, [], ◌==◌, if◌then◌else◌, refl, sym, ◌∙◌, subst, inl, inr, append-nil, arith}
+use Rattle.std.proofs.Common.{◌≡◌, ℕ, ◌<◌, Bool, true, [], ◌==◌, if◌then◌else◌, refl, sym, ◌∙◌, subst, inl, inr, append-nil, arith, Option, length}
 use Rattle.std.proofs.lemmas.Bool.{cases_Bool, eqb-true}
 use Rattle.std.proofs.lemmas.Bool.Decides.{nat_tests}
-use Rattle.rpm_tool.proofs.Vocabulary.{Course, Damage, Did, done_why, is_done, is_done_or_fault, IsUncommitted, Outputs, Refused, Stopped, Through, Why}
+use Rattle.rpm_tool.proofs.Vocabulary.{after, Course, Did, done_why, Files, Halt, HasState, is_done, is_done_or_fault, is_of_lawful, LeavesState, MeetsFirst}
+use Rattle.rpm_tool.proofs.Vocabulary.{Outputs, State, Stopped, Through, Why}
 use Rattle.rpm_change.specs.Endings.{ThroughSome}
 use Rattle.rpm_tool.specs.declared.answer.Why.TheVariants as why
-use Rattle.rpm_tool.proofs.ByEnding.{by_done, by_uncommitted}
 
 -- ---- one ending
 
@@ -16,13 +16,8 @@ stopped_did c (why.LogFull u) old new s = absurd s
 stopped_did c others old new s = s
 
 -- all steps are some
-some_all : (c : Course) (old new : Outputs) → Through c.steps old new → ThroughSome c.steps old new
+pub some_all : (c : Course) (old new : Outputs) → Through c.steps old new → ThroughSome c.steps old new
 some_all c old new through = record { done = c.steps; rest = []; all_is = sym (append-nil c.steps); through = through }
-
-pub uncommitted_did : (c : Course) (w : Why) (old new : Outputs) → IsUncommitted w → Through c.steps old new → Did c w old new
-uncommitted_did c w old new un through =
-    let some = some_all c old new through in
-    by_uncommitted (λ (given : Why). Did c given old new) (λ u. some) some some w un
 
 -- done, with or without arguments that failed
 pub by_done_why : (P : Why → Type 0) (n : ℕ) → (n ≡ 0 → P why.Done) → (0 < n → P (why.Failed n)) → P (done_why n)
@@ -40,8 +35,22 @@ is_done_why n = by_done_why (λ (w : Why). is_done w ≡ true) n (λ none. refl)
 pub fault_done_why : (n : ℕ) → is_done_or_fault (done_why n) ≡ true
 fault_done_why n = by_done_why (λ (w : Why). is_done_or_fault w ≡ true) n (λ none. refl) (λ some. refl)
 
-pub stopped_undone : (c : Course) (w : Why) (old new : Outputs) → Stopped c w old new → is_done w ≡ true → ⊥
-stopped_undone c w old new s is = by_done (λ (given : Why). Stopped c given old new → ⊥) (λ of. of) (λ n of. of) w is s
+-- nothing changed
+pub leaves_start : (course : State → Course) (s : State) (w : Why) (files : Files) → (is_done w ≡ true → ⊥) → HasState s files
+    → LeavesState course s w 0 files
+leaves_start course s why.Done files undone has = absurd (undone refl)
+leaves_start course s (why.Failed n) files undone has = absurd (undone refl)
+leaves_start course s why.DiskFault files undone has = (refl, inl has)
+leaves_start course s others files undone has = (refl, has)
 
-pub refused_undone : (d : Damage) (w : Why) → Refused d w → is_done w ≡ true → ⊥
-refused_undone d w r is = by_done (λ (given : Why). Refused d given → ⊥) (λ of. of) (λ n of. of) w is r
+pub leaves_done : (course : State → Course) (s : State) (k n : ℕ) (files : Files) → n ≡ length (course s).changes → HasState (after course s) files
+    → LeavesState course s (done_why k) n files
+leaves_done course s k n files is has = by_done_why (λ (w : Why). LeavesState course s w n files) k (λ none. (is, has)) (λ some. (is, has))
+
+pub lawful_ending : (c : Course) (first : Option Halt) (w : Why) (old new : Outputs) → Did c w old new → MeetsFirst true first w → is_of_lawful w ≡ true
+lawful_ending c first (why.Usage f) old new did meets = absurd did
+lawful_ending c first (why.BadFormat f) old new did meets = absurd did
+lawful_ending c first (why.BadLog u) old new did meets = absurd did
+lawful_ending c first (why.Damaged d) old new did meets = absurd did
+lawful_ending c first (why.BadIndex u) old new did meets = absurd cc
+lawful_ending c first others old new did meets = refl

@@ -1,23 +1,37 @@
 -- The records of the theorem's page, from what each kind of command says.
-use Rattle.std.proofs.Common.{◌≡◌, ◌∙◌, ℕ, List, [], Bool, true, false, refl, sym, arith}
+use Rattle.std.proofs.Common.{◌≡◌, ◌∙◌, ℕ, List, [], Bool, true, false, Option, Some, Result, Ok, refl, sym, ap, arith}
 use Rattle.std.specs.Prelude.{IsTrue}
 use Rattle.rpm_outside.specs.declared.disk.Disk as disk
 use Rattle.rpm_outside.specs.declared.shelf.Shelf as shelf
-use Rattle.rpm_tool.proofs.Vocabulary.{AnswersByKey, AnswersChange, AnswersKeyed, AnswersOfFiles, AnswersPlain, asked_course, asked_task, AskParts, by_key}
-use Rattle.rpm_tool.proofs.Vocabulary.{Does, EmptyBy, is_changing, Leaves, needs_none, of_files, OneChange, Outputs, outputs, Pkg, query_files, ran}
-use Rattle.rpm_tool.proofs.Vocabulary.{reads_shelf, reopened, Run, task_course, Tree}
+use Rattle.rpm_outside.specs.declared.sink.Sink as sink
+use Rattle.rpm_tool.proofs.Vocabulary.{Answers, AnswersByKey, AnswersChange, AnswersKeyed, AnswersOfFiles, AnswersPlain, Course, State, asked_course, ask, asked_task, AskParts, asks_change, asks_format, Buffered, by_key}
+use Rattle.rpm_tool.proofs.Vocabulary.{changes_in, Does, EmptyBy, is_changing, is_done, is_foreign, Leaves, needs_none, of_files, OneChange, Outputs, outputs, Pkg, query_files, ran}
+use Rattle.rpm_tool.proofs.Vocabulary.{reads_shelf, reopened, Run, Streams, task_course, Tree, Why}
+use Rattle.rpm_tool.specs.Frame.{EndHands}
 use Rattle.rpm_tool.specs.declared.answer.Why.TheVariants as why
 use Rattle.rpm_tool.proofs.Begun.{files_unchanging, files_unkeyed, keyed_unchanging, not_begun}
 use Rattle.rpm_tool.proofs.Emptied.{memory_empty}
+use Rattle.rpm_tool.proofs.Peeking.{leaves_none}
 use Rattle.rpm_tool.proofs.Reaching.{through_none}
 use Rattle.rpm_tool.proofs.Recovered.{unbegun}
+use Rattle.rpm_tool.proofs.Undone.{asked_is, asked_some, same_asked}
 use Rattle.rpm_tool.proofs.Unmade.{idle_run, unmade_one}
 
 clash : {P : Type 0} {b : _} → b ≡ true → b ≡ false → P
 clash is not = let both : true ≡ false = sym is ∙ not in absurd cc
 
-module _ {D S : Type 0} {d : disk.Ghosts D} {s : shelf.Ghosts S} (r : Run d s) (a : AskParts) (tree : Tree) (mid : Outputs) where
-  keyed_of : AnswersByKey d.files d.left_since d.moment d.bytes_read tree r.words a r.why r.before mid r.found r.left → AnswersKeyed r a tree mid
+-- what a run says of a command that changes packages
+pub change_one : {D S : Type 0} {d : disk.Ghosts D} {s : shelf.Ghosts S} {r : Run d s} {a : AskParts} {course : State → Course} {mid : Outputs}
+    → AnswersChange r a course mid → OneChange d (asked_task r.words a) course r.why r.changes r.found r.left r.before mid
+change_one c = record { did = c.did; changed = c.changed; limits = c.limits; fault = c.fault; log = c.log }
+
+module _ {D S : Type 0} {d : disk.Ghosts D} {s : shelf.Ghosts S} {r : Run d s} {a : AskParts} {mid : Outputs} where
+  change_of : OneChange d (asked_task r.words a) (task_course (s.paths r.shelf_found) r.moment (asked_task r.words a)) r.why r.changes r.found r.left
+      r.before mid → AnswersChange r a (asked_course (s.paths r.shelf_found) r.moment r.words a) mid
+  change_of one = record { did = one.did; changed = one.changed; limits = one.limits; fault = one.fault; log = one.log }
+
+module _ {D S : Type 0} {d : disk.Ghosts D} {s : shelf.Ghosts S} {r : Run d s} {a : AskParts} {tree : Tree} {mid : Outputs} where
+  keyed_of : AnswersByKey d tree r.words a r.why r.before mid r.found r.left → AnswersKeyed r a tree mid
   keyed_of k = record {
     went = k.went;
     reads = k.reads;
@@ -29,10 +43,6 @@ module _ {D S : Type 0} {d : disk.Ghosts D} {s : shelf.Ghosts S} (r : Run d s) (
     packages = k.packages;
     stops = k.stops;
   }
-
-  change_of : OneChange d (asked_task r.words a) (task_course (s.paths r.shelf_found) r.moment (asked_task r.words a)) r.why r.changes r.found r.left
-      r.before mid → AnswersChange r a (asked_course (s.paths r.shelf_found) r.moment r.words a) mid
-  change_of one = record { did = one.did; changed = one.changed; limits = one.limits; fault = one.fault; log = one.log }
 
   pub does_plain : of_files a ≡ false → by_key a ≡ false → is_changing a ≡ false → (IsTrue d.tells → AnswersPlain r a tree mid)
       → Leaves d r.found r.left → r.shelf_left ≡ r.shelf_found → Does r a tree mid
@@ -58,7 +68,7 @@ module _ {D S : Type 0} {d : disk.Ghosts D} {s : shelf.Ghosts S} (r : Run d s) (
   }
 
   pub does_keyed : by_key a ≡ true
-      → (IsTrue d.tells → AnswersByKey d.files d.left_since d.moment d.bytes_read tree r.words a r.why r.before mid r.found r.left)
+      → (IsTrue d.tells → AnswersByKey d tree r.words a r.why r.before mid r.found r.left)
       → r.shelf_left ≡ r.shelf_found → Does r a tree mid
   does_keyed keyed went shelf = record {
     plain = λ _f other _c told. clash keyed other;
@@ -86,9 +96,33 @@ module _ {D S : Type 0} {d : disk.Ghosts D} {s : shelf.Ghosts S} (r : Run d s) (
     shelf_unread = λ _f reads. shelf reads;
   }
 
+  -- a command that was read is the one that the words ask for
+  pub answered : (ask r.words ≡ Ok a) × (asks_format r.words ≡ Some (Ok tree)) → (is_changing a ≡ false → r.changes ≡ 0)
+      → (is_done r.why ≡ false → r.changes ≡ 0) → (IsTrue s.tells → s.paths r.shelf_left ≡ s.paths r.shelf_found) → d.follows r.found r.left
+      → Does r a tree mid → Answers r mid
+  unfolding asks_change
+  answered read still counted paths goes_on does = record {
+    asked = λ b other asked. same_asked (λ x t. Does r x t mid) r.words (asked_is r.words read) asked does;
+    unasked = λ none. asked_some r.words read none;
+    idle = λ no. still (sym (ap changes_in read.0) ∙ no);
+    counted = counted;
+    paths = paths;
+    goes_on = goes_on;
+  }
+
+-- one that makes no call on the shelf, and doesn't end by it
+pub asked_streams : {S O E : Type 0} {s : shelf.Ghosts S} {o : sink.Ghosts O} {e : sink.Ghosts E} {w : Why} {x : S} {out out' : Buffered O} {err err' : Buffered E}
+    → is_foreign w ≡ false → EndHands o e w out err out' err' → Streams s o e true (λ y. w ≡ y) (x, out, err) (x, out', err')
+asked_streams own hands = record {
+  unread = λ is. absurd cc;
+  paths = λ told. refl;
+  shelf = record { later = omega arith; rose = λ is. let both : true ≡ false = sym (ap is_foreign is) ∙ own in absurd cc };
+  hands = hands;
+}
+
 -- a command for which memory is wanting does nothing, whatever is asked
 module _ {D S : Type 0} {d : disk.Ghosts D} {s : shelf.Ghosts S} (words : List (List ℕ)) (now : ℕ) (it : D) (at : S) (ot et : Bool) (o e : List ℕ)
-    (refl_follows : d.follows it it) where
+    (stays : (x : D) → d.follows x x) where
   pub does_nothing : (a : AskParts) (tree : Tree) → Does (ran d s words now why.NoMemory 0 (it, at) (outputs ot o et e) (it, at)) a tree (outputs ot o et e)
   does_nothing a tree = record {
     plain = λ _f _k _c told. record {
@@ -99,17 +133,10 @@ module _ {D S : Type 0} {d : disk.Ghosts D} {s : shelf.Ghosts S} (words : List (
       went = λ told. ([], (query_files tree (s.paths at) words a).steps, refl, through_none {ot = ot} {et = et} o e);
       disk_unread = refl;
     };
-    keyed = λ is told. keyed_of (ran d s words now why.NoMemory 0 (it, at) (outputs ot o et e) (it, at)) a tree (outputs ot o et e)
-        (unbegun d.files d.left_since d.moment d.bytes_read tree words a ot et o e it);
-    changes = λ is told reads. change_of (ran d s words now why.NoMemory 0 (it, at) (outputs ot o et e) (it, at)) a tree (outputs ot o et e)
-        (unmade_one d it it refl (idle_run d it) why.NoMemory tt (asked_task words a) (task_course (s.paths at) now (asked_task words a))
-        (outputs ot o et e));
+    keyed = λ is told. keyed_of (unbegun d tree words a ot et o e it);
+    changes = λ is told reads. change_of (unmade_one d (asked_task words a) (task_course (s.paths at) now (asked_task words a)) it it refl
+        (idle_run d it) (outputs ot o et e) why.NoMemory tt);
     empty = λ is told. memory_empty (needs_none (asked_task words a)) (reopened (d.files it));
-    looks = λ _k _c. record {
-      untouched = λ told. record { same = refl; images = λ t image is. is; kept = λ t image is. is };
-      moment_stays = refl;
-      index_unread = omega arith;
-      goes_on = refl_follows;
-    };
+    looks = λ _k _c. leaves_none d stays;
     shelf_unread = λ _f _r. refl;
   }

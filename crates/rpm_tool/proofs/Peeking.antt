@@ -1,26 +1,22 @@
 -- Runs of calls that read packages, and may ask an index.
 use Rattle.std.proofs.Common.{◌≡◌, ℕ, Bool, true, false, refl, ◌∙◌, arith}
-use Rattle.rpm_tool.proofs.Vocabulary.{File, Files, Idx, Peeks, Pkg}
-use Rattle.rpm_outside.specs.Looks.{Looks, LooksAt}
-use Rattle.rpm_check.specs.Answers.{Glances}
+use Rattle.rpm_outside.specs.declared.disk.Disk as disk
+use Rattle.rpm_outside.specs.Frame.{Looks, LooksAt}
+use Rattle.rpm_tool.proofs.Vocabulary.{Glances, Idx, Leaves, Peeks, Pkg}
 
-module _ {D : Type 0} (tells : Bool) (files : D → Files) (left_since : D → ℕ → Files → Type 0) (moment : D → ℕ)
-    (bytes_read : D → File → ℕ) (follows : D → D → Type 0) (indexed : Bool) where
-  abbrev Peeked : D → D → Type 0
-  Peeked = Peeks tells files left_since moment bytes_read follows indexed
-
-  pub peeks_none : ((d : D) → follows d d) → (d : D) → Peeked d d
-  peeks_none same d = record {
-    untouched = λ told. record { same = refl; images = λ t i x. x; kept = λ t i x. x };
+module _ {D : Type 0} (d : disk.Ghosts D) {indexed : Bool} where
+  pub peeks_none : ((x : D) → d.follows x x) → {x : D} → Peeks d indexed x x
+  peeks_none stays {x = x} = record {
+    untouched = λ told. record { same = refl; images = λ t i is. is; kept = λ t i is. is };
     moment_stays = refl;
     no_less = λ f. omega arith;
     idx = λ none. omega arith;
     log = omega arith;
-    goes_on = same d;
+    goes_on = stays x;
   }
 
-  pub peeks_then : ((a b c : D) → follows a b → follows b c → follows a c) → (a b c : D) → Peeked a b → Peeked b c → Peeked a c
-  peeks_then trans a b c first second = record {
+  pub peeks_then : ((x y z : D) → d.follows x y → d.follows y z → d.follows x z) → {a b c : D} → Peeks d indexed a b → Peeks d indexed b c → Peeks d indexed a c
+  peeks_then goes {a = a} {b = b} {c = c} first second = record {
     untouched = λ told.
         let f = first.untouched told in
         let s = second.untouched told in
@@ -29,12 +25,12 @@ module _ {D : Type 0} (tells : Bool) (files : D → Files) (left_since : D → �
     no_less = λ f. omega (arith, first.no_less f, second.no_less f);
     idx = λ none. omega (arith, first.idx none, second.idx none);
     log = omega (arith, first.log, second.log);
-    goes_on = trans a b c first.goes_on second.goes_on;
+    goes_on = goes a b c first.goes_on second.goes_on;
   }
 
   -- packages alone
-  pub peeks_packages : (most : ℕ) (a b : D) → Looks tells files left_since moment bytes_read follows Pkg most a b → Peeked a b
-  peeks_packages most a b looks = record {
+  pub peeks_packages : {most : ℕ} {a b : D} → Looks d Pkg most a b → Peeks d indexed a b
+  peeks_packages looks = record {
     untouched = looks.untouched;
     moment_stays = looks.moment_stays;
     no_less = looks.reads.no_less;
@@ -44,9 +40,8 @@ module _ {D : Type 0} (tells : Bool) (files : D → Files) (left_since : D → �
   }
 
   -- an index, where there is one
-  pub peeks_index : (a b : D) → LooksAt tells files left_since moment bytes_read follows Idx a b
-      → (indexed ≡ false → Looks tells files left_since moment bytes_read follows Pkg 0 a b) → Peeked a b
-  peeks_index a b looks unread = record {
+  pub peeks_index : {a b : D} → LooksAt d Idx a b → (indexed ≡ false → Looks d Pkg 0 a b) → Peeks d indexed a b
+  peeks_index looks unread = record {
     untouched = looks.untouched;
     moment_stays = looks.moment_stays;
     no_less = looks.reads.no_less;
@@ -56,28 +51,30 @@ module _ {D : Type 0} (tells : Bool) (files : D → Files) (left_since : D → �
   }
 
   -- where there is none, packages alone
-  pub looks_unindexed : (a b : D) → indexed ≡ false → Peeked a b → LooksAt tells files left_since moment bytes_read follows Pkg a b
-  looks_unindexed a b none peeks = record {
+  pub looks_unindexed : {a b : D} → indexed ≡ false → Peeks d indexed a b → LooksAt d Pkg a b
+  looks_unindexed none peeks = record {
     untouched = peeks.untouched;
     moment_stays = peeks.moment_stays;
-    reads = record {
-      no_less = peeks.no_less;
-      pkg = omega arith;
-      idx = omega (arith, peeks.idx none);
-      log = omega (arith, peeks.log);
-    };
+    reads = record { no_less = peeks.no_less; pkg = omega arith; idx = omega (arith, peeks.idx none); log = omega (arith, peeks.log) };
     goes_on = peeks.goes_on;
   }
 
+-- a command that makes no call
+pub leaves_none : {D : Type 0} (d : disk.Ghosts D) → ((x : D) → d.follows x x) → {x : D} → Leaves d x x
+leaves_none d stays {x = x} = record {
+  untouched = λ told. record { same = refl; images = λ t i is. is; kept = λ t i is. is };
+  moment_stays = refl;
+  index_unread = omega arith;
+  goes_on = stays x;
+}
+
 -- where it isn't said how much of an index is read
-module _ {D : Type 0} (tells : Bool) (files : D → Files) (left_since : D → ℕ → Files → Type 0) (moment : D → ℕ)
-    (bytes_read : D → File → ℕ) (follows : D → D → Type 0) where
-  pub peeks_glances : (a b : D) → Glances tells files left_since moment bytes_read follows a b → Peeks tells files left_since moment bytes_read follows true a b
-  peeks_glances a b glances = record {
-    untouched = glances.untouched;
-    moment_stays = glances.moment_stays;
-    no_less = glances.no_less;
-    idx = λ none. absurd cc;
-    log = glances.log;
-    goes_on = glances.goes_on;
-  }
+pub peeks_glances : {D : Type 0} (d : disk.Ghosts D) {a b : D} → Glances d a b → Peeks d true a b
+peeks_glances d glances = record {
+  untouched = glances.untouched;
+  moment_stays = glances.moment_stays;
+  no_less = glances.no_less;
+  idx = λ none. absurd cc;
+  log = glances.log;
+  goes_on = glances.goes_on;
+}

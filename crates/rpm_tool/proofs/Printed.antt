@@ -1,9 +1,9 @@
 -- What is said of the packages that are printed.
 use Rattle.std.proofs.Common.{◌≡◌, ℕ, Bool, true, false, not, ◌||◌, List, ◌∷◌, Result, Ok, Err, refl, sym, ap, ◌∙◌}
-use Rattle.rpm_tool.proofs.Vocabulary.{Bad, bad_step, Bearer, bearer, bearer_of, entry_in, Good, Header, header, header_step, HeaderFault, is_bad, is_out}
-use Rattle.rpm_tool.proofs.Vocabulary.{list_any, meaning, number_in, Package, Picked, printed, Step, step_by, step_of, Tree, Way}
+use Rattle.rpm_tool.proofs.Vocabulary.{Bad, bad_step, Bearer, bearer, bearer_of, Deed, entry_in, Good, Header, header, header_step, HeaderFault, is_bad, is_out}
+use Rattle.rpm_tool.proofs.Vocabulary.{list_any, meaning, number_in, Package, Picked, printed, Step, step_by, step_of, Tree}
+use Rattle.rpm_tool.specs.declared.asked.Deed.TheVariants as deed
 use Rattle.rpm_select.specs.declared.picked.Picked.TheVariants as pick
-use Rattle.rpm_tool.specs.declared.step.Way.TheVariants as way
 
 bearer-printed : (for : Bearer) (what : Result (List ℕ) (ℕ × ℕ)) → bearer_of (printed for what) ≡ for
 bearer-printed for (Ok bytes) = refl
@@ -18,15 +18,15 @@ pub bearer-step_of : (tree : Tree) (j : ℕ) (e : ℕ × Package) → bearer_of 
 bearer-step_of tree j (n, Good bytes) = bearer-header_step tree j n (header bytes)
 bearer-step_of tree j (n, Bad) = refl
 
-pub bearer-step_by : (w : Way) (j : ℕ) (e : ℕ × Package) → bearer_of (step_by w j e) ≡ bearer j e.0
-bearer-step_by (way.Format format) j e = bearer-step_of format.now j e
-bearer-step_by way.Export j (n, Good bytes) = refl
-bearer-step_by way.Export j (n, Bad) = refl
+pub bearer-step_by : (d : Deed) (tree : Tree) (j : ℕ) (e : ℕ × Package) → bearer_of (step_by d tree j e) ≡ bearer j e.0
+bearer-step_by deed.Export tree j (n, Good bytes) = refl
+bearer-step_by deed.Export tree j (n, Bad) = refl
+bearer-step_by others tree j e = bearer-step_of tree j e
 
--- a package that can't be read has its line in each way
-pub step_by-bad : (w : Way) (j n : ℕ) → step_by w j (n, Bad) ≡ bad_step j n
-step_by-bad (way.Format format) j n = refl
-step_by-bad way.Export j n = refl
+-- a package that can't be read has its line either way
+pub step_by-bad : (d : Deed) (tree : Tree) (j n : ℕ) → step_by d tree j (n, Bad) ≡ bad_step j n
+step_by-bad deed.Export tree j n = refl
+step_by-bad others tree j n = refl
 
 pub number-entry : (p : Picked) → (entry_in p).0 ≡ number_in p
 number-entry (pick.Good number blob) = refl

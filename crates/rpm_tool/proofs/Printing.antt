@@ -1,8 +1,9 @@
 -- What the calls that print say.
-use Rattle.std.proofs.Common.{◌≡◌, ℕ, ◌≤◌, Bool, List, Result, Ok, Err, refl, ap, inl, inr, arith}
-use Rattle.std.specs.Prelude.{IsTrue, []}
-use Rattle.rpm_tool.proofs.Vocabulary.{all_taken, Begins, Buffered, Closes, Differs, DirectFault, ending, EndsSo, Fails, flushed, Flushes, GoesOn, inner}
-use Rattle.rpm_tool.proofs.Vocabulary.{OutFault, outputs, Prints, SizesDiffer, stopped, Writes}
+use Rattle.std.proofs.Common.{◌≡◌, ℕ, ◌≤◌, Bool, true, List, [], Result, Ok, Err, refl, ap, inl, inr, arith, rules}
+use Rattle.std.specs.Prelude.{IsTrue}
+use Rattle.rpm_tool.proofs.Vocabulary.{all_taken, Bearer, Begins, Buffered, Closes, Differs, EndsSo, Fails, flushed, Flushes, GoesOn, Halt, inner}
+use Rattle.rpm_tool.proofs.Vocabulary.{outputs, printed, Prints, StepIs, stopped, ToOut, Writes}
+use Rattle.rpm_change.specs.declared.tally.Halt.TheVariants as halt
 use Rattle.rpm_outside.specs.Buffered.{holds}
 use Rattle.rpm_qfeval.specs.Printed.{Done}
 
@@ -22,62 +23,37 @@ closes_of tells taken faults before old new line (Err fault) out_tells out later
 pub inner_same : {O : Type 0} {a b : Buffered O} → a ≡ b → inner a ≡ inner b
 inner_same {O = O} e = ap (λ (b : Buffered O). inner b) e
 
--- what was printed to a buffer that held nothing
-module _ {O : Type 0} {tells : Bool} {taken : O → List ℕ} {faults : O → ℕ} {follows : O → O → Type 0} (grows : (a b : O) → follows a b → IsTrue tells
-    → Begins (taken a) (taken b)) where
+-- how a step that prints ends, by the last call that it makes
+abbrev printing_ended : {T E : Type 0} → Result T E → Result Bool Halt
+printing_ended (Ok t) = Ok true
+printing_ended (Err e) = Err halt.OutFault
+
+-- what was printed to a buffer that held nothing, whatever err took
+module _ {O : Type 0} {tells : Bool} {taken : O → List ℕ} (faults : O → ℕ) {follows : O → O → Type 0} (grows : (a b : O) → follows a b → IsTrue tells
+    → Begins (taken a) (taken b)) (for : Bearer) (err_tells : Bool) (err : List ℕ) where
+  written : {T E : Type 0} (bytes : List ℕ) (old new : Buffered O) (r : Result T E)
+      → Writes tells taken faults follows (inner old) (inner new) bytes r
+      → StepIs (ToOut for bytes) (printing_ended r) (outputs tells (taken (inner old)) err_tells err) (outputs tells (taken (inner new)) err_tells err)
+  written bytes old new (Ok t) w = search rules
+  written bytes old new (Err e) w = search rules
+
   -- where it failed
-  print_stopped : (meaning : Result (List ℕ) (ℕ × ℕ)) (old new : Buffered O) → holds old ≡ [] → Prints tells (all_taken taken) (λ b. faults (inner b))
-      (GoesOn tells taken follows) meaning old new Fails → Prints tells taken faults follows meaning (inner old) (inner new) Fails
+  pub print_stopped : (meaning : Result (List ℕ) (ℕ × ℕ)) (old new : Buffered O) → holds old ≡ [] → Prints tells (all_taken taken) (λ b. faults (inner b))
+      (GoesOn tells taken follows) meaning old new Fails
+      → StepIs (printed for meaning) (Err halt.OutFault) (outputs tells (taken (inner old)) err_tells err) (outputs tells (taken (inner new)) err_tells err)
   print_stopped (Ok bytes) old new nothing p =
-      let w : Writes {T = Unit {0}} {E = Unit {0}} tells taken faults follows (inner old) (inner new) bytes (Err tt) =
-      stopped grows {T = Unit {0}} {E = Unit {0}} {bytes = bytes} {old = old} {new = new} (Err tt) refl nothing
-      (record { ok = tt; err = p.ends.0; cause = record { later = p.later; failed = p.ends.1 }; goes_on = p.goes_on }) in
-      record { ends = (w.err, w.cause.failed); later = p.later; goes_on = p.goes_on.0 }
+      written {T = Unit {0}} {E = Unit {0}} bytes old new (Err tt)
+      (stopped grows {T = Unit {0}} {E = Unit {0}} {old = old} {new = new} {e = tt} (Err tt) refl nothing
+      (record { ok = tt; err = p.ends.0; cause = record { later = p.later; failed = p.ends.1 }; goes_on = p.goes_on }))
   print_stopped (Err counts) old new nothing p = absurd p.ends
 
-  -- where nothing was printed
-  print_refused : (meaning : Result (List ℕ) (ℕ × ℕ)) (old new : Buffered O) (first second : ℕ) → Prints tells (all_taken taken)
-      (λ b. faults (inner b)) (GoesOn tells taken follows) meaning old new (Differs first second)
-      → Prints tells taken faults follows meaning (inner old) (inner new) (Differs first second)
-  print_refused (Ok bytes) old new first second p = absurd p.ends
-  print_refused (Err counts) old new first second p = record {
-    ends = (p.ends.0, ap (λ (b : Buffered O). inner b) p.ends.1);
-    later = p.later;
-    goes_on = p.goes_on.0;
-  }
-
-  -- where it ended by a fault
-  pub print_ended : (meaning : Result (List ℕ) (ℕ × ℕ)) (old new : Buffered O) (fault : DirectFault) → holds old ≡ [] → Prints tells (all_taken taken)
-      (λ b. faults (inner b)) (GoesOn tells taken follows) meaning old new (ending {T = Unit {0}} (Err fault))
-      → Prints tells taken faults follows meaning (inner old) (inner new) (ending {T = Unit {0}} (Err fault))
-  print_ended meaning old new (SizesDiffer first second) nothing p = print_refused meaning old new first second p
-  print_ended meaning old new OutFault nothing p = print_stopped meaning old new nothing p
-
-  module _ (then : (a b c : O) → follows a b → follows b c → follows a c) where
-    written : {T E : Type 0} (bytes : List ℕ) (old mid new : Buffered O) (r : Result T E) → holds old ≡ [] → Prints tells (all_taken taken)
-        (λ b. faults (inner b)) (GoesOn tells taken follows) (Ok bytes) old mid Done
-        → Flushes tells taken faults follows (inner mid) (holds mid) (inner new) (holds new) r → Writes tells taken faults follows (inner old)
-        (inner new) bytes r
-    written bytes old mid new r nothing p f =
-        flushed grows {T = Unit {0}} {E = Unit {0}} {bytes = bytes} {old = old} {mid = mid} {t = tt} then new r nothing
-        (record { ok = p.ends; err = tt; cause = record { later = p.later; failed = tt }; goes_on = p.goes_on }) f
-
-    -- where the flush went through
-    pub print_done : {T E : Type 0} (meaning : Result (List ℕ) (ℕ × ℕ)) (old mid new : Buffered O) (t : T) → holds old ≡ [] → Prints tells
-        (all_taken taken) (λ b. faults (inner b)) (GoesOn tells taken follows) meaning old mid Done
-        → Flushes {T = T} {E = E} tells taken faults follows (inner mid) (holds mid) (inner new) (holds new) (Ok t) → Prints tells taken faults
-        follows meaning (inner old) (inner new) Done
-    print_done {T = T} {E = E} (Ok bytes) old mid new t nothing p f =
-        let w = written {T = T} {E = E} bytes old mid new (Ok t) nothing p f in
-        record { ends = w.ok; later = w.cause.later; goes_on = w.goes_on }
-    print_done (Err counts) old mid new t nothing p f = absurd p.ends
-
-    -- and where it failed
-    pub print_cut : {T E : Type 0} (meaning : Result (List ℕ) (ℕ × ℕ)) (old mid new : Buffered O) (e : E) → holds old ≡ [] → Prints tells
-        (all_taken taken) (λ b. faults (inner b)) (GoesOn tells taken follows) meaning old mid Done
-        → Flushes {T = T} {E = E} tells taken faults follows (inner mid) (holds mid) (inner new) (holds new) (Err e) → Prints tells taken faults
-        follows meaning (inner old) (inner new) Fails
-    print_cut {T = T} {E = E} (Ok bytes) old mid new e nothing p f =
-        let w = written {T = T} {E = E} bytes old mid new (Err e) nothing p f in
-        record { ends = (w.err, w.cause.failed); later = w.cause.later; goes_on = w.goes_on }
-    print_cut (Err counts) old mid new e nothing p f = absurd p.ends
+  -- and where it was flushed
+  pub print_flushed : {T E : Type 0} (then : (a b c : O) → follows a b → follows b c → follows a c) (meaning : Result (List ℕ) (ℕ × ℕ))
+      (old mid new : Buffered O) (r : Result T E) → holds old ≡ []
+      → Prints tells (all_taken taken) (λ b. faults (inner b)) (GoesOn tells taken follows) meaning old mid Done
+      → Flushes tells taken faults follows (inner mid) (holds mid) (inner new) (holds new) r
+      → StepIs (printed for meaning) (printing_ended r) (outputs tells (taken (inner old)) err_tells err) (outputs tells (taken (inner new)) err_tells err)
+  print_flushed then (Ok bytes) old mid new r nothing p f =
+      written bytes old new r (flushed grows {T = Unit {0}} {E = Unit {0}} {old = old} {mid = mid} {t = tt} then new r nothing
+      (record { ok = p.ends; err = tt; cause = record { later = p.later; failed = tt }; goes_on = p.goes_on }) f)
+  print_flushed then (Err counts) old mid new r nothing p f = absurd p.ends

@@ -1,13 +1,13 @@
 -- A question picks by its text, wherever the text lies.
-use Rattle.std.proofs.Common.{◌≡◌, ℕ, Bool, true, false, List, [], ◌∷◌, map, Bor, Result, Ok, Err, refl, ap}
+use Rattle.std.proofs.Common.{◌≡◌, ℕ, Bool, true, false, List, [], ◌∷◌, map, Bor, Option, Result, Ok, Err, refl, ap, ◌∙◌}
 use Rattle.rpm_tool.proofs.Vocabulary.{argument_reach, Bad, candidates, Chosen, filter, Good, has_key, has_key_in, Header, header, HeaderFault, is_candidate}
 use Rattle.rpm_tool.proofs.Vocabulary.{is_picked, IsFaultOf, IsOfChain, keys_asked, Kind, lent, list_any, nat_cmp, Package, picked, picked_by, picks}
-use Rattle.rpm_tool.proofs.Vocabulary.{question_of, reach, reach_of, Selection, Stop, takes_bad, takes_header, takes_read, These, unasked, Units}
+use Rattle.rpm_tool.proofs.Vocabulary.{question_of, reach, reach_of, Selection, Halt, takes_bad, takes_header, takes_read, These, unasked, Units}
 use Rattle.std.specs.Prelude.{IfErr}
 use Rattle.std.specs.FinMap as finite
 use Rattle.rpm_words.specs.declared.switch.Chosen.TheVariants as by
 use Rattle.rpm_select.specs.declared.selection.Selection.TheVariants as question
-use Rattle.rpm_tool.specs.declared.step.Stop.TheVariants as stop
+use Rattle.rpm_change.specs.declared.tally.Halt.TheVariants as halt
 
 filter_same : {X : Type 0} (p q : X → Bool) → ((x : X) → p x ≡ q x) → (xs : List X) → filter p xs ≡ filter q xs
 filter_same p q same [] = refl
@@ -27,7 +27,7 @@ module _ (s t : Selection) (header_same : (n : ℕ) (h : Header) → takes_heade
   unfolding picks
   picks_same map = filter_same (is_picked s) (is_picked t) picked_alike (finite.entries map)
 
-pub picked_same : (map : finite.FinMap nat_cmp Package) (chosen : Chosen) (x : Bor (List ℕ)) → picked map chosen x.now ≡ picked_by map (question_of chosen x)
+picked_same : (map : finite.FinMap nat_cmp Package) (chosen : Chosen) (x : Bor (List ℕ)) → picked map chosen x.now ≡ picked_by map (question_of chosen x)
 unfolding picked takes_header
 picked_same map by.Label x = picks_same (question.Label (lent x.now)) (question.Label x) (λ n h. refl) (λ n. refl) map
 picked_same map by.All x = picks_same (question.Pattern (lent x.now)) (question.Pattern x) (λ n h. refl) (λ n. refl) map
@@ -59,7 +59,7 @@ module _ (s t : Selection) (keys : keys_asked s ≡ keys_asked t) where
   reach_alike same true map = ap (λ (es : List (ℕ × Package)). These (numbers_of es)) (candidates_same map)
   reach_alike same false map = same
 
-pub reach_same : (indexed : Bool) (map : finite.FinMap nat_cmp Package) (chosen : Chosen) (x : Bor (List ℕ))
+reach_same : (indexed : Bool) (map : finite.FinMap nat_cmp Package) (chosen : Chosen) (x : Bor (List ℕ))
     → argument_reach indexed map chosen x.now ≡ reach_of indexed map (question_of chosen x)
 unfolding argument_reach keys_asked
 reach_same indexed map by.Label x = reach_alike (question.Label (lent x.now)) (question.Label x) refl refl indexed map
@@ -75,8 +75,16 @@ unfolding keys_asked
 fault_same by.Label x idx unit is = is
 fault_same others x idx unit is = is
 
-pub chain_same : (chosen : Chosen) (x : Bor (List ℕ)) (idx : Units) (r : Result Bool Stop) → IfErr r (IsOfChain (question_of chosen x) idx)
+pub chain_same : (chosen : Chosen) (x : Bor (List ℕ)) (idx : Units) (r : Result Bool Halt) → IfErr r (IsOfChain (question_of chosen x) idx)
     → IfErr r (IsOfChain (question_of chosen (lent x.now)) idx)
 chain_same chosen x idx (Ok o) is = tt
-chain_same chosen x idx (Err (stop.BadIndex unit)) is = fault_same chosen x idx unit is
+chain_same chosen x idx (Err (halt.BadIndex unit)) is = fault_same chosen x idx unit is
 chain_same chosen x idx (Err others) is = tt
+
+-- by the question that it is
+module _ (map : finite.FinMap nat_cmp Package) (chosen : Chosen) (x : Bor (List ℕ)) {asked : Option Selection} (is : question_of chosen x ≡ asked) where
+  pub picked_is : picked map chosen x.now ≡ picked_by map asked
+  picked_is = picked_same map chosen x ∙ ap (picked_by map) is
+
+  pub reach_is : (indexed : Bool) → argument_reach indexed map chosen x.now ≡ reach_of indexed map asked
+  reach_is indexed = reach_same indexed map chosen x ∙ ap (reach_of indexed map) is

@@ -1,35 +1,25 @@
 -- What is read of the numbers that a picker goes over.
 use Rattle.std.proofs.Common.{◌≡◌, ℕ, ◌+◌, ◌-◌, ◌<◌, ◌≤◌, sym, subst, arith}
-use Rattle.rpm_tool.proofs.Vocabulary.{Database, entry_in, Files, HasIndexRows, number_in, packages, Picked, Reach, reach_all, reach_some, reach_to, reach_up}
+use Rattle.rpm_tool.proofs.Vocabulary.{Database, entry_in, Files, HasIndexRows, number_in, packages, Picked, Reach, reach_to, reach_up}
 use Rattle.rpm_tool.proofs.Vocabulary.{Selection, Serves, Store}
 use Rattle.rpm_select.specs.declared.picked.Picked.TheVariants as pick
 
 -- one more of them
-pub reach_then : (r : Reach) (db : Database) (low n m before between now : ℕ) → n ≤ m → between + reach_to low r db ≤ before + reach_to n r db
+pub reach_then : (r : Reach) (db : Database) (low before between : ℕ) {n m now : ℕ} → n ≤ m → between + reach_to low r db ≤ before + reach_to n r db
     → now ≤ between + (reach_to m r db - reach_to n r db) → now + reach_to low r db ≤ before + reach_to m r db
-reach_then r db low n m before between now le first second = omega (arith, reach_up r db n m le, first, second)
+reach_then r db low before between {n = n} {m = m} le first second = omega (arith, reach_up r db n m le, first, second)
 
 -- up to the package that was picked
-pub entry_reach : (r : Reach) (db : Database) (low n : ℕ) (p : Picked) (before between now : ℕ) → n < number_in p
+pub entry_reach : (r : Reach) (db : Database) (p : Picked) (low before between : ℕ) {n now : ℕ} → n < number_in p
     → between + reach_to low r db ≤ before + reach_to n r db → now ≤ between + (reach_to (number_in p) r db - reach_to n r db)
     → now + reach_to low r db ≤ before + reach_to (entry_in p).0 r db
-entry_reach r db low n (pick.Good number blob) before between now lt le first = reach_then r db low n number before between now (omega (arith, lt)) le first
-entry_reach r db low n (pick.Bad number) before between now lt le first = reach_then r db low n number before between now (omega (arith, lt)) le first
-
--- the rest of them
-pub reach_rest : (r : Reach) (db : Database) (low n before between now : ℕ) → between + reach_to low r db ≤ before + reach_to n r db
-    → now ≤ between + (reach_all r db - reach_to n r db) → now + reach_to low r db ≤ before + reach_all r db
-reach_rest r db low n before between now first second = omega (arith, reach_some r db n, first, second)
+entry_reach r db (pick.Good number blob) low before between lt le first = reach_then r db low before between {m = number} (omega (arith, lt)) le first
+entry_reach r db (pick.Bad number) low before between lt le first = reach_then r db low before between {m = number} (omega (arith, lt)) le first
 
 -- what serves the packages that were there serves them where nothing changes
 pub served : (sel : Selection) (s : Store) (p q : Reach) (f f' : Files) → p ≡ q → f ≡ f' → Serves q (packages f'.pkg s) sel → Serves p (packages f.pkg s) sel
 served sel s p q f f' same files serves =
     subst (λ (g : Files). Serves p (packages g.pkg s) sel) (sym files) (subst (λ (r : Reach). Serves r (packages f'.pkg s) sel) (sym same) serves)
-
--- those above a number, and then those up to it
-pub reach_both : (r : Reach) (db : Database) (n before between now : ℕ) → between + reach_to n r db ≤ before + reach_all r db
-    → now ≤ between + reach_to n r db → now ≤ before + reach_all r db
-reach_both r db n before between now first second = omega (arith, first, second)
 
 -- an index that held the rows holds them where nothing changes
 pub rows_at : (db : Database) (f f' : Files) → f ≡ f' → HasIndexRows db f'.pkg f'.idx → HasIndexRows db f.pkg f.idx

@@ -1,10 +1,10 @@
 -- How far a list of steps was gone through.
 use Rattle.std.proofs.Common.{◌≡◌, ℕ, Bool, true, false, List, [], ◌∷◌, ◌++◌, Err, sym, ap, ◌∙◌, subst, append_assoc}
 use Rattle.std.proofs.lemmas.List.{append-nil}
-use Rattle.rpm_tool.proofs.Vocabulary.{Bearer, cut, err_bytes, flat_map, gained_more, gained_none, out_bytes, outputs, Reached, Step, Stop, StoppedWithin}
+use Rattle.rpm_tool.proofs.Vocabulary.{Bearer, cut, err_bytes, flat_map, gained_more, gained_none, out_bytes, outputs, Reached, Step, Halt, StoppedWithin}
 use Rattle.rpm_tool.proofs.Vocabulary.{Through, ThroughSome}
 use Rattle.std.proofs.lemmas.Grind.{flat_map-append}
-use Rattle.rpm_tool.specs.declared.step.Stop.TheVariants as stop
+use Rattle.rpm_change.specs.declared.tally.Halt.TheVariants as halt
 
 module _ {ot et : Bool} where
   pub through_none : (o e : List ℕ) → Through [] (outputs ot o et e) (outputs ot o et e)
@@ -59,13 +59,14 @@ module _ (ot et : Bool) (all left front rest : List Step) (o o' o'' e e' e'' : L
   }
 
   -- where the next steps stop
-  pub goes_stop : (T T' : Type 0) (what : Stop) (reads_to : Bearer → Type 0) → Reached {T = T} front (Err what) (outputs ot o' et e') (outputs ot o'' et e'')
+  pub goes_stop : (T T' : Type 0) (what : Halt) (reads_to : Bearer → Type 0) → Reached {T = T} front (Err what) (outputs ot o' et e') (outputs ot o'' et e'')
       reads_to → Reached {T = T'} all (Err what) (outputs ot o et e) (outputs ot o'' et e'') reads_to
-  goes_stop T T' stop.ReadFault reads_to r = some_more r
-  goes_stop T T' (stop.BadIndex unit) reads_to r = r
-  goes_stop T T' stop.OutFault reads_to r = within_more true reads_to r
-  goes_stop T T' stop.ErrFault reads_to r = within_more false reads_to r
-  goes_stop T T' stop.NoMemory reads_to r = some_more r
+  goes_stop T T' halt.DiskFault reads_to r = some_more r
+  goes_stop T T' halt.ShelfFault reads_to r = some_more r
+  goes_stop T T' halt.OutFault reads_to r = within_more true reads_to r
+  goes_stop T T' halt.ErrFault reads_to r = within_more false reads_to r
+  goes_stop T T' halt.NoMemory reads_to r = some_more r
+  goes_stop T T' others reads_to r = absurd r
 
 pub goes_end : (ot et : Bool) (all left : List Step) (o o' e e' : List ℕ) → left ≡ [] → Goes ot et all left o e o' e'
     → Through all (outputs ot o et e) (outputs ot o' et e')

@@ -27,16 +27,12 @@ module _ {X : Type 0} (p : ℕ × X → Bool) where
       ]
 
 -- where none is above a number, one that is there is at most that number
-pub any_passed : (n : ℕ) (es : List (ℕ × Package)) → above n es ≡ [] → above 0 es ≡ es → list_any (λ e. nat_le e.0 n) (above 0 es) ≡ is_some_of es
+pub any_passed : (n : ℕ) (es : List (ℕ × Package)) → is_some_of (above n es) ≡ false → above 0 es ≡ es → list_any (λ e. nat_le e.0 n) (above 0 es) ≡ is_some_of es
 any_passed n es none whole = ap (list_any (λ e. nat_le e.0 n)) whole ∙ any_of es none
   where
-    any_of : (xs : List (ℕ × Package)) → above n xs ≡ [] → list_any (λ e. nat_le e.0 n) xs ≡ is_some_of xs
+    any_of : (xs : List (ℕ × Package)) → is_some_of (above n xs) ≡ false → list_any (λ e. nat_le e.0 n) xs ≡ is_some_of xs
     any_of [] none = refl
     any_of (x ∷ xs) none = elim (cases_Bool (nat_lt n x.0)) [
-      | inl over ↦ (let both : x ∷ above n xs ≡ [] = rw over at none in absurd cc)
+      | inl over ↦ (let both : is_some_of (x ∷ above n xs) ≡ false = rw over at none in absurd cc)
       | inr under ↦ (let test : nat_le x.0 n ≡ true = grind (arith, nat_tests) in rw test refl)
     ]
-
-pub none_at_all : (es : List (ℕ × Package)) → is_some_of es ≡ false → es ≡ []
-none_at_all [] none = refl
-none_at_all (x ∷ xs) none = absurd cc

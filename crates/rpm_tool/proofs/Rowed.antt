@@ -1,7 +1,7 @@
 -- Requirements of one package that stand in a row, whose lines are written in one piece.
 use Rattle.std.proofs.Common.{◌≡◌, ℕ, ◌+◌, ◌-◌, ◌<◌, ◌≤◌, ◌==◌, ◌⊎◌, suc, Bool, true, List, [], ◌∷◌, ◌++◌, map, take, length, get_or, Option, Some, None, Result, Ok, Err, refl, sym, ap, ◌∙◌, subst, append_assoc, add-one, inl, inr, arith}
 use Rattle.rpm_tool.proofs.Vocabulary.{All, Anywhere, Bad, Bearer, bearer, err_bytes, FinMap, flat_map, Gained, get, Good, Header, header, HeaderFault}
-use Rattle.rpm_tool.proofs.Vocabulary.{nat_cmp, out_bytes, Outputs, Package, package_text, prefix_len, Reached, read_text, Step, StepIs, Stop, StoppedWithin}
+use Rattle.rpm_tool.proofs.Vocabulary.{nat_cmp, out_bytes, Outputs, Package, package_text, prefix_len, Reached, read_text, Step, StepIs, Halt, StoppedWithin}
 use Rattle.rpm_tool.proofs.Vocabulary.{Through, ToOut, Unmet, unmet_lines, unmet_step, unmet_text}
 use Rattle.std.specs.Prelude.{slice_get}
 use Rattle.std.proofs.Math.Seq.{take-append-add, take-suc}
@@ -9,9 +9,9 @@ use Rattle.std.proofs.lemmas.Bool.{cases_lt}
 use Rattle.std.proofs.lemmas.Bool.Decides.{nat_tests}
 use Rattle.std.proofs.lemmas.Grind.{flat_map-append}
 use Rattle.std.proofs.lemmas.List.{append-nil, get_or-take, map-append, take-append-le}
-use Rattle.std.proofs.lemmas.List.Folds.{length-prefix_len}
+use Rattle.std.proofs.lemmas.List.Folds.{flat_map-map, length-prefix_len}
 use Rattle.std.proofs.lemmas.List.Sums.{prefix_len_passes}
-use Rattle.rpm_tool.specs.declared.step.Stop.TheVariants as stop
+use Rattle.rpm_change.specs.declared.tally.Halt.TheVariants as halt
 
 -- ---- lines in one piece
 
@@ -20,8 +20,7 @@ module _ {X : Type 0} (b : Bearer) (line : X → List ℕ) where
   line_step x = ToOut b (line x)
 
   out_of : (xs : List X) → flat_map out_bytes (map line_step xs) ≡ flat_map line xs
-  out_of [] = refl
-  out_of (x ∷ xs) = ap (λ (t : List ℕ). line x ++ t) (out_of xs)
+  out_of = flat_map-map out_bytes line_step
 
   err_of : (xs : List X) → flat_map err_bytes (map line_step xs) ≡ []
   err_of [] = refl
@@ -93,15 +92,16 @@ module _ {X : Type 0} (b : Bearer) (line : X → List ℕ) where
         }
 
     -- one piece reaches as far as its lines do
-    pub piece_reached : (xs : List X) → 0 < length xs → text ≡ flat_map line xs → (r : Result Bool Stop) → StepIs (ToOut b text) r old new
+    pub piece_reached : (xs : List X) → 0 < length xs → text ≡ flat_map line xs → (r : Result Bool Halt) → StepIs (ToOut b text) r old new
         → Reached (map line_step xs) r old new Anywhere
     piece_reached [] some is r step = absurd (omega arith)
     piece_reached (x ∷ xs) some is (Ok to_out) step = piece_through (x ∷ xs) is step.1
-    piece_reached (x ∷ xs) some is (Err stop.ReadFault) step = ([], map line_step (x ∷ xs), refl, step)
-    piece_reached (x ∷ xs) some is (Err (stop.BadIndex unit)) step = step
-    piece_reached (x ∷ xs) some is (Err stop.OutFault) step = piece_within x xs is step.1.0 step.1.1
-    piece_reached (x ∷ xs) some is (Err stop.ErrFault) step = absurd (let is = step.0 in cc)
-    piece_reached (x ∷ xs) some is (Err stop.NoMemory) step = ([], map line_step (x ∷ xs), refl, step)
+    piece_reached (x ∷ xs) some is (Err halt.DiskFault) step = ([], map line_step (x ∷ xs), refl, step)
+    piece_reached (x ∷ xs) some is (Err halt.ShelfFault) step = ([], map line_step (x ∷ xs), refl, step)
+    piece_reached (x ∷ xs) some is (Err halt.OutFault) step = piece_within x xs is step.1.0 step.1.1
+    piece_reached (x ∷ xs) some is (Err halt.ErrFault) step = absurd (let is = step.0 in cc)
+    piece_reached (x ∷ xs) some is (Err halt.NoMemory) step = ([], map line_step (x ∷ xs), refl, step)
+    piece_reached (x ∷ xs) some is (Err others) step = absurd step
 
 -- ---- the lines of a package
 

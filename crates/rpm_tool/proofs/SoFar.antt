@@ -2,21 +2,21 @@
 use Rattle.std.proofs.Common.{◌≡◌, ℕ, ◌≤◌, true, Result, Ok, Err, ap, arith}
 use Rattle.rpm_outside.specs.declared.disk.Disk as disk
 use Rattle.rpm_outside.specs.declared.sink.Sink as sink
-use Rattle.rpm_tool.proofs.Vocabulary.{Buffered, DiskFault, Glances, Hand, inner, Rose, Stop, TellsErr, TellsOut}
-use Rattle.rpm_tool.specs.declared.step.Stop.TheVariants as stop
-use Rattle.rpm_tool.specs.Frame.{Peeks}
+use Rattle.rpm_tool.proofs.Vocabulary.{Buffered, DiskFault, Glances, Halt, Hand, inner, Rose}
+use Rattle.rpm_change.specs.declared.tally.Halt.TheVariants as halt
+use Rattle.rpm_tool.specs.Frame.{Peeks, TellsTo}
 use Rattle.rpm_tool.proofs.Peeking.{peeks_none, peeks_then, peeks_glances}
 
-abbrev failed : (T : Type 0) → Stop → Result T Stop
+abbrev failed : (T : Type 0) → Halt → Result T Halt
 failed T what = Err what
 
-abbrev done : (T : Type 0) → T → Result T Stop
+abbrev done : (T : Type 0) → T → Result T Halt
 done T u = Ok u
 
-stopped : (T : Type 0) (what other : Stop) → failed T what ≡ failed T other → what ≡ other
+stopped : (T : Type 0) (what other : Halt) → failed T what ≡ failed T other → what ≡ other
 stopped T what other is = cc
 
-again : (T U : Type 0) (what other : Stop) → failed U what ≡ failed U other → failed T what ≡ failed T other
+again : (T U : Type 0) (what other : Halt) → failed U what ≡ failed U other → failed T what ≡ failed T other
 again T U what other is = ap (failed T) (stopped U what other is)
 
 higher : (a b c : ℕ) → a ≤ b → Rose b c → Rose a c
@@ -24,10 +24,10 @@ higher a b c le rose = omega (arith, le, rose)
 
 module _ {D : Type 0} (d : disk.Ghosts D) where
   pub glances : {old new : D} → Glances d old new → Peeks d true old new
-  glances {old = old} {new = new} looks = peeks_glances d.tells d.files d.left_since d.moment d.bytes_read d.follows old new looks
+  glances looks = peeks_glances d looks
 
   pub peeks_more : ((x y z : D) → d.follows x y → d.follows y z → d.follows x z) → {a b c : D} → Peeks d true a b → Peeks d true b c → Peeks d true a c
-  peeks_more goes {a = a} {b = b} {c = c} first second = peeks_then d.tells d.files d.left_since d.moment d.bytes_read d.follows true goes a b c first second
+  peeks_more goes first second = peeks_then d goes first second
 
 module _ {D S : Type 0} (d : disk.Ghosts D) (s : sink.Ghosts S) where
   pub record SoFar (old new : D) (from to : Buffered S) : Type 0 where
@@ -38,7 +38,7 @@ module _ {D S : Type 0} (d : disk.Ghosts D) (s : sink.Ghosts S) where
 
   pub so_far_none : ((x : D) → d.follows x x) → ((x : S) → s.follows x x) → (at : D) (to : Buffered S) → SoFar at at to to
   so_far_none stays keeps at to = record {
-    looks = peeks_none d.tells d.files d.left_since d.moment d.bytes_read d.follows true stays at;
+    looks = peeks_none d stays;
     disk = omega arith;
     taken = omega arith;
     rest = keeps (inner to);
@@ -61,55 +61,33 @@ module _ {D S : Type 0} (d : disk.Ghosts D) (s : sink.Ghosts S) where
   }
 
   module _ (goes : (x y z : D) → d.follows x y → d.follows y z → d.follows x z) (joins : (x y z : S) → s.follows x y → s.follows y z → s.follows x z)
-      {a b c : D} {x y z : Buffered S} (far : SoFar a b x y) where
+      {a b c : D} {x y z : Buffered S} (far : SoFar a b x y) {own other : Halt} where
     -- one call more
-    pub more_out : {T : Type 0} {r : Result T Stop} → TellsOut d s r b c y z → SoFar a c x z
-    more_out more = record {
+    pub so_far_more : {T : Type 0} {r : Result T Halt} → TellsTo d s own other r b c y z → SoFar a c x z
+    so_far_more more = record {
       looks = peeks_more d goes far.looks more.looks;
       disk = omega (arith, far.disk, more.disk.later);
-      taken = omega (arith, far.taken, more.out.cause.later);
-      rest = joins (inner x) (inner y) (inner z) far.rest more.out.goes_on;
-    }
-
-    pub more_err : {T : Type 0} {r : Result T Stop} → TellsErr d s r b c y z → SoFar a c x z
-    more_err more = record {
-      looks = peeks_more d goes far.looks more.looks;
-      disk = omega (arith, far.disk, more.disk.later);
-      taken = omega (arith, far.taken, more.err.cause.later);
-      rest = joins (inner x) (inner y) (inner z) far.rest more.err.goes_on;
+      taken = omega (arith, far.taken, more.hand.cause.later);
+      rest = joins (inner x) (inner y) (inner z) far.rest more.hand.goes_on;
     }
 
     -- it stops them
-    pub stops_out : {T U : Type 0} {what : Stop} → TellsOut d s (failed T what) b c y z → TellsOut d s (failed U what) a c x z
-    stops_out {T = T} {U = U} {what = what} more = record {
+    pub so_far_stops : {T U : Type 0} {what : Halt} → TellsTo d s own other (failed T what) b c y z → TellsTo d s own other (failed U what) a c x z
+    so_far_stops {T = T} {U = U} {what = what} more = record {
       looks = peeks_more d goes far.looks more.looks;
-      no_err = λ is. more.no_err (again T U what stop.ErrFault is);
-      disk = fault_on {a = a} {b = b} {c = c} far.disk (again T U what stop.ReadFault) more.disk;
-      out = hand_on joins far.taken far.rest (again T U what stop.OutFault) more.out;
-    }
-
-    pub stops_err : {T U : Type 0} {what : Stop} → TellsErr d s (failed T what) b c y z → TellsErr d s (failed U what) a c x z
-    stops_err {T = T} {U = U} {what = what} more = record {
-      looks = peeks_more d goes far.looks more.looks;
-      no_out = λ is. more.no_out (again T U what stop.OutFault is);
-      disk = fault_on {a = a} {b = b} {c = c} far.disk (again T U what stop.ReadFault) more.disk;
-      err = hand_on joins far.taken far.rest (again T U what stop.ErrFault) more.err;
+      class = more.class;
+      no_other = λ is. more.no_other (again T U what other is);
+      disk = fault_on {a = a} {b = b} {c = c} far.disk (again T U what halt.DiskFault) more.disk;
+      hand = hand_on joins far.taken far.rest (again T U what own) more.hand;
     }
 
   -- all were made
-  module _ {T : Type 0} {u : T} {old new : D} {from to : Buffered S} (far : SoFar old new from to) where
-    pub ends_out : TellsOut d s (done T u) old new from to
-    ends_out = record {
-      looks = far.looks;
-      no_err = λ is. cc;
-      disk = record { later = far.disk; rose = λ is. absurd cc };
-      out = record { cause = record { later = far.taken; rose = λ is. absurd cc }; goes_on = far.rest };
-    }
-
-    pub ends_err : TellsErr d s (done T u) old new from to
-    ends_err = record {
-      looks = far.looks;
-      no_out = λ is. cc;
-      disk = record { later = far.disk; rose = λ is. absurd cc };
-      err = record { cause = record { later = far.taken; rose = λ is. absurd cc }; goes_on = far.rest };
-    }
+  pub so_far_ends : {T : Type 0} {u : T} {old new : D} {from to : Buffered S} {own other : Halt} → SoFar old new from to
+      → TellsTo d s own other (done T u) old new from to
+  so_far_ends far = record {
+    looks = far.looks;
+    class = tt;
+    no_other = λ is. cc;
+    disk = record { later = far.disk; rose = λ is. absurd cc };
+    hand = record { cause = record { later = far.taken; rose = λ is. absurd cc }; goes_on = far.rest };
+  }

@@ -2,7 +2,7 @@
 use Rattle.std.proofs.Common.{◌≡◌, Bool, true, false, eqb, Result, Ok, Err, refl, sym, ap, subst, inl, inr, arith}
 use Rattle.std.specs.Prelude.{IfOk}
 use Rattle.std.proofs.lemmas.Bool.{and_parts, eqb-true}
-use Rattle.rpm_tool.proofs.Vocabulary.{blank_store, Closed, Files, HasCurrent, is_current, is_in_order, IsLawful, IsLawfulGroup, log_state, LogState}
+use Rattle.rpm_tool.proofs.Vocabulary.{blank_store, Closed, Files, HasCurrent, is_current, is_in_order, IsLawful, IsLawfulGroup, IsSound, log_state, LogState}
 use Rattle.rpm_tool.proofs.Vocabulary.{MayBegin, reopened, ReopensAs, sealed, state_of, Store, store, unit_at, Units, unlogged, with_state}
 
 pub if_ok : {T E : Type 0} {P : T → Type 0} (x : Result T E) → ((t : T) → x ≡ Ok t → P t) → IfOk x P
@@ -11,6 +11,9 @@ if_ok (Err e) each = tt
 
 pub if_ok_at : {T E : Type 0} (P : T → Type 0) (x : Result T E) (t : T) → x ≡ Ok t → IfOk x P → P t
 if_ok_at P x t is each = subst (λ (y : _). IfOk y P) is each
+
+pub ok_is : {T E : Type 0} (P : T → Type 0) (x : Result T E) (t : T) → x ≡ Ok t → P t → IfOk x P
+ok_is P x t is here = subst (λ (y : _). IfOk y P) (sym is) here
 
 -- what is asked of the files at the start, and of a part of them
 pub begins : {Lawful : Type 0} (anew : Bool) → Lawful → MayBegin anew Lawful
@@ -50,3 +53,7 @@ stands_lawful files image stands lawful = record {
   sound = stands.sound;
   lawful = subst (λ (f : Files). IsLawful f.pkg f.idx) (sym stands.same) lawful;
 }
+
+-- files with a closed log are, where they are lawful
+pub shut_lawful : (files : Files) → log_state files.log ≡ Closed → IsLawful files.pkg files.idx → IsLawfulGroup files
+shut_lawful files closed = stands_lawful (unlogged files) files (record { same = shut_stands files closed; sound = subst IsSound (sym closed) tt })

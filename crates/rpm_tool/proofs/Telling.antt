@@ -1,14 +1,13 @@
 -- What the reports tell, one thing after the other.
-use Rattle.std.proofs.Common.{◌≡◌, ℕ, ◌+◌, ◌<◌, Bool, true, false, ◌==◌, List, [], ◌∷◌, ◌++◌, map, drop, length, get_or, Option, Some, None, Result, Ok, Err, is_some, refl, sym, ap, ◌∙◌, subst, add-one, drop-cons, arith}
+use Rattle.std.proofs.Common.{◌≡◌, ℕ, ◌+◌, ◌<◌, Bool, true, false, ◌==◌, List, [], ◌∷◌, ◌++◌, map, drop, length, get_or, Some, Result, Ok, Err, refl, sym, ap, ◌∙◌, subst, add-one, drop-cons, arith}
 use Rattle.std.specs.Prelude.{codes, slice_index_or}
-use Rattle.rpm_tool.proofs.Vocabulary.{above, Anywhere, bad_at, bad_part, class_steps, cycle_line, Database, Files, flat_map, from_one, Header, header}
-use Rattle.rpm_tool.proofs.Vocabulary.{header-own, HeaderFault, is_there, IsNext, IsRead, Keeps, label_step, nat_cmp, next_above, Outputs, Package}
-use Rattle.rpm_tool.proofs.Vocabulary.{package_of, package_text, packages, PartIs, Reached, read_as, read_text, Step, StepIs, Stop, Store, Through, ToOut}
-use Rattle.rpm_tool.proofs.Vocabulary.{Units, whole}
+use Rattle.rpm_tool.proofs.Vocabulary.{Anywhere, Bearer, class_steps, cycle_line, fails, flat_map, Halt, header, Header, header-own, HeaderFault, label_step}
+use Rattle.rpm_tool.proofs.Vocabulary.{nat_cmp, Outputs, Package, package_of, package_text, packages, PartIs, Reached, read_as, read_text, Step, StepIs}
+use Rattle.rpm_tool.proofs.Vocabulary.{ToOut, whole}
 use Rattle.std.proofs.lemmas.Bool.Decides.{nat_tests}
 use Rattle.std.specs.FinMap as finite
-use Rattle.rpm_tool.specs.declared.step.Stop.TheVariants as stop
-use Rattle.rpm_tool.proofs.Stopping.{reached_first}
+use Rattle.rpm_change.specs.declared.tally.Halt.TheVariants as halt
+use Rattle.rpm_tool.proofs.Stopping.{reached_first, reached_reads}
 
 -- ---- a package
 
@@ -26,29 +25,6 @@ pub nothing_read : (text : Header → List ℕ) → read_text text (header []) �
 unfolding header
 nothing_read text = refl
 
-none_is : (o : Option Package) → is_some o ≡ false → o ≡ None
-none_is None none = refl
-none_is (Some p) none = absurd cc
-
-first_package : (packages : finite.FinMap nat_cmp Package) (n m : ℕ) (o : Option Package) → finite.get packages m ≡ o → n < m → is_some o ≡ true
-    → ((k : ℕ) → n < k → k < m → is_some (finite.get packages k) ≡ false)
-    → (p : Package) × (finite.get packages m ≡ Some p) × (above n (finite.entries packages) ≡ (m, p) ∷ above m (finite.entries packages))
-first_package packages n m None there lt some none = absurd cc
-first_package packages n m (Some p) there lt some none =
-    (p, there, next_above packages n m p lt there (λ k a b. none_is (finite.get packages k) (none k a b)))
-
--- the next of the packages above a number
-pub next_package : (packages : finite.FinMap nat_cmp Package) (n m : ℕ) → IsNext (λ k. is_some (finite.get packages k)) n (Some m)
-    → (p : Package) × (finite.get packages m ≡ Some p) × (above n (finite.entries packages) ≡ (m, p) ∷ above m (finite.entries packages))
-next_package packages n m next = first_package packages n m (finite.get packages m) refl next.0 next.1 next.2
-
--- what is said of the files as they read, of a package that is there, is said of the files as they were
-pub bad_here : (f f' : Files) (s : Store) (m : ℕ) (p : Package) (r : Result Bool Stop) (old new : Outputs) → f ≡ f'
-    → finite.get (packages f'.pkg s) m ≡ Some p → PartIs (bad_at m (finite.get (packages f.pkg s) m)) r old new Anywhere
-    → PartIs (bad_part (m, p)) r old new Anywhere
-bad_here f f' s m p r old new same there part =
-    subst (λ (o : Option Package). PartIs (bad_at m o) r old new Anywhere) (ap (λ (g : Files). finite.get (packages g.pkg s) m) same ∙ there) part
-
 -- ---- a list
 
 -- the element at a place, and those after it
@@ -65,8 +41,15 @@ pub classes_at : (f : List ℕ → List Step) (xs : List (List ℕ)) (k : ℕ) �
 classes_at f xs k lt = ap (flat_map f) (rest_at xs k [] lt)
 
 -- a step that stops
-pub step_stops : (s : Step) (what : Stop) (old new : Outputs) → StepIs s (Err what) old new → Reached {T = Bool} (s ∷ []) (Err what) old new Anywhere
+pub step_stops : (s : Step) (what : Halt) (old new : Outputs) → StepIs s (Err what) old new → Reached {T = Bool} (s ∷ []) (Err what) old new Anywhere
 step_stops s what old new step = reached_first Bool s [] what old new Anywhere tt step
+
+-- a line that was written is one that says the same
+pub line_told : {b : Bearer} {text said : List ℕ} {r : Result Bool Halt} {old new : Outputs} → text ≡ said
+    → PartIs (fails (ToOut b text)) r old new (λ for. for ≡ b) → Reached (ToOut b said ∷ []) r old new Anywhere
+line_told {b = b} {said = said} {r = r} {old = old} {new = new} is part =
+    reached_reads (ToOut b said ∷ []) r old new (λ (for : Bearer). for ≡ b) Anywhere (λ f same. tt)
+    (subst (λ (t : List ℕ). Reached (ToOut b t ∷ []) r old new (λ for. for ≡ b)) is part.steps)
 
 -- ---- a class
 

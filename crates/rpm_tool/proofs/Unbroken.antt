@@ -1,56 +1,55 @@
 -- Answers that don't say that the index is malformed.
 use Rattle.std.proofs.Common.{◌≡◌, ℕ, List, Bool, false, Result, Ok, Err, Option, Some, refl}
-use Rattle.rpm_tool.proofs.Vocabulary.{Bearer, Chosen, Course, is_of_sink, IsOfChain, IsOfChains, IsOfSome, keys_asked, lent, Outputs, PartIs, PickFault}
-use Rattle.rpm_tool.proofs.Vocabulary.{Portion, question_of, Reached, Selection, Step, StepIs, Stop, stop_of, Units, Went, Why}
+use Rattle.rpm_tool.proofs.Vocabulary.{Bearer, Chosen, Course, IsOfChain, IsOfChains, IsOfRead, IsOfSome, keys_asked, lent, Outputs, PartIs, PickFault}
+use Rattle.rpm_tool.proofs.Vocabulary.{Portion, question_of, Reached, Selection, Step, StepIs, Halt, halt_of_pick, Units, Went, Why, why_of_halt}
 use Rattle.rpm_select.specs.declared.picked.PickFault.TheVariants as pick
 use Rattle.rpm_select.specs.Picks.{is_of_index}
 use Rattle.rpm_select.specs.Reach.{IsBroken}
 use Rattle.std.specs.Prelude.{slice_get, IfErr}
-use Rattle.rpm_tool.specs.declared.step.Stop.TheVariants as stop
+use Rattle.rpm_change.specs.declared.tally.Halt.TheVariants as halt
 use Rattle.rpm_tool.specs.declared.answer.Why.TheVariants as why
-use Rattle.rpm_tool.specs.Answers.{why_of}
 
-pub stop_unsunk : (fault : PickFault) → is_of_index fault ≡ false → is_of_sink (stop_of fault) ≡ false
+pub stop_unsunk : (fault : PickFault) → is_of_index fault ≡ false → IsOfRead (halt_of_pick fault)
 stop_unsunk (pick.BadIndex unit) is = absurd cc
-stop_unsunk pick.DiskFault is = refl
-stop_unsunk pick.NoMemory is = refl
+stop_unsunk pick.DiskFault is = tt
+stop_unsunk pick.NoMemory is = tt
 
-pub step_unbroken : (step : Step) (r : Result Bool Stop) (old new : Outputs) → StepIs step r old new → (unit : ℕ) → r ≡ Err (stop.BadIndex unit) → ⊥
+pub step_unbroken : (step : Step) (r : Result Bool Halt) (old new : Outputs) → StepIs step r old new → (unit : ℕ) → r ≡ Err (halt.BadIndex unit) → ⊥
 step_unbroken step (Ok o) old new one unit is = cc
-step_unbroken step (Err (stop.BadIndex at)) old new one unit is = one
+step_unbroken step (Err (halt.BadIndex at)) old new one unit is = one
 step_unbroken step (Err others) old new one unit is = cc
 
-reached_unbroken : (all : List Step) (r : Result Bool Stop) (old new : Outputs) (reads_to : Bearer → Type 0) → Reached all r old new reads_to → (unit : ℕ)
-    → r ≡ Err (stop.BadIndex unit) → ⊥
+reached_unbroken : (all : List Step) (r : Result Bool Halt) (old new : Outputs) (reads_to : Bearer → Type 0) → Reached all r old new reads_to → (unit : ℕ)
+    → r ≡ Err (halt.BadIndex unit) → ⊥
 reached_unbroken all (Ok o) old new reads_to one unit is = cc
-reached_unbroken all (Err (stop.BadIndex at)) old new reads_to one unit is = one
+reached_unbroken all (Err (halt.BadIndex at)) old new reads_to one unit is = one
 reached_unbroken all (Err others) old new reads_to one unit is = cc
 
-pub part_unbroken : (part : Portion) (r : Result Bool Stop) (old new : Outputs) (reads_to : Bearer → Type 0) → PartIs part r old new reads_to → (unit : ℕ)
-    → r ≡ Err (stop.BadIndex unit) → ⊥
-part_unbroken part r old new reads_to p unit is = reached_unbroken part.steps r old new reads_to p.steps unit is
+pub part_unbroken : {part : Portion} {r : Result Bool Halt} {old new : Outputs} {reads_to : Bearer → Type 0} → PartIs part r old new reads_to → (unit : ℕ)
+    → r ≡ Err (halt.BadIndex unit) → ⊥
+part_unbroken {part = part} {r = r} {old = old} {new = new} {reads_to = reads_to} p unit is = reached_unbroken part.steps r old new reads_to p.steps unit is
 
 -- and so it is the fault of no chain
-pub chain_unbroken : (asked : Option Selection) (idx : Units) (r : Result Bool Stop) → ((unit : ℕ) → r ≡ Err (stop.BadIndex unit) → ⊥)
+pub chain_unbroken : (asked : Option Selection) (idx : Units) (r : Result Bool Halt) → ((unit : ℕ) → r ≡ Err (halt.BadIndex unit) → ⊥)
     → IfErr r (IsOfChain asked idx)
 chain_unbroken asked idx (Ok o) never = tt
-chain_unbroken asked idx (Err (stop.BadIndex at)) never = absurd (never at refl)
+chain_unbroken asked idx (Err (halt.BadIndex at)) never = absurd (never at refl)
 chain_unbroken asked idx (Err others) never = tt
 
 -- a picker that isn't begun tells the fault of one
-pub chain_of : (sel : Selection) (idx : Units) (fault : PickFault) → IsBroken (keys_asked sel) idx fault → IsOfChain (Some sel) idx (stop_of fault)
+pub chain_of : (sel : Selection) (idx : Units) (fault : PickFault) → IsBroken (keys_asked sel) idx fault → IsOfChain (Some sel) idx (halt_of_pick fault)
 chain_of sel idx (pick.BadIndex unit) is = is
 chain_of sel idx pick.DiskFault is = tt
 chain_of sel idx pick.NoMemory is = tt
 
 -- of a command that one of its arguments stopped
-pub chains_of : (chosen : Chosen) (texts : List (List ℕ)) (idx : Units) (j : ℕ) (text : List ℕ) (what : Stop) → slice_get texts j ≡ Some text
-    → IsOfChain (question_of chosen (lent text)) idx what → IsOfChains chosen texts idx (why_of what)
-chains_of chosen texts idx j text (stop.BadIndex unit) here is = (j, text, here, is)
+pub chains_of : (chosen : Chosen) (texts : List (List ℕ)) (idx : Units) (j : ℕ) (text : List ℕ) (what : Halt) → slice_get texts j ≡ Some text
+    → IsOfChain (question_of chosen (lent text)) idx what → IsOfChains chosen texts idx (why_of_halt what)
+chains_of chosen texts idx j text (halt.BadIndex unit) here is = (j, text, here, is)
 chains_of chosen texts idx j text others here is = tt
 
-pub why_unbroken : (what : Stop) → ((unit : ℕ) → what ≡ stop.BadIndex unit → ⊥) → (unit : ℕ) → why_of what ≡ why.BadIndex unit → ⊥
-why_unbroken (stop.BadIndex at) never unit is = never at refl
+pub why_unbroken : (what : Halt) → ((unit : ℕ) → what ≡ halt.BadIndex unit → ⊥) → (unit : ℕ) → why_of_halt what ≡ why.BadIndex unit → ⊥
+why_unbroken (halt.BadIndex at) never unit is = never at refl
 why_unbroken others never unit is = cc
 
 pub chains_none : (chosen : Chosen) (texts : List (List ℕ)) (idx : Units) (w : Why) → ((unit : ℕ) → w ≡ why.BadIndex unit → ⊥)
@@ -64,6 +63,6 @@ some_none idx (why.BadIndex unit) never = absurd (never unit refl)
 some_none idx others never = tt
 
 -- a command that goes through a course blames no index
-pub some_went : (c : Course) (old new : Outputs) (idx : Units) (w : Why) (reads_to : Bearer → Type 0) → Went c w old new reads_to → IsOfSome idx w
-some_went c old new idx (why.BadIndex unit) reads_to went = absurd went
-some_went c old new idx others reads_to went = tt
+pub some_went : (c : Course) (old new : Outputs) (reads_to : Bearer → Type 0) (idx : Units) (w : Why) → Went c w old new reads_to → IsOfSome idx w
+some_went c old new reads_to idx (why.BadIndex unit) went = absurd went
+some_went c old new reads_to idx others went = tt

@@ -1,15 +1,14 @@
--- A command that changed nothing: it didn't begin, or its database wasn't recovered, or wasn't loaded.
-use Rattle.std.proofs.Common.{◌≡◌, ℕ, Bool, true, false, [], Option, Result, Ok, Err, refl, sym, ap, ◌∙◌, subst, inl, append-nil, arith}
-use Rattle.std.specs.Prelude.{IsTrue}
+-- A command that changed nothing: each that was stopped, and one that didn't begin, or whose database wasn't recovered, or wasn't loaded.
+use Rattle.std.proofs.Common.{◌≡◌, ℕ, true, [], Result, Ok, Err, refl, sym, ap, ◌∙◌, subst, inl, append-nil}
 use Rattle.rpm_outside.specs.declared.disk.Disk as disk
-use Rattle.rpm_tool.proofs.Vocabulary.{after, Course, Damage, Did, DidLoaded, Files, Halt, images, is_done, is_held, is_of_lawful, IsSound, LeavesIn}
-use Rattle.rpm_tool.proofs.Vocabulary.{LoadFault, LoadSays, Log, log_state, LogOn, LogState, LooksAt, Malformed, MeetsFirst, Misread, none_gone, OneChange}
-use Rattle.rpm_tool.proofs.Vocabulary.{Outputs, RecoverFault, RecoverSays, Refused, reopened, ReopensAsOneOf, started, State, state, Store, store, TaskParts}
-use Rattle.rpm_tool.proofs.Vocabulary.{Through, Why, why_of_load, why_of_recover}
+use Rattle.rpm_tool.proofs.Vocabulary.{after, BadBy, changes_index, Closed, Course, Damage, Did, DidLoaded, DidOn, Files, images, is_anew, is_done}
+use Rattle.rpm_tool.proofs.Vocabulary.{is_of_lawful, IsLawfulGroup, IsSound, LeavesIn, LimitsBy, LoadFault, LoadSays, log_state, LogBy, LogState, Malformed}
+use Rattle.rpm_tool.proofs.Vocabulary.{Misread, none_gone, OneChange, Outputs, RecoverFault, RecoverSays, Refused, reopened, ReopensAsOneOf, started, State}
+use Rattle.rpm_tool.proofs.Vocabulary.{state, Store, store, TaskParts, Through, Why, why_of_load, why_of_recover}
 use Rattle.rpm_group.specs.declared.load.LoadFault.TheVariants as load
 use Rattle.rpm_group.specs.declared.recovery.RecoverFault.TheVariants as recover
 use Rattle.rpm_tool.specs.declared.answer.Why.TheVariants as why
-use Rattle.rpm_tool.proofs.Leavings.{leaves_start}
+use Rattle.rpm_tool.proofs.Outcomes.{leaves_start}
 use Rattle.rpm_tool.proofs.Regrouped.{recovering, recovering_fits, recovering_still}
 use Rattle.rpm_tool.proofs.Standing.{if_ok}
 
@@ -30,100 +29,69 @@ pub early_recover : (log : LogState) (fault : RecoverFault) → RecoverSays log 
 early_recover log (recover.BadLog unit) says = says
 early_recover log recover.DiskFault says = says
 
-pub early_load : (log : LogState) (fault : LoadFault) → LoadSays log (Err fault) → IsEarly log (why_of_load fault)
-early_load log (load.BadLog unit) says = says
-early_load log others says = says
+-- a log that was closed isn't malformed
+pub early_load : (log shut : LogState) → shut ≡ Closed → (fault : LoadFault) → LoadSays shut (Err fault) → IsEarly log (why_of_load fault)
+early_load log shut closed (load.BadLog unit) says = absurd (let wrong : Closed ≡ Malformed unit = sym closed ∙ says in cc)
+early_load log shut closed others says = tt
 
-record Kinds (log : LogState) (w : Why) : Type 0 where
-  undone : is_done w ≡ true → ⊥
-  unheld : is_held w ≡ false
-  sound : IsSound log → is_of_lawful w ≡ true
-  unbroken : (unit : ℕ) → w ≡ why.BadIndex unit → ⊥
-
-module _ (log : LogState) where
-  by_early : (P : Why → Type 0) → ((unit : ℕ) → log ≡ Malformed unit → P (why.BadLog unit)) → P why.DiskFault → P why.NoMemory → (w : Why)
-      → IsEarly log w → P w
-  by_early P bad fault memory (why.BadLog unit) is = bad unit is
-  by_early P bad fault memory why.DiskFault is = fault
-  by_early P bad fault memory why.NoMemory is = memory
-  by_early P bad fault memory others is = absurd is
-
-  early_kinds : (w : Why) → IsEarly log w → Kinds log w
-  early_kinds = by_early (Kinds log)
-      (λ unit is. record {
-        undone = λ done. cc;
-        unheld = refl;
-        sound = λ sound. absurd (subst IsSound is sound);
-        unbroken = λ u bad. cc;
-      })
-      (record { undone = λ done. cc; unheld = refl; sound = λ sound. refl; unbroken = λ u bad. cc })
-      (record { undone = λ done. cc; unheld = refl; sound = λ sound. refl; unbroken = λ u bad. cc })
-
-  early_meets : (indexed : Bool) (first : Option Halt) (w : Why) → IsEarly log w → MeetsFirst indexed first w
-  early_meets indexed first = by_early (MeetsFirst indexed first) (λ unit is. tt) tt tt
-
-  module _ (course : Store → Course) (x : Outputs) where
-    early_any : (w : Why) → ((c : Course) → Did c w x x) → ((e : Damage) → Refused e w) → ((unit : ℕ) → Misread unit w) → (l : LogState)
-        (sr : Result Store Damage) → DidLoaded course sr l w x x
-    early_any w did refused misread (Malformed unit) sr = (misread unit, through_none x)
-    early_any w did refused misread others (Ok s) = did (course s)
-    early_any w did refused misread others (Err e) = (refused e, through_none x)
-
-    early_did : (sr : Result Store Damage) (w : Why) → IsEarly log w → DidLoaded course sr log w x x
-    early_did sr = by_early (λ (w : Why). DidLoaded course sr log w x x)
-        (λ unit is. subst (λ (l : LogState). DidLoaded course sr l (why.BadLog unit) x x) (sym is) (refl, through_none x))
-        (early_any why.DiskFault (λ c. none_gone c x x (through_none x)) (λ e. tt) (λ unit. tt) log sr)
-        (early_any why.NoMemory (λ c. none_gone c x x (through_none x)) (λ e. tt) (λ unit. tt) log sr)
+module _ (course : Store → Course) (x : Outputs) where
+  early_any : (w : Why) → ((c : Course) → Did c w x x) → ((e : Damage) → Refused e w) → ((unit : ℕ) → Misread unit w) → (l : LogState)
+      (sr : Result Store Damage) → DidLoaded course sr l w x x
+  early_any w did refused misread (Malformed unit) sr = (misread unit, through_none x)
+  early_any w did refused misread others (Ok s) = did (course s)
+  early_any w did refused misread others (Err e) = (refused e, through_none x)
 
 -- ---- what is left, and what is said
 
-module _ {D : Type 0} (d : disk.Ghosts D) (old new : D) (stands : reopened (d.files new) ≡ reopened (d.files old))
-    (run : LeavesIn d old new (ReopensAsOneOf (images d old))) (w : Why) (early : IsEarly (log_state (d.files old).log) w) where
+module _ {D : Type 0} (d : disk.Ghosts D) (task : TaskParts) (course : State → Course) (old new : D)
+    (stands : reopened (d.files new) ≡ reopened (d.files old)) (run : LeavesIn d old new (ReopensAsOneOf (images d old))) where
   abbrev r : Files
   r = reopened (d.files old)
 
-  abbrev log : LogState
-  log = log_state (d.files old).log
+  abbrev Lawful : Type 0
+  Lawful = IsLawfulGroup (d.files old)
 
-  kinds : Kinds log w
-  kinds = early_kinds log w early
-
-  pub unmade_one : (task : TaskParts) (course : State → Course) (x : Outputs) → OneChange d task course w 0 old new x x
-  unmade_one task course x = record {
-    did = early_did log (λ s. course (state r.pkg s)) x (store r.pkg) w early;
+  pub still_one : (w : Why) (before now : Outputs) → (is_done w ≡ true → ⊥) → DidOn course (d.files old) w before now
+      → BadBy (changes_index task) r.pkg r.idx w → (Lawful → is_of_lawful w ≡ true) → LimitsBy (is_anew task) Lawful course r w
+      → LogBy (is_anew task) Lawful course r w → OneChange d task course w 0 old new before now
+  still_one w before now undone did bad complete limits log = record {
+    did = did;
     changed = record {
       counted = λ no. refl;
-      leaves = if_ok (store r.pkg) (λ s is. leaves_start course (state r.pkg s) w 0 (d.files new) kinds.undone refl
+      leaves = if_ok (store r.pkg) (λ s is. leaves_start course (state r.pkg s) w (d.files new) undone
           (record { value = s; undamaged = ap (λ (f : Files). store f.pkg) stands ∙ is; is = ap (λ (f : Files). state f.pkg s) stands }));
       refused = λ no. stands;
-      made = λ done. absurd (kinds.undone done);
-      index = λ may done. absurd (kinds.undone done);
-      settled = λ done. absurd (kinds.undone done);
-      lawful = λ may done. absurd (kinds.undone done);
-      bad = λ unit is. absurd (kinds.unbroken unit is);
-      complete = λ lawful. kinds.sound lawful.sound;
+      made = λ done. absurd (undone done);
+      index = λ may done. absurd (undone done);
+      settled = λ done. absurd (undone done);
+      lawful = λ may done. absurd (undone done);
+      bad = bad;
+      complete = complete;
       stops = λ lawful. if_ok (store r.pkg) (λ s is. recovering d old new run lawful (after course (state r.pkg s)));
       unmade = λ no lawful. recovering_still d old new run lawful;
       fits = λ lawful fit. recovering_fits d old new run fit;
-      held = λ done. absurd (kinds.undone done);
+      held = λ done. absurd (undone done);
     };
-    limits = λ indexed may. if_ok (store r.pkg) (λ s is. early_meets log indexed _ w early);
+    limits = limits;
     fault = λ faulted. inl (record { same = stands; stops = recovering_still d old new run });
-    log = λ indexed may. by_early log (LogOn indexed course r) (λ unit is. tt) tt tt w early;
+    log = log;
   }
 
--- ---- such runs
+  pub unmade_one : (x : Outputs) (w : Why) → IsEarly (log_state (d.files old).log) w → OneChange d task course w 0 old new x x
+  unmade_one x (why.BadLog unit) is = still_one (why.BadLog unit) x x (λ done. cc)
+      (subst (λ (l : LogState). DidLoaded (λ s. course (state r.pkg s)) (store r.pkg) l (why.BadLog unit) x x) (sym is) (refl, through_none x))
+      (λ u bad. absurd cc) (λ lawful. absurd (subst IsSound is lawful.sound)) (λ indexed may. if_ok (store r.pkg) (λ s stored. tt)) (λ indexed may. tt)
+  unmade_one x why.DiskFault is = still_one why.DiskFault x x (λ done. cc)
+      (early_any (λ s. course (state r.pkg s)) x why.DiskFault (λ c. none_gone c x x (through_none x)) (λ e. tt) (λ unit. tt)
+      (log_state (d.files old).log) (store r.pkg))
+      (λ u bad. absurd cc) (λ lawful. refl) (λ indexed may. if_ok (store r.pkg) (λ s stored. tt)) (λ indexed may. tt)
+  unmade_one x why.NoMemory is = still_one why.NoMemory x x (λ done. cc)
+      (early_any (λ s. course (state r.pkg s)) x why.NoMemory (λ c. none_gone c x x (through_none x)) (λ e. tt) (λ unit. tt)
+      (log_state (d.files old).log) (store r.pkg))
+      (λ u bad. absurd cc) (λ lawful. refl) (λ indexed may. if_ok (store r.pkg) (λ s stored. tt)) (λ indexed may. tt)
+  unmade_one x others is = absurd is
 
-module _ {D : Type 0} (d : disk.Ghosts D) where
-  -- no call at all
-  pub idle_run : (it : D) → LeavesIn d it it (ReopensAsOneOf (images d it))
-  idle_run it = started d.moment d.left_since it (ReopensAsOneOf (images d it))
-      (λ image left. (image, left, record { same = refl; sound = λ sound. sound }))
-
-  -- one that read the log alone
-  pub looked_run : (old new : D) → LooksAt d Log old new → IsTrue d.tells → LeavesIn d old new (ReopensAsOneOf (images d old))
-  looked_run old new looks told = record {
-    later = omega (arith, looks.moment_stays);
-    each = λ image left. (image, (looks.untouched told).images (d.moment old) image left, record { same = refl; sound = λ sound. sound });
-    before = λ t image le left. inl ((looks.untouched told).images t image left);
-  }
+-- no call at all
+pub idle_run : {D : Type 0} (d : disk.Ghosts D) (it : D) → LeavesIn d it it (ReopensAsOneOf (images d it))
+idle_run d it = started d it (ReopensAsOneOf (images d it))
+    (λ image left. (image, left, record { same = refl; sound = λ sound. sound }))

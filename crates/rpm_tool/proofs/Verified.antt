@@ -1,14 +1,12 @@
 -- The parts of all packages, one after the other.
-use Rattle.rpm_tool.proofs.Vocabulary.{above, all_above_zero, Bearer, before, Database, Files, idle, is_there, IsNext, Keeps, nat_cmp, next_above, none_is}
-use Rattle.rpm_tool.proofs.Vocabulary.{nothing_above, Outputs, outputs, Package, packages, PartIs, Portion, Reached, room, Step, Stop, Through, together}
-use Rattle.rpm_tool.proofs.Vocabulary.{Units, verdict, verdict_part, Went}
-use Rattle.std.proofs.Common.{◌≡◌, ℕ, ◌+◌, ◌||◌, Bool, true, false, if◌then◌else◌, List, [], ◌∷◌, map, Option, Some, None, is_some, Result, Ok, Err, refl, sym, ap, ◌∙◌, subst, arith}
+use Rattle.rpm_tool.proofs.Vocabulary.{above, all_above_zero, Bearer, before, Database, Halt, idle, is_there, IsNext, Keeps, nat_cmp, next_above, none_is}
+use Rattle.rpm_tool.proofs.Vocabulary.{nothing_above, outputs, Outputs, Package, packages, PartIs, Portion, Reached, room, Step, Through, together, Units}
+use Rattle.rpm_tool.proofs.Vocabulary.{Went}
+use Rattle.std.proofs.Common.{◌≡◌, ℕ, ◌+◌, ◌||◌, Bool, true, false, if◌then◌else◌, List, [], ◌∷◌, map, Option, Some, None, is_some, Ok, Err, refl, sym, ap, ◌∙◌, subst, arith}
 use Rattle.std.proofs.lemmas.List.{append-nil}
 use Rattle.std.specs.FinMap as finite
 use Rattle.rpm_db.specs.FromOne.{from_one as none_zero}
-use Rattle.rpm_tool.specs.declared.step.Stop.TheVariants as stop
 use Rattle.rpm_tool.specs.declared.answer.Why.TheVariants as why
-use Rattle.rpm_tool.specs.Answers.{why_of}
 use Rattle.rpm_tool.proofs.Printed.{none_more}
 use Rattle.rpm_tool.proofs.Reaching.{Goes, goes_start, goes_more, goes_stop, goes_end}
 use Rattle.rpm_tool.proofs.Stopping.{reached_reads}
@@ -19,10 +17,10 @@ some_is (Some p) some = (p, refl)
 
 -- the next of the packages above a number
 pub next_entry : (map : finite.FinMap nat_cmp Package) (n m : ℕ) → IsNext (λ k. is_some (finite.get map k)) n (Some m)
-    → (p : Package) × (above n (finite.entries map) ≡ (m, p) ∷ above m (finite.entries map))
+    → (p : Package) × (finite.get map m ≡ Some p) × (above n (finite.entries map) ≡ (m, p) ∷ above m (finite.entries map))
 next_entry map n m next =
     let p = some_is (finite.get map m) next.1 in
-    (p.0, next_above map n m p.0 next.0 p.1 (λ k a b. none_is (finite.get map k) (next.2 k a b)))
+    (p.0, p.1, next_above map n m p.0 next.0 p.1 (λ k a b. none_is (finite.get map k) (next.2 k a b)))
 
 pub no_entry : (map : finite.FinMap nat_cmp Package) (n : ℕ) → IsNext (λ k. is_some (finite.get map k)) n None → above n (finite.entries map) ≡ []
 no_entry map n none = nothing_above map n (λ k lt. none_is (finite.get map k) (none k lt))
@@ -32,12 +30,6 @@ pub from_one : (file : Units) (db : Database) → Keeps file db
     → above 0 (finite.entries (packages file (room db))) ≡ finite.entries (packages file (room db))
 from_one file db keeps =
     all_above_zero (packages file (room db)) (none_is (finite.get (packages file (room db)) 0) (is_there file db 0 ∙ none_zero file db keeps))
-
--- what is said of the files as they read is said of the files as they were
-pub verdict_here : (f f' : Files) (db : Database) (m : ℕ) (r : Result Bool Stop) (old new : Outputs) (reads_to : Bearer → Type 0) → f ≡ f'
-    → PartIs (verdict_part m (verdict f.pkg db m)) r old new reads_to → PartIs (verdict_part m (verdict f'.pkg db m)) r old new reads_to
-verdict_here f f' db m r old new reads_to same part =
-    subst (λ (g : Files). PartIs (verdict_part m (verdict g.pkg db m)) r old new reads_to) same part
 
 -- one more part, for which all of them may fail
 pub fails_later : (fails one unsound rest all : Bool) → one ≡ unsound → all ≡ (fails || (one || rest)) → all ≡ ((fails || unsound) || rest)
@@ -70,7 +62,7 @@ module _ {ot et : Bool} {each : ℕ × Package → Portion} {es : List (ℕ × P
   }
 
   -- a part that stops
-  pub told_stop : {what : Stop} {P : Bearer → Type 0} (Q : Bearer → Type 0) → ((b : Bearer) → P b → Q b) → above 0 es ≡ es
+  pub told_stop : {what : Halt} {P : Bearer → Type 0} (Q : Bearer → Type 0) → ((b : Bearer) → P b → Q b) → above 0 es ≡ es
       → PartIs (each (m, p)) (Err what) (outputs ot o' et e') (outputs ot o'' et e'') P
       → PartIs (together (map each es)) (Err what) (outputs ot o et e) (outputs ot o'' et e'') Q
   told_stop {what = what} {P = P} Q so first part = record {
@@ -93,11 +85,6 @@ told_end {ot = ot} {et = et} {each = each} {es = es} {n = n} {fails = fails} {o 
   fails = ap (λ (xs : List (ℕ × Package)). (together (map each xs)).fails) (sym first)
       ∙ sym (none_more fails (parts_above each 0 es).fails (far.bad ∙ ap (λ (xs : List (ℕ × Package)). fails || (together (map each xs)).fails) none));
 }
-
--- a stop that isn't a fault of err
-pub not_of_err : (s : Stop) → (s ≡ stop.ErrFault → ⊥) → why_of s ≡ why.ErrFault → ⊥
-not_of_err stop.ErrFault other is = other refl
-not_of_err others other is = cc
 
 -- a command of one part that went through
 module _ (p : Portion) (old new : Outputs) (reads_to : Bearer → Type 0) where

@@ -61,6 +61,7 @@ pub use Rattle.rpm_filecheck.specs.Owners.{Conflict}
 pub use Rattle.rpm_graph.specs.Networks.{Network}
 pub use Rattle.rpm_graph.specs.Orders.{IsOrder}
 pub use Rattle.rpm_group.specs.Below.{KeepsBelow}
+pub use Rattle.rpm_group.specs.Groups.{BeforeOrAfter}
 pub use Rattle.rpm_group.specs.Layers.{laid_files}
 pub use Rattle.rpm_group.specs.Loads.{IsSound, LoadSays}
 pub use Rattle.rpm_group.specs.Overlay.{overlay_below, overlay_held, overlay_read, overlay_starved}
@@ -80,7 +81,8 @@ pub use Rattle.rpm_outside.specs.Browses.{left}
 pub use Rattle.rpm_outside.specs.Buffered.{all_taken, Flushes, GoesOn, inner}
 pub use Rattle.rpm_outside.specs.Causes.{HasCauseAt, Rose}
 pub use Rattle.rpm_outside.specs.Changes.{AreSettled}
-pub use Rattle.rpm_outside.specs.Crash.{LeavesOnly, Untouched}
+pub use Rattle.rpm_outside.specs.Crash.{Untouched}
+pub use Rattle.rpm_outside.specs.Leaves.{LeavesOnly}
 pub use Rattle.rpm_outside.specs.Files.{Files, unit_at, Units, units_of, with_file}
 pub use Rattle.rpm_outside.specs.Frame.{images, LeavesIn, LooksAt}
 pub use Rattle.rpm_outside.specs.Logs.{Closed, log_state, LogState, Malformed, reopened, unlogged, with_state}
@@ -139,20 +141,20 @@ unfoldable pub use Rattle.rpm_tags.specs.Value.{first_text, numbers_in, stored, 
 pub use Rattle.rpm_tags.specs.declared.kind.Kind.{Kind}
 pub use Rattle.rpm_tags.specs.declared.tag.Tag.{Tag}
 pub use Rattle.rpm_tags.specs.declared.tag.Tag.TheVariants.{Filenames, Nvra, Stored}
-pub use Rattle.rpm_tool.specs.Answers.{Anywhere, Closes, ComesWhere, Ends, is_foreign, is_of_opening, is_of_sink, is_of_words, is_some_of, Misread, PartIs}
-pub use Rattle.rpm_tool.specs.Answers.{Reached, Refused, StepIs, stop_in, stop_of, StoppedWithin, ThroughSome, Undone, unless_starved, Went, why_of_files}
+pub use Rattle.rpm_tool.specs.Answers.{Anywhere, Closes, ComesWhere, Ends, is_foreign, is_of_opening, is_of_words, IsOfPrint, IsOfRead, is_some_of, Misread, PartIs}
+pub use Rattle.rpm_tool.specs.Answers.{Reached, Refused, StepIs, halt_of_pick, StoppedWithin, ThroughSome, Undone, unless_starved, Went, why_of_halt}
 pub use Rattle.rpm_tool.specs.Answers.{why_of_load}
 pub use Rattle.rpm_tool.specs.Asked.{always_keyed, by_key, changes_in, command_in, deed_of, format_in, is_changing, is_changing_in, is_package, is_query}
 pub use Rattle.rpm_tool.specs.Asked.{needs_no_index, of_files, opens_index}
 unfoldable pub use Rattle.rpm_tool.specs.Asked.{asks, asks_change, asks_format, label_format, list_format}
-pub use Rattle.rpm_tool.specs.Changing.{after, AllFit, BadBy, ChangesWith, Did, DidLoaded, DidOpened, EmptyBy, EmptyIs, EmptyOn, HasCurrent, HasState}
+pub use Rattle.rpm_tool.specs.Changing.{after, AllFit, BadBy, ChangesWith, Did, DidLoaded, DidOn, DidOpened, EmptyBy, EmptyIs, EmptyOn, HasCurrent, HasState}
 pub use Rattle.rpm_tool.specs.Changing.{is_done_or_fault, is_held, is_of_lawful, IsBroken, IsMade, IsSealed, LeavesState, makes, MayBegin, RowsFit}
 pub use Rattle.rpm_tool.specs.Changing.{StandsStillOr}
 unfoldable pub use Rattle.rpm_tool.specs.Closing.{closing, damage_line, fault_text, format_line, rule_text, usage_line}
 pub use Rattle.rpm_tool.specs.Deeds.{asked_reaches, blocks_cost, Deeds, DidPlain, DoesBy, Loaded, Opened, Queried, query_cost, read_to}
 pub use Rattle.rpm_tool.specs.FileReport.{check_files, conflict_step, label_told, report_steps, told_steps, unread_step}
 unfoldable pub use Rattle.rpm_tool.specs.FileReport.{conflict_line}
-pub use Rattle.rpm_tool.specs.Frame.{DiskFault, IsAskable, Leaves, Looks, outs, OutTakes, packages_in, pkg_read, Runs, shown, state_in, TellsErr, TellsOut}
+pub use Rattle.rpm_tool.specs.Frame.{DiskFault, IsAskable, Leaves, Looks, outs, OutTakes, packages_in, Peeks, pkg_read, Runs, shown, state_in, TellsErr, TellsOut}
 pub use Rattle.rpm_tool.specs.Given.{given_in, given_on, IsAhead, numbers_given, RiseWithin}
 pub use Rattle.rpm_tool.specs.History.{AllStand, calls_of, course_of, Cuts, FromOneOf, Leads, made_by, Moves, RunCall, StandsIn, TellsCalls, TellsLines}
 pub use Rattle.rpm_tool.specs.History.{uses_in, uses_shelf}
@@ -162,36 +164,34 @@ pub use Rattle.rpm_tool.specs.Keyed.{why_of_recover}
 pub use Rattle.rpm_tool.specs.Labels.{header_label, label_in}
 unfoldable pub use Rattle.rpm_tool.specs.Labels.{label_tree}
 pub use Rattle.rpm_tool.specs.Limits.{begun, command_limit, LimitsBy, LimitsOn, LogIs, LogOn, MeetsFirst, ReachedOn, ReachesBy, ReachesOn, StoodStill}
-pub use Rattle.rpm_tool.specs.Limits.{ToldAll}
+pub use Rattle.rpm_tool.specs.Limits.{LogBy, OneChange, ToldAll}
 pub use Rattle.rpm_tool.specs.Lines.{Between, between, InTurn, LineIs}
 pub use Rattle.rpm_tool.specs.PackageFiles.{file_part, found_part, query_files, read_part}
 pub use Rattle.rpm_tool.specs.Queries.{answered, AreQuestions, argument_part, bad_step, capability_in, header_step, is_question, lent, packages_part}
 pub use Rattle.rpm_tool.specs.Queries.{picked_by, printed, query, query_of, question_of, step_of}
 unfoldable pub use Rattle.rpm_tool.specs.Queries.{missing_part, picked, sizes_line}
-pub use Rattle.rpm_tool.specs.Reads.{IsFaultOf, IsOfChain, IsOfChains, Peeks, reach_before, reach_of, reach_sum, reached, reached_by, reached_in, reaches_by}
+pub use Rattle.rpm_tool.specs.Reads.{IsFaultOf, IsOfChain, IsOfChains, reach_before, reach_of, reach_sum, reached, reached_by, reached_in, reaches_by}
 pub use Rattle.rpm_tool.specs.Reads.{ReadsIn, ReadsOf}
 unfoldable pub use Rattle.rpm_tool.specs.Reads.{argument_reach}
 pub use Rattle.rpm_tool.specs.Reports.{entry_verdict, export, step_by, unindexed, verdict_part, verify}
 unfoldable pub use Rattle.rpm_tool.specs.Reports.{verdict_line}
 pub use Rattle.rpm_tool.specs.Requirements.{bad_at, bad_part, bad_parts, behind, class_steps, classes_part, IsListed, IsOfSome, IsRead, label_step}
-pub use Rattle.rpm_tool.specs.Requirements.{label_text, line_of, order_part, ordering, package_text, read_text, stop_of_check, StopsOfSome, unmet_lines}
+pub use Rattle.rpm_tool.specs.Requirements.{label_text, line_of, order_part, ordering, package_text, read_text, halt_of_check, HaltsOfSome, unmet_lines}
 pub use Rattle.rpm_tool.specs.Requirements.{unmet_part, unmet_step, unmet_text, unsatisfied, unsatisfied_part, why_of_report}
 unfoldable pub use Rattle.rpm_tool.specs.Requirements.{cycle_line, unmet_line}
 pub use Rattle.rpm_tool.specs.Steps.{bearer_of, before, fails, is_bad, Portion, RisesFrom, together, with_number}
 pub use Rattle.rpm_tool.specs.Tasks.{Adding, asked_course, asked_task, changes_index, Erasing, Exercising, Importing, is_anew, Making, needs_none}
 pub use Rattle.rpm_tool.specs.Tasks.{reads_shelf, Rebuilding, Replacing, task_course, task_parts, TaskParts}
-pub use Rattle.rpm_tool.specs.Theorem.{AnswersChange, AnswersKeyed, AnswersOfFiles, AnswersPlain, Does, ran, Run}
+pub use Rattle.rpm_tool.specs.Theorem.{Answers, AnswersChange, AnswersKeyed, AnswersOfFiles, AnswersPlain, AnswersWords, Does, ran, Run}
 pub use Rattle.rpm_tool.specs.Working.{done_why, ended_as, EndsAs, EndsGroup, exercise_ended, GroupLeaves, is_halt, is_of_streams, IsOfOpening, IsShut}
-pub use Rattle.rpm_tool.specs.Working.{IsUncommitted, OpensBy, OpensIn, OpensWithin, Stopped, why_of, why_of_exercise, why_of_halt, WorkedBy, WorkedOn}
+pub use Rattle.rpm_tool.specs.Working.{IsUncommitted, OpensBy, OpensIn, OpensWithin, Stopped, why_of, why_of_exercise, WorkedBy, WorkedOn}
 pub use Rattle.rpm_tool.specs.Working.{WorkedWith}
 pub use Rattle.rpm_tool.specs.declared.answer.Outcome.{Outcome}
 pub use Rattle.rpm_tool.specs.declared.answer.Why.{Why}
 pub use Rattle.rpm_tool.specs.declared.asked.Deed.{Deed}
 pub use Rattle.rpm_tool.specs.declared.picked.PrintedPackages.{PrintedPackages}
 pub use Rattle.rpm_tool.specs.declared.several.Line.{Line}
-pub use Rattle.rpm_tool.specs.declared.step.Stop.{Stop}
-pub use Rattle.rpm_tool.specs.declared.step.Way.{Way}
-pub use Rattle.rpm_tool.specs.inner.OneChange.{OneChange, OpensOn, Streams, WorksOn}
+pub use Rattle.rpm_tool.specs.inner.OneChange.{FoundAs, OpensOn, Streams, WorksOn}
 pub use Rattle.rpm_version.specs.Capability.{capability, CapabilityParts}
 pub use Rattle.rpm_version.specs.declared.capability.BadCapability.{BadCapability}
 pub use Rattle.rpm_words.specs.Ask.{AskParts, IsFit}

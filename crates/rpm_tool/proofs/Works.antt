@@ -1,67 +1,60 @@
--- From the opening of a database to the last change of a command.
-use Rattle.rpm_tool.proofs.Vocabulary.{blobs, Course, Damage, Database, Done, Ended, Files, Halt, HasRows, in_file, IsBroken, IsIndexed, IsLawful}
-use Rattle.rpm_tool.proofs.Vocabulary.{IsWholeIndex, OpensBy, Outputs, packages, ReachesBy, room, State, state, Stopped, Store, store, Tally, Units}
-use Rattle.rpm_tool.proofs.Vocabulary.{WholeTurn, why_of_halt, WorkedBy, WorkedWith}
-use Rattle.std.proofs.Common.{◌≡◌, ◌≤◌, Bool, true, false, Result, Ok, Err, refl, sym, subst}
+-- From the opening of a database to the last change of a command: how its courses end.
+use Rattle.rpm_tool.proofs.Vocabulary.{begun, blobs, Change, command_limit, Course, Damage, Database, Ended, Files, first_refusal, FoundAs, Halt, in_file}
+use Rattle.rpm_tool.proofs.Vocabulary.{is_blank, makes, must_make, next_stores, OpensBy, Outputs, packages, room, rows, State, state, Stopped, StopsAt, Store}
+use Rattle.rpm_tool.proofs.Vocabulary.{store, stores_pages, Tally, Units, units_for, units_needed, Why, why_of_halt, with_spare, WorkedBy, WorkedOn}
+use Rattle.std.proofs.Common.{◌≡◌, ◌^◌, ◌≤◌, Bool, true, false, List, Option, Some, Result, Ok, Err, refl, sym, subst, arith}
+use Rattle.std.specs.Prelude.{IfOk}
+use Rattle.std.proofs.lemmas.Bool.Decides.{nat_tests}
 use Rattle.rpm_change.specs.declared.tally.Halt.TheVariants as halt
-use Rattle.rpm_tool.proofs.Brokens.{done_unbroken, halt_unbroken}
+use Rattle.rpm_tool.proofs.Limited.{small_command}
+use Rattle.rpm_tool.proofs.Standing.{ok_is}
 
 -- a store says the same as what its file says of it
 pub state-in_file : (file : Units) (value : Store) → state file (in_file value) ≡ state file value
 unfolding packages blobs
 state-in_file file value = refl
 
--- ---- stopped later, or done
-
-halt_stopped : (c : Course) (s t : State) (h : Halt) (before now : Outputs) → Ended c s t (Err h) before now → Stopped c (why_of_halt h) before now
+pub halt_stopped : (c : Course) (s t : State) (h : Halt) (before now : Outputs) → Ended c s t (Err h) before now → Stopped c (why_of_halt h) before now
 halt_stopped c s t halt.NumbersSpent before now ended = ended
 halt_stopped c s t others before now ended = ended
 
-module _ (course : State → Course) (old mid new : Files) (db last : Database) (before now : Outputs) where
-  -- the state that was found
+-- a database that was made stays made through the changes
+pub made_paged : (db : Database) → is_blank db ≡ false → 1 ≤ (room db).pages
+made_paged db made = grind (arith, nat_tests)
+
+pub still_paged : (changes : List Change) (db : Database) (last : Store) → is_blank db ≡ false
+    → next_stores changes (room db) ≡ Some (with_spare (room db).spare last) → 1 ≤ last.pages
+still_paged changes db last made placed =
+    let first = made_paged db made in
+    let more = stores_pages changes (room db) (with_spare (room db).spare last) placed in
+    omega (arith, first, more)
+
+module _ (old mid : Files) (db : Database) (opens : OpensBy old (store old.pkg) mid (Ok db)) (is : FoundAs old mid db) where
+  -- the state that was opened
   abbrev found : State
   found = state mid.pkg (room db)
 
-  pub halted_by : (sr : Result Store Damage) (h : Halt) (t : State) → OpensBy old sr mid (Ok db) → Ended (course found) found t (Err h) before now
-      → WorkedBy course old.pkg sr new (Err (why_of_halt h)) before now
-  halted_by (Ok s) h t opens ended = subst (λ (x : State). Stopped (course x) (why_of_halt h) before now) opens.0
-      (halt_stopped (course found) found t h before now ended)
-  halted_by (Err d) h t opens ended = absurd opens
+  pub opened : (found ≡ state old.pkg is.value) × (must_make old.idx (Ok is.value) ≡ true → units_needed old.pkg (Ok is.value) ≤ 2 ^ 28)
+  opened = subst (λ (sr : Result Store Damage). OpensBy old sr mid (Ok db)) is.undamaged opens
 
-  pub halted_worked : (h : Halt) (t : State) → OpensBy old (store old.pkg) mid (Ok db) → Ended (course found) found t (Err h) before now
-      → (¬ IsWholeIndex mid.idx → IsBroken old.pkg old.idx)
-      → (IsWholeIndex mid.idx → WholeTurn new.idx (Err h)) → WorkedWith false true course old new (Err (why_of_halt h)) before now
-  halted_worked h t opens ended broken whole = record {
-    went = halted_by (store old.pkg) h t opens ended;
-    bad = λ unit is. (refl, broken (λ was. halt_unbroken new.idx h unit (whole was) is));
-    made = tt;
-    index = λ lawful. tt;
-    reached = tt;
-  }
+  -- what holds of it and of its store holds of those that are found
+  at_found : (P : State → Store → Type 0) → P found (room db) → P (state old.pkg is.value) (begun is.value)
+  at_found P holds = subst (λ (s : State). P s (begun is.value)) opened.0 (subst (λ (v : Store). P found v) is.store_is holds)
 
-  pub done_by : (sr : Result Store Damage) (tally : Tally) → OpensBy old sr mid (Ok db) → store new.pkg ≡ Ok (in_file (room last))
-      → Done (course found) found (state new.pkg (room last)) tally before now → WorkedBy course old.pkg sr new (Ok tally) before now
-  done_by (Ok s) tally opens keeps done = (
-    in_file (room last),
-    keeps,
-    subst (λ (t : State). Done (course (state old.pkg s)) (state old.pkg s) t tally before now) (sym (state-in_file new.pkg (room last)))
-        (subst (λ (x : State). Done (course x) x (state new.pkg (room last)) tally before now) opens.0 done),
-  )
-  done_by (Err d) tally opens keeps done = absurd opens
+  pub if_found : (P : Store → State → Store → Type 0) → P is.value found (room db)
+      → IfOk (store old.pkg) (λ value. P value (state old.pkg value) (begun value))
+  if_found P holds = ok_is (λ (value : Store). P value (state old.pkg value) (begun value)) (store old.pkg) is.value is.undamaged
+      (at_found (P is.value) holds)
 
-  pub done_worked : {changing : Bool} (tally : Tally) → OpensBy old (store old.pkg) mid (Ok db) → store new.pkg ≡ Ok (in_file (room last))
-      → Done (course found) found (state new.pkg (room last)) tally before now
-      → 1 ≤ (room last).pages → (IsLawful old.pkg old.idx → IsIndexed new.pkg new.idx last) → ReachesBy false (IsLawful old.pkg old.idx) course old new
-      → WorkedWith false changing course old new (Ok tally) before now
-  done_worked tally opens keeps done paged indexed reached = record {
-    went = done_by (store old.pkg) tally opens keeps done;
-    bad = λ unit is. absurd (done_unbroken tally.failed unit is);
-    made = record { value = in_file (room last); undamaged = keeps; paged = paged };
-    index = λ lawful. record {
-      value = in_file (room last);
-      undamaged = keeps;
-      current = (indexed lawful).current;
-      rows_are = subst (λ (t : State). HasRows t.packages new.idx) (sym (state-in_file new.pkg (room last))) (indexed lawful).rows_are;
-    };
-    reached = reached;
-  }
+  pub worked_by : (course : State → Course) (new : Files) (ended : Result Tally Why) (before now : Outputs)
+      → WorkedOn (course found) found new ended before now → WorkedBy course old.pkg (store old.pkg) new ended before now
+  worked_by course new ended before now worked = subst (λ (sr : Result Store Damage). WorkedBy course old.pkg sr new ended before now)
+      (sym is.undamaged) (at_found (λ s v. WorkedOn (course s) s new ended before now) worked)
+
+  -- of a command that makes no index anew: where opening made one it had room
+  pub plain_stops : (indexed : Bool) (course : State → Course) (r : Result Tally Halt)
+      → StopsAt indexed (first_refusal indexed found (room db) (course found).changes) r
+      → StopsAt indexed (command_limit indexed (makes false old.idx is.value) found (room db) (course found).changes) r
+  plain_stops indexed course r stops = subst (λ (first : Option Halt). StopsAt indexed first r)
+      (sym (small_command indexed (makes false old.idx is.value) found (room db) (course found).changes
+      (λ made. subst (λ (s : State). units_for (rows s.packages) ≤ 2 ^ 28) (sym opened.0) (opened.1 made)))) stops

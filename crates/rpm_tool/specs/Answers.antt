@@ -2,16 +2,10 @@
 -- closing line after all of it.
 use Rattle.std.specs.Prelude.{◌≡◌, ◌≢◌, ◌⊎◌, ℕ, ◌+◌, ◌-◌, ◌<◌, ◌≤◌, List, [], ◌∷◌, ◌++◌, map, Bool, true, false, Option, Some, None, Result, Ok, Err, IfOk, IsTrue}
 use Rattle.rpm_outside.specs.Causes.{Rose}
-use Rattle.rpm_outside.specs.declared.disk.File.{File}
-use Rattle.rpm_outside.specs.declared.disk.File.TheVariants.{Idx}
-use Rattle.rpm_outside.specs.Crash.{Untouched}
-use Rattle.rpm_outside.specs.Files.{Files}
 use Rattle.rpm_outside.specs.Sinks.{Gained, GainedPart}
 use Rattle.rpm_group.specs.declared.load.LoadFault.{LoadFault}
 use Rattle.rpm_group.specs.declared.load.LoadFault.TheVariants as load
 use Rattle.rpm_pkgdb.specs.declared.slot.Damage.{Damage}
-use Rattle.rpm_file.specs.declared.fault.FileFault.{FileFault}
-use Rattle.rpm_file.specs.declared.fault.FileFault.TheVariants as file
 use Rattle.rpm_words.specs.declared.fault.WordsFault.{WordsFault}
 use Rattle.rpm_words.specs.declared.fault.WordsKind.TheVariants as kind
 use Rattle.rpm_words.specs.Ask.{AskParts}
@@ -20,8 +14,8 @@ use Rattle.rpm_qfparse.specs.declared.fault.FormatKind.TheVariants as wrong
 use Rattle.rpm_qfparse.specs.Tree.{Tree}
 use Rattle.rpm_select.specs.declared.picked.PickFault.{PickFault}
 use Rattle.rpm_select.specs.declared.picked.PickFault.TheVariants as pick
-use Rattle.rpm_tool.specs.declared.step.Stop.{Stop}
-use Rattle.rpm_tool.specs.declared.step.Stop.TheVariants as stop
+use Rattle.rpm_change.specs.declared.tally.Halt.{Halt}
+use Rattle.rpm_change.specs.declared.tally.Halt.TheVariants as halt
 use Rattle.rpm_tool.specs.declared.picked.PrintedPackages.{PrintedPackages}
 use Rattle.rpm_tool.specs.declared.answer.Why.{Why}
 use Rattle.rpm_tool.specs.declared.answer.Why.TheVariants as why
@@ -45,40 +39,49 @@ pub record StoppedWithin (all : List Step) (to_out : Bool) (old new : Outputs) (
   pub reads : reads_to (bearer_of step)
 
 -- how far these steps were gone through: to their end, or to where something stopped
-abbrev pub Reached : {T : Type 0} → List Step → Result T Stop → Outputs → Outputs → (Bearer → Type 0) → Type 0
+abbrev pub Reached : {T : Type 0} → List Step → Result T Halt → Outputs → Outputs → (Bearer → Type 0) → Type 0
 Reached all (Ok done) old new reads_to = Through all old new
-Reached all (Err stop.ReadFault) old new reads_to = ThroughSome all old new
-Reached all (Err (stop.BadIndex unit)) old new reads_to = ⊥
-Reached all (Err stop.OutFault) old new reads_to = StoppedWithin all true old new reads_to
-Reached all (Err stop.ErrFault) old new reads_to = StoppedWithin all false old new reads_to
-Reached all (Err stop.NoMemory) old new reads_to = ThroughSome all old new
+Reached all (Err halt.DiskFault) old new reads_to = ThroughSome all old new
+Reached all (Err halt.ShelfFault) old new reads_to = ThroughSome all old new
+Reached all (Err halt.OutFault) old new reads_to = StoppedWithin all true old new reads_to
+Reached all (Err halt.ErrFault) old new reads_to = StoppedWithin all false old new reads_to
+Reached all (Err halt.NoMemory) old new reads_to = ThroughSome all old new
+Reached all (Err others) old new reads_to = ⊥
 
 -- one step that a call goes through, or stops within, or doesn't begin
-abbrev pub StepIs : Step → Result Bool Stop → Outputs → Outputs → Type 0
+abbrev pub StepIs : Step → Result Bool Halt → Outputs → Outputs → Type 0
 StepIs step (Ok to_out) old new = (is_out step ≡ to_out) × Through (step ∷ []) old new
-StepIs step (Err stop.ReadFault) old new = Through [] old new
-StepIs step (Err (stop.BadIndex unit)) old new = ⊥
-StepIs step (Err stop.OutFault) old new = (is_out step ≡ true) × ((bytes : ℕ) × Through (cut bytes step ∷ []) old new)
-StepIs step (Err stop.ErrFault) old new = (is_out step ≡ false) × ((bytes : ℕ) × Through (cut bytes step ∷ []) old new)
-StepIs step (Err stop.NoMemory) old new = Through [] old new
+StepIs step (Err halt.DiskFault) old new = Through [] old new
+StepIs step (Err halt.ShelfFault) old new = Through [] old new
+StepIs step (Err halt.OutFault) old new = (is_out step ≡ true) × ((bytes : ℕ) × Through (cut bytes step ∷ []) old new)
+StepIs step (Err halt.ErrFault) old new = (is_out step ≡ false) × ((bytes : ℕ) × Through (cut bytes step ∷ []) old new)
+StepIs step (Err halt.NoMemory) old new = Through [] old new
+StepIs step (Err others) old new = ⊥
 
 -- the same of a part, with the answer whether the argument fails for it
-pub record PartIs (part : Portion) (result : Result Bool Stop) (old new : Outputs) (reads_to : Bearer → Type 0) : Type 0 where
+pub record PartIs (part : Portion) (result : Result Bool Halt) (old new : Outputs) (reads_to : Bearer → Type 0) : Type 0 where
   pub steps : Reached part.steps result old new reads_to
   pub fails : IfOk result (λ fails. part.fails ≡ fails)
 
 -- whether the argument fails, of what was printed of its packages
-abbrev pub fails_in : Result PrintedPackages Stop → Result Bool Stop
+abbrev pub fails_in : Result PrintedPackages Halt → Result Bool Halt
 fails_in (Ok p) = Ok p.fails
 fails_in (Err stop) = Err stop
 
--- a stop that a sink made, or a malformed index
-abbrev pub is_of_sink : Stop → Bool
-is_of_sink stop.ReadFault = false
-is_of_sink (stop.BadIndex unit) = true
-is_of_sink stop.OutFault = true
-is_of_sink stop.ErrFault = true
-is_of_sink stop.NoMemory = false
+-- what halts a command that prints or reports of a database: no limit of a change, and no fault of the shelf
+abbrev pub IsOfPrint : Halt → Type 0
+IsOfPrint (halt.BadIndex unit) = Unit {0}
+IsOfPrint halt.DiskFault = Unit {0}
+IsOfPrint halt.OutFault = Unit {0}
+IsOfPrint halt.ErrFault = Unit {0}
+IsOfPrint halt.NoMemory = Unit {0}
+IsOfPrint others = ⊥
+
+-- of these what halts a call that only reads
+abbrev pub IsOfRead : Halt → Type 0
+IsOfRead halt.DiskFault = Unit {0}
+IsOfRead halt.NoMemory = Unit {0}
+IsOfRead others = ⊥
 
 -- whether a list has anything
 abbrev pub is_some_of : {X : Type 0} → List X → Bool
@@ -86,32 +89,23 @@ is_some_of [] = false
 is_some_of (x ∷ xs) = true
 
 -- a fault of a picker
-abbrev pub stop_of : PickFault → Stop
-stop_of (pick.BadIndex unit) = stop.BadIndex unit
-stop_of pick.DiskFault = stop.ReadFault
-stop_of pick.NoMemory = stop.NoMemory
+abbrev pub halt_of_pick : PickFault → Halt
+halt_of_pick (pick.BadIndex unit) = halt.BadIndex unit
+halt_of_pick pick.DiskFault = halt.DiskFault
+halt_of_pick pick.NoMemory = halt.NoMemory
 
--- the ending of a command on a database that was stopped
-abbrev pub why_of : Stop → Why
-why_of stop.ReadFault = why.DiskFault
-why_of (stop.BadIndex unit) = why.BadIndex unit
-why_of stop.OutFault = why.OutFault
-why_of stop.ErrFault = why.ErrFault
-why_of stop.NoMemory = why.NoMemory
-
--- and of a query of package files
-abbrev pub why_of_files : Stop → Why
-why_of_files stop.ReadFault = why.ShelfFault
-why_of_files (stop.BadIndex unit) = why.BadIndex unit
-why_of_files stop.OutFault = why.OutFault
-why_of_files stop.ErrFault = why.ErrFault
-why_of_files stop.NoMemory = why.NoMemory
-
--- a fault that stops it; the others are the file's own
-abbrev pub stop_in : FileFault → Option Stop
-stop_in file.ReadFault = Some stop.ReadFault
-stop_in file.NoMemory = Some stop.NoMemory
-stop_in others = None
+-- the ending of a command that was halted
+abbrev pub why_of_halt : Halt → Why
+why_of_halt halt.NumbersSpent = why.NumbersSpent
+why_of_halt halt.GenerationSpent = why.GenerationSpent
+why_of_halt halt.StoreFull = why.StoreFull
+why_of_halt (halt.IndexFull needed) = why.IndexFull needed
+why_of_halt (halt.BadIndex unit) = why.BadIndex unit
+why_of_halt halt.DiskFault = why.DiskFault
+why_of_halt halt.ShelfFault = why.ShelfFault
+why_of_halt halt.OutFault = why.OutFault
+why_of_halt halt.ErrFault = why.ErrFault
+why_of_halt halt.NoMemory = why.NoMemory
 
 -- nothing is said of what was read
 abbrev pub Anywhere : Bearer → Type 0
@@ -188,15 +182,7 @@ Refused damage why.DiskFault = Unit {0}
 Refused damage why.NoMemory = Unit {0}
 Refused damage _ = ⊥
 
--- ---- a command that writes nothing
-
--- the files, their images and the moment stay, and nothing of Hindex.db is read
-pub record Leaves {D : Type 0} (tells : Bool) (files : D → Files) (left_since : D → ℕ → Files → Type 0) (moment : D → ℕ) (bytes_read : D → File → ℕ)
-    (follows : D → D → Type 0) (old new : D) : Type 0 where
-  pub untouched : IsTrue tells → Untouched (files old) (files new) (left_since old) (left_since new)
-  pub moment_stays : moment new ≡ moment old
-  pub index_unread : bytes_read new Idx ≤ bytes_read old Idx
-  pub goes_on : follows old new
+-- ---- loading
 
 -- an answer of loading
 abbrev pub why_of_load : LoadFault → Why

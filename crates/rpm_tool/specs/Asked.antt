@@ -59,7 +59,7 @@ opens_index Verify asked = true
 opens_index Order asked = true
 opens_index others asked = false
 
--- the command opens the database with its index
+-- the command is a question by key or a report on requirements: it opens the database with its index, and changes no package
 abbrev pub by_key : AskParts → Bool
 by_key a = opens_index a.mode (not (needs_no_index a.chosen a.noindex))
 

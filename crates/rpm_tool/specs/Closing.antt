@@ -102,24 +102,25 @@ unfoldable pub format_line : FormatFault → List ℕ
 format_line fault =
     concat (codes "error: incorrect format: " ∷ fault_text fault.kind ∷ codes " at byte " ∷ decimal fault.at ∷ codes "\n" ∷ [])
 
--- the line that closes an ending of these words; done, failed arguments and a fault of err itself have none. Of a damaged log or index it names the
--- byte at which the unit of its fault begins
+-- the line of an ending of which there is one text alone; done, failed arguments and a fault of err itself have none
+unfoldable pub fixed_line : Why → List ℕ
+fixed_line why.NumbersSpent = codes "rpm: no package number is left\n"
+fixed_line why.GenerationSpent = codes "rpm: no generation is left\n"
+fixed_line why.StoreFull = codes "rpm: Packages.db is full\n"
+fixed_line (why.IndexFull needed) = codes "rpm: Hindex.db is full\n"
+fixed_line (why.LogFull needed) = codes "rpm: Hlog.db is full\n"
+fixed_line why.DiskFault = codes "rpm: the database could not be read or written\n"
+fixed_line why.ShelfFault = codes "rpm: input could not be read\n"
+fixed_line why.OutFault = codes "rpm: output could not be written\n"
+fixed_line why.NoMemory = codes "rpm: out of memory\n"
+fixed_line others = []
+
+-- the line that closes an ending of these words. Of a damaged log or index it names the byte at which the unit of its fault begins
 unfoldable pub closing : List (List ℕ) → Why → List ℕ
-closing words why.Done = []
-closing words (why.Failed n) = []
 closing words (why.Usage fault) = usage_line words fault
 closing words (why.BadFormat fault) = format_line fault
 closing words (why.BadLog unit) = number_line (codes "rpm: Hlog.db is damaged at byte ") (16 * unit)
 closing words (why.Damaged damage) = damage_line damage
-closing words why.NumbersSpent = codes "rpm: no package number is left\n"
-closing words why.GenerationSpent = codes "rpm: no generation is left\n"
-closing words why.StoreFull = codes "rpm: Packages.db is full\n"
 closing words (why.NotEmpty held) = number_line (codes "rpm: the database is not empty: package ") held
 closing words (why.BadIndex unit) = number_line (codes "rpm: Hindex.db is damaged at byte ") (16 * unit)
-closing words (why.IndexFull needed) = codes "rpm: Hindex.db is full\n"
-closing words (why.LogFull needed) = codes "rpm: Hlog.db is full\n"
-closing words why.DiskFault = codes "rpm: the database could not be read or written\n"
-closing words why.ShelfFault = codes "rpm: input could not be read\n"
-closing words why.OutFault = codes "rpm: output could not be written\n"
-closing words why.ErrFault = []
-closing words why.NoMemory = codes "rpm: out of memory\n"
+closing words others = fixed_line others

@@ -1,8 +1,8 @@
--- The commands that open the database with its index, questions by key and the reports on requirements: what they answer, and what they leave.
+-- Questions by key and the reports on requirements, which open the database with its index and change no package: what they answer and leave.
 -- On it rests `keyed` of the page (Theorem.antt), and what all of it calls done and lawful.
-use Rattle.std.specs.Prelude.{◌≡◌, ◌⊎◌, ℕ, ◌+◌, ◌^◌, ◌<◌, ◌≤◌, List, [], map, Bool, true, false, not, ◌==◌, Result, Ok, Err}
-use Rattle.rpm_outside.specs.Crash.{LeavesOnly}
-use Rattle.rpm_outside.specs.declared.disk.File.{File}
+use Rattle.std.specs.Prelude.{◌≡◌, ◌⊎◌, ℕ, ◌+◌, ◌^◌, ◌<◌, ◌≤◌, List, [], map, Bool, true, false, not, ◌==◌, ◌||◌, Result, Ok, Err, IsTrue}
+use Rattle.rpm_outside.specs.Frame.{LeavesIn, images}
+use Rattle.rpm_outside.specs.declared.disk.Disk as disk
 use Rattle.rpm_outside.specs.declared.disk.File.TheVariants.{Pkg}
 use Rattle.rpm_outside.specs.Files.{Units, Files}
 use Rattle.rpm_outside.specs.Logs.{Closed, log_state, reopened}
@@ -11,6 +11,8 @@ use Rattle.rpm_group.specs.declared.recovery.RecoverFault.TheVariants as recover
 use Rattle.rpm_group.specs.Loads.{IsSound}
 use Rattle.rpm_pkgdb.specs.Store.{Store, store}
 use Rattle.rpm_pkgdb.specs.Costs.{opening_cost}
+use Rattle.rpm_db.specs.Database.{Database, is_indexed}
+use Rattle.rpm_db.specs.Frame.{room}
 use Rattle.rpm_db.specs.State.{Package, packages}
 use Rattle.rpm_db.specs.Lawful.{IsLawful, HasRows, is_current_at}
 use Rattle.rpm_db.specs.Openings.{must_make, units_needed, making_cost}
@@ -22,15 +24,16 @@ use Rattle.rpm_tool.specs.declared.answer.Why.{Why}
 use Rattle.rpm_tool.specs.declared.answer.Why.TheVariants as why
 use Rattle.rpm_tool.specs.declared.asked.Deed.{Deed}
 use Rattle.rpm_tool.specs.declared.asked.Deed.TheVariants as deed
-use Rattle.rpm_tool.specs.Asked.{is_query, deed_of}
+use Rattle.rpm_tool.specs.Asked.{always_keyed, is_query, deed_of}
 use Rattle.rpm_change.specs.Steps.{Bearer}
 use Rattle.rpm_tool.specs.Reports.{unindexed}
 use Rattle.rpm_tool.specs.Requirements.{IsOfSome}
-use Rattle.rpm_tool.specs.Reads.{reached_by, IsOfChains}
+use Rattle.rpm_tool.specs.Frame.{HasRows as HasIndexRows, packages_in, Peeks, pkg_read}
+use Rattle.rpm_tool.specs.Reads.{reach_sum, reached_by, IsOfChains}
 use Rattle.rpm_change.specs.Endings.{Outputs, Through}
 use Rattle.rpm_tool.specs.Answers.{is_foreign}
 pub use Rattle.rpm_tool.specs.Answers.{is_done}
-use Rattle.rpm_tool.specs.Deeds.{Deeds, Loaded, DoesBy, asked_reaches, blocks_cost}
+use Rattle.rpm_tool.specs.Deeds.{Deeds, Loaded, DoesBy, reaches_of, asked_reaches, blocks_cost}
 
 -- ---- lawful disks
 
@@ -137,6 +140,16 @@ keyed_cost files words a =
 
 -- ---- what is answered
 
+-- a database that is opened, on a disk that tells its contents: what is done, what is read, and what is blamed on the index
+pub record DoesOn {D : Type 0} (d : disk.Ghosts D) (deed : Deed) (tree : Tree) (db : Database) (words : List (List ℕ)) (a : AskParts) (given : Why)
+    (before now : Outputs) (old new : D) : Type 0 where
+  pub went : IsTrue d.tells → HasIndexRows d old db → DoesBy deed tree (d.files old).pkg (room db) words a (λ for. pkg_read d new ≤ pkg_read d old
+      + reached_by (reaches_of deed (is_indexed db) (packages_in d old db) words a) db for) given before now
+  pub reads : always_keyed deed ≡ false → IsTrue d.tells → HasIndexRows d old db → pkg_read d new ≤ pkg_read d old
+      + reach_sum (reaches_of deed (is_indexed db) (packages_in d old db) words a) db
+  pub bad : IsTrue d.tells → CauseBy deed a.chosen (map (text_at words) a.arguments) (d.files old).idx given
+  pub looks : Peeks d (always_keyed deed || is_indexed db) old new
+
 -- on these files, of whose Packages.db so many bytes were read before and then
 abbrev pub DidByKey : Tree → List (List ℕ) → AskParts → Files → ℕ → ℕ → Deeds
 DidByKey tree words a r before now s given old new =
@@ -149,17 +162,18 @@ KeyedIs tree words a files given old new before now =
     Loaded (OnLawful (IsLawful r.pkg r.idx) (DidByKey tree words a r before now)) (store r.pkg) (log_state files.log) given old new
 
 -- all that is said of it on a disk that tells its contents
-pub record AnswersByKey {D : Type 0} (files : D → Files) (left_since : D → ℕ → Files → Type 0) (moment : D → ℕ) (bytes_read : D → File → ℕ) (tree : Tree)
-    (words : List (List ℕ)) (a : AskParts) (given : Why) (before now : Outputs) (old new : D) : Type 0 where
-  pub went : KeyedIs tree words a (files old) given before now (bytes_read old Pkg) (bytes_read new Pkg)
-  pub reads : is_query a.mode ≡ true → IsLawfulGroup (files old) → bytes_read new Pkg ≤ bytes_read old Pkg + keyed_cost (reopened (files old)) words a
+pub record AnswersByKey {D : Type 0} (d : disk.Ghosts D) (tree : Tree) (words : List (List ℕ)) (a : AskParts) (given : Why) (before now : Outputs)
+    (old new : D) : Type 0 where
+  pub went : KeyedIs tree words a (d.files old) given before now (d.bytes_read old Pkg) (d.bytes_read new Pkg)
+  pub reads : is_query a.mode ≡ true → IsLawfulGroup (d.files old)
+      → d.bytes_read new Pkg ≤ d.bytes_read old Pkg + keyed_cost (reopened (d.files old)) words a
   pub kind : is_foreign given ≡ false
-  pub full : FullIs (reopened (files old)) given
-  pub bad : BadIs words a (reopened (files old)) given
-  pub complete : IsLawfulGroup (files old) → HasRoom (reopened (files old)) → is_done_or_outside given ≡ true
-  pub index : IsLawfulGroup (files old) → is_done given ≡ true → IsReady (files new)
-  pub packages : (reopened (files new)).pkg ≡ (reopened (files old)).pkg
-  pub stops : AreLawfulGroups (left_since old (moment old)) → LeavesOnly moment left_since old new (StandsStill (left_since old (moment old)))
+  pub full : FullIs (reopened (d.files old)) given
+  pub bad : BadIs words a (reopened (d.files old)) given
+  pub complete : IsLawfulGroup (d.files old) → HasRoom (reopened (d.files old)) → is_done_or_outside given ≡ true
+  pub index : IsLawfulGroup (d.files old) → is_done given ≡ true → IsReady (d.files new)
+  pub packages : (reopened (d.files new)).pkg ≡ (reopened (d.files old)).pkg
+  pub stops : AreLawfulGroups (images d old) → LeavesIn d old new (StandsStill (images d old))
 
 -- ---- recovering
 

@@ -22,7 +22,8 @@ use Rattle.rpm_change.specs.Steps.{Course}
 use Rattle.rpm_tool.specs.declared.answer.Why.{Why}
 use Rattle.rpm_tool.specs.declared.answer.Why.TheVariants as why
 use Rattle.rpm_tool.specs.Keyed.{IsLawfulGroup, AreLawfulGroups, StandsStill}
-use Rattle.rpm_tool.specs.Changing.{MayBegin, makes, after}
+use Rattle.rpm_tool.specs.Changing.{DidOn, ChangesWith, MayBegin, makes, after}
+use Rattle.rpm_tool.specs.Tasks.{TaskParts, is_anew, changes_index}
 
 -- the store that the first change finds: where there is no database, one is made
 abbrev pub begun : Store → Store
@@ -109,3 +110,12 @@ module _ {D : Type 0} (d : disk.Ghosts D) where
   abbrev pub FaultIs : Bool → (State → Course) → Why → D → D → Outputs → Outputs → Type 0
   FaultIs anew course given old new before now = given ≡ why.DiskFault
       → StoodStill old new ⊎ ToldAll anew (IsLawfulGroup (d.files old)) course (reopened (d.files old)) before now
+
+  -- all of a command that changes packages, as the page says it of a run: what it answers, what it leaves, which limit it is answered, when the
+  -- disk failed, and how long its log is where that is refused
+  pub record OneChange (task : TaskParts) (course : State → Course) (given : Why) (changes : ℕ) (old new : D) (before behind : Outputs) : Type 0 where
+    pub did : DidOn course (d.files old) given before behind
+    pub changed : ChangesWith d (is_anew task) (changes_index task) course given changes old new
+    pub limits : LimitsBy (is_anew task) (IsLawfulGroup (d.files old)) course (reopened (d.files old)) given
+    pub fault : FaultIs (is_anew task) course given old new before behind
+    pub log : LogBy (is_anew task) (IsLawfulGroup (d.files old)) course (reopened (d.files old)) given

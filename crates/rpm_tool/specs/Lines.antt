@@ -12,16 +12,16 @@ use Rattle.rpm_qfparse.specs.Tree.{Tree}
 use Rattle.rpm_tool.specs.declared.answer.Why.TheVariants as why
 use Rattle.rpm_tool.specs.Answers.{ComesWhere, Anywhere, Went, Closes, Ends, is_foreign}
 use Rattle.rpm_tool.specs.Asked.{of_files, by_key, is_changing, asks_change, asks_format, asks}
-use Rattle.rpm_tool.specs.Changing.{DidOn, ChangesWith, EmptyBy}
+use Rattle.rpm_tool.specs.Changing.{EmptyBy}
 use Rattle.rpm_tool.specs.Closing.{status_of, closing}
 use Rattle.rpm_tool.specs.Deeds.{Queried}
 use Rattle.rpm_tool.specs.Frame.{images, pkg_read, Leaves, LeavesIn}
 use Rattle.rpm_tool.specs.Given.{given_on}
 use Rattle.rpm_tool.specs.History.{RunCall, course_of}
 use Rattle.rpm_tool.specs.Keyed.{AreLawfulGroups, IsLawfulGroup, StandsStill, IsReady, KeyedIs, FullIs, BadIs, HasRoom, is_done, is_done_or_outside}
-use Rattle.rpm_tool.specs.Limits.{LimitsBy, LogBy, FaultIs}
+use Rattle.rpm_tool.specs.Limits.{OneChange}
 use Rattle.rpm_tool.specs.PackageFiles.{query_files}
-use Rattle.rpm_tool.specs.Tasks.{asked_task, asked_course, is_anew, changes_index, needs_none, reads_shelf}
+use Rattle.rpm_tool.specs.Tasks.{asked_task, asked_course, needs_none, reads_shelf}
 
 -- what one command line leaves to the next: the disk, the numbers that new packages were given by the lines that were done, what the sinks took,
 -- and how many faults the shelf and the sinks counted
@@ -50,7 +50,8 @@ OfChange words shelf Said =
 -- how a command line ended, and what it left, where the disk tells what it holds, and of a shelf that may tell it: each field but the last is
 -- what `run` says of it, by its clauses `status` and `unread` and by the page (Theorem.antt). There `changes` is `idle`, `undone_closes` is
 -- `unasked` with the closing line, `answers`, `package_files` and `keyed` are the fields `went` of `plain`, `files` and `keyed` with the closing
--- line, `index_full` and `bad_index` are `full` and `bad` of `keyed`, and `disk_fault` and the like are `Causes`
+-- line, `index_full` and `bad_index` are `full` and `bad` of `keyed`, `change` is `changes` with the closing line, and `disk_fault` and the like are
+-- `Causes`
 pub record LineIs {D : Type 0} (d : disk.Ghosts D) (shelf : Bool) (paths : Paths) (call : RunCall) (old new : Between D) : Type 0 where
   pub status : call.outcome.status ≡ status_of call.outcome.why
   pub changes : asks_change call.words ≡ false → call.outcome.changes ≡ 0
@@ -83,19 +84,10 @@ pub record LineIs {D : Type 0} (d : disk.Ghosts D) (shelf : Bool) (paths : Paths
   pub stops : Of call.words (λ a tree. by_key a ≡ true → AreLawfulGroups (images d old.disk)
       → LeavesIn d old.disk new.disk (StandsStill (images d old.disk)))
   -- commands that change packages
-  pub did : OfChange call.words shelf (λ a. Ends (λ mid. DidOn (asked_course paths call.moment call.words a) (d.files old.disk) call.outcome.why
-      old.taken mid) (closing call.words call.outcome.why) new.taken old.err_faults new.err_faults)
-  pub changed : OfChange call.words shelf (λ a. ChangesWith d (is_anew (asked_task call.words a)) (changes_index (asked_task call.words a))
-      (asked_course paths call.moment call.words a) call.outcome.why call.outcome.changes old.disk new.disk)
+  pub change : OfChange call.words shelf (λ a. Ends (λ mid. OneChange d (asked_task call.words a) (asked_course paths call.moment call.words a)
+      call.outcome.why call.outcome.changes old.disk new.disk old.taken mid) (closing call.words call.outcome.why) new.taken old.err_faults new.err_faults)
   pub empty : Of call.words (λ a tree. is_changing a ≡ true
       → EmptyBy (needs_none (asked_task call.words a)) (reopened (d.files old.disk)) call.outcome.why)
-  pub limits : OfChange call.words shelf (λ a. LimitsBy (is_anew (asked_task call.words a)) (IsLawfulGroup (d.files old.disk))
-      (asked_course paths call.moment call.words a) (reopened (d.files old.disk)) call.outcome.why)
-  pub fault : OfChange call.words shelf (λ a. Ends (λ mid. FaultIs d (is_anew (asked_task call.words a))
-      (asked_course paths call.moment call.words a) call.outcome.why old.disk new.disk old.taken mid)
-      (closing call.words call.outcome.why) new.taken old.err_faults new.err_faults)
-  pub log : OfChange call.words shelf (λ a. LogBy (is_anew (asked_task call.words a)) (IsLawfulGroup (d.files old.disk))
-      (asked_course paths call.moment call.words a) (reopened (d.files old.disk)) call.outcome.why)
   -- faults
   pub disk_fault : HasCauseAt (call.outcome.why ≡ why.DiskFault) (d.faults old.disk) (d.faults new.disk)
   pub shelf_fault : HasCauseAt (call.outcome.why ≡ why.ShelfFault) old.shelf_faults new.shelf_faults

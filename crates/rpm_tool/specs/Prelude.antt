@@ -30,7 +30,8 @@ pub use Rattle.rpm_outside.specs.declared.disk.File.TheVariants.{Idx, Pkg}
 pub use Rattle.rpm_pkgdb.specs.Store.{store}
 pub use Rattle.rpm_qfeval.specs.Meaning.{meaning}
 pub use Rattle.rpm_qfeval.specs.Numbers.{depflags, has, letters}
-pub use Rattle.rpm_qfeval.specs.Printed.{Prints, ending}
+pub use Rattle.rpm_qfeval.specs.Frame.{Puts}
+pub use Rattle.rpm_qfeval.specs.Printed.{ending}
 pub use Rattle.rpm_select.specs.Picks.{entry_in}
 pub use Rattle.rpm_select.specs.Reach.{Everything, Serves, reach_all, reach_to, unasked}
 pub use Rattle.rpm_select.specs.Selections.{picks}
@@ -39,24 +40,24 @@ pub use Rattle.rpm_words.specs.Ask.{IsSound, ask}
 pub use Rattle.rpm_words.specs.Number.{number}
 pub use Rattle.rpm_words.specs.Words.{text_at}
 pub use Rattle.rpm_tool.specs.Answers.{Anywhere, Ends, PartIs, Reached, StepIs}
-pub use Rattle.rpm_tool.specs.Answers.{Undone, Went, fails_in, is_foreign, is_of_opening, is_of_sink}
-pub use Rattle.rpm_tool.specs.Answers.{is_of_words, is_some_of, stop_in}
-pub use Rattle.rpm_tool.specs.Answers.{stop_of, unless_starved, why_of, why_of_files, why_of_load}
+pub use Rattle.rpm_tool.specs.Answers.{Undone, Went, fails_in, is_foreign, is_of_opening}
+pub use Rattle.rpm_tool.specs.Answers.{is_of_words, is_some_of, IsOfPrint, IsOfRead}
+pub use Rattle.rpm_tool.specs.Answers.{halt_of_pick, unless_starved, why_of_halt, why_of_load}
 pub use Rattle.rpm_tool.specs.Asked.{always_keyed, asks, asks_format, by_key, deed_of, format_text, is_changing}
 pub use Rattle.rpm_tool.specs.Asked.{is_query, needs_no_index, of_files}
 pub use Rattle.rpm_tool.specs.Changing.{AllFit, EmptyBy, HasState, RowsFit}
-pub use Rattle.rpm_tool.specs.Closing.{closing, damage_line, fault_text, format_line, number_line}
+pub use Rattle.rpm_tool.specs.Closing.{closing, damage_line, fault_text, fixed_line, format_line, number_line}
 pub use Rattle.rpm_tool.specs.Closing.{reason_text, rule_text, status_of, usage_line, word_told}
 pub use Rattle.rpm_tool.specs.Deeds.{DidPlain, DoesBy, Opened, Queried, asked_reaches, query_cost}
 pub use Rattle.rpm_tool.specs.FileReport.{check_files, conflict_step, if_differs, label_told, told_steps, unread_step}
 pub use Rattle.rpm_tool.specs.Frame.{DiskFault, EndHands, ErrTakes, HasRows, IsAskable, Leaves, LeavesIn, Looks}
-pub use Rattle.rpm_tool.specs.Frame.{LooksAt, OutTakes, Peeks, PutsErr, PutsOut, ReadsBy, Runs, Serving, ShelfFault, StopHands}
+pub use Rattle.rpm_tool.specs.Frame.{LooksAt, OutTakes, Peeks, PutsErr, PutsOut, ReadsBy, Runs, Serving, ShelfFault, HaltHands}
 pub use Rattle.rpm_tool.specs.Frame.{TellsErr, TellsOut, images, outs, packages_in, pkg_read, shown}
 pub use Rattle.rpm_tool.specs.Given.{IsAhead, RiseWithin}
 pub use Rattle.rpm_tool.specs.History.{AllStand, Cuts, FromOneOf, Leads, StandsIn, TellsLines, calls_of}
-pub use Rattle.rpm_tool.specs.Keyed.{AnswersByKey, AreLawfulGroups, BadIs, CauseIs, DidByKey, FullIs}
+pub use Rattle.rpm_tool.specs.Keyed.{AnswersByKey, AreLawfulGroups, BadIs, CauseIs, DidByKey, DoesOn, FullIs}
 pub use Rattle.rpm_tool.specs.Keyed.{HasIndex, OnLawful, is_done, keyed_cost, why_of_recover}
-pub use Rattle.rpm_tool.specs.Limits.{LogIs}
+pub use Rattle.rpm_tool.specs.Limits.{LogIs, OneChange}
 pub use Rattle.rpm_tool.specs.Lines.{InTurn, LineIs, between}
 pub use Rattle.rpm_tool.specs.PackageFiles.{file_part, query_files, read_part}
 pub use Rattle.rpm_tool.specs.Queries.{answered, argument_part, bad_line, bad_step, lent, missing, missing_part}
@@ -64,14 +65,14 @@ pub use Rattle.rpm_tool.specs.Queries.{missing_record, packages_part, printed, q
 pub use Rattle.rpm_tool.specs.Reads.{IsOfChain, IsOfChains, ReadsIn, ReadsOf, argument_reach, reach_sum}
 pub use Rattle.rpm_tool.specs.Reads.{reached_by, reaches_by}
 pub use Rattle.rpm_tool.specs.Reports.{entry_verdict, step_by, unsound, verdict_line, verdict_part, verify}
-pub use Rattle.rpm_tool.specs.Requirements.{ClassesAre, IsOfSome, IsRead, OrderPartIs, StopsOfSome, bad_at}
+pub use Rattle.rpm_tool.specs.Requirements.{ClassesAre, IsOfSome, IsRead, OrderPartIs, HaltsOfSome, bad_at}
 pub use Rattle.rpm_tool.specs.Requirements.{bad_parts, class_steps, cycle_line, label_step, label_text, line_of, range_text}
-pub use Rattle.rpm_tool.specs.Requirements.{read_text, stop_of_check, unmet_line, unmet_lines, unmet_part, unmet_step}
+pub use Rattle.rpm_tool.specs.Requirements.{read_text, halt_of_check, unmet_line, unmet_lines, unmet_part, unmet_step}
 pub use Rattle.rpm_tool.specs.Requirements.{unsatisfied, unsatisfied_part, why_of_report}
-pub use Rattle.rpm_tool.specs.Steps.{Portion, before, fails, in_turn, together, told}
+pub use Rattle.rpm_tool.specs.Steps.{Portion, before, fails, nothing, in_turn, together, told}
 pub use Rattle.rpm_tool.specs.Tasks.{IsCountable, TaskParts, asked_task, changes_index, is_anew, needs_none}
 pub use Rattle.rpm_tool.specs.Tasks.{numbers_asked, reads_shelf, replacing, task_course, task_parts}
 pub use Rattle.rpm_tool.specs.Theorem.{Answers, AnswersWords, Causes, Does, Laws, ran}
 pub use Rattle.rpm_tool.specs.Working.{EndsGroup, IsOfOpening, IsOutside, IsShut, OpensBy, done_why, ended_as}
-pub use Rattle.rpm_tool.specs.Working.{exercise_ended, is_halt, is_of_streams, why_of_halt, why_of_open}
-pub use Rattle.rpm_tool.specs.inner.OneChange.{BeginsOn, Keeps, OneChange, OpensOn, Streams, WorksOn}
+pub use Rattle.rpm_tool.specs.Working.{exercise_ended, is_halt, is_of_streams, why_of_open}
+pub use Rattle.rpm_tool.specs.inner.OneChange.{BeginsOn, Keeps, OpensOn, Streams, WorksOn}

@@ -2,18 +2,15 @@
 use Rattle.std.specs.Prelude.{◌≡◌, ℕ, zero, suc, ◌+◌, ◌-◌, ◌≤◌, List, [], ◌∷◌, map, slice_get, Bool, false, ◌&&◌, Option, Some, None, Result, Ok, IsTrue}
 use Rattle.std.specs.Ordering.{nat_cmp}
 use Rattle.std.specs.FinMap.{FinMap}
-use Rattle.rpm_outside.specs.declared.disk.File.{File}
-use Rattle.rpm_outside.specs.declared.disk.File.TheVariants.{Idx, Log}
-use Rattle.rpm_outside.specs.Crash.{Untouched}
-use Rattle.rpm_outside.specs.Files.{Units, Files}
+use Rattle.rpm_outside.specs.Files.{Units}
 use Rattle.rpm_db.specs.State.{Package}
 use Rattle.rpm_db.specs.Database.{Database}
 use Rattle.rpm_words.specs.declared.switch.Chosen.{Chosen}
 use Rattle.rpm_select.specs.declared.selection.Selection.{Selection}
 use Rattle.rpm_select.specs.Candidates.{has_keys, keys_asked}
 use Rattle.rpm_select.specs.Reach.{Reach, Everything, These, reach, reach_to, reach_all, IsFaultOfOne}
-use Rattle.rpm_tool.specs.declared.step.Stop.{Stop}
-use Rattle.rpm_tool.specs.declared.step.Stop.TheVariants as stop
+use Rattle.rpm_change.specs.declared.tally.Halt.{Halt}
+use Rattle.rpm_change.specs.declared.tally.Halt.TheVariants as halt
 use Rattle.rpm_tool.specs.declared.answer.Why.{Why}
 use Rattle.rpm_tool.specs.declared.answer.Why.TheVariants as why
 use Rattle.rpm_change.specs.Steps.{Bearer}
@@ -70,18 +67,6 @@ reached_in (Some r) db number = reached r db number
 abbrev pub reached_by : List Reach → Database → Bearer → ℕ
 reached_by rs db for = reach_before rs db for.argument + reached_in (slice_get rs for.argument) db for.number
 
--- ---- a run of calls
-
--- the files, their images and the moment stay; of Hlog.db nothing is read, and of Hindex.db only where an index is asked
-pub record Peeks {D : Type 0} (tells : Bool) (files : D → Files) (left_since : D → ℕ → Files → Type 0) (moment : D → ℕ)
-    (bytes_read : D → File → ℕ) (follows : D → D → Type 0) (indexed : Bool) (old new : D) : Type 0 where
-  pub untouched : IsTrue tells → Untouched (files old) (files new) (left_since old) (left_since new)
-  pub moment_stays : moment new ≡ moment old
-  pub no_less : (f : File) → bytes_read old f ≤ bytes_read new f
-  pub idx : indexed ≡ false → bytes_read new Idx ≤ bytes_read old Idx
-  pub log : bytes_read new Log ≤ bytes_read old Log
-  pub goes_on : follows old new
-
 -- ---- a malformed index
 
 -- this is the fault of the chain of a key that a question asks
@@ -90,8 +75,8 @@ IsFaultOf None idx unit = ⊥
 IsFaultOf (Some sel) idx unit = IsFaultOfOne (keys_asked sel) idx unit
 
 -- a malformed index is told only with such a fault
-abbrev pub IsOfChain : Option Selection → Units → Stop → Type 0
-IsOfChain asked idx (stop.BadIndex unit) = IsFaultOf asked idx unit
+abbrev pub IsOfChain : Option Selection → Units → Halt → Type 0
+IsOfChain asked idx (halt.BadIndex unit) = IsFaultOf asked idx unit
 IsOfChain asked idx others = Unit {0}
 
 -- of a command: a key that one of its arguments asks

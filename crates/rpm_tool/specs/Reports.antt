@@ -13,8 +13,9 @@ use Rattle.rpm_db.specs.declared.verify.Verdict.TheVariants.{Sound, BadHeader, B
 use Rattle.rpm_db.specs.Verdicts.{verdict}
 use Rattle.rpm_select.specs.declared.selection.Selection.TheVariants as question
 use Rattle.rpm_select.specs.Selections.{picks}
-use Rattle.rpm_tool.specs.declared.step.Way.{Way}
-use Rattle.rpm_tool.specs.declared.step.Way.TheVariants as way
+use Rattle.rpm_qfparse.specs.Tree.{Tree}
+use Rattle.rpm_tool.specs.declared.asked.Deed.{Deed}
+use Rattle.rpm_tool.specs.declared.asked.Deed.TheVariants as deed
 use Rattle.rpm_change.specs.Steps.{bearer, Step, ToOut, Course, idle}
 use Rattle.rpm_tool.specs.Steps.{Portion, nothing, fails, together, before}
 use Rattle.rpm_tool.specs.Queries.{bad_step, step_of, packages_part}
@@ -24,10 +25,10 @@ abbrev pub exported : ℕ → ℕ × Package → Step
 exported j (n, Good bytes) = ToOut (bearer j n) (magic ++ bytes)
 exported j (n, Bad) = bad_step j n
 
--- of a package, by a way
-abbrev pub step_by : Way → ℕ → ℕ × Package → Step
-step_by (way.Format format) j e = step_of format.now j e
-step_by way.Export j e = exported j e
+-- of a package: an export writes it out, all else prints it by a format
+abbrev pub step_by : Deed → Tree → ℕ → ℕ × Package → Step
+step_by deed.Export tree j e = exported j e
+step_by others tree j e = step_of tree j e
 
 -- all packages, by rising number
 abbrev pub export : FinMap nat_cmp Package → Course

@@ -19,8 +19,8 @@ use Rattle.rpm_check.specs.declared.faults.CheckFault.{CheckFault}
 use Rattle.rpm_check.specs.declared.faults.CheckFault.TheVariants as check
 use Rattle.rpm_check.specs.Answers.{IsFaultOfSome}
 use Rattle.rpm_qfeval.specs.Numbers.{letters, depflags}
-use Rattle.rpm_tool.specs.declared.step.Stop.{Stop}
-use Rattle.rpm_tool.specs.declared.step.Stop.TheVariants as stop
+use Rattle.rpm_change.specs.declared.tally.Halt.{Halt}
+use Rattle.rpm_change.specs.declared.tally.Halt.TheVariants as halt
 use Rattle.rpm_tool.specs.declared.answer.Why.{Why}
 use Rattle.rpm_tool.specs.declared.answer.Why.TheVariants as why
 use Rattle.rpm_change.specs.Endings.{Outputs}
@@ -28,7 +28,7 @@ use Rattle.rpm_change.specs.Steps.{bearer, whole, Step, ToOut, Course, idle}
 use Rattle.rpm_tool.specs.Steps.{Portion, nothing, fails, together, before}
 use Rattle.rpm_tool.specs.Queries.{bad_step}
 use Rattle.rpm_tool.specs.Labels.{header_label}
-use Rattle.rpm_tool.specs.Answers.{PartIs, Reached, Anywhere, is_some_of, why_of}
+use Rattle.rpm_tool.specs.Answers.{PartIs, Reached, Anywhere, is_some_of, why_of_halt}
 
 -- ---- what is said of a package
 
@@ -143,12 +143,12 @@ pub record IsListed (g : Network) (all_told : Bool) (classes : List (List ℕ)) 
   pub all : all_told ≡ true → (n : ℕ) → Contains g.numbers n → Lists classes n
 
 -- how far the classes were told
-abbrev pub ClassesAre : FinMap nat_cmp Package → Result (Unit {0}) Stop → Outputs → Outputs → Type 0
+abbrev pub ClassesAre : FinMap nat_cmp Package → Result (Unit {0}) Halt → Outputs → Outputs → Type 0
 ClassesAre packages result old new = (classes : List (List ℕ)) × IsListed (graph_of packages) (is_ok result) classes
     × Reached (classes_part packages classes).steps result old new Anywhere
 
 -- and after the packages that can't be read
-abbrev pub OrderPartIs : FinMap nat_cmp Package → Result Bool Stop → Outputs → Outputs → Type 0
+abbrev pub OrderPartIs : FinMap nat_cmp Package → Result Bool Halt → Outputs → Outputs → Type 0
 OrderPartIs packages result old new = (classes : List (List ℕ)) × IsListed (graph_of packages) (is_ok result) classes
     × PartIs (order_part packages classes) result old new Anywhere
 
@@ -160,19 +160,19 @@ IsOfSome idx (why.BadIndex unit) = IsFaultOfSome idx unit
 IsOfSome idx others = Unit {0}
 
 -- a question stops at the index only for a fault that some chain has
-abbrev pub StopsOfSome : Units → Stop → Type 0
-StopsOfSome idx (stop.BadIndex unit) = IsFaultOfSome idx unit
-StopsOfSome idx others = Unit {0}
+abbrev pub HaltsOfSome : Units → Halt → Type 0
+HaltsOfSome idx (halt.BadIndex unit) = IsFaultOfSome idx unit
+HaltsOfSome idx others = Unit {0}
 
 -- ---- endings
 
 -- what stops a report
-abbrev pub stop_of_check : CheckFault → Stop
-stop_of_check (check.BadIndex unit) = stop.BadIndex unit
-stop_of_check check.DiskFault = stop.ReadFault
-stop_of_check check.NoMemory = stop.NoMemory
+abbrev pub halt_of_check : CheckFault → Halt
+halt_of_check (check.BadIndex unit) = halt.BadIndex unit
+halt_of_check check.DiskFault = halt.DiskFault
+halt_of_check check.NoMemory = halt.NoMemory
 
 -- of whether its one argument failed
-abbrev pub why_of_report : Result Bool Stop → Why
+abbrev pub why_of_report : Result Bool Halt → Why
 why_of_report (Ok fails) = if fails then why.Failed 1 else why.Done
-why_of_report (Err what) = why_of what
+why_of_report (Err what) = why_of_halt what

@@ -1,7 +1,7 @@
 -- The theorem, on one page. `run` (src/command.rt) is proved to have what stands here: each record is a clause
 -- of it or a field of one, and each field says one thing. `run` requires nothing. What a disk or a shelf holds
--- is said only where its kind tells it (`tells`). A database is lawful that isn't damaged, and whose index,
--- where it is of this generation, holds the rows of the packages.
+-- is said only where its kind tells it (`tells`). A database is lawful that isn't damaged, whose log isn't
+-- malformed, and whose index is of no later generation, and holds the rows of the packages where it is of this one.
 use Rattle.std.specs.Prelude.{◌≡◌, ◌≢◌, ℕ, ◌+◌, ◌≤◌, List, [], true, false, IsTrue, Some, None, Err, Ok}
 use Rattle.std.specs.Ordering.{nat_cmp}
 use Rattle.std.specs.FinMap.{FinMap}

@@ -19,7 +19,6 @@ use Rattle.rpm_db.specs.Lawful.{IsLawful}
 use Rattle.rpm_db.specs.Openings.{must_make, units_needed}
 use Rattle.rpm_db.specs.State.{State, state}
 use Rattle.rpm_change.specs.declared.tally.Halt.{Halt}
-use Rattle.rpm_change.specs.declared.tally.Halt.TheVariants as halt
 use Rattle.rpm_change.specs.declared.tally.Tally.{Tally}
 use Rattle.rpm_change.specs.Steps.{Course}
 use Rattle.rpm_change.specs.Endings.{Outputs, Through, Done}
@@ -27,7 +26,7 @@ use Rattle.rpm_exercise.specs.declared.running.ExerciseFault.{ExerciseFault}
 use Rattle.rpm_exercise.specs.declared.running.ExerciseFault.TheVariants.{NotEmpty, Halted}
 use Rattle.rpm_tool.specs.declared.answer.Why.{Why}
 use Rattle.rpm_tool.specs.declared.answer.Why.TheVariants as why
-use Rattle.rpm_tool.specs.Answers.{Refused}
+use Rattle.rpm_tool.specs.Answers.{Refused, why_of_halt}
 use Rattle.rpm_tool.specs.Changing.{Did, BadBy, MayBegin, HasCurrent, IsMade, is_done_or_fault}
 use Rattle.rpm_tool.specs.Limits.{ReachesBy}
 use Rattle.rpm_tool.specs.Keyed.{is_done}
@@ -59,19 +58,6 @@ why_of_open (opening.Damaged damage) = why.Damaged damage
 why_of_open (opening.IndexFull needed) = why.IndexFull needed
 why_of_open opening.DiskFault = why.DiskFault
 why_of_open opening.NoMemory = why.NoMemory
-
--- the answer of a command for each cause that stops a change
-abbrev pub why_of_halt : Halt → Why
-why_of_halt halt.NumbersSpent = why.NumbersSpent
-why_of_halt halt.GenerationSpent = why.GenerationSpent
-why_of_halt halt.StoreFull = why.StoreFull
-why_of_halt (halt.IndexFull needed) = why.IndexFull needed
-why_of_halt (halt.BadIndex unit) = why.BadIndex unit
-why_of_halt halt.DiskFault = why.DiskFault
-why_of_halt halt.ShelfFault = why.ShelfFault
-why_of_halt halt.OutFault = why.OutFault
-why_of_halt halt.ErrFault = why.ErrFault
-why_of_halt halt.NoMemory = why.NoMemory
 
 -- the answer of a command for each fault of the exercise
 abbrev pub why_of_exercise : ExerciseFault → Why
@@ -183,6 +169,5 @@ module _ {D : Type 0} (d : disk.Ghosts D) where
     pub says : EndsAs ended given changes
     pub done : is_done given ≡ true → unlogged (d.files new) ≡ after
     pub shut : is_done given ≡ true → IsShut new
-    pub stays : is_done_or_fault given ≡ false → d.files new ≡ d.files old
     pub leaves : LeavesIn d old new (GroupLeaves ended (unlogged (d.files old)) after)
     pub unmade : is_done_or_fault given ≡ false → LeavesIn d old new (ReopensAs (unlogged (d.files old)))

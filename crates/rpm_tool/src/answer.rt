@@ -1,8 +1,9 @@
 //! How a command line ended.
 
 ghost use Rattle.std.specs.Prelude.{◌≡◌};
-ghost use Rattle.rpm_tool.specs.Prelude.{status_of};
+ghost use Rattle.rpm_tool.specs.Prelude.{status_of, why_of_halt};
 
+use rpm_change::Halt;
 use rpm_db::Damage;
 use rpm_qfparse::FormatFault;
 use rpm_words::WordsFault;
@@ -30,7 +31,8 @@ pub enum Why {
     StoreFull,
     /// The exercise asks for a database without packages, and there are some: the least number.
     NotEmpty(u32),
-    /// `Hindex.db` is malformed at this unit: in the chain of a key that was asked, or of one that changes.
+    /// `Hindex.db` is malformed at this unit: in the chain of a key that was asked, or that changes, or for a report of
+    /// any key; or unit 1 counts too little.
     BadIndex { unit: u64 },
     /// An index of the packages needs so many units, more than `Hindex.db` may have.
     IndexFull { needed: u64 },
@@ -48,11 +50,31 @@ pub enum Why {
     NoMemory,
 }
 
+/// The ending of a command that was halted.
+impl From<Halt> for Why {
+    ghost from_gives = { λ halt why. why ≡ why_of_halt halt };
+
+    fn from(halt: Halt) -> Why {
+        match halt {
+            Halt::NumbersSpent => Why::NumbersSpent,
+            Halt::GenerationSpent => Why::GenerationSpent,
+            Halt::StoreFull => Why::StoreFull,
+            Halt::IndexFull { needed } => Why::IndexFull { needed },
+            Halt::BadIndex { unit } => Why::BadIndex { unit },
+            Halt::DiskFault => Why::DiskFault,
+            Halt::ShelfFault => Why::ShelfFault,
+            Halt::OutFault => Why::OutFault,
+            Halt::ErrFault => Why::ErrFault,
+            Halt::NoMemory => Why::NoMemory,
+        }
+    }
+}
+
 /// How a command line ended.
 #[derive(Clone, Copy, Debug, PartialEq, Eq)]
 pub struct Outcome {
     /// The exit status: 0 where all was done, the number of failed arguments up to 250, 251 for words that break a
-    /// rule and for a format with a fault, 252 for the database, 253 for output, 254 for want of memory.
+    /// rule and for a format with a fault, 252 for the database, 253 for input and output, 254 for want of memory.
     pub status: u8,
     pub why: Why,
     /// How many packages were added, replaced or erased.

@@ -1,11 +1,12 @@
 //! One argument of a query.
 
-ghost use Rattle.std.specs.Prelude.{◌≡◌, ◌≢◌, ◌+◌, ◌≤◌, ℕ, [], false, IsTrue, Err, IfOk, IfErr};
-ghost use Rattle.rpm_tool.specs.Prelude.{above, answered, argument_part, argument_reach, cost_all, cost_to, DiskFault, HasRows, holds, is_indexed, is_of_sink, is_some_of, IsAskable, IsOfChain, lent, Looks, packages_in, PartIs, Peeks, picks, Pkg, pkg_read, question_of, reach_all, reach_to, ReadsOf, Serves, shown, StopHands};
+ghost use Rattle.std.specs.Prelude.{◌≡◌, ◌+◌, ◌≤◌, ℕ, IsTrue, Err, IfOk, IfErr};
+ghost use Rattle.rpm_tool.specs.Prelude.{above, argument_part, argument_reach, cost_to, DiskFault, HaltHands, HasRows, is_indexed, is_some_of, IsAskable, IsOfChain, IsOfPrint, IsOfRead, lent, Looks, packages_in, PartIs, Peeks, picks, Pkg, pkg_read, question_of, reach_all, reach_to, ReadsOf, Serves, shown};
 
+use crate::asked::Deed;
 use crate::missing::put_missing_part;
-use crate::picked::{print_above, stop_of};
-use crate::step::{Stop, Way};
+use crate::picked::{halt_of_pick, print_above};
+use rpm_change::Halt;
 use rpm_db::Db;
 use rpm_outside::{Buffered, Disk, File, Sink};
 use rpm_qfparse::Format;
@@ -56,68 +57,36 @@ fn question_of<'a>(chosen: Chosen, text: &'a str) -> Option<Selection<'a>>
     }
 }
 
-/// Whether packages are picked up to a number, where none is above it.
-fn is_any_passed<D: Disk>(
+/// Whether a question picks packages, where it's known whether it picks some above a number. Where it doesn't, those up
+/// to the number are read.
+fn is_any_picked<D: Disk>(
     alloc: Global,
     picker: &mut Picker,
     db: &Db,
     disk: &mut D,
     selection: &Selection<'_>,
     after: u32,
-) -> Result<bool, Stop>
+    some: bool,
+) -> Result<bool, Halt>
     requires asked { IsAskable D.Disk disk.old db.now }
     ensures told { IsTrue D.tells → Serves picker.old (packages_in D.Disk disk.old db.now) selection.now
-        → above after (picks (packages_in D.Disk disk.old db.now) selection.now) ≡ []
+        → some ≡ is_some_of (above after (picks (packages_in D.Disk disk.old db.now) selection.now))
         → IfOk result (λ any. any ≡ is_some_of (picks (packages_in D.Disk disk.old db.now) selection.now)) }
     ensures reads { pkg_read D.Disk disk.new ≤ pkg_read D.Disk disk.old + reach_to after picker.old db.now }
     ensures looks { Looks D.Disk Pkg (cost_to after db.now) disk.old disk.new }
-    ensures disk { DiskFault D.Disk (result ≡ Err Stop.ReadFault) disk.old disk.new }
-    ensures no_sink { IfErr result (λ stop. is_of_sink stop ≡ false) }
+    ensures disk { DiskFault D.Disk (result ≡ Err Halt.DiskFault) disk.old disk.new }
+    ensures class { IfErr result IsOfRead }
 {
+    if some {
+        return Ok(true);
+    }
     if after == 0 {
         return Ok(false);
     }
     match picker.any_to(alloc, db, disk, selection, after) {
         Ok(any) => Ok(any),
-        Err(fault) => Err(stop_of(fault)),
+        Err(fault) => Err(halt_of_pick(fault)),
     }
-}
-
-/// Prints what a question picks, or the line that it picks nothing. Says whether the argument fails.
-fn answer_question<D: Disk, O: Sink + Drop, E: Sink + Drop>(
-    alloc: Global,
-    picker: &mut Picker,
-    db: &Db,
-    disk: &mut D,
-    selection: &Selection<'_>,
-    chosen: Chosen,
-    text: &str,
-    after: u32,
-    format: &Format,
-    out: &mut Buffered<O>,
-    err: &mut Buffered<E>,
-) -> Result<bool, Stop>
-    requires asked { IsAskable D.Disk disk.old db.now }
-    ensures went { IsTrue D.tells → Serves picker.old (packages_in D.Disk disk.old db.now) selection.now → (j : ℕ)
-        → PartIs (answered format.now chosen after j text.now (picks (packages_in D.Disk disk.old db.now)
-        selection.now)) result (shown O.Sink E.Sink out.old err.old) (shown O.Sink E.Sink out.new err.new)
-        (ReadsOf j picker.old db.now (pkg_read D.Disk disk.old) (pkg_read D.Disk disk.new)) }
-    ensures reads { pkg_read D.Disk disk.new ≤ pkg_read D.Disk disk.old + reach_all picker.old db.now }
-    ensures looks { Looks D.Disk Pkg (cost_all db.now) disk.old disk.new }
-    ensures disk { DiskFault D.Disk (result ≡ Err Stop.ReadFault) disk.old disk.new }
-    ensures unbroken { (unit : ℕ) → result ≢ Err (Stop.BadIndex unit) }
-    ensures hands { StopHands O.Sink E.Sink result out.old err.old out.new err.new }
-{
-    let way = Way::Format(format);
-    let printed = print_above(alloc, picker, db, disk, selection, after, &way, out, err)?;
-    if printed.some {
-        return Ok(printed.fails);
-    }
-    let is_passed = is_any_passed(alloc, picker, db, disk, selection, after)?;
-    if is_passed {
-        return Ok(false);
-    }
-    put_missing_part(chosen, text.as_bytes(), out, err)
 }
 
 /// Prints what an argument picks, or the line that it picks nothing. Says whether the argument fails.
@@ -134,7 +103,7 @@ pub fn answer<D: Disk, O: Sink + Drop, E: Sink + Drop>(
     format: &Format,
     out: &mut Buffered<O>,
     err: &mut Buffered<E>,
-) -> Result<bool, Stop>
+) -> Result<bool, Halt>
     requires asked { IsAskable D.Disk disk.old db.now }
     ensures went { IsTrue D.tells → HasRows D.Disk disk.old db.now → (j : ℕ)
         → PartIs (argument_part format.now (packages_in D.Disk disk.old db.now) chosen after j text.now) result
@@ -147,26 +116,26 @@ pub fn answer<D: Disk, O: Sink + Drop, E: Sink + Drop>(
     ensures bad_index { IsTrue D.tells → IfErr result (IsOfChain (question_of chosen (lent text.now))
         (D.files disk.old).idx) }
     ensures looks { Peeks D.Disk (is_indexed db.now) disk.old disk.new }
-    ensures disk { DiskFault D.Disk (result ≡ Err Stop.ReadFault) disk.old disk.new }
-    ensures hands { StopHands O.Sink E.Sink result out.old err.old out.new err.new }
+    ensures disk { DiskFault D.Disk (result ≡ Err Halt.DiskFault) disk.old disk.new }
+    ensures class { IfErr result IsOfPrint }
+    ensures hands { HaltHands O.Sink E.Sink result out.old err.old out.new err.new }
 {
-    match question_of(chosen, text) {
-        Some(selection) => match Picker::new(alloc, db, disk, &selection) {
-            Ok(mut picker) => answer_question(
-                alloc,
-                &mut picker,
-                db,
-                disk,
-                &selection,
-                chosen,
-                text,
-                after,
-                format,
-                out,
-                err,
-            ),
-            Err(fault) => Err(stop_of(fault)),
-        },
-        None => put_missing_part(chosen, text.as_bytes(), out, err),
+    let selection = match question_of(chosen, text) {
+        Some(selection) => selection,
+        None => return put_missing_part(chosen, text.as_bytes(), out, err),
+    };
+    let mut picker = match Picker::new(alloc, db, disk, &selection) {
+        Ok(picker) => picker,
+        Err(fault) => return Err(halt_of_pick(fault)),
+    };
+    let picker = &mut picker;
+    let deed = Deed::Print;
+    let printed = print_above(
+        alloc, picker, db, disk, &selection, after, deed, format, out, err,
+    )?;
+    let any = is_any_picked(alloc, picker, db, disk, &selection, after, printed.some)?;
+    if any {
+        return Ok(printed.fails);
     }
+    put_missing_part(chosen, text.as_bytes(), out, err)
 }

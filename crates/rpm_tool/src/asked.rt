@@ -49,7 +49,8 @@ pub fn deed_of(mode: Mode) -> Deed
     }
 }
 
-/// Whether a command opens the database with its index.
+/// Whether a command is a question by key or a report on requirements: it opens the database with its index, and
+/// changes no package.
 pub fn by_key(ask: &Ask) -> bool
     ensures { result ≡ by_key ask.now }
 {

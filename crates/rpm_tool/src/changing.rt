@@ -103,9 +103,9 @@ fn end_group<D: Disk>(overlay: Overlay<D>, ended: Result<Tally, Why>) -> (Comman
 ///   `NoMemory` comes freely.
 ///
 /// Of `Packages.db` it reads the slot pages, the blocks of all packages where the index must be made, and those of
-/// each package that is replaced or erased. It syncs three times before the changes and five times for them, and
-/// keeps a page of 4 KiB in memory for each 4 KiB that are written. `now` is the moment of an installation, in
-/// seconds since 1970.
+/// each package that is replaced or erased. It syncs three times before the changes, six times where it finishes what
+/// a crash left, and five times for them, and keeps a page of 4 KiB in memory for each 4 KiB that are written. `now`
+/// is the moment of an installation, in seconds since 1970.
 pub fn change_asked<D: Disk, S: Shelf, O: Sink + Drop, E: Sink + Drop>(
     alloc: Global,
     words: &Words,

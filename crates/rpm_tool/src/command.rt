@@ -12,46 +12,10 @@ use crate::loaded::answer_loaded;
 use crate::package_files::print_files;
 use crate::task::is_changing;
 use rpm_outside::{Buffered, Disk, File, Shelf, Sink};
-use rpm_qfparse::{Format, FormatFault, FormatKind};
-use rpm_words::{Ask, Words, WordsFault, WordsKind};
+use rpm_words::Words;
 use std::alloc::Global;
 
-/// Does a command that was read, on the package files that it names or on the database.
-fn begin<D: Disk, S: Shelf, O: Sink + Drop, E: Sink + Drop>(
-    alloc: Global,
-    words: &Words,
-    ask: &Ask,
-    format: &Format,
-    disk: D,
-    shelf: &mut S,
-    out: &mut Buffered<O>,
-    err: &mut Buffered<E>,
-    now: u32,
-) -> (CommandEnding, D)
-    requires sound { IsSound words.now ask.now }
-    ensures does { Does (ran D.Disk S.Shelf words.now now result.0.why result.0.changes (disk, shelf.old)
-        (shown O.Sink E.Sink out.old err.old) (result.1, shelf.new)) ask.now format.now
-        (shown O.Sink E.Sink out.new err.new) }
-    ensures idle { is_changing ask.now ≡ false → result.0.changes ≡ 0 }
-    ensures keeps { Keeps D.Disk result.0 disk result.1 }
-    ensures streams { Streams S.Shelf O.Sink E.Sink true (λ why. result.0.why ≡ why) (shelf.old, out.old, err.old)
-        (shelf.new, out.new, err.new) }
-{
-    if is_changing(ask) {
-        change_asked(alloc, words, ask, disk, shelf, out, err, now)
-    } else if of_files(ask) {
-        let why = print_files(alloc, shelf, words, ask, format, out, err);
-        (CommandEnding { why, changes: 0 }, disk)
-    } else if by_key(ask) {
-        let (why, disk) = answer_keyed(alloc, disk, words, ask, format, out, err);
-        (CommandEnding { why, changes: 0 }, disk)
-    } else {
-        let (why, disk) = answer_loaded(alloc, disk, words, ask, format, out, err);
-        (CommandEnding { why, changes: 0 }, disk)
-    }
-}
-
-/// Does what a command line asks for, up to its closing line.
+/// Does what a command line asks for, on the package files that it names or on the database, up to its closing line.
 fn command<D: Disk, S: Shelf, O: Sink + Drop, E: Sink + Drop>(
     alloc: Global,
     words: &Words,
@@ -70,9 +34,21 @@ fn command<D: Disk, S: Shelf, O: Sink + Drop, E: Sink + Drop>(
     ensures streams { Streams S.Shelf O.Sink E.Sink true (λ why. result.0.why ≡ why) (shelf.old, out.old, err.old)
         (shelf.new, out.new, err.new) }
 {
-    match read_command(alloc, words) {
-        Ok((ask, format)) => begin(alloc, words, &ask, &format, disk, shelf, out, err, now),
-        Err(why) => (CommandEnding { why, changes: 0 }, disk),
+    let (ask, format) = match read_command(alloc, words) {
+        Ok(read) => read,
+        Err(why) => return (CommandEnding { why, changes: 0 }, disk),
+    };
+    if is_changing(&ask) {
+        change_asked(alloc, words, &ask, disk, shelf, out, err, now)
+    } else if of_files(&ask) {
+        let why = print_files(alloc, shelf, words, &ask, &format, out, err);
+        (CommandEnding { why, changes: 0 }, disk)
+    } else if by_key(&ask) {
+        let (why, disk) = answer_keyed(alloc, disk, words, &ask, &format, out, err);
+        (CommandEnding { why, changes: 0 }, disk)
+    } else {
+        let (why, disk) = answer_loaded(alloc, disk, words, &ask, &format, out, err);
+        (CommandEnding { why, changes: 0 }, disk)
     }
 }
 
@@ -113,6 +89,11 @@ fn command<D: Disk, S: Shelf, O: Sink + Drop, E: Sink + Drop>(
 /// each with a line on `out`. `--exercise` makes the index anew, adds, replaces and erases that many headers that it
 /// generates, and tells on `out` what they leave; where there are packages, it is answered `NotEmpty` with the least
 /// number. The outcome counts the changes, where the command was done.
+///
+/// What is wrong with the files is told before anything is done: `BadLog` where the log is malformed, and else
+/// `Damaged` where `Packages.db` is. `BadIndex` comes only where an index that was found current is asked or changed,
+/// and is malformed there. Of a change the first that is refused decides, and of it the first limit that it meets:
+/// `NumbersSpent`, `GenerationSpent`, `StoreFull`, `IndexFull`; `LogFull` where the log of all changes has no room.
 ///
 /// Of `Packages.db` a query reads no more bytes than those of the slot pages and for each argument of the blocks of
 /// each package once: for a number of that package alone, and by key of the packages that have one of its keys, and

@@ -1,7 +1,7 @@
 //! What each command does on the disk over which its changes are held: it opens the database, and changes it.
 
 ghost use Rattle.std.specs.Prelude.{◌≡◌, true, IsTrue, Err};
-ghost use Rattle.rpm_tool.specs.Prelude.{changes_index, ended_as, exercise_ended, is_anew, IsCountable, needs_none, reads_shelf, shown, Streams, task_course, task_parts, why_of_halt, WorksOn};
+ghost use Rattle.rpm_tool.specs.Prelude.{changes_index, ended_as, exercise_ended, is_anew, IsCountable, needs_none, reads_shelf, shown, Streams, task_course, task_parts, WorksOn};
 
 use crate::answer::Why;
 use crate::opening::open_to_change;
@@ -11,31 +11,13 @@ use rpm_exercise::{ExerciseFault, exercise};
 use rpm_outside::{Buffered, Disk, Shelf, Sink};
 use std::alloc::Global;
 
-/// The ending of a command that was stopped.
-fn why_of_halt(halt: Halt) -> Why
-    ensures { result ≡ why_of_halt halt }
-{
-    match halt {
-        Halt::NumbersSpent => Why::NumbersSpent,
-        Halt::GenerationSpent => Why::GenerationSpent,
-        Halt::StoreFull => Why::StoreFull,
-        Halt::IndexFull { needed } => Why::IndexFull { needed },
-        Halt::BadIndex { unit } => Why::BadIndex { unit },
-        Halt::DiskFault => Why::DiskFault,
-        Halt::ShelfFault => Why::ShelfFault,
-        Halt::OutFault => Why::OutFault,
-        Halt::ErrFault => Why::ErrFault,
-        Halt::NoMemory => Why::NoMemory,
-    }
-}
-
 /// How a command ended whose course was gone through, or was stopped.
 fn ended(done: Result<Tally, Halt>) -> Result<Tally, Why>
     ensures { result ≡ ended_as done }
 {
     match done {
         Ok(tally) => Ok(tally),
-        Err(halt) => Err(why_of_halt(halt)),
+        Err(halt) => Err(Why::from(halt)),
     }
 }
 
@@ -46,7 +28,7 @@ fn exercise_ended(done: Result<Tally, ExerciseFault>) -> Result<Tally, Why>
     match done {
         Ok(tally) => Ok(tally),
         Err(ExerciseFault::NotEmpty { number }) => Err(Why::NotEmpty(number)),
-        Err(ExerciseFault::Halted(halt)) => Err(why_of_halt(halt)),
+        Err(ExerciseFault::Halted(halt)) => Err(Why::from(halt)),
     }
 }
 

@@ -1,12 +1,12 @@
 //! What is told of the paths that several packages own and that differ.
 
-ghost use Rattle.std.specs.Prelude.{◌≡◌, ◌≢◌, ◌+◌, ◌≤◌, [], ◌∷◌, map, false, IsTrue, Err};
-ghost use Rattle.rpm_tool.specs.Prelude.{check_files, conflict_step, cost_all, DiskFault, EndHands, ErrTakes, Everything, fails, holds, if_differs, is_foreign, is_of_opening, IsAskable, label_told, Looks, OutTakes, packages_in, PartIs, Pkg, pkg_read, PutsErr, PutsOut, Reached, reached_by, shown, StopHands, together, told_steps, unread_step, Went, whole};
+ghost use Rattle.std.specs.Prelude.{◌≡◌, ◌≢◌, ◌+◌, ◌≤◌, [], ◌∷◌, map, false, IsTrue, Err, IfErr};
+ghost use Rattle.rpm_tool.specs.Prelude.{check_files, conflict_step, cost_all, DiskFault, EndHands, ErrTakes, Everything, fails, HaltHands, holds, if_differs, is_foreign, is_of_opening, IsAskable, IsOfPrint, label_told, Looks, OutTakes, packages_in, PartIs, Pkg, pkg_read, PutsErr, PutsOut, Reached, reached_by, shown, together, told_steps, unread_step, Went, whole};
 
 use crate::answer::Why;
-use crate::query::why_of;
-use crate::step::{Stop, put_bad};
+use crate::step::put_bad;
 use crate::unreadable::put_out;
+use rpm_change::Halt;
 use rpm_db::Db;
 use rpm_filecheck::{Conflict, ConflictList, FileCheckFault, conflicts};
 use rpm_outside::{Buffered, Disk, File, Sink};
@@ -19,29 +19,13 @@ fn if_differs<'a>(differs: bool, word: &'a [u8]) -> &'a [u8]
     if differs { word } else { b"" }
 }
 
-/// Writes to err the lines of the packages that can't be read.
-fn put_unread<E: Sink + Drop>(
-    alloc: Global,
-    numbers: &[u32],
-    err: &mut Buffered<E>,
-) -> Result<(), Stop>
-    ensures went { ErrTakes E.Sink (λ old new. Reached (map unread_step numbers.now) result old new
-        (λ for. for ≡ whole 0)) err.old err.new }
-    ensures puts { PutsErr E.Sink result err.old err.new }
-{
-    for number in numbers {
-        put_bad(alloc, err, *number)?;
-    }
-    Ok(())
-}
-
 /// Writes to out the line of a conflict.
 #[tactic(auto, unfolding(crate::specs::FileReport::conflict_line))]
 fn put_conflict<'a, O: Sink + Drop>(
     out: &mut Buffered<O>,
     report: &'a ConflictList,
     conflict: &'a Conflict,
-) -> Result<bool, Stop>
+) -> Result<bool, Halt>
     ensures part { OutTakes O.Sink (λ old new. PartIs (fails (conflict_step (label_told report.now) conflict.now)) result
         old new (λ for. for ≡ whole 0)) out.old out.new }
     ensures puts { PutsOut O.Sink result out.old out.new }
@@ -68,33 +52,28 @@ fn put_conflict<'a, O: Sink + Drop>(
     )
 }
 
-/// Writes to out the lines of all conflicts.
-fn put_conflicts<O: Sink + Drop>(out: &mut Buffered<O>, report: &ConflictList) -> Result<(), Stop>
-    ensures went { OutTakes O.Sink (λ old new. Reached (map (conflict_step (label_told report.now))
-        report.now.conflicts) result old new (λ for. for ≡ whole 0)) out.old out.new }
-    ensures puts { PutsOut O.Sink result out.old out.new }
-{
-    for i in 0..report.len() {
-        put_conflict(out, report, report.at(i))?;
-    }
-    Ok(())
-}
-
-/// Tells a report. Says whether the argument fails.
+/// Tells a report: to err the packages that can't be read, and then to out the conflicts, a line for each. Says whether
+/// the argument fails.
 fn tell_report<O: Sink + Drop, E: Sink + Drop>(
     alloc: Global,
     report: &ConflictList,
     out: &mut Buffered<O>,
     err: &mut Buffered<E>,
-) -> Result<bool, Stop>
+) -> Result<bool, Halt>
     ensures part { PartIs (together (map fails (told_steps report.now))) result (shown O.Sink E.Sink out.old err.old)
         (shown O.Sink E.Sink out.new err.new) (λ for. for ≡ whole 0) }
-    ensures no_read { result ≢ Err Stop.ReadFault }
-    ensures hands { StopHands O.Sink E.Sink result out.old err.old out.new err.new }
+    ensures no_read { result ≢ Err Halt.DiskFault }
+    ensures class { IfErr result IsOfPrint }
+    ensures hands { HaltHands O.Sink E.Sink result out.old err.old out.new err.new }
 {
-    put_unread(alloc, report.bad(), err)?;
-    put_conflicts(out, report)?;
-    Ok(!report.bad().is_empty() | (report.len() != 0))
+    let bad = report.bad();
+    for number in bad {
+        put_bad(alloc, err, *number)?;
+    }
+    for i in 0..report.len() {
+        put_conflict(out, report, report.at(i))?;
+    }
+    Ok(!bad.is_empty() | (report.len() != 0))
 }
 
 /// Tells the packages that can't be read, and then the paths that several packages own and that differ. Reads all
@@ -125,6 +104,6 @@ pub fn check_files<D: Disk, O: Sink + Drop, E: Sink + Drop>(
     match tell_report(alloc, &report, out, err) {
         Ok(true) => Why::Failed(1),
         Ok(false) => Why::Done,
-        Err(stop) => why_of(stop),
+        Err(halt) => Why::from(halt),
     }
 }

@@ -9,7 +9,7 @@ use rpm_outside::{Disk, File};
 use std::alloc::Global;
 
 /// The ending of a command whose database isn't opened.
-fn why_of_open(fault: DbOpenFault) -> Why
+pub(crate) fn why_of_open(fault: DbOpenFault) -> Why
     ensures { result ≡ why_of_open fault }
 {
     match fault {

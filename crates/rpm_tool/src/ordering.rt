@@ -1,11 +1,11 @@
 //! An order in which the packages could be installed.
 
 ghost use Rattle.std.specs.Prelude.{◌≡◌, ◌<◌, [], ◌∷◌, map, true, IsTrue, Err, IfErr};
-ghost use Rattle.rpm_tool.specs.Prelude.{Anywhere, class_steps, DiskFault, flat_map, HasRows, IsAskable, label_step, OrderPartIs, OutTakes, packages_in, Peeks, Reached, shown, StopHands, StopsOfSome, TellsOut};
+ghost use Rattle.rpm_tool.specs.Prelude.{Anywhere, class_steps, DiskFault, flat_map, HaltHands, HasRows, IsAskable, IsOfPrint, label_step, OrderPartIs, OutTakes, packages_in, Peeks, Reached, shown, HaltsOfSome, TellsOut};
 
-use crate::step::Stop;
-use crate::unreadable::{put_out, read_into, tell_each_bad};
+use crate::unreadable::{halt_of_check, put_out, read_into, tell_each_bad};
 use itoa::Buffer;
+use rpm_change::Halt;
 use rpm_check::read_graph;
 use rpm_db::Db;
 use rpm_filecheck::label_of;
@@ -23,7 +23,7 @@ fn put_label<D: Disk, O: Sink + Drop>(
     indent: &[u8],
     room: &mut Vec<u8>,
     out: &mut Buffered<O>,
-) -> Result<bool, Stop>
+) -> Result<bool, Halt>
     requires asked { IsAskable D.Disk disk.old db.now }
     ensures went { IsTrue D.tells → OutTakes O.Sink (λ old new. Reached
         (label_step (packages_in D.Disk disk.old db.now) indent.now number ∷ []) result old new Anywhere)
@@ -49,7 +49,7 @@ fn put_labels<D: Disk, O: Sink + Drop>(
     indent: &[u8],
     room: &mut Vec<u8>,
     out: &mut Buffered<O>,
-) -> Result<(), Stop>
+) -> Result<(), Halt>
     requires asked { IsAskable D.Disk disk.old db.now }
     ensures went { IsTrue D.tells → OutTakes O.Sink (λ old new. Reached
         (map (label_step (packages_in D.Disk disk.old db.now) indent.now) class.now) result old new Anywhere)
@@ -71,7 +71,7 @@ fn put_class<D: Disk, O: Sink + Drop>(
     class: &[u32],
     room: &mut Vec<u8>,
     out: &mut Buffered<O>,
-) -> Result<(), Stop>
+) -> Result<(), Halt>
     requires asked { IsAskable D.Disk disk.old db.now }
     ensures went { IsTrue D.tells → OutTakes O.Sink (λ old new. Reached
         (class_steps (packages_in D.Disk disk.old db.now) class.now) result old new Anywhere) out.old out.new }
@@ -94,7 +94,7 @@ fn put_classes<D: Disk, O: Sink + Drop>(
     disk: &mut D,
     list: &ClassList,
     out: &mut Buffered<O>,
-) -> Result<(), Stop>
+) -> Result<(), Halt>
     requires asked { IsAskable D.Disk disk.old db.now }
     ensures went { IsTrue D.tells → OutTakes O.Sink
         (λ old new. Reached (flat_map (class_steps (packages_in D.Disk disk.old db.now)) list.now) result old new
@@ -121,18 +121,22 @@ pub fn report_order<D: Disk, O: Sink + Drop, E: Sink + Drop>(
     disk: &mut D,
     out: &mut Buffered<O>,
     err: &mut Buffered<E>,
-) -> Result<bool, Stop>
+) -> Result<bool, Halt>
     requires asked { IsAskable D.Disk disk.old db.now }
     ensures went { IsTrue D.tells → HasRows D.Disk disk.old db.now
         → OrderPartIs (packages_in D.Disk disk.old db.now) result (shown O.Sink E.Sink out.old err.old)
         (shown O.Sink E.Sink out.new err.new) }
-    ensures broken { IsTrue D.tells → IfErr result (StopsOfSome (D.files disk.old).idx) }
+    ensures broken { IsTrue D.tells → IfErr result (HaltsOfSome (D.files disk.old).idx) }
     ensures looks { Peeks D.Disk true disk.old disk.new }
-    ensures disk { DiskFault D.Disk (result ≡ Err Stop.ReadFault) disk.old disk.new }
-    ensures hands { StopHands O.Sink E.Sink result out.old err.old out.new err.new }
+    ensures disk { DiskFault D.Disk (result ≡ Err Halt.DiskFault) disk.old disk.new }
+    ensures class { IfErr result IsOfPrint }
+    ensures hands { HaltHands O.Sink E.Sink result out.old err.old out.new err.new }
 {
     let bad = tell_each_bad(alloc, db, disk, err)?;
-    let graph = read_graph(alloc, db, disk)?;
+    let graph = match read_graph(alloc, db, disk) {
+        Ok(graph) => graph,
+        Err(fault) => return Err(halt_of_check(fault)),
+    };
     let list = order(alloc, &graph)?;
     put_classes(alloc, db, disk, &list, out)?;
     Ok(bad)

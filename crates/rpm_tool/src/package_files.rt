@@ -1,13 +1,14 @@
 //! A query of package files.
 
-ghost use Rattle.std.specs.Prelude.{◌≡◌, ◌≢◌, ◌++◌, ℕ, [], ◌∷◌, map, false, IsTrue, Err};
-ghost use Rattle.rpm_tool.specs.Prelude.{absent_line, Anywhere, bearer, concat, EndHands, ErrTakes, fails, file_part, Hand, is_of_words, left, meaning, package_header, PartIs, printed, query_files, read_part, refused_line, ShelfFault, shown, stop_in, StopHands, ToErr, told, Went, whole, why_of_files};
+ghost use Rattle.std.specs.Prelude.{◌≡◌, ◌≢◌, ◌++◌, ℕ, [], ◌∷◌, map, false, IsTrue, Err, IfErr};
+ghost use Rattle.rpm_change.specs.Adding.{stop_in};
+ghost use Rattle.rpm_tool.specs.Prelude.{absent_line, Anywhere, bearer, concat, EndHands, ErrTakes, fails, file_part, HaltHands, is_of_words, IsOfPrint, left, meaning, package_header, PartIs, printed, PutsErr, query_files, read_part, refused_line, ShelfFault, shown, ToErr, told, Went, whole};
 
 use crate::answer::Why;
 use crate::pieces::put_line;
 use crate::query::count;
-use crate::step::{Stop, print_header};
-use rpm_change::refused_line;
+use crate::step::print_header;
+use rpm_change::{Halt, refused_line};
 use rpm_file::{FileFault, Package, read_package};
 use rpm_header::View;
 use rpm_outside::{Absent, Buffered, Shelf, Sink};
@@ -16,16 +17,14 @@ use rpm_words::{Ask, Words};
 use std::alloc::Global;
 
 /// Writes pieces of a line to err, for which the argument fails.
-fn put_failing<E: Sink + Drop>(err: &mut Buffered<E>, pieces: &[&[u8]]) -> Result<bool, Stop>
+fn put_failing<E: Sink + Drop>(err: &mut Buffered<E>, pieces: &[&[u8]]) -> Result<bool, Halt>
     ensures part { (j : ℕ) → ErrTakes E.Sink (λ old new. PartIs (fails
         (ToErr (whole j) (concat (map (λ piece. piece.now) pieces.now)))) result old new Anywhere) err.old err.new }
-    ensures no_read { result ≢ Err Stop.ReadFault }
-    ensures no_out { result ≢ Err Stop.OutFault }
-    ensures err { Hand E.Sink (result ≡ Err Stop.ErrFault) err.old err.new }
+    ensures puts { PutsErr E.Sink result err.old err.new }
 {
     match put_line(err, pieces) {
         Ok(()) => Ok(true),
-        Err(_) => Err(Stop::ErrFault),
+        Err(_) => Err(Halt::ErrFault),
     }
 }
 
@@ -35,26 +34,22 @@ fn put_refused<E: Sink + Drop>(
     err: &mut Buffered<E>,
     path: &[u8],
     fault: FileFault,
-) -> Result<bool, Stop>
+) -> Result<bool, Halt>
     ensures part { (j : ℕ) → ErrTakes E.Sink (λ old new. PartIs (fails (ToErr (whole j) (refused_line path.now fault)))
         result old new Anywhere) err.old err.new }
-    ensures no_read { result ≢ Err Stop.ReadFault }
-    ensures no_out { result ≢ Err Stop.OutFault }
-    ensures err { Hand E.Sink (result ≡ Err Stop.ErrFault) err.old err.new }
+    ensures puts { PutsErr E.Sink result err.old err.new }
 {
     match refused_line(alloc, path, fault) {
         Ok(line) => put_failing(err, &[line.as_slice()]),
-        Err(_) => Err(Stop::NoMemory),
+        Err(_) => Err(Halt::NoMemory),
     }
 }
 
 /// Writes to err that a path can't be opened; then the argument fails.
-fn put_absent<E: Sink + Drop>(err: &mut Buffered<E>, path: &[u8]) -> Result<bool, Stop>
+fn put_absent<E: Sink + Drop>(err: &mut Buffered<E>, path: &[u8]) -> Result<bool, Halt>
     ensures part { (j : ℕ) → ErrTakes E.Sink (λ old new. PartIs (fails (ToErr (whole j) (absent_line path.now))) result
         old new Anywhere) err.old err.new }
-    ensures no_read { result ≢ Err Stop.ReadFault }
-    ensures no_out { result ≢ Err Stop.OutFault }
-    ensures err { Hand E.Sink (result ≡ Err Stop.ErrFault) err.old err.new }
+    ensures puts { PutsErr E.Sink result err.old err.new }
 {
     put_failing(err, &[b"error: open of ", path, b" failed\n"])
 }
@@ -65,11 +60,12 @@ fn print_package<O: Sink + Drop, E: Sink + Drop>(
     found: &Package,
     out: &mut Buffered<O>,
     err: &mut Buffered<E>,
-) -> Result<bool, Stop>
+) -> Result<bool, Halt>
     ensures part { (j : ℕ) → PartIs (told (printed (bearer j 0) (meaning found.now 0 format.now) ∷ [])) result
         (shown O.Sink E.Sink out.old err.old) (shown O.Sink E.Sink out.new err.new) Anywhere }
-    ensures no_read { result ≢ Err Stop.ReadFault }
-    ensures hands { StopHands O.Sink E.Sink result out.old err.old out.new err.new }
+    ensures no_read { result ≢ Err Halt.DiskFault }
+    ensures class { IfErr result IsOfPrint }
+    ensures hands { HaltHands O.Sink E.Sink result out.old err.old out.new err.new }
 {
     let view = View::of_checked(found.header());
     let to_out = print_header(format, &view, 0, out, err)?;
@@ -77,12 +73,12 @@ fn print_package<O: Sink + Drop, E: Sink + Drop>(
 }
 
 /// What stops a command where a package file isn't read; None where the file itself is refused.
-fn stop_in(fault: FileFault) -> Option<Stop>
+fn stop_in(fault: FileFault) -> Option<Halt>
     ensures { result ≡ stop_in fault }
 {
     match fault {
-        FileFault::ReadFault => Some(Stop::ReadFault),
-        FileFault::NoMemory => Some(Stop::NoMemory),
+        FileFault::ReadFault => Some(Halt::ShelfFault),
+        FileFault::NoMemory => Some(Halt::NoMemory),
         _ => None,
     }
 }
@@ -95,18 +91,19 @@ fn print_opened<S: Shelf, O: Sink + Drop, E: Sink + Drop>(
     format: &Format,
     out: &mut Buffered<O>,
     err: &mut Buffered<E>,
-) -> Result<bool, Stop>
+) -> Result<bool, Halt>
     ensures went { IsTrue S.tells → (j : ℕ) → PartIs (read_part format.now j path.now
         (package_header (left (S.rest shelf.old)))) result (shown O.Sink E.Sink out.old err.old)
         (shown O.Sink E.Sink out.new err.new) Anywhere }
     ensures paths { IsTrue S.tells → S.paths shelf.new ≡ S.paths shelf.old }
-    ensures shelf { ShelfFault S.Shelf (result ≡ Err Stop.ReadFault) shelf.old shelf.new }
-    ensures hands { StopHands O.Sink E.Sink result out.old err.old out.new err.new }
+    ensures no_disk { result ≢ Err Halt.DiskFault }
+    ensures shelf { ShelfFault S.Shelf (result ≡ Err Halt.ShelfFault) shelf.old shelf.new }
+    ensures hands { HaltHands O.Sink E.Sink result out.old err.old out.new err.new }
 {
     match read_package(alloc, shelf) {
         Ok(found) => print_package(format, &found, out, err),
         Err(fault) => match stop_in(fault) {
-            Some(stop) => Err(stop),
+            Some(halt) => Err(halt),
             None => put_refused(alloc, err, path, fault),
         },
     }
@@ -120,30 +117,17 @@ fn print_file<S: Shelf, O: Sink + Drop, E: Sink + Drop>(
     format: &Format,
     out: &mut Buffered<O>,
     err: &mut Buffered<E>,
-) -> Result<bool, Stop>
+) -> Result<bool, Halt>
     ensures went { IsTrue S.tells → (j : ℕ) → PartIs (file_part format.now (S.paths shelf.old) j path.now) result
         (shown O.Sink E.Sink out.old err.old) (shown O.Sink E.Sink out.new err.new) Anywhere }
     ensures paths { IsTrue S.tells → S.paths shelf.new ≡ S.paths shelf.old }
-    ensures shelf { ShelfFault S.Shelf (result ≡ Err Stop.ReadFault) shelf.old shelf.new }
-    ensures hands { StopHands O.Sink E.Sink result out.old err.old out.new err.new }
+    ensures no_disk { result ≢ Err Halt.DiskFault }
+    ensures shelf { ShelfFault S.Shelf (result ≡ Err Halt.ShelfFault) shelf.old shelf.new }
+    ensures hands { HaltHands O.Sink E.Sink result out.old err.old out.new err.new }
 {
     match shelf.open(path) {
         Ok(()) => print_opened(alloc, shelf, path.as_bytes(), format, out, err),
         Err(Absent) => put_absent(err, path.as_bytes()),
-    }
-}
-
-/// The ending of a query of files that was stopped.
-fn why_of_files(stop: Stop) -> Why
-    ensures { result ≡ why_of_files stop }
-{
-    match stop {
-        Stop::ReadFault => Why::ShelfFault,
-        // It doesn't come: no index is asked.
-        Stop::BadIndex { unit } => Why::BadIndex { unit },
-        Stop::OutFault => Why::OutFault,
-        Stop::ErrFault => Why::ErrFault,
-        Stop::NoMemory => Why::NoMemory,
     }
 }
 
@@ -170,7 +154,7 @@ pub fn print_files<S: Shelf, O: Sink + Drop, E: Sink + Drop>(
         let path = words.text_at(ask.argument(k));
         match print_file(alloc, shelf, path, format, out, err) {
             Ok(fails) => failed = count(failed, fails),
-            Err(stop) => return why_of_files(stop),
+            Err(halt) => return Why::from(halt),
         }
     }
     if failed == 0 {

@@ -1,12 +1,15 @@
 //! The packages that a question picks, printed one after the other.
 
-ghost use Rattle.std.specs.Prelude.{◌≡◌, ◌≢◌, ℕ, ◌+◌, ◌-◌, ◌≤◌, ◌||◌, [], false, IsTrue, Err, IfOk};
-ghost use Rattle.rpm_tool.specs.Prelude.{above, cost_all, cost_to, DiskFault, fails_in, HasRows, holds, is_some_of, IsAskable, Looks, packages_in, packages_part, PartIs, picks, Pkg, pkg_read, reach_all, reach_to, ReadsIn, Serves, shown, step_by, stop_of, StopHands, unasked};
+ghost use Rattle.std.specs.Prelude.{◌≡◌, ◌≢◌, ℕ, ◌+◌, ◌-◌, ◌≤◌, ◌||◌, [], false, IsTrue, Err, IfOk, IfErr};
+ghost use Rattle.rpm_tool.specs.Prelude.{above, cost_all, cost_to, DiskFault, fails_in, HaltHands, HasRows, holds, is_some_of, IsAskable, IsOfPrint, Looks, packages_in, packages_part, PartIs, picks, Pkg, pkg_read, reach_all, reach_to, ReadsIn, Serves, shown, step_by, halt_of_pick, unasked};
 ghost use Rattle.rpm_select.specs.Reach.{asks};
 
-use crate::step::{Stop, Way, print_picked};
+use crate::asked::Deed;
+use crate::step::print_picked;
+use rpm_change::Halt;
 use rpm_db::Db;
 use rpm_outside::{Buffered, Disk, File, Sink};
+use rpm_qfparse::Format;
 use rpm_select::{PickFault, Picker, Selection};
 use std::alloc::Global;
 
@@ -17,14 +20,15 @@ pub struct PrintedPackages {
     pub fails: bool,
 }
 
-/// What stops a command where a picker fails.
-pub fn stop_of(fault: PickFault) -> Stop
-    ensures { result ≡ stop_of fault }
+/// What halts a command where a picker fails.
+pub fn halt_of_pick(fault: PickFault) -> Halt
+    ensures value { result ≡ halt_of_pick fault }
+    ensures class { IsOfPrint result }
 {
     match fault {
-        PickFault::BadIndex { unit } => Stop::BadIndex { unit },
-        PickFault::DiskFault => Stop::ReadFault,
-        PickFault::NoMemory => Stop::NoMemory,
+        PickFault::BadIndex { unit } => Halt::BadIndex { unit },
+        PickFault::DiskFault => Halt::DiskFault,
+        PickFault::NoMemory => Halt::NoMemory,
     }
 }
 
@@ -49,7 +53,8 @@ pub fn begin_unasked<D: Disk>(
     }
 }
 
-/// Prints each package above a number that a selection picks, by rising number.
+/// Prints each package above a number that a selection picks, by rising number: writes it out for an
+/// export, or else what the format says of it.
 pub fn print_above<D: Disk, O: Sink + Drop, E: Sink + Drop>(
     alloc: Global,
     picker: &mut Picker,
@@ -57,14 +62,15 @@ pub fn print_above<D: Disk, O: Sink + Drop, E: Sink + Drop>(
     disk: &mut D,
     selection: &Selection<'_>,
     after: u32,
-    way: &Way<'_>,
+    deed: Deed,
+    format: &Format,
     out: &mut Buffered<O>,
     err: &mut Buffered<E>,
-) -> Result<PrintedPackages, Stop>
+) -> Result<PrintedPackages, Halt>
     requires asked { IsAskable D.Disk disk.old db.now }
     ensures same { picker.new ≡ picker.old }
     ensures went { IsTrue D.tells → Serves picker.old (packages_in D.Disk disk.old db.now) selection.now → (j : ℕ)
-        → PartIs (packages_part (step_by way.now j) after (picks (packages_in D.Disk disk.old db.now) selection.now))
+        → PartIs (packages_part (step_by deed format.now j) after (picks (packages_in D.Disk disk.old db.now) selection.now))
         (fails_in result) (shown O.Sink E.Sink out.old err.old) (shown O.Sink E.Sink out.new err.new)
         (ReadsIn j after picker.old db.now (pkg_read D.Disk disk.old) (pkg_read D.Disk disk.new)) }
     ensures some { IsTrue D.tells → Serves picker.old (packages_in D.Disk disk.old db.now) selection.now
@@ -73,9 +79,10 @@ pub fn print_above<D: Disk, O: Sink + Drop, E: Sink + Drop>(
     ensures reads { pkg_read D.Disk disk.new + reach_to after picker.old db.now ≤ pkg_read D.Disk disk.old + reach_all
         picker.old db.now }
     ensures looks { Looks D.Disk Pkg (cost_all db.now - cost_to after db.now) disk.old disk.new }
-    ensures disk { DiskFault D.Disk (result ≡ Err Stop.ReadFault) disk.old disk.new }
-    ensures unbroken { (unit : ℕ) → result ≢ Err (Stop.BadIndex unit) }
-    ensures hands { StopHands O.Sink E.Sink result out.old err.old out.new err.new }
+    ensures disk { DiskFault D.Disk (result ≡ Err Halt.DiskFault) disk.old disk.new }
+    ensures unbroken { (unit : ℕ) → result ≢ Err (Halt.BadIndex unit) }
+    ensures class { IfErr result IsOfPrint }
+    ensures hands { HaltHands O.Sink E.Sink result out.old err.old out.new err.new }
 {
     let mut number = after;
     let mut some = false;
@@ -83,7 +90,7 @@ pub fn print_above<D: Disk, O: Sink + Drop, E: Sink + Drop>(
     loop {
         match picker.next_after(alloc, db, disk, selection, number) {
             Ok(Some(picked)) => {
-                let printed = print_picked(alloc, way, &picked, out, err);
+                let printed = print_picked(alloc, deed, format, &picked, out, err);
                 number = picked.number();
                 picker.take_back(picked);
                 let to_out = printed?;
@@ -91,7 +98,7 @@ pub fn print_above<D: Disk, O: Sink + Drop, E: Sink + Drop>(
                 fails |= !to_out;
             }
             Ok(None) => return Ok(PrintedPackages { some, fails }),
-            Err(fault) => return Err(stop_of(fault)),
+            Err(fault) => return Err(halt_of_pick(fault)),
         }
     }
 }

@@ -1,13 +1,13 @@
 //! The queries of an opened database.
 
 ghost use Rattle.std.specs.Prelude.{◌≡◌, ◌≢◌, ◌+◌, ◌<◌, ◌≤◌, ℕ, [], ◌∷◌, if◌then◌else◌, false, map, IsTrue};
-ghost use Rattle.rpm_tool.specs.Prelude.{argument_part, argument_reach, before, cost_all, DiskFault, EndHands, Everything, HasRows, holds, idle, in_turn, is_foreign, is_indexed, is_of_opening, IsAskable, IsOfChains, Looks, packages_in, packages_part, Peeks, picks, Pkg, pkg_read, reach_sum, reached_by, shown, step_by, text_at, Went, why_of};
+ghost use Rattle.rpm_tool.specs.Prelude.{argument_part, argument_reach, before, cost_all, DiskFault, EndHands, Everything, HasRows, holds, idle, in_turn, is_foreign, is_indexed, is_of_opening, IsAskable, IsOfChains, Looks, packages_in, packages_part, Peeks, picks, Pkg, pkg_read, reach_sum, reached_by, shown, step_by, text_at, Went};
 ghost use Rattle.rpm_select.specs.declared.selection.Selection.TheVariants as question;
 
 use crate::answer::Why;
 use crate::argument::answer;
+use crate::asked::Deed;
 use crate::picked::{begin_unasked, print_above};
-use crate::step::{Stop, Way};
 use rpm_db::Db;
 use rpm_outside::{Buffered, Disk, File, Sink};
 use rpm_qfparse::Format;
@@ -15,34 +15,20 @@ use rpm_select::Selection;
 use rpm_words::{Ask, Words};
 use std::alloc::Global;
 
-/// The ending of a command that was stopped.
-pub fn why_of(stop: Stop) -> Why
-    ensures value { result ≡ why_of stop }
-    ensures done { is_foreign result ≡ false }
-    ensures opened { is_of_opening result ≡ false }
-{
-    match stop {
-        Stop::ReadFault => Why::DiskFault,
-        Stop::BadIndex { unit } => Why::BadIndex { unit },
-        Stop::OutFault => Why::OutFault,
-        Stop::ErrFault => Why::ErrFault,
-        Stop::NoMemory => Why::NoMemory,
-    }
-}
-
-/// Prints each package above a number.
+/// Writes each package above a number out for an export, or else prints what the format says of it.
 pub fn query_all<D: Disk, O: Sink + Drop, E: Sink + Drop>(
     alloc: Global,
     db: &Db,
     disk: &mut D,
     after: u32,
-    way: &Way<'_>,
+    deed: Deed,
+    format: &Format,
     out: &mut Buffered<O>,
     err: &mut Buffered<E>,
 ) -> Why
     requires asked { IsAskable D.Disk disk.old db.now }
     ensures went { IsTrue D.tells → HasRows D.Disk disk.old db.now
-        → Went (before (packages_part (step_by way.now 0) after (picks (packages_in D.Disk disk.old db.now)
+        → Went (before (packages_part (step_by deed format.now 0) after (picks (packages_in D.Disk disk.old db.now)
         question.All)) idle) result (shown O.Sink E.Sink out.old err.old) (shown O.Sink E.Sink out.new err.new)
         (λ for. pkg_read D.Disk disk.new ≤ pkg_read D.Disk disk.old + reached_by (Everything ∷ []) db.now for) }
     ensures done { is_foreign result ≡ false }
@@ -60,17 +46,18 @@ pub fn query_all<D: Disk, O: Sink + Drop, E: Sink + Drop>(
         disk,
         &Selection::All,
         after,
-        way,
+        deed,
+        format,
         out,
         err,
     ) {
         Ok(printed) if printed.fails => Why::Failed(1),
         Ok(_) => Why::Done,
-        Err(stop) => why_of(stop),
+        Err(halt) => Why::from(halt),
     }
 }
 
-/// One more argument, which may have failed.
+/// How many arguments failed, with one more.
 pub fn count(failed: u32, fails: bool) -> u32
     requires { failed < 4294967295 }
     ensures { result ≡ failed + (if fails then 1 else 0) }
@@ -123,7 +110,7 @@ pub fn query_each<D: Disk, O: Sink + Drop, E: Sink + Drop>(
             err,
         ) {
             Ok(fails) => failed = count(failed, fails),
-            Err(stop) => return why_of(stop),
+            Err(halt) => return Why::from(halt),
         }
     }
     if failed == 0 {

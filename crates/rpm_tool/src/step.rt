@@ -1,9 +1,11 @@
 //! What is printed of one package.
 
-ghost use Rattle.std.specs.Prelude.{◌≡◌, ◌≢◌, ℕ, [], ◌++◌, Err, IfOk};
-ghost use Rattle.rpm_tool.specs.Prelude.{bad_line, Bearer, bearer, ending, entry_in, ErrTakes, Good, Hand, holds, inner, magic, meaning, OutTakes, printed, Prints, shown, step_by, StepIs, StopHands, ToErr, ToOut};
+ghost use Rattle.std.specs.Prelude.{◌≡◌, ◌≢◌, ℕ, ◌++◌, Err, IfOk, IfErr};
+ghost use Rattle.rpm_tool.specs.Prelude.{bad_line, Bearer, bearer, entry_in, ErrTakes, Good, HaltHands, IsOfPrint, magic, meaning, OutTakes, printed, PutsErr, PutsOut, shown, step_by, StepIs, ToErr, ToOut};
 
+use crate::asked::Deed;
 use itoa::Buffer;
+use rpm_change::Halt;
 use rpm_header::{MAGIC, View};
 use rpm_outside::{Buffered, Failed, Sink, put_and_flush};
 use rpm_qfeval::{DirectFault, print_direct};
@@ -11,29 +13,15 @@ use rpm_qfparse::Format;
 use rpm_select::Picked;
 use std::alloc::{AllocError, Global};
 
-/// What stops a command before its end.
-#[derive(Clone, Copy, Debug, PartialEq, Eq)]
-pub enum Stop {
-    /// What is printed can't be read: a call of the disk or of the shelf failed.
-    ReadFault,
-    /// The index is malformed at this unit.
-    BadIndex { unit: u64 },
-    OutFault,
-    ErrFault,
-    NoMemory,
-}
-
 /// Writes a message on a package to err.
-fn put_message<E: Sink + Drop>(err: &mut Buffered<E>, message: &[u8]) -> Result<bool, Stop>
+fn put_message<E: Sink + Drop>(err: &mut Buffered<E>, message: &[u8]) -> Result<bool, Halt>
     ensures step { (for : Bearer) → ErrTakes E.Sink (StepIs (ToErr for message.now) result) err.old err.new }
-    ensures no_read { result ≢ Err Stop.ReadFault }
-    ensures no_out { result ≢ Err Stop.OutFault }
-    ensures err { Hand E.Sink (result ≡ Err Stop.ErrFault) err.old err.new }
+    ensures puts { PutsErr E.Sink result err.old err.new }
 {
     err.clear();
     match put_and_flush(err, message) {
         Ok(()) => Ok(false),
-        Err(_) => Err(Stop::ErrFault),
+        Err(_) => Err(Halt::ErrFault),
     }
 }
 
@@ -55,36 +43,13 @@ pub fn put_bad<E: Sink + Drop>(
     alloc: Global,
     err: &mut Buffered<E>,
     number: u32,
-) -> Result<bool, Stop>
+) -> Result<bool, Halt>
     ensures step { (for : Bearer) → ErrTakes E.Sink (StepIs (ToErr for (bad_line number)) result) err.old err.new }
-    ensures no_read { result ≢ Err Stop.ReadFault }
-    ensures no_out { result ≢ Err Stop.OutFault }
-    ensures err { Hand E.Sink (result ≡ Err Stop.ErrFault) err.old err.new }
+    ensures puts { PutsErr E.Sink result err.old err.new }
 {
     match bad_line(alloc, number) {
         Ok(line) => put_message(err, &line),
-        Err(_) => Err(Stop::NoMemory),
-    }
-}
-
-/// Prints what the format says of a header, and gives the sink behind the buffer all of it. What the buffer held is let
-/// go.
-fn print_flushed<O: Sink + Drop>(
-    format: &Format,
-    view: &View<'_>,
-    number: u32,
-    out: &mut Buffered<O>,
-) -> Result<(), DirectFault>
-    ensures { Prints O.tells O.taken O.faults O.follows (meaning view.now number format.now) (inner out.old)
-        (inner out.new) (ending result) }
-{
-    out.clear();
-    match print_direct(format, view, number, out) {
-        Ok(()) => match out.flush() {
-            Ok(()) => Ok(()),
-            Err(Failed) => Err(DirectFault::OutFault),
-        },
-        Err(fault) => Err(fault),
+        Err(_) => Err(Halt::NoMemory),
     }
 }
 
@@ -97,15 +62,20 @@ pub fn print_header<O: Sink + Drop, E: Sink + Drop>(
     number: u32,
     out: &mut Buffered<O>,
     err: &mut Buffered<E>,
-) -> Result<bool, Stop>
+) -> Result<bool, Halt>
     ensures step { (j : ℕ) → StepIs (printed (bearer j number) (meaning view.now number format.now)) result
         (shown O.Sink E.Sink out.old err.old) (shown O.Sink E.Sink out.new err.new) }
-    ensures no_read { result ≢ Err Stop.ReadFault }
-    ensures hands { StopHands O.Sink E.Sink result out.old err.old out.new err.new }
+    ensures no_read { result ≢ Err Halt.DiskFault }
+    ensures class { IfErr result IsOfPrint }
+    ensures hands { HaltHands O.Sink E.Sink result out.old err.old out.new err.new }
 {
-    match print_flushed(format, view, number, out) {
-        Ok(()) => Ok(true),
-        Err(DirectFault::OutFault) => Err(Stop::OutFault),
+    out.clear();
+    match print_direct(format, view, number, out) {
+        Ok(()) => match out.flush() {
+            Ok(()) => Ok(true),
+            Err(Failed) => Err(Halt::OutFault),
+        },
+        Err(DirectFault::OutFault) => Err(Halt::OutFault),
         Err(DirectFault::SizesDiffer { .. }) => put_message(
             err,
             b"error: incorrect format: array iterator used with different sized arrays\n",
@@ -124,16 +94,14 @@ fn with_magic(alloc: Global, blob: &[u8]) -> Result<Vec<u8>, AllocError>
 }
 
 /// Writes a text to out.
-pub fn put_text<O: Sink + Drop>(out: &mut Buffered<O>, text: &[u8]) -> Result<bool, Stop>
+pub fn put_text<O: Sink + Drop>(out: &mut Buffered<O>, text: &[u8]) -> Result<bool, Halt>
     ensures step { (for : Bearer) → OutTakes O.Sink (StepIs (ToOut for text.now) result) out.old out.new }
-    ensures no_read { result ≢ Err Stop.ReadFault }
-    ensures no_err { result ≢ Err Stop.ErrFault }
-    ensures out { Hand O.Sink (result ≡ Err Stop.OutFault) out.old out.new }
+    ensures puts { PutsOut O.Sink result out.old out.new }
 {
     out.clear();
     match put_and_flush(out, text) {
         Ok(()) => Ok(true),
-        Err(_) => Err(Stop::OutFault),
+        Err(_) => Err(Halt::OutFault),
     }
 }
 
@@ -142,47 +110,39 @@ fn put_export<O: Sink + Drop>(
     alloc: Global,
     blob: &[u8],
     out: &mut Buffered<O>,
-) -> Result<bool, Stop>
+) -> Result<bool, Halt>
     ensures step { (for : Bearer) → OutTakes O.Sink (StepIs (ToOut for (magic ++ blob.now)) result) out.old out.new }
-    ensures no_read { result ≢ Err Stop.ReadFault }
-    ensures no_err { result ≢ Err Stop.ErrFault }
-    ensures out { Hand O.Sink (result ≡ Err Stop.OutFault) out.old out.new }
+    ensures puts { PutsOut O.Sink result out.old out.new }
 {
     match with_magic(alloc, blob) {
         Ok(piece) => put_text(out, &piece),
-        Err(_) => Err(Stop::NoMemory),
+        Err(_) => Err(Halt::NoMemory),
     }
 }
 
-/// How a package is told.
-#[derive(Drop)]
-pub enum Way<'a> {
-    /// What a format says of it.
-    Format(&'a Format),
-    /// Its bytes, after the magic.
-    Export,
-}
-
-/// Prints a package that was picked, to out (true), or a message, to err (false).
+/// Prints a package that was picked, to out (true), or a message, to err (false): for an export its header after the
+/// magic, else what the format says of it.
 pub fn print_picked<O: Sink + Drop, E: Sink + Drop>(
     alloc: Global,
-    way: &Way<'_>,
+    deed: Deed,
+    format: &Format,
     picked: &Picked,
     out: &mut Buffered<O>,
     err: &mut Buffered<E>,
-) -> Result<bool, Stop>
-    ensures step { (j : ℕ) → StepIs (step_by way.now j (entry_in picked.now)) result
+) -> Result<bool, Halt>
+    ensures step { (j : ℕ) → StepIs (step_by deed format.now j (entry_in picked.now)) result
         (shown O.Sink E.Sink out.old err.old) (shown O.Sink E.Sink out.new err.new) }
-    ensures no_read { result ≢ Err Stop.ReadFault }
-    ensures hands { StopHands O.Sink E.Sink result out.old err.old out.new err.new }
+    ensures no_read { result ≢ Err Halt.DiskFault }
+    ensures class { IfErr result IsOfPrint }
+    ensures hands { HaltHands O.Sink E.Sink result out.old err.old out.new err.new }
 {
     match picked {
-        Picked::Good { number, blob } => match way {
-            Way::Format(format) => {
+        Picked::Good { number, blob } => match deed {
+            Deed::Export => put_export(alloc, blob.as_slice(), out),
+            _ => {
                 let view = blob.view();
                 print_header(format, &view, *number, out, err)
             }
-            Way::Export => put_export(alloc, blob.as_slice(), out),
         },
         Picked::Bad { number } => put_bad(alloc, err, *number),
     }

@@ -1,42 +1,33 @@
-//! What the reports read of packages and write, and the packages that can't be read.
+//! What the reports share: why a question halts them, a line on out, a package that is read into a room, and the lines
+//! of the packages that can't be read.
 
 ghost use Rattle.std.specs.Prelude.{◌≡◌, map, IsTrue, IfOk};
 ghost use Rattle.std.specs.FinMap as finite;
-ghost use Rattle.rpm_tool.specs.Prelude.{Anywhere, bad_at, bad_parts, Bearer, concat, ErrTakes, fails, IsAskable, IsRead, OutTakes, packages_in, PartIs, PutsOut, ReadsBy, stop_of_check, TellsErr, ToOut};
+ghost use Rattle.rpm_tool.specs.Prelude.{Anywhere, bad_at, bad_parts, Bearer, concat, ErrTakes, fails, IsAskable, IsOfPrint, IsRead, OutTakes, packages_in, PartIs, PutsOut, ReadsBy, halt_of_check, TellsErr, ToOut};
 
 use crate::pieces::put_line;
-use crate::step::{Stop, put_bad};
+use crate::step::put_bad;
+use rpm_change::Halt;
 use rpm_check::CheckFault;
 use rpm_db::{Db, GetFault};
 use rpm_outside::{Buffered, Disk, Sink};
-use std::alloc::{AllocError, Global};
+use std::alloc::Global;
 use std::mem::replace;
 
-/// What stops a report where a question fails.
-impl From<CheckFault> for Stop {
-    ghost from_gives = { λ fault e. e ≡ stop_of_check fault };
-
-    fn from(fault: CheckFault) -> Stop {
-        match fault {
-            CheckFault::BadIndex { unit } => Stop::BadIndex { unit },
-            CheckFault::DiskFault => Stop::ReadFault,
-            CheckFault::NoMemory => Stop::NoMemory,
-        }
-    }
-}
-
-impl From<AllocError> for Stop {
-    ghost use Rattle.rpm_tool.specs.declared.step.Stop.TheVariants.{NoMemory};
-
-    ghost from_gives = { λ _ e. e ≡ NoMemory };
-
-    fn from(_: AllocError) -> Stop {
-        Stop::NoMemory
+/// What halts a report where a question fails.
+pub fn halt_of_check(fault: CheckFault) -> Halt
+    ensures value { result ≡ halt_of_check fault }
+    ensures class { IsOfPrint result }
+{
+    match fault {
+        CheckFault::BadIndex { unit } => Halt::BadIndex { unit },
+        CheckFault::DiskFault => Halt::DiskFault,
+        CheckFault::NoMemory => Halt::NoMemory,
     }
 }
 
 /// Writes to out these pieces of a text, one after the other, as one step. Says true: the argument may fail for it.
-pub fn put_out<O: Sink + Drop>(out: &mut Buffered<O>, pieces: &[&[u8]]) -> Result<bool, Stop>
+pub fn put_out<O: Sink + Drop>(out: &mut Buffered<O>, pieces: &[&[u8]]) -> Result<bool, Halt>
     ensures part { (for : Bearer) → OutTakes O.Sink (λ old new. PartIs
         (fails (ToOut for (concat (map (λ piece. piece.now) pieces.now)))) result old new (λ at. at ≡ for))
         out.old out.new }
@@ -44,7 +35,7 @@ pub fn put_out<O: Sink + Drop>(out: &mut Buffered<O>, pieces: &[&[u8]]) -> Resul
 {
     match put_line(out, pieces) {
         Ok(()) => Ok(true),
-        Err(_) => Err(Stop::OutFault),
+        Err(_) => Err(Halt::OutFault),
     }
 }
 
@@ -55,7 +46,7 @@ pub fn read_into<D: Disk>(
     disk: &mut D,
     number: u32,
     room: &mut Vec<u8>,
-) -> Result<(), Stop>
+) -> Result<(), Halt>
     requires asked { IsAskable D.Disk disk.old db.now }
     ensures told { IfOk result (λ _done. IsTrue D.tells
         → IsRead (packages_in D.Disk disk.old db.now) number room.new.items) }
@@ -68,8 +59,8 @@ pub fn read_into<D: Disk>(
         }
         Err(GetFault::NoSuch) => Ok(()),
         Err(GetFault::Bad) => Ok(()),
-        Err(GetFault::DiskFault) => Err(Stop::ReadFault),
-        Err(GetFault::NoMemory) => Err(Stop::NoMemory),
+        Err(GetFault::DiskFault) => Err(Halt::DiskFault),
+        Err(GetFault::NoMemory) => Err(Halt::NoMemory),
     }
 }
 
@@ -82,7 +73,7 @@ fn tell_bad<D: Disk, E: Sink + Drop>(
     number: u32,
     room: &mut Vec<u8>,
     err: &mut Buffered<E>,
-) -> Result<bool, Stop>
+) -> Result<bool, Halt>
     requires asked { IsAskable D.Disk disk.old db.now }
     ensures went { IsTrue D.tells → ErrTakes E.Sink (λ old new. PartIs
         (bad_at number (finite.get (packages_in D.Disk disk.old db.now) number)) result old new Anywhere)
@@ -99,8 +90,8 @@ fn tell_bad<D: Disk, E: Sink + Drop>(
             put_bad(alloc, err, number)?;
             Ok(true)
         }
-        Err(GetFault::DiskFault) => Err(Stop::ReadFault),
-        Err(GetFault::NoMemory) => Err(Stop::NoMemory),
+        Err(GetFault::DiskFault) => Err(Halt::DiskFault),
+        Err(GetFault::NoMemory) => Err(Halt::NoMemory),
     }
 }
 
@@ -111,7 +102,7 @@ pub fn tell_each_bad<D: Disk, E: Sink + Drop>(
     db: &Db,
     disk: &mut D,
     err: &mut Buffered<E>,
-) -> Result<bool, Stop>
+) -> Result<bool, Halt>
     requires asked { IsAskable D.Disk disk.old db.now }
     ensures went { IsTrue D.tells → ErrTakes E.Sink (λ old new. PartIs (bad_parts (packages_in D.Disk disk.old db.now))
         result old new Anywhere) err.old err.new }

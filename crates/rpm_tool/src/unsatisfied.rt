@@ -2,10 +2,11 @@
 
 ghost use Rattle.std.specs.Prelude.{◌≡◌, ◌==◌, ◌<◌, ◌≤◌, [], ◌++◌, length, map, if◌then◌else◌, true, IsTrue, Err, IfOk, IfErr, OnOk, slice_get};
 ghost use Rattle.std.specs.List.{All, prefix_len};
-ghost use Rattle.rpm_tool.specs.Prelude.{Anywhere, DiskFault, has, HasRows, header, is_open, IsAskable, line_of, OutTakes, packages_in, PartIs, Peeks, range_text, Reached, read_text, required, shown, StopHands, StopsOfSome, TellsOut, unmet_lines, unmet_step, unsatisfied_part};
+ghost use Rattle.rpm_tool.specs.Prelude.{Anywhere, DiskFault, HaltHands, has, HasRows, header, is_open, IsAskable, IsOfPrint, line_of, OutTakes, packages_in, PartIs, Peeks, range_text, Reached, read_text, required, shown, HaltsOfSome, TellsOut, unmet_lines, unmet_step, unsatisfied_part};
 
-use crate::step::{Stop, put_text};
-use crate::unreadable::{read_into, tell_each_bad};
+use crate::step::put_text;
+use crate::unreadable::{halt_of_check, read_into, tell_each_bad};
+use rpm_change::Halt;
 use rpm_check::{Unmet, unmet};
 use rpm_db::Db;
 use rpm_filecheck::label_of;
@@ -113,7 +114,7 @@ fn put_row<D: Disk, O: Sink + Drop>(
     row: &[Unmet],
     room: &mut Vec<u8>,
     out: &mut Buffered<O>,
-) -> Result<bool, Stop>
+) -> Result<bool, Halt>
     requires asked { IsAskable D.Disk disk.old db.now }
     requires own { All (λ unmet. unmet.number ≡ number) row.now }
     requires some { 0 < length row.now }
@@ -144,7 +145,7 @@ fn put_each_unmet<D: Disk, O: Sink + Drop>(
     disk: &mut D,
     list: &[Unmet],
     out: &mut Buffered<O>,
-) -> Result<(), Stop>
+) -> Result<(), Halt>
     requires asked { IsAskable D.Disk disk.old db.now }
     ensures went { IsTrue D.tells → OutTakes O.Sink (λ old new. Reached
         (map (unmet_step (packages_in D.Disk disk.old db.now)) list.now) result old new Anywhere) out.old out.new }
@@ -172,18 +173,22 @@ pub fn report_unmet<D: Disk, O: Sink + Drop, E: Sink + Drop>(
     disk: &mut D,
     out: &mut Buffered<O>,
     err: &mut Buffered<E>,
-) -> Result<bool, Stop>
+) -> Result<bool, Halt>
     requires asked { IsAskable D.Disk disk.old db.now }
     ensures went { IsTrue D.tells → HasRows D.Disk disk.old db.now
         → PartIs (unsatisfied_part (packages_in D.Disk disk.old db.now)) result (shown O.Sink E.Sink out.old err.old)
         (shown O.Sink E.Sink out.new err.new) Anywhere }
-    ensures broken { IsTrue D.tells → IfErr result (StopsOfSome (D.files disk.old).idx) }
+    ensures broken { IsTrue D.tells → IfErr result (HaltsOfSome (D.files disk.old).idx) }
     ensures looks { Peeks D.Disk true disk.old disk.new }
-    ensures disk { DiskFault D.Disk (result ≡ Err Stop.ReadFault) disk.old disk.new }
-    ensures hands { StopHands O.Sink E.Sink result out.old err.old out.new err.new }
+    ensures disk { DiskFault D.Disk (result ≡ Err Halt.DiskFault) disk.old disk.new }
+    ensures class { IfErr result IsOfPrint }
+    ensures hands { HaltHands O.Sink E.Sink result out.old err.old out.new err.new }
 {
     let bad = tell_each_bad(alloc, db, disk, err)?;
-    let list = unmet(alloc, db, disk)?;
+    let list = match unmet(alloc, db, disk) {
+        Ok(list) => list,
+        Err(fault) => return Err(halt_of_check(fault)),
+    };
     put_each_unmet(alloc, db, disk, list.as_slice(), out)?;
     Ok(bad | !list.as_slice().is_empty())
 }

@@ -1,14 +1,13 @@
 //! What verifying says of all packages.
 
-ghost use Rattle.std.specs.Prelude.{◌≡◌, ◌≢◌, ◌+◌, ◌≤◌, [], ◌∷◌, true, false, IsTrue, Err};
-ghost use Rattle.rpm_tool.specs.Prelude.{bearer, cost, cost_all, DiskFault, Everything, Hand, holds, is_foreign, is_of_opening, IsAskable, Looks, OutTakes, PartIs, Pkg, pkg_read, PutsOut, reached_by, room, unsound, verdict, verdict_part, verify, Went};
+ghost use Rattle.std.specs.Prelude.{◌≡◌, ◌≢◌, ◌+◌, ◌≤◌, [], ◌∷◌, true, false, IsTrue, Err, IfErr};
+ghost use Rattle.rpm_tool.specs.Prelude.{bearer, cost, cost_all, DiskFault, Everything, Hand, holds, is_foreign, is_of_opening, IsAskable, IsOfPrint, Looks, OutTakes, PartIs, Pkg, pkg_read, PutsOut, reached_by, room, unsound, verdict, verdict_part, verify, Went};
 ghost use Rattle.rpm_db.specs.Database as database;
 
 use crate::answer::Why;
-use crate::query::why_of;
-use crate::step::Stop;
 use crate::unreadable::put_out;
 use itoa::Buffer;
+use rpm_change::Halt;
 use rpm_db::{Db, GetFault, Verdict};
 use rpm_outside::{Buffered, Disk, File, Sink};
 use std::alloc::Global;
@@ -19,7 +18,7 @@ fn put_unsound<O: Sink + Drop>(
     out: &mut Buffered<O>,
     number: u32,
     text: &[u8],
-) -> Result<bool, Stop>
+) -> Result<bool, Halt>
     ensures part { OutTakes O.Sink (λ old new. PartIs (unsound number text.now) result old new
         (λ for. for ≡ bearer 0 number)) out.old out.new }
     ensures puts { PutsOut O.Sink result out.old out.new }
@@ -37,16 +36,17 @@ fn verify_one<D: Disk, O: Sink + Drop>(
     disk: &mut D,
     number: u32,
     out: &mut Buffered<O>,
-) -> Result<bool, Stop>
+) -> Result<bool, Halt>
     requires asked { IsAskable D.Disk disk.old db.now }
     requires there { database.holds number db.now ≡ true }
     ensures went { IsTrue D.tells → OutTakes O.Sink (λ old new. PartIs
         (verdict_part number (verdict (D.files disk.old).pkg db.now number)) result old new
         (λ for. for ≡ bearer 0 number)) out.old out.new }
     ensures looks { Looks D.Disk Pkg (cost number db.now) disk.old disk.new }
-    ensures no_err { result ≢ Err Stop.ErrFault }
-    ensures disk { DiskFault D.Disk (result ≡ Err Stop.ReadFault) disk.old disk.new }
-    ensures out { Hand O.Sink (result ≡ Err Stop.OutFault) out.old out.new }
+    ensures class { IfErr result IsOfPrint }
+    ensures no_err { result ≢ Err Halt.ErrFault }
+    ensures disk { DiskFault D.Disk (result ≡ Err Halt.DiskFault) disk.old disk.new }
+    ensures out { Hand O.Sink (result ≡ Err Halt.OutFault) out.old out.new }
 {
     match db.verify(alloc, disk, number) {
         Ok(Verdict::Sound) => Ok(false),
@@ -56,8 +56,8 @@ fn verify_one<D: Disk, O: Sink + Drop>(
         Err(GetFault::NoSuch) => unreachable!(),
         // A header that is none is a verdict.
         Err(GetFault::Bad) => unreachable!(),
-        Err(GetFault::DiskFault) => Err(Stop::ReadFault),
-        Err(GetFault::NoMemory) => Err(Stop::NoMemory),
+        Err(GetFault::DiskFault) => Err(Halt::DiskFault),
+        Err(GetFault::NoMemory) => Err(Halt::NoMemory),
     }
 }
 
@@ -85,7 +85,7 @@ pub fn report<D: Disk, O: Sink + Drop>(
         number = next;
         match verify_one(alloc, db, disk, next, out) {
             Ok(unsound) => fails |= unsound,
-            Err(stop) => return why_of(stop),
+            Err(halt) => return Why::from(halt),
         }
     }
     if fails { Why::Failed(1) } else { Why::Done }

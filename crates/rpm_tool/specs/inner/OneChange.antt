@@ -1,14 +1,14 @@
 -- A command that changes packages, as each function on the way to it says it: what becomes `changes` of the page (Theorem.antt) in `run`.
 use Rattle.rpm_db.specs.Frame.{room}
-use Rattle.std.specs.Prelude.{◌≡◌, ℕ, Bool, true, false, [], IsTrue, Result, Err, IfOk, IfErr}
+use Rattle.std.specs.Prelude.{◌≡◌, Bool, true, false, [], IsTrue, Result, Ok, Err, IfErr}
 use Rattle.rpm_outside.specs.declared.disk.Disk as disk
 use Rattle.rpm_outside.specs.declared.shelf.Shelf as shelf
 use Rattle.rpm_outside.specs.declared.sink.Sink as sink
 use Rattle.rpm_outside.specs.declared.buffered.Buffered.{Buffered}
-use Rattle.rpm_outside.specs.Logs.{reopened}
 use Rattle.rpm_hindex.specs.Sizes.{units_for}
 use Rattle.rpm_pkgdb.specs.Reaches.{ReachesTo}
-use Rattle.rpm_pkgdb.specs.Store.{store}
+use Rattle.rpm_outside.specs.Files.{Files}
+use Rattle.rpm_pkgdb.specs.Store.{Store, store}
 use Rattle.rpm_db.specs.Changed.{IsReady}
 use Rattle.rpm_db.specs.Database.{Database, is_blank}
 use Rattle.rpm_db.specs.Lawful.{IsLawful, IsWholeIndex}
@@ -22,22 +22,20 @@ use Rattle.rpm_tool.specs.declared.answer.Why.{Why}
 use Rattle.rpm_tool.specs.declared.answer.Why.TheVariants as why
 use Rattle.rpm_tool.specs.declared.changing.CommandEnding.{CommandEnding}
 use Rattle.rpm_tool.specs.Answers.{is_of_words}
-use Rattle.rpm_tool.specs.Changing.{DidOn, ChangesWith, EmptyBy, IsBroken}
+use Rattle.rpm_tool.specs.Changing.{EmptyBy, IsBroken}
 use Rattle.rpm_tool.specs.Frame.{DiskFault, ShelfFault, Hands, IsIndexed, Runs, state_in}
-use Rattle.rpm_tool.specs.Keyed.{IsLawfulGroup, is_done}
-use Rattle.rpm_tool.specs.Limits.{LimitsBy, LogBy, FaultIs, begun}
-use Rattle.rpm_tool.specs.Tasks.{TaskParts, is_anew, changes_index}
+use Rattle.rpm_tool.specs.Keyed.{is_done}
+use Rattle.rpm_tool.specs.Limits.{LimitsBy, begun}
 use Rattle.rpm_tool.specs.Working.{OpensWithin, WorkedWith, is_halt, why_of}
 
-module _ {D : Type 0} (d : disk.Ghosts D) where
-  -- what it answers, what it leaves, which limit it is answered, and how long its log is where that is refused
-  pub record OneChange (task : TaskParts) (course : State → Course) (given : Why) (changes : ℕ) (old new : D) (before behind : Outputs) : Type 0 where
-    pub did : DidOn course (d.files old) given before behind
-    pub changed : ChangesWith d (is_anew task) (changes_index task) course given changes old new
-    pub limits : LimitsBy (is_anew task) (IsLawfulGroup (d.files old)) course (reopened (d.files old)) given
-    pub fault : FaultIs d (is_anew task) course given old new before behind
-    pub log : LogBy (is_anew task) (IsLawfulGroup (d.files old)) course (reopened (d.files old)) given
+-- the store that a database is opened with: begun, where it is blank; and no file is longer than opening makes it
+pub record FoundAs (old new : Files) (db : Database) : Type 0 where
+  pub value : Store
+  pub undamaged : store old.pkg ≡ Ok value
+  pub store_is : (room db) ≡ begun value
+  pub reach : OpensWithin old value db new
 
+module _ {D : Type 0} (d : disk.Ghosts D) where
   -- a database is begun where there is none, and any other stays as it is
   pub record BeginsOn (old new : D) (before after : Database) : Type 0 where
     pub ready : IsReady d new after
@@ -49,14 +47,13 @@ module _ {D : Type 0} (d : disk.Ghosts D) where
     pub reach : IsTrue d.tells → ReachesMade (units_for []) (d.files old).idx (d.files new).idx
     pub end : IsTrue d.tells → ReachesTo (room after) (d.files old).pkg (d.files new).pkg
 
-  -- it is opened to be changed: its index holds the rows where the database is lawful, and no file is longer than opening makes it
+  -- it is opened to be changed: its index holds the rows where the database is lawful
   pub record OpensOn (old new : D) (db : Database) : Type 0 where
     pub ready : IsReady d new db
     pub not_blank : is_blank db ≡ false
     pub rows : IsTrue d.tells → IsLawful (d.files old).pkg (d.files old).idx → IsIndexed d new db
     pub broken : IsTrue d.tells → ¬ IsWholeIndex (d.files new).idx → IsBroken (d.files old).pkg (d.files old).idx
-    pub store_is : IsTrue d.tells → IfOk (store (d.files old).pkg) (λ value. (room db) ≡ begun value)
-    pub reach : IsTrue d.tells → IfOk (store (d.files old).pkg) (λ value. OpensWithin (d.files old) value db (d.files new))
+    pub found : IsTrue d.tells → FoundAs (d.files old) (d.files new) db
 
   -- a course was gone through on the disk over which its changes are held: how far, which limit stopped it, and whether it found packages where it
   -- asks for none, once the contents are told; and what it leaves

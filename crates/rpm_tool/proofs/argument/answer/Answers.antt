@@ -1,107 +1,120 @@
-use Rattle.rpm_tool.proofs.Vocabulary.{answered, argument_reach, Bearer, cost_all, Files, inner, is_indexed, IsOfChain, lent, missing_part, not_asked}
-use Rattle.rpm_tool.proofs.Vocabulary.{outputs, Package, packages, PartIs, picked_by, picks, Pkg, Portion, question_of, Reach, reach_all, reach_of, reached}
-use Rattle.rpm_tool.proofs.Vocabulary.{ReadsOf, room, Selection, Stop, whole}
-use Rattle.std.proofs.Common.{◌≡◌, ℕ, ◌+◌, ◌≤◌, Option, List, Some, Err, refl, sym, ap, ◌∙◌, subst, arith}
-use Rattle.rpm_tool.proofs.Peeking.{peeks_none, peeks_then, peeks_packages, peeks_index}
+use Rattle.rpm_tool.proofs.Vocabulary.{Halt, IsOfChain, missing_part, packages_in, picks, Selection, shown, whole}
+use Rattle.std.proofs.Common.{◌≡◌, Option, Some, Err, refl, sym, ◌∙◌, subst, arith}
+use Rattle.std.proofs.lemmas.Result.{err_from_is_err_and}
+use Rattle.rpm_tool.proofs.Answering.{answered_done, answered_halt, answered_missed, answered_stop, part_reads}
+use Rattle.rpm_tool.proofs.Looked.{both_read}
+use Rattle.rpm_tool.proofs.Nexts.{any_here}
+use Rattle.rpm_tool.proofs.Picking.{picking_part, picking_peeks, picking_peeks_both, picking_reads}
+use Rattle.rpm_tool.proofs.Questions.{picked_is, chain_same}
 use Rattle.rpm_tool.proofs.Unbroken.{part_unbroken, chain_unbroken, chain_of}
-use Rattle.rpm_tool.proofs.Questions.{picked_same, reach_same, chain_same}
-use Rattle.rpm_tool.proofs.Reached.{served}
-use Rattle.rpm_tool.proofs.Answering.{part_reads}
-use Rattle.rpm_tool.proofs.Askable.{asked_still}
 use Rattle.rpm_tool.proofs.argument.answer.Goals as goal
 
-pub answer_question-requires : goal.answer_question-requires
-answer_question-requires g c = record {
-  asked = asked_still g.D.Disk c.args.disk.now c.new.new.disk c.args.db.now c.in-Ok.ensures.asks.looks.untouched
-      c.requires.asked;
-}
-
-pub returns-in-Ok-clause-went : goal.returns-in-Ok-clause-went
-returns-in-Ok-clause-went g c = λ told rows j.
-    let db = c.args.db.now in
-    let s = (room db) in
-    let sel = c.in-Some.selection in
-    let files = g.D.Disk.files c.args.disk.now in
-    let map = packages files.pkg s in
-    let old = outputs g.O.Sink.tells (g.O.Sink.taken (inner c.args.out.now)) g.E.Sink.tells (g.E.Sink.taken (inner c.args.err.now)) in
-    let new = outputs g.O.Sink.tells (g.O.Sink.taken (inner c.answer_question.new.out)) g.E.Sink.tells (g.E.Sink.taken (inner c.answer_question.new.err)) in
-    let before = g.D.Disk.bytes_read c.args.disk.now Pkg in
-    let between = g.D.Disk.bytes_read c.new.new.disk Pkg in
-    let now = g.D.Disk.bytes_read c.answer_question.new.disk Pkg in
-    let part : List (ℕ × Package) → Portion = answered c.args.format.now c.args.chosen c.args.after j c.args.text.now in
-    let asked = sym c.question_of.ensures ∙ c.in-Some.is in
-    let goes = argument_reach (is_indexed db) map c.args.chosen c.args.text.now in
-    let p = c.in-Ok.picker in
-    let same = (c.in-Ok.ensures.asks.looks.untouched told).same in
-    let is : p ≡ goes = c.in-Ok.ensures.reach told rows ∙ sym (reach_same (is_indexed db) map c.args.chosen c.args.text
-    ∙ ap (reach_of (is_indexed db) map) asked) in
-    let serves = served sel s p p (g.D.Disk.files c.new.new.disk) files refl same (c.in-Ok.ensures.serves told rows) in
-    subst (λ (xs : List (ℕ × Package)). PartIs (part xs) c.answer_question.result old new (ReadsOf j goes db before now))
-    (sym (picked_same map c.args.chosen c.args.text ∙ ap (picked_by map) asked))
-    (part_reads (part (picks map sel)) c.answer_question.result old new (ReadsOf j p db between now) (ReadsOf j goes db before now)
-    (λ b read. (
-      read.0,
-      subst (λ (q : Reach). now ≤ before + reached q db b.number) is (omega (arith, read.1, c.in-Ok.ensures.asks.looks.reads.pkg)),
-    )) (subst (λ (f : Files). PartIs (part (picks (packages f.pkg s) sel)) c.answer_question.result old new (ReadsOf j p db between now)) same
-    (c.answer_question.ensures.went told serves j)))
+-- ---- no question
 
 pub returns-in-None-clause-went : goal.returns-in-None-clause-went
 returns-in-None-clause-went g c = λ told rows j.
-    let db = c.args.db.now in
-    let s = (room db) in
-    let old = outputs g.O.Sink.tells (g.O.Sink.taken (inner c.args.out.now)) g.E.Sink.tells (g.E.Sink.taken (inner c.args.err.now)) in
-    let new = outputs g.O.Sink.tells (g.O.Sink.taken (inner c.put_missing_part.new.out)) g.E.Sink.tells (g.E.Sink.taken (inner c.put_missing_part.new.err)) in
-    let before = g.D.Disk.bytes_read c.args.disk.now Pkg in
-    let map = packages (g.D.Disk.files c.args.disk.now).pkg s in
-    let is = picked_same map c.args.chosen c.args.text ∙ ap (picked_by map) (sym c.question_of.ensures ∙ c.in-None.is) in
-    let r = argument_reach (is_indexed db) map c.args.chosen c.args.text.now in
-    subst (λ (xs : List (ℕ × Package)). PartIs (answered c.args.format.now c.args.chosen c.args.after j c.args.text.now xs) c.put_missing_part.result old new
-    (ReadsOf j r db before before)) (sym is)
-    (part_reads (missing_part c.args.chosen j c.args.text.now) c.put_missing_part.result old new (λ b. b ≡ whole j) (ReadsOf j r db before before)
-    (λ b is. subst (λ (w : Bearer). ReadsOf j r db before before w) (sym is) (refl, omega arith))
-    (rw c.as_bytes.ensures.value at (c.put_missing_part.ensures.part j)))
+    let old = shown g.O.Sink g.E.Sink c.args.out.now c.args.err.now in
+    let new = shown g.O.Sink g.E.Sink c.put_missing_part.new.out c.put_missing_part.new.err in
+    rw (picked_is (packages_in g.D.Disk c.args.disk.now c.args.db.now) c.args.chosen c.args.text
+    (sym c.question_of.ensures ∙ c.in-None.is))
+    (part_reads (missing_part c.args.chosen j c.args.text.now) c.put_missing_part.result old new (λ b. b ≡ whole j) _
+    (λ b is. rw is (refl, omega arith)) (rw c.as_bytes.ensures.value at (c.put_missing_part.ensures.part j)))
 
-pub returns-in-Ok-clause-reads : goal.returns-in-Ok-clause-reads
-returns-in-Ok-clause-reads g c = λ told rows.
-    let db = c.args.db.now in
-    let map = packages (g.D.Disk.files c.args.disk.now).pkg (room db) in
-    let is = c.in-Ok.ensures.reach told rows ∙ sym (reach_same (is_indexed db) map c.args.chosen c.args.text
-    ∙ ap (reach_of (is_indexed db) map) (sym c.question_of.ensures ∙ c.in-Some.is)) in
-    subst (λ (r : Reach). g.D.Disk.bytes_read c.answer_question.new.disk Pkg ≤ g.D.Disk.bytes_read c.args.disk.now Pkg + reach_all r db) is
-    (omega (arith, c.in-Ok.ensures.asks.looks.reads.pkg, c.answer_question.ensures.reads))
+pub returns-in-None-clause-bad_index : goal.returns-in-None-clause-bad_index
+returns-in-None-clause-bad_index g c = λ told. chain_unbroken _ _ c.put_missing_part.result (part_unbroken (c.put_missing_part.ensures.part 0))
 
-pub returns-in-Ok-clause-bad_index : goal.returns-in-Ok-clause-bad_index
-returns-in-Ok-clause-bad_index g c = λ told.
-    chain_unbroken (question_of c.args.chosen (lent c.args.text.now)) (g.D.Disk.files c.args.disk.now).idx c.answer_question.result
-    c.answer_question.ensures.unbroken
+-- ---- no picker
 
 pub returns-in-Err-clause-bad_index : goal.returns-in-Err-clause-bad_index
 returns-in-Err-clause-bad_index g c = λ told.
     let idx = (g.D.Disk.files c.args.disk.now).idx in
-    let here = subst (λ (w : Stop). IsOfChain (Some c.in-Some.selection) idx w) (sym c.stop_of.ensures)
+    let here = subst (λ (w : Halt). IsOfChain (Some c.in-Some.selection) idx w) (sym c.halt_of_pick.ensures.value)
     (chain_of c.in-Some.selection idx c.in-Err.fault (c.in-Err.ensures.asks.broken told)) in
-    chain_same c.args.chosen c.args.text idx (Err c.stop_of.result)
-    (subst (λ (asked : Option Selection). IsOfChain asked idx c.stop_of.result) (sym c.in-Some.is ∙ c.question_of.ensures) here)
+    chain_same c.args.chosen c.args.text idx (Err c.halt_of_pick.result)
+    (subst (λ (asked : Option Selection). IsOfChain asked idx c.halt_of_pick.result) (sym c.in-Some.is ∙ c.question_of.ensures) here)
 
-pub returns-in-Ok-clause-looks : goal.returns-in-Ok-clause-looks
-returns-in-Ok-clause-looks g c =
-    let db = c.args.db.now in
-    peeks_then g.D.Disk.tells g.D.Disk.files g.D.Disk.left_since g.D.Disk.moment g.D.Disk.bytes_read g.D.Disk.follows (is_indexed db)
-    g.met.D.Disk.follows_trans c.args.disk.now c.new.new.disk c.answer_question.new.disk
-    (peeks_index g.D.Disk.tells g.D.Disk.files g.D.Disk.left_since g.D.Disk.moment g.D.Disk.bytes_read g.D.Disk.follows (is_indexed db)
-    c.args.disk.now c.new.new.disk c.in-Ok.ensures.asks.looks (λ none. c.in-Ok.ensures.unread (not_asked db c.in-Some.selection none)))
-    (peeks_packages g.D.Disk.tells g.D.Disk.files g.D.Disk.left_since g.D.Disk.moment g.D.Disk.bytes_read g.D.Disk.follows (is_indexed db)
-    (cost_all db) c.new.new.disk c.answer_question.new.disk c.answer_question.ensures.looks)
+-- ---- not all was printed
 
-pub returns-in-None-clause-bad_index : goal.returns-in-None-clause-bad_index
-returns-in-None-clause-bad_index g c = λ told.
-    chain_unbroken (question_of c.args.chosen (lent c.args.text.now)) (g.D.Disk.files c.args.disk.now).idx c.put_missing_part.result
-    (part_unbroken (missing_part c.args.chosen 0 c.as_bytes.result.now) c.put_missing_part.result
-    (outputs g.O.Sink.tells (g.O.Sink.taken (inner c.args.out.now)) g.E.Sink.tells (g.E.Sink.taken (inner c.args.err.now)))
-    (outputs g.O.Sink.tells (g.O.Sink.taken (inner c.put_missing_part.new.out)) g.E.Sink.tells (g.E.Sink.taken (inner c.put_missing_part.new.err)))
-    (λ b. b ≡ whole 0) (c.put_missing_part.ensures.part 0))
+pub returns-in_err-printed-clause-went : goal.returns-in_err-printed-clause-went
+returns-in_err-printed-clause-went g c =
+    let said = c.in-Ok.ensures in
+    let p = err_from_is_err_and c.from_residual.result c.from_residual.ensures.1 in
+    rw (p.1, p.2) (picking_part g.D.Disk _ _ _ (sym c.question_of.ensures ∙ c.in-Some.is) said.asks.looks said.reach said.serves _ _ _
+    (λ told serves j. answered_stop _ _ _ _ _ (picks (packages_in g.D.Disk c.new.new.disk c.args.db.now) c.in-Some.selection)
+    (λ b read. (read.0, omega (arith, read.1))) (c.in_err-printed.ensures.went told serves j)))
 
-pub returns-in-None-clause-looks : goal.returns-in-None-clause-looks
-returns-in-None-clause-looks g c =
-    peeks_none g.D.Disk.tells g.D.Disk.files g.D.Disk.left_since g.D.Disk.moment g.D.Disk.bytes_read g.D.Disk.follows (is_indexed c.args.db.now)
-    g.met.D.Disk.follows_refl c.args.disk.now
+pub returns-in_err-printed-clause-reads : goal.returns-in_err-printed-clause-reads
+returns-in_err-printed-clause-reads g c =
+    picking_reads g.D.Disk _ _ _ (sym c.question_of.ensures ∙ c.in-Some.is) c.in-Ok.ensures.asks.looks c.in-Ok.ensures.reach
+    (omega (arith, c.in_err-printed.ensures.reads))
+
+pub returns-in_err-printed-clause-looks : goal.returns-in_err-printed-clause-looks
+returns-in_err-printed-clause-looks g c =
+    picking_peeks g.D.Disk g.met.D.Disk.follows_trans c.args.db.now c.in-Some.selection c.in-Ok.ensures.asks.looks
+    c.in-Ok.ensures.unread c.in_err-printed.ensures.looks
+
+-- ---- it isn't known whether some are picked
+
+pub returns-in_err-any-clause-went : goal.returns-in_err-any-clause-went
+returns-in_err-any-clause-went g c =
+    let said = c.in-Ok.ensures in
+    let p = err_from_is_err_and c.from_residual-in_err-any.result c.from_residual-in_err-any.ensures.1 in
+    rw (p.1, p.2) (picking_part g.D.Disk _ _ _ (sym c.question_of.ensures ∙ c.in-Some.is) said.asks.looks said.reach said.serves _ _ _
+    (λ told serves j. answered_halt _ _ _ _ _ (picks (packages_in g.D.Disk c.new.new.disk c.args.db.now) c.in-Some.selection)
+    c.in_err-any.ensures.class (c.in_ok-printed.ensures.went told serves j)))
+
+pub returns-in_err-any-clause-reads : goal.returns-in_err-any-clause-reads
+returns-in_err-any-clause-reads g c =
+    picking_reads g.D.Disk _ _ _ (sym c.question_of.ensures ∙ c.in-Some.is) c.in-Ok.ensures.asks.looks c.in-Ok.ensures.reach
+    (both_read c.in_ok-printed.ensures.same _ _ _ _ c.in_ok-printed.ensures.reads c.in_err-any.ensures.reads)
+
+pub returns-in_err-any-clause-looks : goal.returns-in_err-any-clause-looks
+returns-in_err-any-clause-looks g c =
+    picking_peeks_both g.D.Disk g.met.D.Disk.follows_trans c.args.db.now c.in-Some.selection c.in-Ok.ensures.asks.looks
+    c.in-Ok.ensures.unread c.in_ok-printed.ensures.looks c.in_err-any.ensures.looks
+
+-- ---- some are picked
+
+pub returns-then-any-clause-went : goal.returns-then-any-clause-went
+returns-then-any-clause-went g c =
+    let said = c.in-Ok.ensures in
+    let first = c.in_ok-printed.ensures in
+    picking_part g.D.Disk _ _ _ (sym c.question_of.ensures ∙ c.in-Some.is) said.asks.looks said.reach said.serves _ _ _
+    (λ told serves j. answered_done _ _ _ _ _ (picks (packages_in g.D.Disk c.new.new.disk c.args.db.now) c.in-Some.selection)
+    (sym (any_here _ _ _ first.same (first.looks.untouched told).same (c.in_ok-any.ensures.told told) serves (first.some told serves)) ∙ c.if-any.true)
+    (first.went told serves j))
+
+pub returns-then-any-clause-reads : goal.returns-then-any-clause-reads
+returns-then-any-clause-reads g c =
+    picking_reads g.D.Disk _ _ _ (sym c.question_of.ensures ∙ c.in-Some.is) c.in-Ok.ensures.asks.looks c.in-Ok.ensures.reach
+    (both_read c.in_ok-printed.ensures.same _ _ _ _ c.in_ok-printed.ensures.reads c.in_ok-any.ensures.reads)
+
+pub returns-then-any-clause-looks : goal.returns-then-any-clause-looks
+returns-then-any-clause-looks g c =
+    picking_peeks_both g.D.Disk g.met.D.Disk.follows_trans c.args.db.now c.in-Some.selection c.in-Ok.ensures.asks.looks
+    c.in-Ok.ensures.unread c.in_ok-printed.ensures.looks c.in_ok-any.ensures.looks
+
+-- ---- none is
+
+pub returns-clause-went : goal.returns-clause-went
+returns-clause-went g c =
+    let said = c.in-Ok.ensures in
+    let first = c.in_ok-printed.ensures in
+    picking_part g.D.Disk _ _ _ (sym c.question_of.ensures ∙ c.in-Some.is) said.asks.looks said.reach said.serves _ _ _
+    (λ told serves j. answered_missed _ _ _ _ _ (picks (packages_in g.D.Disk c.new.new.disk c.args.db.now) c.in-Some.selection)
+    (sym (any_here _ _ _ first.same (first.looks.untouched told).same (c.in_ok-any.ensures.told told) serves (first.some told serves)) ∙ c.if-any.false)
+    (first.went told serves j) (refl, both_read first.same _ _ _ _ first.reads c.in_ok-any.ensures.reads)
+    (rw c.as_bytes-2.ensures.value at (c.put_missing_part-2.ensures.part j)))
+
+pub returns-clause-reads : goal.returns-clause-reads
+returns-clause-reads g c =
+    picking_reads g.D.Disk _ _ _ (sym c.question_of.ensures ∙ c.in-Some.is) c.in-Ok.ensures.asks.looks c.in-Ok.ensures.reach
+    (both_read c.in_ok-printed.ensures.same _ _ _ _ c.in_ok-printed.ensures.reads c.in_ok-any.ensures.reads)
+
+pub returns-clause-bad_index : goal.returns-clause-bad_index
+returns-clause-bad_index g c = λ told. chain_unbroken _ _ c.put_missing_part-2.result (part_unbroken (c.put_missing_part-2.ensures.part 0))
+
+pub returns-clause-looks : goal.returns-clause-looks
+returns-clause-looks g c =
+    picking_peeks_both g.D.Disk g.met.D.Disk.follows_trans c.args.db.now c.in-Some.selection c.in-Ok.ensures.asks.looks
+    c.in-Ok.ensures.unread c.in_ok-printed.ensures.looks c.in_ok-any.ensures.looks

@@ -1,58 +1,54 @@
-use Rattle.std.proofs.Common.{◌≡◌, ◌+◌, ◌≤◌, Err, refl, sym, ap, ◌∙◌, subst, ⊎_elim, arith}
-use Rattle.rpm_tool.proofs.Vocabulary.{asked_task, changes_index, Course, EmptyBy, Files, is_anew, is_of_streams, IsLawful, IsShut, laid_files, LimitsBy, Log}
+use Rattle.std.proofs.Common.{◌≡◌, ◌+◌, ◌≤◌, true, Err, refl, sym, ap, ◌∙◌, subst, ⊎_elim, arith}
+use Rattle.std.specs.Prelude.{IsTrue}
+use Rattle.rpm_tool.proofs.Vocabulary.{asked_task, changes_index, Course, EmptyBy, Files, images, is_anew, is_of_streams, IsLawful, laid_files, LimitsBy, Log}
 use Rattle.rpm_tool.proofs.Vocabulary.{log_state, needs_none, OneChange, overlay_below, overlay_held, overlay_read, overlay_starved, reads_shelf, reopened}
-use Rattle.rpm_tool.proofs.Vocabulary.{Rose, shown, State, task_course, task_parts, TaskParts, why_of, why_of_load, why_of_recover, with_file, WorkedWith}
+use Rattle.rpm_tool.proofs.Vocabulary.{ReopensAsOneOf, Rose, shown, State, task_course, task_parts, TaskParts, unlogged, why_of, why_of_load, why_of_recover}
+use Rattle.rpm_tool.proofs.Vocabulary.{with_file, WorkedWith}
 use Rattle.rpm_tool.specs.declared.answer.Why.TheVariants as why
 use Rattle.rpm_tool.proofs.Emptied.{group_empty, same_empty}
-use Rattle.rpm_tool.proofs.Ends.{below_same, below_back, below_moment}
+use Rattle.rpm_tool.proofs.Ends.{below_same, below_run}
 use Rattle.rpm_tool.proofs.Grouped.{group_one}
-use Rattle.rpm_tool.proofs.Regrouped.{recovered_one}
-use Rattle.rpm_tool.proofs.Standing.{may_begin}
-use Rattle.rpm_tool.proofs.Unmade.{early_load, early_recover, idle_run, looked_run, unmade_one}
+use Rattle.rpm_tool.proofs.Regrouped.{leaves_on}
+use Rattle.rpm_tool.proofs.Standing.{shut_stands}
+use Rattle.rpm_tool.proofs.Unmade.{early_load, early_recover, idle_run, unmade_one}
 use Rattle.rpm_tool.proofs.changing.change_asked.Goals as goal
 
 pub returns-in-Ok-load-clause-one : goal.returns-in-Ok-load-clause-one
 returns-in-Ok-load-clause-one g c = λ told shelf.
     let D = g.D.Disk in
     let first = c.recover.new.disk in
-    let mid = overlay_below c.in-Ok-load.overlay in
     let end = c.change_on-ended.new.disk in
     let last = overlay_below end in
     let final = c.end_group.result.1 in
     let new = laid_files (overlay_held end) (D.files last) in
-    let r = reopened (D.files first) in
+    let log = (D.files first).log in
     let recovered = c.in-Ok-recover.ensures in
     let works = c.change_on-ended.ensures.works in
     let t = task_parts c.in-Ok.task in
-    let paths = g.S.Shelf.paths c.args.shelf.now in
-    let course : State → Course = task_course paths c.args.now t in
+    let course : State → Course = task_course (g.S.Shelf.paths c.args.shelf.now) c.args.now t in
     let ended = c.change_on-ended.result in
     let given = c.end_group.result.0.why in
     let n = c.end_group.result.0.changes in
     let ends = c.end_group.ensures.ends told in
     let looks = c.in-Ok-load.ensures.looks in
+    let mid = overlay_below c.in-Ok-load.overlay in
     let ro = overlay_read D.bytes_read c.in-Ok-load.overlay in
     let rn = overlay_read D.bytes_read end in
     let before = shown g.O.Sink g.E.Sink c.args.out.now c.args.err.now in
     let now = shown g.O.Sink g.E.Sink c.change_on-ended.new.out c.change_on-ended.new.err in
-    let shut : IsShut D first = record { closed = recovered.closed told; settled = recovered.settled told } in
-    let laid = c.in-Ok-load.ensures.files told in
     let asked = c.in-Ok.ensures.asked in
-    let worked : WorkedWith (is_anew t) (changes_index t) course (with_file Log (D.files first).log r) new ended before now =
-    subst (λ (f : Files). WorkedWith (is_anew t) (changes_index t) course f new ended before now) laid
-    (works.worked (told, λ reads. shelf (sym (ap reads_shelf asked) ∙ reads))) in
-    let met : LimitsBy (is_anew t) (IsLawful r.pkg r.idx) course (with_file Log (D.files first).log r) (why_of ended) =
-    subst (λ (f : Files). LimitsBy (is_anew t) (IsLawful f.pkg f.idx) course f (why_of ended)) laid
-    (works.limits (told, λ reads. shelf (sym (ap reads_shelf asked) ∙ reads))) in
+    let telling : IsTrue D.tells × (reads_shelf t ≡ true → IsTrue g.S.Shelf.tells) = (told, λ reads. shelf (sym (ap reads_shelf asked) ∙ reads)) in
+    let laid = c.in-Ok-load.ensures.files told ∙ ap (λ (f : Files). with_file Log log f) (recovered.stands told) in
+    let worked = subst (λ (f : Files). WorkedWith (is_anew t) (changes_index t) course f new ended before now) laid (works.worked telling) in
+    let met = subst (λ (f : Files). LimitsBy (is_anew t) (IsLawful f.pkg f.idx) course f (why_of ended)) laid (works.limits telling) in
+    let same = ap unlogged (below_same D first mid last ro rn looks works.runs.goes_on told)
+    ∙ sym (shut_stands (D.files first) (recovered.closed told)) ∙ recovered.stands told in
     let as_read = g.met.D.Disk.earlier final (D.moment last) (D.moment final) (D.files final) told ends.leaves.later (omega arith)
     (g.met.D.Disk.as_read final told) in
-    subst (λ (k : TaskParts). OneChange D k (task_course paths c.args.now k) given n c.args.disk final before now) asked
-    (recovered_one D t course given n c.args.disk first final _ (g.met.D.Disk.as_read c.args.disk told) (recovered.says told) (recovered.stands told)
-    (recovered.images told) shut before now
-    (group_one D t course ended given n first last final new before now shut (g.met.D.Disk.as_read first told) worked
-    (λ indexed may. met indexed (λ asked. may_begin (is_anew t) (λ group. group.lawful) (may asked)))
-    (below_same D first mid last ro rn looks works.runs.goes_on told) (below_back D first mid last ro rn looks works.runs.goes_on told)
-    (below_moment D first mid last ro rn looks works.runs.goes_on told) ends as_read works.halted (c.end_group.ensures.log told)))
+    subst (λ (k : TaskParts). OneChange D k (task_course (g.S.Shelf.paths c.args.shelf.now) c.args.now k) given n c.args.disk final before now) asked
+    (group_one D t course c.args.disk last final log new before now (g.met.D.Disk.as_read c.args.disk told) _ (recovered.says told)
+    (below_run D first mid last ro rn looks works.runs.goes_on told c.args.disk (ReopensAsOneOf (images D c.args.disk)) (recovered.images told)) same as_read
+    ended given n worked met works.halted ends (c.end_group.ensures.log told))
 
 pub returns-in-Ok-load-clause-empty : goal.returns-in-Ok-load-clause-empty
 returns-in-Ok-load-clause-empty g c = λ told.
@@ -126,31 +122,29 @@ returns-in-Ok-recover-clause-one g c = λ told shelf.
     let looks = c.in-Err-load.ensures.looks in
     let recovered = c.in-Ok-recover.ensures in
     let t = asked_task c.args.words.now c.args.ask.now in
-    let course : State → Course = task_course (g.S.Shelf.paths c.args.shelf.now) c.args.now t in
-    let x = shown g.O.Sink g.E.Sink c.args.out.now c.args.err.now in
     rw (c.unchanged-in-Err-load.ensures, c.why_of_load.ensures)
-    (recovered_one D t course (why_of_load fault) 0 c.args.disk first back _ (g.met.D.Disk.as_read c.args.disk told) (recovered.says told)
-    (recovered.stands told) (recovered.images told) (record { closed = recovered.closed told; settled = recovered.settled told }) x x
-    (unmade_one D first back (ap reopened (looks.untouched told).same) (looked_run D first back looks told) (why_of_load fault)
-    (early_load (log_state (D.files first).log) fault (c.in-Err-load.ensures.says told)) t course x))
+    (unmade_one D t (task_course (g.S.Shelf.paths c.args.shelf.now) c.args.now t) c.args.disk back
+    (ap reopened (looks.untouched told).same ∙ recovered.stands told)
+    (leaves_on D c.args.disk first back (ReopensAsOneOf (images D c.args.disk)) looks.moment_stays (looks.untouched told).images (recovered.images told))
+    (shown g.O.Sink g.E.Sink c.args.out.now c.args.err.now) (why_of_load fault)
+    (early_load (log_state (D.files c.args.disk).log) (log_state (D.files first).log) (recovered.closed told) fault (c.in-Err-load.ensures.says told)))
 
 -- ---- not recovered
 
 pub returns-clause-one : goal.returns-clause-one
 returns-clause-one g c = λ told shelf.
-    let D = g.D.Disk in
     let first = c.in-Err-recover.ensures in
     let fault = c.in-Err-recover.fault in
     let t = asked_task c.args.words.now c.args.ask.now in
     rw (c.unchanged-in-Err-recover.ensures, c.why_of_recover.ensures)
-    (unmade_one D c.args.disk c.recover.new.disk (first.stands told) (first.images told) (why_of_recover fault)
-    (early_recover (log_state (D.files c.args.disk).log) fault (first.says told)) t (task_course (g.S.Shelf.paths c.args.shelf.now) c.args.now t)
-    (shown g.O.Sink g.E.Sink c.args.out.now c.args.err.now))
+    (unmade_one g.D.Disk t (task_course (g.S.Shelf.paths c.args.shelf.now) c.args.now t) c.args.disk c.recover.new.disk (first.stands told)
+    (first.images told) (shown g.O.Sink g.E.Sink c.args.out.now c.args.err.now) (why_of_recover fault)
+    (early_recover (log_state (g.D.Disk.files c.args.disk).log) fault (first.says told)))
 
 -- ---- not begun
 
 pub returns-in-Err-clause-one : goal.returns-in-Err-clause-one
 returns-in-Err-clause-one g c = λ told shelf.
     let t = asked_task c.args.words.now c.args.ask.now in
-    rw c.unchanged.ensures (unmade_one g.D.Disk c.args.disk c.args.disk refl (idle_run g.D.Disk c.args.disk) why.NoMemory tt t
-    (task_course (g.S.Shelf.paths c.args.shelf.now) c.args.now t) (shown g.O.Sink g.E.Sink c.args.out.now c.args.err.now))
+    rw c.unchanged.ensures (unmade_one g.D.Disk t (task_course (g.S.Shelf.paths c.args.shelf.now) c.args.now t) c.args.disk c.args.disk refl
+    (idle_run g.D.Disk c.args.disk) (shown g.O.Sink g.E.Sink c.args.out.now c.args.err.now) why.NoMemory tt)

@@ -1,65 +1,72 @@
-use Rattle.std.proofs.Common.{◌≡◌, true, false, sym, ap, refl, ◌∙◌}
-use Rattle.rpm_tool.proofs.Vocabulary.{ask, asks, asks_change, asks_format, changes_in, inner, is_of_words}
-use Rattle.rpm_tool.proofs.Page.{does_nothing}
-use Rattle.rpm_tool.proofs.Undone.{usage_of_undone, usage_of_done, format_of_undone, format_of_done, kind_of_usage, kind_of_format, starved, none_asked, same_command}
+use Rattle.std.proofs.Common.{◌≡◌, true, false, not, refl, sym, ◌∙◌, arith}
+use Rattle.rpm_tool.proofs.Vocabulary.{inner, needs_no_index}
+use Rattle.rpm_tool.proofs.Begun.{unforeign}
+use Rattle.rpm_tool.proofs.Deeds.{plain_deed}
+use Rattle.rpm_tool.proofs.Page.{answered, asked_streams, does_plain, does_files, does_keyed, does_change, does_nothing}
+use Rattle.rpm_tool.proofs.Peeking.{leaves_none}
+use Rattle.rpm_tool.proofs.Undone.{asked_some, done_words, starved, undone_words}
 use Rattle.rpm_tool.proofs.command.command.Goals as goal
 
-pub returns-in-Ok-clause-words : goal.returns-in-Ok-clause-words
-unfolding asks_format
-returns-in-Ok-clause-words g c =
-    let words = c.args.words.now in
-    let done = c.begin.ensures.keeps.of_words in
-    record {
-      usage = usage_of_done words (ask words) c.in-Ok.format c.in-Ok.ensures.ok.1 c.begin.result.0.why done;
-      usage_kind = λ f is. let both : true ≡ false = sym (ap is_of_words is) ∙ done in absurd cc;
-      bad_format = format_of_done words (ask words) c.in-Ok.format c.in-Ok.ensures.ok.1 c.begin.result.0.why done;
-      bad_format_kind = λ f is. let both : true ≡ false = sym (ap is_of_words is) ∙ done in absurd cc;
-    }
+-- ---- a change
 
-pub returns-in-Ok-clause-unread : goal.returns-in-Ok-clause-unread
-unfolding asks
-returns-in-Ok-clause-unread g c = λ none.
-    absurd (none_asked (ask c.args.words.now) (asks_format c.args.words.now) c.in-Ok.ask c.in-Ok.format c.in-Ok.ensures.ok.0 c.in-Ok.ensures.ok.1 none)
+pub returns-then-is_changing-clause-unread : goal.returns-then-is_changing-clause-unread
+returns-then-is_changing-clause-unread g c = λ none. asked_some c.args.words.now c.in-Ok.ensures.ok none
 
-pub returns-in-Ok-clause-answers : goal.returns-in-Ok-clause-answers
-unfolding asks asks_change
-returns-in-Ok-clause-answers g c =
-    let words = c.args.words.now in
-    let read = c.in-Ok.ensures.ok in
-    record {
-      asked = λ a tree asked.
-          let same = same_command (ask words) (asks_format words) c.in-Ok.ask a c.in-Ok.format tree read.0 read.1 asked in
-          rw (← same.0, ← same.1) c.begin.ensures.does;
-      unasked = λ none. absurd (none_asked (ask words) (asks_format words) c.in-Ok.ask c.in-Ok.format read.0 read.1 none);
-      idle = λ still. c.begin.ensures.idle (sym (ap changes_in read.0) ∙ still);
-      counted = c.begin.ensures.keeps.counted;
-      paths = c.begin.ensures.streams.paths;
-      goes_on = c.begin.ensures.keeps.goes_on;
-    }
+pub returns-then-is_changing-clause-answers : goal.returns-then-is_changing-clause-answers
+returns-then-is_changing-clause-answers g c =
+    let said = c.change_asked.ensures in
+    let is = sym c.is_changing.ensures ∙ c.if-is_changing.true in
+    answered c.in-Ok.ensures.ok (λ still. let both : true ≡ false = sym is ∙ still in absurd cc) said.keeps.counted said.streams.paths said.keeps.goes_on
+    (does_change is said.one said.empty said.streams.unread)
+
+-- ---- package files
+
+pub returns-then-of_files-clause-unread : goal.returns-then-of_files-clause-unread
+returns-then-of_files-clause-unread g c = λ none. asked_some c.args.words.now c.in-Ok.ensures.ok none
+
+pub returns-then-of_files-clause-answers : goal.returns-then-of_files-clause-answers
+returns-then-of_files-clause-answers g c =
+    let said = c.print_files-why.ensures in
+    answered c.in-Ok.ensures.ok (λ still. refl) (λ not. refl) said.paths (g.met.D.Disk.follows_refl c.args.disk)
+    (does_files (sym c.of_files.ensures ∙ c.if-of_files.true) (record { went = said.went; disk_unread = refl }) (leaves_none g.D.Disk g.met.D.Disk.follows_refl))
+
+-- ---- by key
+
+pub returns-then-by_key-clause-unread : goal.returns-then-by_key-clause-unread
+returns-then-by_key-clause-unread g c = λ none. asked_some c.args.words.now c.in-Ok.ensures.ok none
+
+pub returns-then-by_key-clause-answers : goal.returns-then-by_key-clause-answers
+returns-then-by_key-clause-answers g c =
+    let said = c.answer_keyed-why.ensures in
+    answered c.in-Ok.ensures.ok (λ still. refl) (λ not. refl) (λ told. refl) said.goes_on
+    (does_keyed (sym c.by_key.ensures ∙ c.if-by_key.true) said.keyed refl)
+
+-- ---- without the index
+
+pub returns-clause-unread : goal.returns-clause-unread
+returns-clause-unread g c = λ none. asked_some c.args.words.now c.in-Ok.ensures.ok none
+
+pub returns-clause-answers : goal.returns-clause-answers
+returns-clause-answers g c =
+    let said = c.answer_loaded-why.ensures in
+    answered c.in-Ok.ensures.ok (λ still. refl) (λ not. refl) (λ told. refl) said.looks.goes_on
+    (does_plain (sym c.of_files.ensures ∙ c.if-of_files.false) (sym c.by_key.ensures ∙ c.if-by_key.false) (sym c.is_changing.ensures ∙ c.if-is_changing.false)
+    (λ told. record { went = said.went told; reads = said.reads told }) said.looks refl)
+
+-- ---- nothing that could be read
 
 pub returns-in-Err-clause-words : goal.returns-in-Err-clause-words
-unfolding asks_format
-returns-in-Err-clause-words g c =
-    let words = c.args.words.now in
-    record {
-      usage = usage_of_undone words (ask words) c.in-Err.why c.in-Err.ensures.undone;
-      usage_kind = kind_of_usage words (ask words) c.in-Err.why c.in-Err.ensures.undone;
-      bad_format = format_of_undone words (ask words) c.in-Err.why c.in-Err.ensures.undone;
-      bad_format_kind = kind_of_format words (ask words) c.in-Err.why c.in-Err.ensures.undone;
-    }
+returns-in-Err-clause-words g c = undone_words c.args.words.now c.in-Err.why c.in-Err.ensures.undone
 
 pub returns-in-Err-clause-answers : goal.returns-in-Err-clause-answers
-unfolding asks_format asks
-returns-in-Err-clause-answers g c =
-    let words = c.args.words.now in
-    record {
-      asked = λ a tree asked.
-          rw (starved words (ask words) c.in-Err.why c.in-Err.ensures.undone a tree asked)
-          (does_nothing words c.args.now c.args.disk c.args.shelf.now g.O.Sink.tells g.E.Sink.tells (g.O.Sink.taken (inner c.args.out.now))
-          (g.E.Sink.taken (inner c.args.err.now)) (g.met.D.Disk.follows_refl c.args.disk) a tree);
-      unasked = λ none. refl;
-      idle = λ still. refl;
-      counted = λ still. refl;
-      paths = λ told. refl;
-      goes_on = g.met.D.Disk.follows_refl c.args.disk;
-    }
+returns-in-Err-clause-answers g c = record {
+  asked = λ a tree asked.
+      rw (starved c.args.words.now c.in-Err.why c.in-Err.ensures.undone a tree asked)
+      (does_nothing c.args.words.now c.args.now c.args.disk c.args.shelf.now g.O.Sink.tells g.E.Sink.tells (g.O.Sink.taken (inner c.args.out.now))
+      (g.E.Sink.taken (inner c.args.err.now)) g.met.D.Disk.follows_refl a tree);
+  unasked = λ none. refl;
+  idle = λ still. refl;
+  counted = λ not. refl;
+  paths = λ told. refl;
+  goes_on = g.met.D.Disk.follows_refl c.args.disk;
+}

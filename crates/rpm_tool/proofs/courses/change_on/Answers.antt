@@ -3,9 +3,10 @@ use Rattle.std.specs.Prelude.{IsTrue, codes}
 use Rattle.std.proofs.lemmas.Result.{err_from_is_err_and}
 use Rattle.rpm_tool.proofs.Vocabulary.{add_files, bytes_at, changes_index, ended_as, erase, exercise_ended, Halt, Halted, import_list, inner, is_anew}
 use Rattle.rpm_tool.proofs.Vocabulary.{IsOfErasing, IsOfImporting, IsOfPutting, IsOfRebuilding, IsStop, max_headers, needs_none, Outputs, reads_shelf}
-use Rattle.rpm_tool.proofs.Vocabulary.{rebuild, replace, shown, task_course, task_parts, Through}
+use Rattle.rpm_tool.proofs.Vocabulary.{rebuild, replace, runs_none, SameLog, shown, task_course, task_parts, Through}
 use Rattle.rpm_change.specs.declared.tally.Halt.TheVariants as halt
-use Rattle.rpm_tool.proofs.Coursed.{unopened_works, unopened_streams, made_works, went_works, anew_works, course_empty, exercise_works, put_streams, err_streams, out_streams, ended_back, exercise_back, never_of, never_of_exercise}
+use Rattle.rpm_tool.proofs.Coursed.{unopened_works, made_works, went_works, anew_works, exercise_works}
+use Rattle.rpm_tool.proofs.Halting.{course_empty, ended_back, exercise_back, idle_hand, never_cause, never_of, never_of_exercise, streams_by, unopened_streams}
 use Rattle.rpm_tool.proofs.Unmade.{through_none}
 use Rattle.rpm_tool.proofs.courses.change_on.Goals as goal
 
@@ -34,7 +35,8 @@ pub returns-in-Make-clause-works : goal.returns-in-Make-clause-works
 returns-in-Make-clause-works g c =
     let opened = c.in_ok-db.ensures in
     rw c.in-Make.is (made_works g.D.Disk g.met.D.Disk.follows_trans false (IsTrue g.S.Shelf.tells) c.args.disk.now c.open_to_change.new.disk c.in_ok-db.db
-    opened.found opened.opens opened.runs opened.disk.later (shown g.O.Sink g.E.Sink c.args.out.now c.args.err.now))
+    opened.found opened.opens opened.runs opened.disk.later (shown g.O.Sink g.E.Sink c.args.out.now c.args.err.now)
+    (runs_none g.D.Disk g.met.D.Disk.follows_refl SameLog (λ f. refl) c.open_to_change.new.disk))
 
 pub returns-in-Add-clause-works : goal.returns-in-Add-clause-works
 returns-in-Add-clause-works g c =
@@ -96,7 +98,7 @@ returns-in-Rebuild-clause-works g c =
     let now = shown g.O.Sink g.E.Sink left.out err in
     let r = c.rebuild.result in
     rw (c.in-Rebuild.is, c.ended-in-Rebuild.ensures) (anew_works g.D.Disk g.met.D.Disk.follows_trans false (IsTrue g.S.Shelf.tells) c.args.disk.now
-    c.open_to_change.new.disk c.in_ok-db.db opened.found opened.opens opened.runs opened.disk.later (λ s. rebuild s) left.disk left.db before now r
+    c.open_to_change.new.disk c.in_ok-db.db opened.found opened.opens opened.runs opened.disk.later (λ s. rebuild s) left.disk left.db before now false r
     (λ told. course_empty (g.D.Disk.files c.args.disk.now) r)
     (λ t. said.ended t.0 g.E.Sink.tells (g.E.Sink.taken (inner err))) said.limits said.current said.stores said.reach said.runs said.disk)
 
@@ -120,50 +122,60 @@ pub returns-in-Add-clause-streams : goal.returns-in-Add-clause-streams
 returns-in-Add-clause-streams g c =
     let r = c.add_files.result in
     let said = c.add_files.ensures in
-    rw (c.in-Add.is, c.ended.ensures) (put_streams g.S.Shelf g.O.Sink g.E.Sink (ended_as r) (λ h. r ≡ Err h) (ended_back r) c.args.shelf.now
-    c.add_files.new.shelf
-    c.args.out.now c.args.err.now c.add_files.new.err (g.met.O.Sink.follows_refl (inner c.args.out.now))
-    (never_of (IsOfPutting None) r halt.OutFault said.kinds (λ x. x)) said.shelf said.err)
+    let out = c.args.out.now in
+    rw (c.in-Add.is, c.ended.ensures) (streams_by g.S.Shelf g.O.Sink g.E.Sink (ended_as r) (λ h. r ≡ Err h) (ended_back r) true c.args.shelf.now
+    c.add_files.new.shelf out out c.args.err.now c.add_files.new.err (λ is. absurd cc) said.shelf.paths said.shelf.cause
+    (idle_hand g.O.Sink out (g.met.O.Sink.follows_refl (inner out)) (never_of (IsOfPutting None) r halt.OutFault said.kinds (λ x. x))) said.err)
 
 pub returns-in-Replace-clause-streams : goal.returns-in-Replace-clause-streams
 returns-in-Replace-clause-streams g c =
     let r = c.replace_package.result in
     let said = c.replace_package.ensures in
-    rw (c.in-Replace.is, c.ended-in-Replace.ensures) (put_streams g.S.Shelf g.O.Sink g.E.Sink (ended_as r) (λ h. r ≡ Err h) (ended_back r) c.args.shelf.now
-    c.replace_package.new.shelf
-    c.args.out.now c.args.err.now c.replace_package.new.err (g.met.O.Sink.follows_refl (inner c.args.out.now))
-    (never_of (IsOfPutting (Some c.in-Replace.number)) r halt.OutFault said.kinds (λ x. x)) said.shelf said.err)
+    let out = c.args.out.now in
+    rw (c.in-Replace.is, c.ended-in-Replace.ensures) (streams_by g.S.Shelf g.O.Sink g.E.Sink (ended_as r) (λ h. r ≡ Err h) (ended_back r) true
+    c.args.shelf.now c.replace_package.new.shelf out out c.args.err.now c.replace_package.new.err (λ is. absurd cc) said.shelf.paths said.shelf.cause
+    (idle_hand g.O.Sink out (g.met.O.Sink.follows_refl (inner out))
+    (never_of (IsOfPutting (Some c.in-Replace.number)) r halt.OutFault said.kinds (λ x. x))) said.err)
 
 pub returns-in-Erase-clause-streams : goal.returns-in-Erase-clause-streams
 returns-in-Erase-clause-streams g c =
     let r = c.erase_numbers.result in
     let said = c.erase_numbers.ensures in
-    rw (c.in-Erase.is, c.ended-in-Erase.ensures) (err_streams g.S.Shelf g.O.Sink g.E.Sink (ended_as r) (λ h. r ≡ Err h) (ended_back r) c.args.shelf.now
-    c.args.out.now c.args.err.now c.erase_numbers.new.err (g.met.O.Sink.follows_refl (inner c.args.out.now))
-    (never_of IsOfErasing r halt.ShelfFault said.kinds (λ x. x)) (never_of IsOfErasing r halt.OutFault said.kinds (λ x. x)) said.err)
+    let out = c.args.out.now in
+    let at = c.args.shelf.now in
+    rw (c.in-Erase.is, c.ended-in-Erase.ensures) (streams_by g.S.Shelf g.O.Sink g.E.Sink (ended_as r) (λ h. r ≡ Err h) (ended_back r) false at at out out
+    c.args.err.now c.erase_numbers.new.err (λ is. refl) (λ told. refl)
+    (never_cause (g.S.Shelf.faults at) (never_of IsOfErasing r halt.ShelfFault said.kinds (λ x. x)))
+    (idle_hand g.O.Sink out (g.met.O.Sink.follows_refl (inner out)) (never_of IsOfErasing r halt.OutFault said.kinds (λ x. x))) said.err)
 
 pub returns-in-Import-clause-streams : goal.returns-in-Import-clause-streams
 returns-in-Import-clause-streams g c =
     let r = c.import_list.result in
     let said = c.import_list.ensures in
-    rw (c.in-Import.is, c.ended-in-Import.ensures) (put_streams g.S.Shelf g.O.Sink g.E.Sink (ended_as r) (λ h. r ≡ Err h) (ended_back r) c.args.shelf.now
-    c.import_list.new.shelf
-    c.args.out.now c.args.err.now c.import_list.new.err (g.met.O.Sink.follows_refl (inner c.args.out.now))
-    (never_of IsOfImporting r halt.OutFault said.kinds (λ x. x)) said.shelf said.err)
+    let out = c.args.out.now in
+    rw (c.in-Import.is, c.ended-in-Import.ensures) (streams_by g.S.Shelf g.O.Sink g.E.Sink (ended_as r) (λ h. r ≡ Err h) (ended_back r) true
+    c.args.shelf.now c.import_list.new.shelf out out c.args.err.now c.import_list.new.err (λ is. absurd cc) said.shelf.paths said.shelf.cause
+    (idle_hand g.O.Sink out (g.met.O.Sink.follows_refl (inner out)) (never_of IsOfImporting r halt.OutFault said.kinds (λ x. x))) said.err)
 
 pub returns-in-Rebuild-clause-streams : goal.returns-in-Rebuild-clause-streams
 returns-in-Rebuild-clause-streams g c =
     let r = c.rebuild.result in
     let said = c.rebuild.ensures in
-    rw (c.in-Rebuild.is, c.ended-in-Rebuild.ensures) (out_streams g.S.Shelf g.O.Sink g.E.Sink (ended_as r) (λ h. r ≡ Err h) (ended_back r)
-    c.args.shelf.now c.args.out.now c.rebuild.new.out c.args.err.now (g.met.E.Sink.follows_refl (inner c.args.err.now))
-    (never_of IsOfRebuilding r halt.ShelfFault said.kinds (λ x. x)) (never_of IsOfRebuilding r halt.ErrFault said.kinds (λ x. x)) said.out)
+    let at = c.args.shelf.now in
+    let err = c.args.err.now in
+    rw (c.in-Rebuild.is, c.ended-in-Rebuild.ensures) (streams_by g.S.Shelf g.O.Sink g.E.Sink (ended_as r) (λ h. r ≡ Err h) (ended_back r) false at at
+    c.args.out.now c.rebuild.new.out err err (λ is. refl) (λ told. refl)
+    (never_cause (g.S.Shelf.faults at) (never_of IsOfRebuilding r halt.ShelfFault said.kinds (λ x. x))) said.out
+    (idle_hand g.E.Sink err (g.met.E.Sink.follows_refl (inner err)) (never_of IsOfRebuilding r halt.ErrFault said.kinds (λ x. x))))
 
 pub returns-clause-streams : goal.returns-clause-streams
 returns-clause-streams g c =
     let r = c.exercise.result in
     let said = c.exercise.ensures in
-    rw (c.in-Exercise.is, c.exercise_ended.ensures) (out_streams g.S.Shelf g.O.Sink g.E.Sink (exercise_ended r) (λ h. r ≡ Err (Halted h)) (exercise_back r)
-    c.args.shelf.now c.args.out.now c.exercise.new.out c.args.err.now (g.met.E.Sink.follows_refl (inner c.args.err.now))
-    (never_of_exercise (IsStop c.exercise.new.db) r halt.ShelfFault said.stop (λ stop. stop.kind))
-    (never_of_exercise (IsStop c.exercise.new.db) r halt.ErrFault said.stop (λ stop. stop.kind)) said.out)
+    let at = c.args.shelf.now in
+    let err = c.args.err.now in
+    let Of = IsStop c.exercise.new.db in
+    rw (c.in-Exercise.is, c.exercise_ended.ensures) (streams_by g.S.Shelf g.O.Sink g.E.Sink (exercise_ended r) (λ h. r ≡ Err (Halted h)) (exercise_back r)
+    false at at c.args.out.now c.exercise.new.out err err (λ is. refl) (λ told. refl)
+    (never_cause (g.S.Shelf.faults at) (never_of_exercise Of r halt.ShelfFault said.stop (λ stop. stop.kind))) said.out
+    (idle_hand g.E.Sink err (g.met.E.Sink.follows_refl (inner err)) (never_of_exercise Of r halt.ErrFault said.stop (λ stop. stop.kind))))

@@ -1,45 +1,63 @@
-use Rattle.std.proofs.Common.{◌≡◌, ◌==◌, ◌||◌, ℕ, Bool, false, not, List, [], ◌∷◌, length, map, Err, refl, ap, ◌∙◌, subst, arith}
+use Rattle.std.proofs.Common.{◌≡◌, ◌==◌, ◌||◌, ℕ, ◌++◌, Bool, false, not, List, [], ◌∷◌, length, map, get_or, refl, sym, ap, subst, arith}
 use Rattle.std.proofs.lemmas.Bool.Decides.{nat_tests}
+use Rattle.std.proofs.lemmas.List.{drop_all}
 use Rattle.std.proofs.lemmas.Result.{err_from_is_err_and}
-use Rattle.rpm_tool.proofs.Vocabulary.{Bearer, Conflict, conflict_step, inner, is_some_of, label_told, outputs, Reached, report_steps, Through, unread_step}
-use Rattle.rpm_tool.proofs.Vocabulary.{whole}
-use Rattle.rpm_tool.proofs.Lines.{part_unread, part_told, part_done}
+use Rattle.rpm_tool.proofs.Vocabulary.{Conflict, conflict_step, is_some_of, label_told, report_steps, Step, told_steps, unread_step, whole}
+use Rattle.rpm_tool.proofs.Answering.{drop_get}
+use Rattle.rpm_tool.proofs.Lines.{Written, written_none, written_out, written_err, written_stop, written_all}
+use Rattle.rpm_tool.proofs.Stopping.{reached_first}
+use Rattle.rpm_tool.proofs.Telling.{rest_at}
 use Rattle.rpm_tool.proofs.file_report.tell_report.Goals as goal
 
-pub returns-in_err-put_unread-clause-part : goal.returns-in_err-put_unread-clause-part
-returns-in_err-put_unread-clause-part g c =
+pub loop-number-init : goal.loop-number-init
+loop-number-init g c =
     let r = c.args.report.now in
-    let ot = g.O.Sink.tells in
-    let et = g.E.Sink.tells in
-    let o = g.O.Sink.taken (inner c.args.out.now) in
-    let e = g.E.Sink.taken (inner c.args.err.now) in
-    let e' = g.E.Sink.taken (inner c.put_unread.new.err) in
-    let what = c.in_err-put_unread.field-0.0 in
-    let reads : Bearer → Type 0 = λ for. for ≡ whole 0 in
-    let p = err_from_is_err_and c.from_residual.result c.from_residual.ensures.1 in
-    rw (p.1, p.2) (part_unread (map unread_step r.bad) (map (conflict_step (label_told r)) r.conflicts) ot et o o e e' reads Unit what
-    (subst (λ (numbers : List ℕ). Reached {T = Unit} (map unread_step numbers) (Err what) (outputs ot o et e) (outputs ot o et e') reads) c.bad.ensures
-    (c.in_err-put_unread.ensures.went ot o)))
+    written_none g.O.Sink g.E.Sink g.met.O.Sink.follows_refl g.met.E.Sink.follows_refl
+    (ap (λ (numbers : List ℕ). map unread_step numbers ++ map (conflict_step (label_told r)) r.conflicts) (sym c.bad-bad.ensures)) c.args.out.now c.args.err.now
 
-pub returns-in_err-put_conflicts-clause-part : goal.returns-in_err-put_conflicts-clause-part
-returns-in_err-put_conflicts-clause-part g c =
+pub loop-number-preserved : goal.loop-number-preserved
+loop-number-preserved g c =
     let r = c.args.report.now in
-    let ot = g.O.Sink.tells in
-    let et = g.E.Sink.tells in
-    let o = g.O.Sink.taken (inner c.args.out.now) in
-    let e = g.E.Sink.taken (inner c.args.err.now) in
-    let e' = g.E.Sink.taken (inner c.put_unread.new.err) in
-    let reads : Bearer → Type 0 = λ for. for ≡ whole 0 in
-    let p = err_from_is_err_and c.from_residual-in_err-put_conflicts.result c.from_residual-in_err-put_conflicts.ensures.1 in
-    rw (p.1, p.2) (part_told (map unread_step r.bad) (map (conflict_step (label_told r)) r.conflicts) ot et o (g.O.Sink.taken (inner
-    c.put_conflicts.new.out)) e e' reads
-    Unit c.in_err-put_conflicts.field-0.0
-    (subst (λ (numbers : List ℕ). Through (map unread_step numbers) (outputs ot o et e) (outputs ot o et e')) c.bad.ensures (c.in_ok-put_unread.ensures.went
-    ot o))
-    (c.in_err-put_conflicts.ensures.went et e'))
+    let k = c.loop-number.number-index in
+    written_err g.O.Sink g.E.Sink
+    (ap (λ (numbers : List ℕ). map unread_step numbers ++ map (conflict_step (label_told r)) r.conflicts) (rest_at c.bad-bad.result.now k 0 (omega arith)))
+    c.loop-number.invariant g.met.E.Sink.follows_trans c.in_ok-put_bad.ensures.puts.err (c.in_ok-put_bad.ensures.step (whole 0) _ _).1
+
+pub loop-i-init : goal.loop-i-init
+loop-i-init g c =
+    let r = c.args.report.now in
+    let told = map (conflict_step (label_told r)) r.conflicts in
+    subst (λ (left : List Step). Written g.O.Sink g.E.Sink (told_steps r) left c.args.out.now c.args.err.now c.args.out.now c.loop-number.err)
+    (ap (λ (numbers : List ℕ). map unread_step numbers ++ told) (drop_all c.loop-number.number-index c.bad-bad.result.now (omega arith)))
+    c.loop-number.invariant
+
+pub loop-i-preserved : goal.loop-i-preserved
+loop-i-preserved g c =
+    let r = c.args.report.now in
+    let i = c.loop-i.i in
+    written_out g.O.Sink g.E.Sink (ap (map (conflict_step (label_told r))) (drop_get r.conflicts i c.at.result.now c.at.ensures)) c.loop-i.invariant
+    g.met.O.Sink.follows_trans c.in_ok-put_conflict.ensures.puts.out (c.in_ok-put_conflict.ensures.part _ _).steps
+
+pub returns-in_err-put_bad-clause-part : goal.returns-in_err-put_bad-clause-part
+returns-in_err-put_bad-clause-part g c =
+    let r = c.args.report.now in
+    let k = c.loop-number.number-index in
+    let p = err_from_is_err_and c.from_residual.result c.from_residual.ensures.1 in
+    rw (p.1, p.2) (written_stop g.O.Sink g.E.Sink
+    (ap (λ (numbers : List ℕ). map unread_step numbers ++ map (conflict_step (label_told r)) r.conflicts) (rest_at c.bad-bad.result.now k 0 (omega arith)))
+    c.loop-number.invariant c.args.out.now c.put_bad.new.err (reached_first Bool (unread_step (get_or c.bad-bad.result.now k 0)) []
+    c.in_err-put_bad.field-0.0 _ _ (λ for. for ≡ whole 0) refl (c.in_err-put_bad.ensures.step (whole 0) _ _)))
+
+pub returns-in_err-put_conflict-clause-part : goal.returns-in_err-put_conflict-clause-part
+returns-in_err-put_conflict-clause-part g c =
+    let r = c.args.report.now in
+    let i = c.loop-i.i in
+    let p = err_from_is_err_and c.from_residual-in_err-put_conflict.result c.from_residual-in_err-put_conflict.ensures.1 in
+    rw (p.1, p.2) (written_stop g.O.Sink g.E.Sink (ap (map (conflict_step (label_told r))) (drop_get r.conflicts i c.at.result.now c.at.ensures))
+    c.loop-i.invariant c.put_conflict.new.out c.loop-number.err (c.in_err-put_conflict.ensures.part _ _).steps)
 
 any_line : (labels : ℕ → List ℕ) (numbers : List ℕ) (found : List Conflict)
-    → (not (length numbers == 0) || not (length found == 0)) ≡ is_some_of (report_steps labels numbers found)
+    → is_some_of (report_steps labels numbers found) ≡ (not (length numbers == 0) || not (length found == 0))
 any_line labels [] [] = refl
 any_line labels [] (c ∷ found) =
     let test : (length (c ∷ found) == 0) ≡ false = grind (arith, nat_tests) in
@@ -51,17 +69,6 @@ any_line labels (n ∷ numbers) found =
 pub returns-clause-part : goal.returns-clause-part
 returns-clause-part g c =
     let r = c.args.report.now in
-    let ot = g.O.Sink.tells in
-    let et = g.E.Sink.tells in
-    let o = g.O.Sink.taken (inner c.args.out.now) in
-    let e = g.E.Sink.taken (inner c.args.err.now) in
-    let e' = g.E.Sink.taken (inner c.put_unread.new.err) in
-    let reads : Bearer → Type 0 = λ for. for ≡ whole 0 in
-    let empty : c.is_empty.result ≡ (length r.bad == 0) = c.is_empty.ensures ∙ ap (λ (numbers : List ℕ). length numbers == 0) c.bad-2.ensures in
-    part_done (map unread_step r.bad) (map (conflict_step (label_told r)) r.conflicts) ot et o (g.O.Sink.taken (inner c.put_conflicts.new.out)) e e' reads
-    (not c.is_empty.result || not (c.len.result == 0))
-    (ap (λ (b : Bool). not b || not (c.len.result == 0)) empty ∙ ap (λ (n : ℕ). not (length r.bad == 0) || not (n == 0)) c.len.ensures
-    ∙ any_line (label_told r) r.bad r.conflicts)
-    (subst (λ (numbers : List ℕ). Through (map unread_step numbers) (outputs ot o et e) (outputs ot o et e')) c.bad.ensures (c.in_ok-put_unread.ensures.went
-    ot o))
-    (c.in_ok-put_conflicts.ensures.went et e')
+    written_all g.O.Sink g.E.Sink
+    (ap (map (conflict_step (label_told r))) (drop_all c.loop-i.i r.conflicts (omega (arith, c.loop-i-test.false, c.len-i-end.ensures)))) c.loop-i.invariant
+    (rw (c.is_empty.ensures, c.bad-bad.ensures, c.len.ensures) (any_line (label_told r) r.bad r.conflicts))

@@ -1,10 +1,8 @@
-use Rattle.rpm_tool.proofs.Vocabulary.{begun, packages, Remade, room, rows, runs_none, runs_then, SameLog, store, units_needed}
+use Rattle.rpm_tool.proofs.Vocabulary.{packages, Remade, room, rows, runs_none, runs_then, SameLog, units_needed}
 use Rattle.std.proofs.Common.{length, refl, ap, ◌∙◌, arith}
 use Rattle.std.proofs.lemmas.Result.{err_from_is_err_and}
 use Rattle.rpm_tool.proofs.Brokens.{open_broken}
 use Rattle.rpm_tool.proofs.FileReach.{least_units}
-use Rattle.rpm_tool.proofs.Standing.{if_ok}
-use Rattle.rpm_tool.proofs.Limited.{stored_one}
 use Rattle.rpm_tool.proofs.opening.open_to_change.Goals as goal
 
 pub returns-in-Err-clause-runs : goal.returns-in-Err-clause-runs
@@ -26,18 +24,23 @@ returns-clause-opens g c =
       not_blank = begins.not_blank;
       rows = λ told lawful. begins.rows told (λ some. (c.in-Ok.ensures.opened told).index some lawful);
       broken = λ told. open_broken old mid new c.in-Ok.db (c.in-Ok.ensures.opened told) (begins.whole told);
-      store_is = λ told. if_ok (store old.pkg) (λ value is.
-          begins.store_is ∙ ap begun (stored_one _ value (room c.in-Ok.db) is (c.in-Ok.ensures.opened told).store_is));
-      reach = λ told. if_ok (store old.pkg) (λ value is. record {
-        pkg = omega (arith, begins.end told, ap length (c.in-Ok.ensures.runs.reads_as told).pkg);
-        idx = omega (
-          arith,
-          begins.reach told,
-          c.in-Ok.ensures.served.reach told,
-          ap (units_needed old.pkg) is,
-          least_units (rows (packages old.pkg value)),
-        );
-      });
+      found = λ told.
+          let is = (c.in-Ok.ensures.opened told).store_is in
+          record {
+            value = room c.in-Ok.db;
+            undamaged = is;
+            store_is = begins.store_is;
+            reach = record {
+              pkg = omega (arith, begins.end told, ap length (c.in-Ok.ensures.runs.reads_as told).pkg);
+              idx = omega (
+                arith,
+                begins.reach told,
+                c.in-Ok.ensures.served.reach told,
+                ap (units_needed old.pkg) is,
+                least_units (rows (packages old.pkg (room c.in-Ok.db))),
+              );
+            };
+          };
     }
 
 pub returns-clause-runs : goal.returns-clause-runs

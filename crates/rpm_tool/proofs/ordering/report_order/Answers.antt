@@ -1,39 +1,43 @@
-use Rattle.rpm_tool.proofs.Vocabulary.{Anywhere, bad_parts, classes_part, Files, graph_of, HasIndexRows, inner, IsOrder, Network, outputs, packages, Reached}
-use Rattle.rpm_tool.proofs.Vocabulary.{room, stop_of_check, StopsOfSome}
-use Rattle.std.proofs.Common.{◌≡◌, true, false, Bool, [], Ok, Err, refl, ap, ◌∙◌, sym, subst}
+use Rattle.rpm_tool.proofs.Vocabulary.{Anywhere, class_steps, classes_part, Files, flat_map, graph_of, inner, IsOrder, Network, packages, packages_in, room}
+use Rattle.rpm_select.specs.Frame.{HasRows}
+use Rattle.std.proofs.Common.{◌≡◌, true, false, Bool, [], refl, ap, ◌∙◌, subst}
+use Rattle.std.specs.Prelude.{IsTrue}
 use Rattle.std.proofs.lemmas.Result.{err_from_is_err_and}
-use Rattle.rpm_tool.specs.declared.step.Stop.TheVariants as stop
 use Rattle.rpm_tool.proofs.Askable.{asked_still}
-use Rattle.rpm_tool.proofs.Behind.{behind_first, behind_plain, behind_stop}
-use Rattle.rpm_tool.proofs.Checked.{broken_stops, lawful_stops, part_unbroken, reached_unbroken}
+use Rattle.rpm_tool.proofs.Behind.{behind_first, behind_stop, behind_sound, question_broken, question_read}
+use Rattle.rpm_tool.proofs.Checked.{part_unbroken, reached_unbroken}
 use Rattle.rpm_tool.proofs.Deeds.{none_listed, order_listed}
+use Rattle.rpm_tool.proofs.Reached.{rows_at}
 use Rattle.rpm_tool.proofs.Reaching.{through_none}
 use Rattle.rpm_tool.proofs.SoFar.{glances, peeks_more}
-use Rattle.rpm_tool.proofs.Stopping.{reached_as, reached_unsunk}
+use Rattle.rpm_tool.proofs.ordering.report_order.Given.{Over}
+use Rattle.rpm_tool.proofs.ordering.report_order.Goals.{After-put_classes}
 use Rattle.rpm_tool.proofs.ordering.report_order.Goals as goal
 
-pub read_graph-requires : goal.read_graph-requires
-read_graph-requires g c = record {
-  asked = asked_still g.D.Disk c.args.disk.now c.tell_each_bad.new.disk c.args.db.now c.in_ok-bad.ensures.tells.looks.untouched c.requires.asked;
-}
+module _ (g : Over) (c : After-put_classes g) (told : IsTrue g.D.Disk.tells) where
+  same : g.D.Disk.files c.read_graph.new.disk ≡ g.D.Disk.files c.args.disk.now
+  same = (c.in-Ok.ensures.asks.looks.untouched told).same ∙ (c.in_ok-bad.ensures.tells.looks.untouched told).same
 
-pub put_classes-requires : goal.put_classes-requires
-put_classes-requires g c = record {
-  asked = asked_still g.D.Disk c.args.disk.now c.read_graph.new.disk c.args.db.now
-      (peeks_more g.D.Disk g.met.D.Disk.follows_trans c.in_ok-bad.ensures.tells.looks (glances g.D.Disk c.in_ok-graph.ensures.asks.looks)).untouched
-      c.requires.asked;
-}
+  -- the classes are those of the packages at the start, in their order
+  listed : HasRows g.D.Disk c.args.disk.now c.args.db.now → IsOrder (graph_of (packages_in g.D.Disk c.args.disk.now c.args.db.now)) c.in_ok-list.list
+  listed rows =
+      let first = (c.in_ok-bad.ensures.tells.looks.untouched told).same in
+      subst (λ (n : Network). IsOrder n c.in_ok-list.list)
+      (c.in-Ok.ensures.told told (rows_at c.args.db.now (g.D.Disk.files c.tell_each_bad.new.disk) (g.D.Disk.files c.args.disk.now) first rows)
+      ∙ ap (λ (f : Files). graph_of (packages f.pkg (room c.args.db.now))) first) c.in_ok-list.ensures.order
+
+pub read_graph-requires : goal.read_graph-requires
+read_graph-requires g c = record { asked = asked_still g.D.Disk _ _ _ c.in_ok-bad.ensures.tells.looks.untouched c.requires.asked }
 
 pub returns-in_err-bad-clause-went : goal.returns-in_err-bad-clause-went
 returns-in_err-bad-clause-went g c = λ told rows.
-    let all = packages (g.D.Disk.files c.args.disk.now).pkg (room c.args.db.now) in
-    let o = g.O.Sink.taken (inner c.args.out.now) in
+    let all = packages_in g.D.Disk c.args.disk.now c.args.db.now in
     let p = err_from_is_err_and c.from_residual.result c.from_residual.ensures.1 in
     rw (p.1, p.2) (
       [],
       none_listed (graph_of all),
-      behind_first g.O.Sink.tells g.E.Sink.tells (bad_parts all) (classes_part all []) c.in_err-bad.field-0.0 o o (g.E.Sink.taken (inner c.args.err.now))
-          (g.E.Sink.taken (inner c.tell_each_bad.new.err)) (c.in_err-bad.ensures.went told g.O.Sink.tells o),
+      behind_first (classes_part all [])
+          (c.in_err-bad.ensures.went told _ _),
     )
 
 pub returns-in_err-bad-clause-broken : goal.returns-in_err-bad-clause-broken
@@ -41,87 +45,53 @@ returns-in_err-bad-clause-broken g c = λ told.
     let p = err_from_is_err_and c.from_residual.result c.from_residual.ensures.1 in
     rw (p.1, p.2) (part_unbroken (g.D.Disk.files c.args.disk.now).idx (c.in_err-bad.ensures.went told true []))
 
-pub returns-in_err-graph-clause-went : goal.returns-in_err-graph-clause-went
-returns-in_err-graph-clause-went g c = λ told rows.
-    let db = c.args.db.now in
-    let all = packages (g.D.Disk.files c.args.disk.now).pkg (room db) in
-    let ot = g.O.Sink.tells in
-    let et = g.E.Sink.tells in
-    let o = g.O.Sink.taken (inner c.args.out.now) in
-    let e = g.E.Sink.taken (inner c.args.err.now) in
-    let e' = g.E.Sink.taken (inner c.tell_each_bad.new.err) in
-    let x = outputs ot o et e' in
-    let what = stop_of_check c.in_err-graph.field-0.0 in
-    let has = subst (λ (f : Files). HasIndexRows db f.pkg f.idx) (sym (c.in_ok-bad.ensures.tells.looks.untouched told).same) rows in
-    let p = err_from_is_err_and c.from_residual-in_err-graph.result c.from_residual-in_err-graph.ensures.1 in
-    rw (p.1, p.2) (
+pub returns-in-Err-clause-went : goal.returns-in-Err-clause-went
+returns-in-Err-clause-went g c = λ told rows.
+    let all = packages_in g.D.Disk c.args.disk.now c.args.db.now in
+    rw c.halt_of_check.ensures.value (
       [],
       none_listed (graph_of all),
-      behind_stop ot et (bad_parts all) (classes_part all []) c.in_ok-bad.bad o o o e e' e' (c.in_ok-bad.ensures.went told ot o) what (record {
-        steps = reached_unsunk Bool [] what x x Anywhere (lawful_stops c.in_err-graph.field-0.0 (c.in_err-graph.ensures.asks.lawful told has))
-            (through_none {ot = ot} {et = et} o e');
-        fails = tt;
-      }),
+      behind_stop (classes_part all []) (c.in_ok-bad.ensures.went told _ _) Bool refl
+          (question_read g.D.Disk c.args.db.now (c.in_ok-bad.ensures.tells.looks.untouched told).same c.in-Err.ensures.asks told rows
+          [] g.O.Sink.tells g.E.Sink.tells (g.O.Sink.taken (inner c.args.out.now)) (g.E.Sink.taken (inner c.tell_each_bad.new.err))),
     )
 
-pub returns-in_err-graph-clause-broken : goal.returns-in_err-graph-clause-broken
-returns-in_err-graph-clause-broken g c = λ told.
-    let fault = c.in_err-graph.field-0.0 in
-    let p = err_from_is_err_and c.from_residual-in_err-graph.result c.from_residual-in_err-graph.ensures.1 in
-    rw (p.1, p.2) (subst (λ (f : Files). StopsOfSome f.idx (stop_of_check fault)) (c.in_ok-bad.ensures.tells.looks.untouched told).same
-    (broken_stops (g.D.Disk.files c.tell_each_bad.new.disk).idx fault (c.in_err-graph.ensures.asks.broken told)))
+pub returns-in-Err-clause-broken : goal.returns-in-Err-clause-broken
+returns-in-Err-clause-broken g c = λ told.
+    rw c.halt_of_check.ensures.value (question_broken g.D.Disk c.args.db.now (c.in_ok-bad.ensures.tells.looks.untouched told).same
+    c.in-Err.ensures.asks told)
 
-pub returns-in_err-graph-clause-looks : goal.returns-in_err-graph-clause-looks
-returns-in_err-graph-clause-looks g c =
-    peeks_more g.D.Disk g.met.D.Disk.follows_trans c.in_ok-bad.ensures.tells.looks (glances g.D.Disk c.in_err-graph.ensures.asks.looks)
+pub returns-in-Err-clause-looks : goal.returns-in-Err-clause-looks
+returns-in-Err-clause-looks g c =
+    peeks_more g.D.Disk g.met.D.Disk.follows_trans c.in_ok-bad.ensures.tells.looks (glances g.D.Disk c.in-Err.ensures.asks.looks)
 
 pub returns-in_err-list-clause-went : goal.returns-in_err-list-clause-went
 returns-in_err-list-clause-went g c = λ told rows.
-    let all = packages (g.D.Disk.files c.args.disk.now).pkg (room c.args.db.now) in
-    let ot = g.O.Sink.tells in
-    let et = g.E.Sink.tells in
-    let o = g.O.Sink.taken (inner c.args.out.now) in
-    let e = g.E.Sink.taken (inner c.args.err.now) in
-    let e' = g.E.Sink.taken (inner c.tell_each_bad.new.err) in
+    let all = packages_in g.D.Disk c.args.disk.now c.args.db.now in
     let p = err_from_is_err_and c.from_residual-in_err-list.result c.from_residual-in_err-list.ensures.1 in
     rw (p.1, p.2) (
       [],
       none_listed (graph_of all),
-      behind_stop ot et (bad_parts all) (classes_part all []) c.in_ok-bad.bad o o o e e' e' (c.in_ok-bad.ensures.went told ot o) stop.NoMemory
-          (record { steps = ([], [], refl, through_none {ot = ot} {et = et} o e'); fails = tt }),
+      behind_stop (classes_part all []) (c.in_ok-bad.ensures.went told _ _) Bool refl
+          ([], [], refl, through_none {ot = g.O.Sink.tells} {et = g.E.Sink.tells} (g.O.Sink.taken (inner c.args.out.now)) _),
     )
 
 pub returns-in_err-list-clause-looks : goal.returns-in_err-list-clause-looks
 returns-in_err-list-clause-looks g c =
-    peeks_more g.D.Disk g.met.D.Disk.follows_trans c.in_ok-bad.ensures.tells.looks (glances g.D.Disk c.in_ok-graph.ensures.asks.looks)
+    peeks_more g.D.Disk g.met.D.Disk.follows_trans c.in_ok-bad.ensures.tells.looks (glances g.D.Disk c.in-Ok.ensures.asks.looks)
 
 pub returns-in_err-put_classes-clause-went : goal.returns-in_err-put_classes-clause-went
 returns-in_err-put_classes-clause-went g c = λ told rows.
-    let db = c.args.db.now in
-    let s = (room db) in
-    let all = packages (g.D.Disk.files c.args.disk.now).pkg s in
-    let ot = g.O.Sink.tells in
-    let et = g.E.Sink.tells in
-    let o = g.O.Sink.taken (inner c.args.out.now) in
-    let o' = g.O.Sink.taken (inner c.put_classes.new.out) in
-    let e = g.E.Sink.taken (inner c.args.err.now) in
-    let e' = g.E.Sink.taken (inner c.tell_each_bad.new.err) in
+    let all = packages_in g.D.Disk c.args.disk.now c.args.db.now in
     let list = c.in_ok-list.list in
-    let what = c.in_err-put_classes.field-0.0 in
-    let same = (c.in_ok-bad.ensures.tells.looks.untouched told).same in
-    let has = subst (λ (f : Files). HasIndexRows db f.pkg f.idx) (sym same) rows in
-    let graph = c.in_ok-graph.ensures.told told has ∙ ap (λ (f : Files). graph_of (packages f.pkg s)) same in
+    let then = (goal.at.returns-in_err-put_classes-clause-went g c).After-put_classes in
     let p = err_from_is_err_and c.from_residual-in_err-put_classes.result c.from_residual-in_err-put_classes.ensures.1 in
     rw (p.1, p.2) (
       list,
-      order_listed (graph_of all) false list (subst (λ (n : Network). IsOrder n list) graph c.in_ok-list.ensures.order),
-      behind_stop ot et (bad_parts all) (classes_part all list) c.in_ok-bad.bad o o o' e e' e' (c.in_ok-bad.ensures.went told ot o) what (record {
-        steps = reached_as (Unit {0}) Bool (classes_part all list).steps what (outputs ot o et e') (outputs ot o' et e') Anywhere
-            (subst (λ (f : Files). Reached {T = Unit {0}} (classes_part (packages f.pkg s) list).steps (Err what) (outputs ot o et e') (outputs ot o' et e')
-            Anywhere)
-            ((c.in_ok-graph.ensures.asks.looks.untouched told).same ∙ same) (c.in_err-put_classes.ensures.went told et e'));
-        fails = tt;
-      }),
+      order_listed (graph_of all) false list (listed g then told rows),
+      behind_stop (classes_part all list) (c.in_ok-bad.ensures.went told _ _) (Unit {0})
+          (ap (λ (f : Files). flat_map (class_steps (packages f.pkg (room c.args.db.now))) list) (same g then told))
+          (c.in_err-put_classes.ensures.went told g.E.Sink.tells (g.E.Sink.taken (inner c.tell_each_bad.new.err))),
     )
 
 pub returns-in_err-put_classes-clause-broken : goal.returns-in_err-put_classes-clause-broken
@@ -134,35 +104,21 @@ pub returns-in_err-put_classes-clause-looks : goal.returns-in_err-put_classes-cl
 returns-in_err-put_classes-clause-looks g c =
     let d = g.D.Disk in
     let goes = g.met.D.Disk.follows_trans in
-    peeks_more d goes c.in_ok-bad.ensures.tells.looks (peeks_more d goes (glances d c.in_ok-graph.ensures.asks.looks) c.in_err-put_classes.ensures.tells.looks)
+    peeks_more d goes c.in_ok-bad.ensures.tells.looks (peeks_more d goes (glances d c.in-Ok.ensures.asks.looks) c.in_err-put_classes.ensures.tells.looks)
 
 pub returns-clause-went : goal.returns-clause-went
 returns-clause-went g c = λ told rows.
-    let db = c.args.db.now in
-    let s = (room db) in
-    let all = packages (g.D.Disk.files c.args.disk.now).pkg s in
-    let ot = g.O.Sink.tells in
-    let et = g.E.Sink.tells in
-    let o = g.O.Sink.taken (inner c.args.out.now) in
-    let o' = g.O.Sink.taken (inner c.put_classes.new.out) in
-    let e = g.E.Sink.taken (inner c.args.err.now) in
-    let e' = g.E.Sink.taken (inner c.tell_each_bad.new.err) in
+    let all = packages_in g.D.Disk c.args.disk.now c.args.db.now in
     let list = c.in_ok-list.list in
-    let same = (c.in_ok-bad.ensures.tells.looks.untouched told).same in
-    let has = subst (λ (f : Files). HasIndexRows db f.pkg f.idx) (sym same) rows in
-    let graph = c.in_ok-graph.ensures.told told has ∙ ap (λ (f : Files). graph_of (packages f.pkg s)) same in (
+    let then = (goal.at.returns-clause-went g c).After-put_classes in (
       list,
-      order_listed (graph_of all) true list (subst (λ (n : Network). IsOrder n list) graph c.in_ok-list.ensures.order),
-      behind_plain ot et (bad_parts all) (classes_part all list) c.in_ok-bad.bad o o o' e e' e' (c.in_ok-bad.ensures.went told ot o) (record {
-        steps = subst (λ (f : Files). Reached {T = Unit {0}} (classes_part (packages f.pkg s) list).steps (Ok tt) (outputs ot o et e') (outputs ot o' et e')
-            Anywhere)
-            ((c.in_ok-graph.ensures.asks.looks.untouched told).same ∙ same) (c.in_ok-put_classes.ensures.went told et e');
-        fails = refl;
-      }),
+      order_listed (graph_of all) true list (listed g then told rows),
+      behind_sound (classes_part all list) (c.in_ok-bad.ensures.went told _ _) refl
+          (rw (same g then told) at (c.in_ok-put_classes.ensures.went told g.E.Sink.tells (g.E.Sink.taken (inner c.tell_each_bad.new.err)))),
     )
 
 pub returns-clause-looks : goal.returns-clause-looks
 returns-clause-looks g c =
     let d = g.D.Disk in
     let goes = g.met.D.Disk.follows_trans in
-    peeks_more d goes c.in_ok-bad.ensures.tells.looks (peeks_more d goes (glances d c.in_ok-graph.ensures.asks.looks) c.in_ok-put_classes.ensures.tells.looks)
+    peeks_more d goes c.in_ok-bad.ensures.tells.looks (peeks_more d goes (glances d c.in-Ok.ensures.asks.looks) c.in_ok-put_classes.ensures.tells.looks)

@@ -1,7 +1,8 @@
-use Rattle.std.proofs.Common.{◌≡◌, refl, sym, ◌∙◌, subst, arith}
-use Rattle.rpm_tool.proofs.Vocabulary.{Anywhere, file_part, inner, outputs, text_at, Went, Why}
-use Rattle.rpm_tool.proofs.Answering.{rest_of, few_more}
-use Rattle.rpm_tool.proofs.Filed.{ends_of_files, never_of_disk, file_here, turned_none, turned_more, turned_stop, turned_done, turned_failed}
+use Rattle.std.proofs.Common.{◌≡◌, Err, refl, sym, ap, ◌∙◌, subst, arith}
+use Rattle.rpm_tool.proofs.Vocabulary.{inner}
+use Rattle.rpm_tool.proofs.Halts.{of_disk}
+use Rattle.rpm_tool.proofs.Filed.{ends_of_files, file_here}
+use Rattle.rpm_tool.proofs.Turns.{few_more, turned_none, turned_more, turned_stop, turned_done, turned_failed}
 use Rattle.rpm_tool.proofs.package_files.print_files.Goals as goal
 
 pub loop-k-init : goal.loop-k-init
@@ -29,29 +30,12 @@ loop-k-preserved g c =
       out_rest = g.met.O.Sink.follows_trans (inner c.args.out.now) (inner c.loop-k.out) (inner c.print_file.new.out) inv.out_rest done.hands.out.goes_on;
       err_rest = g.met.E.Sink.follows_trans (inner c.args.err.now) (inner c.loop-k.err) (inner c.print_file.new.err) inv.err_rest done.hands.err.goes_on;
       few = rw c.count-failed.ensures (few_more c.in-Ok.fails c.loop-k.failed k inv.few);
-      turned = λ told. rw c.count-failed.ensures (turned_more c.argument.ensures (inv.turned told)
+      turned = λ told. rw c.count-failed.ensures (turned_more (inv.turned told) c.argument.ensures
           (file_here c.args.format.now k (inv.paths told) c.text_at-path.ensures (done.went told k)));
     }
 
 pub returns-in-Err-clause-went : goal.returns-in-Err-clause-went
 returns-in-Err-clause-went g c = λ told.
     let inv = c.loop-k.invariant in
-    let all = rest_of (file_part c.args.format.now (g.S.Shelf.paths c.args.shelf.now)) (text_at c.args.words.now) c.args.ask.now.arguments 0 in
-    let old = outputs g.O.Sink.tells (g.O.Sink.taken (inner c.args.out.now)) g.E.Sink.tells (g.E.Sink.taken (inner c.args.err.now)) in
-    let new = outputs g.O.Sink.tells (g.O.Sink.taken (inner c.print_file.new.out)) g.E.Sink.tells (g.E.Sink.taken (inner c.print_file.new.err)) in
-    subst (λ (w : Why). Went all w old new Anywhere) (sym c.why_of_files.ensures) (turned_stop c.argument.ensures (inv.turned told)
+    rw c.from.ensures (turned_stop (inv.turned told) c.argument.ensures _ (λ b any. any)
     (file_here c.args.format.now c.loop-k.k (inv.paths told) c.text_at-path.ensures (c.in-Err.ensures.went told c.loop-k.k)))
-
-pub returns-in-Err-clause-done : goal.returns-in-Err-clause-done
-returns-in-Err-clause-done g c = rw c.why_of_files.ensures (ends_of_files c.in-Err.stop)
-
-pub returns-in-Err-clause-no_disk : goal.returns-in-Err-clause-no_disk
-returns-in-Err-clause-no_disk g c = λ is. never_of_disk c.in-Err.stop (sym c.why_of_files.ensures ∙ is)
-
-pub returns-then-failed-eq0-clause-went : goal.returns-then-failed-eq0-clause-went
-returns-then-failed-eq0-clause-went g c = λ told.
-    turned_done (omega (arith, c.loop-k-test.false, c.arguments-k-end.ensures)) (c.loop-k.invariant.turned told) c.if-failed-eq0.true
-
-pub returns-else-failed-eq0-clause-went : goal.returns-else-failed-eq0-clause-went
-returns-else-failed-eq0-clause-went g c = λ told.
-    turned_failed (omega (arith, c.loop-k-test.false, c.arguments-k-end.ensures)) (c.loop-k.invariant.turned told) c.if-failed-eq0.false

@@ -1,7 +1,7 @@
 use Rattle.std.proofs.Common.{◌≡◌, ◌≤◌}
 use Rattle.std.specs.Prelude.{IsTrue}
 use Rattle.rpm_tool.proofs.Vocabulary.{file_part, inner, text_at}
-use Rattle.rpm_tool.proofs.Filed.{Turned}
+use Rattle.rpm_tool.proofs.Turns.{Turned}
 use Rattle.rpm_tool.proofs.package_files.print_files.Given as goal
 
 abbrev pub invariant-loop-k : goal.invariant-loop-k

@@ -1,9 +1,8 @@
 use Rattle.std.proofs.Common.{◌≡◌, Bool, Some, Result, Err, sym, ap, ◌∙◌, subst}
 use Rattle.rpm_tool.proofs.Vocabulary.{Anywhere, FileFault, Headed, inner, left, outputs, package_header, PartIs, read_part}
-use Rattle.rpm_tool.specs.declared.step.Stop.TheVariants as stop
+use Rattle.rpm_change.specs.declared.tally.Halt.TheVariants as halt
 use Rattle.rpm_tool.proofs.Reaching.{through_none}
-use Rattle.rpm_tool.proofs.Stopping.{reached_unsunk}
-use Rattle.rpm_tool.proofs.Filed.{unsunk, read_stop, own_fault}
+use Rattle.rpm_tool.proofs.Filed.{never_disk, read_stop, own_fault, unread}
 use Rattle.rpm_tool.proofs.package_files.print_opened.Goals as goal
 
 pub returns-in-Ok-clause-went : goal.returns-in-Ok-clause-went
@@ -20,7 +19,7 @@ returns-in-Some-clause-went g c = λ told j.
     let e = g.E.Sink.taken (inner c.args.err.now) in
     let same = outputs g.O.Sink.tells o g.E.Sink.tells e in
     record {
-      steps = reached_unsunk Bool part.steps c.in-Some.stop same same Anywhere (unsunk c.in-Err.fault c.in-Some.stop (sym c.in-Some.ensures))
+      steps = unread c.in-Err.fault c.in-Some.halt part.steps same same (sym c.in-Some.ensures)
           (through_none {ot = g.O.Sink.tells} {et = g.E.Sink.tells} o e);
       fails = tt;
     }
@@ -29,7 +28,7 @@ pub returns-in-Some-clause-shelf : goal.returns-in-Some-clause-shelf
 returns-in-Some-clause-shelf g c = record {
   later = c.in-Err.ensures.cause.later;
   rose = λ is.
-      let same : c.in-Some.stop ≡ stop.ReadFault = cc in
+      let same : c.in-Some.halt ≡ halt.ShelfFault = cc in
       c.in-Err.ensures.cause.rose (ap Err (read_stop c.in-Err.fault (sym c.in-Some.ensures ∙ ap Some same)));
 }
 

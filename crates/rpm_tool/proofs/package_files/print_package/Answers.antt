@@ -5,9 +5,6 @@ use Rattle.rpm_tool.proofs.Stopping.{reached_first}
 use Rattle.rpm_tool.proofs.Filed.{fails_one}
 use Rattle.rpm_tool.proofs.package_files.print_package.Goals as goal
 
-pub of_checked-view-requires : goal.of_checked-view-requires
-of_checked-view-requires g c = (c.args.found.now, c.header.ensures.again, sym c.header.ensures.value)
-
 pub returns-clause-part : goal.returns-clause-part
 returns-clause-part g c = λ j.
     let same : c.of_checked-view.result ≡ c.args.found.now = cc in

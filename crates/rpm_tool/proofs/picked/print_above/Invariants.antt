@@ -17,7 +17,7 @@ invariant-loop-picked g l = record {
   out_rest : g.O.Sink.follows (inner l.initial.out) (inner l.out);
   err_rest : g.E.Sink.follows (inner l.initial.err) (inner l.err);
   printed : IsTrue g.D.Disk.tells → Serves l.initial.picker (packages_in g.D.Disk l.initial.disk l.db) l.selection
-      → PrintedTo (step_by l.way) (picks (packages_in g.D.Disk l.initial.disk l.db) l.selection) l.after l.number l.some l.fails g.O.Sink.tells
+      → PrintedTo (step_by l.deed l.format) (picks (packages_in g.D.Disk l.initial.disk l.db) l.selection) l.after l.number l.some l.fails g.O.Sink.tells
       g.E.Sink.tells (g.O.Sink.taken (inner l.initial.out)) (g.E.Sink.taken (inner l.initial.err)) (g.O.Sink.taken (inner l.out))
       (g.E.Sink.taken (inner l.err));
 }

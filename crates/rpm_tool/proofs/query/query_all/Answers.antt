@@ -25,10 +25,10 @@ returns-clause-went g c = λ told rows.
     let start = g.D.Disk.bytes_read c.args.disk.now Pkg in
     let between = g.D.Disk.bytes_read c.begin_unasked-picker.new.disk Pkg in
     let now = g.D.Disk.bytes_read c.print_above.new.disk Pkg in
-    let part_of : Files → Portion = λ f. packages_part (step_by c.args.way.now 0) c.args.after (picks (packages f.pkg s) question.All) in
+    let part_of : Files → Portion = λ f. packages_part (step_by c.args.deed c.args.format.now 0) c.args.after (picks (packages f.pkg s) question.All) in
     let part = part_of (g.D.Disk.files c.args.disk.now) in
     let reads : Bearer → Type 0 = λ for. now ≤ start + reached_by (Everything ∷ []) db for in
-    let what = c.in-Err.stop in
+    let what = c.in-Err.halt in
     let is : c.begin_unasked-picker.result ≡ Everything = c.begin_unasked-picker.ensures.reach told rows in
     let begun = g.D.Disk.files c.begin_unasked-picker.new.disk in
     let done : PartIs part (Err what) old new (ReadsIn 0 c.args.after Everything db between now) =
@@ -36,12 +36,8 @@ returns-clause-went g c = λ told rows.
     (c.begin_unasked-picker.ensures.looks.untouched told).same
     (subst (λ (r : Reach). PartIs (part_of begun) (Err what) old new (ReadsIn 0 c.args.after r db between now)) is
     (c.in-Err.ensures.went told (c.begin_unasked-picker.ensures.serves told rows) 0)) in
-    subst (λ (w : Why). Went (before part idle) w old new reads) (sym c.why_of.ensures.value)
+    subst (λ (w : Why). Went (before part idle) w old new reads) (sym c.from.ensures)
     (went_stop Bool (before part idle) what old new reads
     (subst (λ (ss : List Step). Reached {T = Bool} ss (Err what) old new reads) (sym (append-nil part.steps))
     (reached_reads {T = Bool} part.steps (Err what) old new (ReadsIn 0 c.args.after Everything db between now) reads
     (λ b r. reads_one Everything db c.args.after start between now b c.begin_unasked-picker.ensures.looks.reads.pkg r) done.steps)))
-
-pub returns-clause-unbroken : goal.returns-clause-unbroken
-returns-clause-unbroken g c = λ unit same.
-    why_unbroken c.in-Err.stop (λ at is. c.in-Err.ensures.unbroken at (ap Err is)) unit (sym c.why_of.ensures.value ∙ same)

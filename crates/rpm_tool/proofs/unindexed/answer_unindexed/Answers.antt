@@ -37,7 +37,7 @@ returns-in-Ok-clause-went g c = λ told.
     let new = shown g.O.Sink g.E.Sink c.answer_opened.new.out c.answer_opened.new.err in
     let said = c.in-Ok.ensures in
     let read : Units → Bearer → Type 0 = λ u for. now ≤ between + reached_by (asked_reaches false u s words a) db for in
-    let went = rw said.unindexed at (c.answer_opened.ensures.went told (no_index_rows db mid.pkg mid.idx said.unindexed)) in
+    let went = rw said.unindexed at (c.answer_opened.ensures.does.went told (no_index_rows db mid.pkg mid.idx said.unindexed)) in
     subst (λ (r : Result Store Damage). Opened (DidPlain tree words a file start now) r given old new) (sym (said.store told))
     (does_reads tree file s words a (deed_of a.mode) (read file) (λ for. now ≤ start + read_to file words a s for)
     (λ for le. omega (arith, le, said.reads told, store_by (asked_reaches false file s words a) db for)) given old new
@@ -55,7 +55,7 @@ returns-in-Ok-clause-reads g c = λ told.
     let between = pkg_read d c.open_unindexed.new.disk in
     let now = pkg_read d c.answer_opened.new.disk in
     let said = c.in-Ok.ensures in
-    let read = rw said.unindexed at (c.answer_opened.ensures.reads c.requires.plain told (no_index_rows db mid.pkg mid.idx said.unindexed)) in
+    let read = rw said.unindexed at (c.answer_opened.ensures.does.reads c.requires.plain told (no_index_rows db mid.pkg mid.idx said.unindexed)) in
     let here : now ≤ between + reach_sum (asked_reaches false file s words a) db =
     subst (λ (f : Files). now ≤ between + reach_sum (asked_reaches false f.pkg s words a) db) (said.looks.untouched told).same read in
     let most = ap (λ (r : Result Store Damage). blocks_cost (λ t. false) file r words a) (said.store told) in
@@ -68,10 +68,9 @@ returns-in-Ok-clause-looks g c =
     let mid = c.open_unindexed.new.disk in
     let end = c.answer_opened.new.disk in
     let more = pkg_read d end - pkg_read d mid in
-    let asked = always_keyed (deed_of c.args.ask.now.mode) || is_indexed c.in-Ok.db in
-    let none : asked ≡ false = ap (λ b. b || is_indexed c.in-Ok.db) c.requires.plain ∙ c.in-Ok.ensures.unindexed in (
+    let none : (always_keyed (deed_of c.args.ask.now.mode) || is_indexed c.in-Ok.db) ≡ false = ap (λ b. b || is_indexed c.in-Ok.db) c.requires.plain ∙ c.in-Ok.ensures.unindexed in (
       2 ^ 32 + more,
-      looks_then d.tells d.files d.left_since d.moment d.bytes_read d.follows Pkg g.met.D.Disk.follows_trans (2 ^ 32) more (2 ^ 32 + more) start mid end
+      looks_then d Pkg g.met.D.Disk.follows_trans (2 ^ 32) more (2 ^ 32 + more) start mid end
           (omega arith) c.in-Ok.ensures.looks
-          (looks_unindexed d.tells d.files d.left_since d.moment d.bytes_read d.follows asked mid end none c.answer_opened.ensures.looks),
+          (looks_unindexed d none c.answer_opened.ensures.does.looks),
     )
