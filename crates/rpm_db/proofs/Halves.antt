@@ -121,4 +121,5 @@ module _ {D : Type 0} (d : disk.Ghosts D) where
         (leaves_weaker d e c (Changed Idx (IndexTo (value.generation + 1) work idx) (images d e)) Still (λ image s.
         (let m = run_store.now told s.from s.was in
         index_stop value.generation value.field next was after idx fits (images d b) work writes_now image m.from s.from m.was m.log
-        (m.idx ∙ still m.from m.was) (stands_same _ _ _ _ _ _ s.from.pkg raised field_is (stored.blobs_are told) (stored.stands told s.from s.was)) s.pkg s.log s.idx)) in_index))
+        (m.idx ∙ still m.from m.was) (stands_same _ _ _ _ _ _ s.from.pkg raised field_is
+        (stored.blobs_are told) (stored.stands told s.from s.was)) s.pkg s.log s.idx)) in_index))

@@ -70,7 +70,8 @@ opening_reopens gate entries last from image g some below is closed torn = ⊎_e
 
 module _ {D : Type 0} (g : disk.Ghosts D) where
   -- two runs of writes to the log
-  pub log_leaves : (middle : ℕ) (old mid new : D) → 1 ≤ middle → ((image : Files) → g.left_since mid (g.moment mid) image → g.left_since mid (g.moment old) image)
+  pub log_leaves : (middle : ℕ) (old mid new : D) → 1 ≤ middle
+      → ((image : Files) → g.left_since mid (g.moment mid) image → g.left_since mid (g.moment old) image)
       → LeavesChanged g Log 1 (2 ^ 28) old mid → LeavesChanged g Log middle (2 ^ 28) mid new
       → LeavesChanged g Log 1 (2 ^ 28) old new
   log_leaves middle old mid new low earlier one two =

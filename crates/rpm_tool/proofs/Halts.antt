@@ -31,3 +31,6 @@ not_of_opening halt.OutFault of = refl
 not_of_opening halt.ErrFault of = refl
 not_of_opening halt.NoMemory of = refl
 not_of_opening others of = absurd of
+
+-- what the ending of a report goes by
+pub ruleset of_report = (of_print, not_of_opening, of_disk, of_out, of_err)

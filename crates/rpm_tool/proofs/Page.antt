@@ -111,7 +111,8 @@ module _ {D S : Type 0} {d : disk.Ghosts D} {s : shelf.Ghosts S} {r : Run d s} {
   }
 
 -- one that makes no call on the shelf, and doesn't end by it
-pub asked_streams : {S O E : Type 0} {s : shelf.Ghosts S} {o : sink.Ghosts O} {e : sink.Ghosts E} {w : Why} {x : S} {out out' : Buffered O} {err err' : Buffered E}
+pub asked_streams : {S O E : Type 0} {s : shelf.Ghosts S} {o : sink.Ghosts O} {e : sink.Ghosts E} {w : Why} {x : S}
+    {out out' : Buffered O} {err err' : Buffered E}
     → is_foreign w ≡ false → EndHands o e w out err out' err' → Streams s o e true (λ y. w ≡ y) (x, out, err) (x, out', err')
 asked_streams own hands = record {
   unread = λ is. absurd cc;

@@ -26,7 +26,8 @@ module _ {D : Type 0} (d : disk.Ghosts D) (db : Database) (chosen : Chosen) (tex
       let same = (looks.untouched told).same in
       rw (picked_is map chosen text asked, reach_is map chosen text asked (is_indexed db), ← over told rows)
       (part_reads _ _ old new (ReadsOf j p db (pkg_read d y) now) _ (λ b read. (read.0, omega (arith, read.1, looks.reads.pkg)))
-      (subst (λ (f : Files). PartIs (answered tree chosen after j text.now (picks (packages f.pkg (room db)) sel)) r old new (ReadsOf j p db (pkg_read d y) now))
+      (subst (λ (f : Files). PartIs (answered tree chosen after j text.now (picks (packages f.pkg (room db)) sel)) r old new
+      (ReadsOf j p db (pkg_read d y) now))
       same (went told (served sel (room db) p p (d.files y) (d.files x) refl same (serves told rows)) j)))
 
   pub picking_reads : {now : ℕ} → now ≤ pkg_read d y + reach_all p db → IsTrue d.tells → HasRows d x db

@@ -27,7 +27,8 @@ module _ {X : Type 0} (p : ℕ × X → Bool) where
       ]
 
 -- where none is above a number, one that is there is at most that number
-pub any_passed : (n : ℕ) (es : List (ℕ × Package)) → is_some_of (above n es) ≡ false → above 0 es ≡ es → list_any (λ e. nat_le e.0 n) (above 0 es) ≡ is_some_of es
+pub any_passed : (n : ℕ) (es : List (ℕ × Package)) → is_some_of (above n es) ≡ false → above 0 es ≡ es
+    → list_any (λ e. nat_le e.0 n) (above 0 es) ≡ is_some_of es
 any_passed n es none whole = ap (list_any (λ e. nat_le e.0 n)) whole ∙ any_of es none
   where
     any_of : (xs : List (ℕ × Package)) → is_some_of (above n xs) ≡ false → list_any (λ e. nat_le e.0 n) xs ≡ is_some_of xs

@@ -18,7 +18,7 @@ use rpm_words::{Ask, Words};
 use std::alloc::Global;
 
 /// The ending of a report, of whether its one argument failed.
-#[tactic(auto, using(crate::proofs::Halts::of_print, crate::proofs::Halts::not_of_opening, crate::proofs::Halts::of_disk, crate::proofs::Halts::of_out, crate::proofs::Halts::of_err))]
+#[tactic(auto, using(crate::proofs::Halts::of_report))]
 fn why_of_report(told: Result<bool, Halt>) -> Why
     requires class { IfErr told IsOfPrint }
     ensures value { result ≡ why_of_report told }

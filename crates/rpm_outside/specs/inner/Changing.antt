@@ -172,7 +172,8 @@ module _ {D : Type 0} (g : disk.Ghosts D) (file : File) where
   -- one write, whole or cut short
   pub changes_write : (at : ℕ) (units : Units) (a b : D) → (IsTrue g.tells → TornFile file at units (g.files a) (g.files b))
       → (IsTrue g.tells → OnlyAfter (TornFile file at units) (images a) (images b))
-      → (IsTrue g.tells → Elapses (g.moment a) (g.moment b) (g.left_since a) (g.left_since b)) → ((f : File) → g.bytes_read b f ≡ g.bytes_read a f) → g.follows a b
+      → (IsTrue g.tells → Elapses (g.moment a) (g.moment b) (g.left_since a) (g.left_since b))
+      → ((f : File) → g.bytes_read b f ≡ g.bytes_read a f) → g.follows a b
       → Run (Torn at units) 0 a b
   changes_write at units a b torn left time reads goes =
       let now : IsTrue g.tells → (image : Files) → images b image → Changed file (Torn at units) (images a) image =
@@ -197,7 +198,8 @@ module _ {D : Type 0} (g : disk.Ghosts D) (file : File) where
   -- one sync
   pub changes_sync : (R : Units → Units → Type 0) → ((x : Units) → R x x) → (a b : D) → (IsTrue g.tells → g.files b ≡ g.files a)
       → (IsTrue g.tells → (image : Files) → images b image → images a image)
-      → (IsTrue g.tells → Elapses (g.moment a) (g.moment b) (g.left_since a) (g.left_since b)) → ((f : File) → g.bytes_read b f ≡ g.bytes_read a f) → g.follows a b
+      → (IsTrue g.tells → Elapses (g.moment a) (g.moment b) (g.left_since a) (g.left_since b))
+      → ((f : File) → g.bytes_read b f ≡ g.bytes_read a f) → g.follows a b
       → Run R 0 a b
   changes_sync R same a b files_same left time reads goes =
       let now : IsTrue g.tells → (image : Files) → images b image → Changed file R (images a) image =

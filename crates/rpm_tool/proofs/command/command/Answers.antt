@@ -28,7 +28,8 @@ pub returns-then-of_files-clause-answers : goal.returns-then-of_files-clause-ans
 returns-then-of_files-clause-answers g c =
     let said = c.print_files-why.ensures in
     answered c.in-Ok.ensures.ok (λ still. refl) (λ not. refl) said.paths (g.met.D.Disk.follows_refl c.args.disk)
-    (does_files (sym c.of_files.ensures ∙ c.if-of_files.true) (record { went = said.went; disk_unread = refl }) (leaves_none g.D.Disk g.met.D.Disk.follows_refl))
+    (does_files (sym c.of_files.ensures ∙ c.if-of_files.true) (record { went = said.went; disk_unread = refl })
+    (leaves_none g.D.Disk g.met.D.Disk.follows_refl))
 
 -- ---- by key
 

@@ -69,7 +69,8 @@ returns-in-CheckFiles-clause-does g c =
     rw (← c.mode.ensures, ← c.deed_of.ensures, c.in-CheckFiles.is) (record {
       went = λ told rows. said.went told;
       reads = λ keyed told rows. omega (arith, said.looks.reads.pkg);
-      bad = λ told. some_went (check_files (packages_in g.D.Disk c.args.disk.now c.args.db.now)) _ _ _ (g.D.Disk.files c.args.disk.now).idx c.check_files.result (said.went told);
+      bad = λ told. some_went (check_files (packages_in g.D.Disk c.args.disk.now c.args.db.now)) _ _ _
+          (g.D.Disk.files c.args.disk.now).idx c.check_files.result (said.went told);
       looks = peeks_packages g.D.Disk said.looks;
     })
 
@@ -97,8 +98,11 @@ returns-in-Order-clause-does g c =
     let new = shown g.O.Sink g.E.Sink c.report_order.new.out c.report_order.new.err in
     rw (← c.mode.ensures, ← c.deed_of.ensures, c.in-Order.is, c.why_of_report-in-Order.ensures.value) (record {
       went = λ told rows.
-          let part = said.went told rows in
-          (part.0, record { each = part.1.each; all = λ done. part.1.all (report_done told' done) }, went_report (order_part all part.0) told' old new Anywhere part.2);
+          let part = said.went told rows in (
+            part.0,
+            record { each = part.1.each; all = λ done. part.1.all (report_done told' done) },
+            went_report (order_part all part.0) told' old new Anywhere part.2,
+          );
       reads = λ keyed told rows. absurd cc;
       bad = λ told. report_some (g.D.Disk.files c.args.disk.now).idx told' (said.broken told);
       looks = said.looks;

@@ -65,13 +65,15 @@ pub returns-in-Ok-None-clause-went : goal.returns-in-Ok-None-clause-went
 returns-in-Ok-None-clause-went g c = λ told serves j.
     let inv = c.loop-picked.invariant in
     printed_last (inv.printed told serves)
-    (next_here _ _ c.loop-picked.number inv.same (inv.looks.untouched told).same (Ok None) (rw c.in-Ok-None.field-0-is at (c.in-Ok-None.ensures.told told)) serves) j
+    (next_here _ _ c.loop-picked.number inv.same (inv.looks.untouched told).same (Ok None)
+    (rw c.in-Ok-None.field-0-is at (c.in-Ok-None.ensures.told told)) serves) j
 
 pub returns-in-Ok-None-clause-some : goal.returns-in-Ok-None-clause-some
 returns-in-Ok-None-clause-some g c = λ told serves.
     let inv = c.loop-picked.invariant in
     some_last (inv.printed told serves)
-    (next_here _ _ c.loop-picked.number inv.same (inv.looks.untouched told).same (Ok None) (rw c.in-Ok-None.field-0-is at (c.in-Ok-None.ensures.told told)) serves)
+    (next_here _ _ c.loop-picked.number inv.same (inv.looks.untouched told).same (Ok None)
+    (rw c.in-Ok-None.field-0-is at (c.in-Ok-None.ensures.told told)) serves)
 
 pub returns-in-Ok-None-clause-reads : goal.returns-in-Ok-None-clause-reads
 returns-in-Ok-None-clause-reads g c =
@@ -123,7 +125,12 @@ returns-in_err-to_out-in-Ok-Some-clause-reads g c =
     let read = subst (λ (q : Reach). pkg_read d c.next_after.new.disk ≤ pkg_read d c.loop-picked.disk + (reach_to m q db - reach_to c.loop-picked.number q db))
     inv.same (rw c.in-Ok-Some.field-0-is at c.in-Ok-Some.ensures.reads) in
     let up = rw c.in-Ok-Some.field-0-is at c.in-Ok-Some.ensures.rises in
-    omega (arith, reach_some c.args.picker.now db m, reach_then c.args.picker.now db _ _ _ {n = c.loop-picked.number} {m = m} (omega (arith, up)) inv.reads read)
+    omega (
+      arith,
+      reach_some c.args.picker.now db m,
+      reach_then c.args.picker.now db _ _ _ {n = c.loop-picked.number} {m = m}
+          (omega (arith, up)) inv.reads read,
+    )
 
 pub returns-in_err-to_out-in-Ok-Some-clause-looks : goal.returns-in_err-to_out-in-Ok-Some-clause-looks
 returns-in_err-to_out-in-Ok-Some-clause-looks g c =
@@ -140,5 +147,6 @@ returns-in_err-to_out-in-Ok-Some-clause-unbroken g c = λ unit same.
     let q = err_from_is_err_and c.from_residual.result c.from_residual.ensures.1 in
     let both : failed what ≡ failed (halt.BadIndex unit) = rw (q.1, q.2) at same in
     let is : what ≡ halt.BadIndex unit = cc in
-    step_unbroken (step_by c.args.deed c.args.format.now 0 (entry_in c.in-Ok-Some.picked)) told'.result (shown g.O.Sink g.E.Sink c.loop-picked.out c.loop-picked.err)
+    step_unbroken (step_by c.args.deed c.args.format.now 0 (entry_in c.in-Ok-Some.picked)) told'.result
+    (shown g.O.Sink g.E.Sink c.loop-picked.out c.loop-picked.err)
     (shown g.O.Sink g.E.Sink told'.new.out told'.new.err) (told'.ensures.step 0) unit (c.in_err-to_out-in-Ok-Some.was ∙ ap stopped is)

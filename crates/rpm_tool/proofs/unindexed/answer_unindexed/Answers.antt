@@ -68,7 +68,8 @@ returns-in-Ok-clause-looks g c =
     let mid = c.open_unindexed.new.disk in
     let end = c.answer_opened.new.disk in
     let more = pkg_read d end - pkg_read d mid in
-    let none : (always_keyed (deed_of c.args.ask.now.mode) || is_indexed c.in-Ok.db) ≡ false = ap (λ b. b || is_indexed c.in-Ok.db) c.requires.plain ∙ c.in-Ok.ensures.unindexed in (
+    let none : (always_keyed (deed_of c.args.ask.now.mode) || is_indexed c.in-Ok.db) ≡ false =
+    ap (λ b. b || is_indexed c.in-Ok.db) c.requires.plain ∙ c.in-Ok.ensures.unindexed in (
       2 ^ 32 + more,
       looks_then d Pkg g.met.D.Disk.follows_trans (2 ^ 32) more (2 ^ 32 + more) start mid end
           (omega arith) c.in-Ok.ensures.looks
