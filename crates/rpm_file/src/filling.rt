@@ -16,7 +16,7 @@ use std::alloc::AllocError;
 pub fn fill<S: Shelf>(shelf: &mut S, into: &mut [u8]) -> Result<usize, Failed>
     ensures within { IfOk result (λ n. n ≤ length into.old) }
     ensures fills { IfOk result (λ n. IsTrue S.tells → Fills (S.rest shelf.old) (S.rest shelf.new) n into.new) }
-    ensures browses { Browses S.tells S.paths S.rest S.absences S.faults shelf.old shelf.new }
+    ensures browses { Browses S.Shelf shelf.old shelf.new }
     ensures cause { HasCause (S.faults shelf.old) (S.faults shelf.new) result }
 {
     let mut done = 0;
@@ -77,7 +77,7 @@ fn fill_some<S: Shelf>(
         (take (from + count) room.new.items)) }
     ensures ended { IfOk result (λ count. IsTrue S.tells → count < more → left (S.rest shelf.new) ≡ []) }
     ensures only { IfErr result IsOutside }
-    ensures browses { Browses S.tells S.paths S.rest S.absences S.faults shelf.old shelf.new }
+    ensures browses { Browses S.Shelf shelf.old shelf.new }
     ensures cause { HasCauseAt (result ≡ Err ListFault.ReadFault) (S.faults shelf.old) (S.faults shelf.new) }
 {
     if make_room(room, from + more).is_err() {
@@ -122,7 +122,7 @@ pub fn fill_upto<S: Shelf>(
     ensures appends { IfOk result (λ done. IsTrue S.tells
         → Appends (S.rest shelf.old) (S.rest shelf.new) (take from room.old.items) size (take done room.new.items)) }
     ensures only { IfErr result IsOutside }
-    ensures browses { Browses S.tells S.paths S.rest S.absences S.faults shelf.old shelf.new }
+    ensures browses { Browses S.Shelf shelf.old shelf.new }
     ensures cause { HasCauseAt (result ≡ Err ListFault.ReadFault) (S.faults shelf.old) (S.faults shelf.new) }
 {
     let mut done = from;

@@ -47,7 +47,7 @@ fn size_in(intro: &[u8]) -> Result<usize, ListFault>
 fn take_intro<S: Shelf>(shelf: &mut S, intro: &mut [u8]) -> Result<bool, ListFault>
     requires { length intro.old ≡ 16 }
     ensures answers { IsTrue S.tells → AnswersIntro (S.rest shelf.old) (S.rest shelf.new) intro.new result }
-    ensures browses { Browses S.tells S.paths S.rest S.absences S.faults shelf.old shelf.new }
+    ensures browses { Browses S.Shelf shelf.old shelf.new }
     ensures cause { HasCauseAt (result ≡ Err ListFault.ReadFault) (S.faults shelf.old) (S.faults shelf.new) }
 {
     let count = match fill(shelf, intro) {
@@ -74,7 +74,7 @@ fn read_behind<S: Shelf>(
     ensures within { IfOk result (λ found. IfSome found (λ size. size ≤ vec_len room.new)) }
     ensures answers { IsTrue S.tells → AnswersBehind intro.now (S.rest shelf.old) (S.rest shelf.new) room.new.items
         result }
-    ensures browses { Browses S.tells S.paths S.rest S.absences S.faults shelf.old shelf.new }
+    ensures browses { Browses S.Shelf shelf.old shelf.new }
     ensures cause { HasCauseAt (result ≡ Err ListFault.ReadFault) (S.faults shelf.old) (S.faults shelf.new) }
 {
     let size = size_in(intro)?;
@@ -108,7 +108,7 @@ fn read_behind<S: Shelf>(
 pub fn read_header<S: Shelf>(shelf: &mut S, room: &mut Vec<u8>) -> Result<Option<usize>, ListFault>
     ensures within { IfOk result (λ found. IfSome found (λ size. size ≤ vec_len room.new)) }
     ensures answers { IsTrue S.tells → AnswersNextIn (S.rest shelf.old) (S.rest shelf.new) room.new.items result }
-    ensures browses { Browses S.tells S.paths S.rest S.absences S.faults shelf.old shelf.new }
+    ensures browses { Browses S.Shelf shelf.old shelf.new }
     ensures cause { HasCauseAt (result ≡ Err ListFault.ReadFault) (S.faults shelf.old) (S.faults shelf.new) }
 {
     let mut intro = [0u8; 16];
@@ -128,7 +128,7 @@ pub fn read_header<S: Shelf>(shelf: &mut S, room: &mut Vec<u8>) -> Result<Option
 /// Those of `read_header`.
 pub fn next_header<S: Shelf>(alloc: Global, shelf: &mut S) -> Result<Option<Vec<u8>>, ListFault>
     ensures answers { IsTrue S.tells → AnswersNext (S.rest shelf.old) (S.rest shelf.new) result }
-    ensures browses { Browses S.tells S.paths S.rest S.absences S.faults shelf.old shelf.new }
+    ensures browses { Browses S.Shelf shelf.old shelf.new }
     ensures cause { HasCauseAt (result ≡ Err ListFault.ReadFault) (S.faults shelf.old) (S.faults shelf.new) }
 {
     let mut blob = Vec::new(alloc);

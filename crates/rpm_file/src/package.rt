@@ -41,7 +41,7 @@ impl Package {
 /// Takes so many bytes as the buffer has.
 fn take_all<S: Shelf>(shelf: &mut S, into: &mut [u8]) -> Result<(), FileFault>
     ensures answers { IsTrue S.tells → AnswersTake (S.rest shelf.old) (S.rest shelf.new) into.new result }
-    ensures browses { Browses S.tells S.paths S.rest S.absences S.faults shelf.old shelf.new }
+    ensures browses { Browses S.Shelf shelf.old shelf.new }
     ensures cause { HasCauseAt (result ≡ Err FileFault.ReadFault) (S.faults shelf.old) (S.faults shelf.new) }
 {
     match fill(shelf, into) {
@@ -68,7 +68,7 @@ fn is_lead(lead: &[u8]) -> bool
 
 fn skip_lead<S: Shelf>(shelf: &mut S) -> Result<(), FileFault>
     ensures answers { IsTrue S.tells → AnswersSkip behind_lead (S.rest shelf.old) (S.rest shelf.new) result }
-    ensures browses { Browses S.tells S.paths S.rest S.absences S.faults shelf.old shelf.new }
+    ensures browses { Browses S.Shelf shelf.old shelf.new }
     ensures cause { HasCauseAt (result ≡ Err FileFault.ReadFault) (S.faults shelf.old) (S.faults shelf.new) }
 {
     let mut lead = [0u8; 96];
@@ -85,7 +85,7 @@ fn skip_padding<S: Shelf>(shelf: &mut S, blob: &[u8]) -> Result<(), FileFault>
     requires { length blob.now ≤ max_blob }
     ensures answers { IsTrue S.tells → AnswersSkip (behind_padding blob.now) (S.rest shelf.old) (S.rest shelf.new)
         result }
-    ensures browses { Browses S.tells S.paths S.rest S.absences S.faults shelf.old shelf.new }
+    ensures browses { Browses S.Shelf shelf.old shelf.new }
     ensures cause { HasCauseAt (result ≡ Err FileFault.ReadFault) (S.faults shelf.old) (S.faults shelf.new) }
 {
     let mut padding = [0u8; 8];
@@ -118,7 +118,7 @@ fn early_fault(part: HeaderKind, fault: ListFault) -> FileFault
 /// The bytes of one of the two headers, which may still have a fault in their entries.
 fn read_part<S: Shelf>(alloc: Global, shelf: &mut S, part: HeaderKind) -> Result<Vec<u8>, FileFault>
     ensures answers { IsTrue S.tells → AnswersPart part (S.rest shelf.old) (S.rest shelf.new) result }
-    ensures browses { Browses S.tells S.paths S.rest S.absences S.faults shelf.old shelf.new }
+    ensures browses { Browses S.Shelf shelf.old shelf.new }
     ensures cause { HasCauseAt (result ≡ Err FileFault.ReadFault) (S.faults shelf.old) (S.faults shelf.new) }
 {
     match next_header(alloc, shelf) {
@@ -136,7 +136,7 @@ fn read_main<S: Shelf>(
 ) -> Result<Package, FileFault>
     ensures answers { IsTrue S.tells → AnswersBy (behind_signature signature.now) (S.rest shelf.old) (S.rest shelf.new)
         result }
-    ensures browses { Browses S.tells S.paths S.rest S.absences S.faults shelf.old shelf.new }
+    ensures browses { Browses S.Shelf shelf.old shelf.new }
     ensures cause { HasCauseAt (result ≡ Err FileFault.ReadFault) (S.faults shelf.old) (S.faults shelf.new) }
 {
     skip_padding(shelf, signature.blob())?;
@@ -167,7 +167,7 @@ fn joined(alloc: Global, signature: &View<'_>, main: &View<'_>) -> Result<Packag
 /// passes a limit. `ReadFault` only where a read failed, and `NoMemory` where no memory was found.
 pub fn read_package<S: Shelf>(alloc: Global, shelf: &mut S) -> Result<Package, FileFault>
     ensures answers { IsTrue S.tells → AnswersBy package_header (S.rest shelf.old) (S.rest shelf.new) result }
-    ensures browses { Browses S.tells S.paths S.rest S.absences S.faults shelf.old shelf.new }
+    ensures browses { Browses S.Shelf shelf.old shelf.new }
     ensures cause { HasCauseAt (result ≡ Err FileFault.ReadFault) (S.faults shelf.old) (S.faults shelf.new) }
 {
     skip_lead(shelf)?;

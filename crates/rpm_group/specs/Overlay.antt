@@ -2,6 +2,7 @@
 use Rattle.std.specs.Prelude.{◌≡◌, ℕ, ◌+◌, List, Bool, true, false}
 use Rattle.rpm_outside.specs.Calls.{Call, Len, Read, Write, Sync}
 use Rattle.rpm_outside.specs.Causes.{Rose}
+use Rattle.rpm_outside.specs.declared.disk.Disk as disk
 use Rattle.rpm_outside.specs.declared.disk.File.{File}
 use Rattle.rpm_outside.specs.Files.{Files, file_of, with_file, units_of, put}
 use Rattle.rpm_group.specs.declared.layers.Layers.{Layers}
@@ -10,28 +11,28 @@ use Rattle.rpm_group.specs.Layers.{laid_files}
 use Rattle.rpm_group.specs.Spared.{spared_of}
 
 -- the bytes that were read of a file: of the disk below, and without it
-abbrev pub overlay_read : {D : Type 0} → (D → File → ℕ) → Overlay D → File → ℕ
-overlay_read bytes_read disk file = bytes_read disk.below file + spared_of disk.spared file
+abbrev pub overlay_read : {D : Type 0} → disk.Ghosts D → Overlay D → File → ℕ
+overlay_read d it file = d.bytes_read it.below file + spared_of it.spared file
 
 -- the disk below
 abbrev pub overlay_below : {D : Type 0} → Overlay D → D
-overlay_below disk = disk.below
+overlay_below it = it.below
 
 -- what is held
 abbrev pub overlay_held : {D : Type 0} → Overlay D → Layers
-overlay_held disk = disk.held
+overlay_held it = it.held
 
 -- how many writes found no memory
 abbrev pub overlay_starved : {D : Type 0} → Overlay D → ℕ
-overlay_starved disk = disk.starved
+overlay_starved it = it.starved
 
 -- an overlay over this disk that holds this, and on which nothing was done
-pub record IsOver {D : Type 0} (below : D) (held : Layers) (disk : Overlay D) : Type 0 where
-  pub below_is : disk.below ≡ below
-  pub held_is : disk.held ≡ held
-  pub starved : disk.starved ≡ 0
-  pub moment : disk.moment ≡ 0
-  pub spared : (file : File) → spared_of disk.spared file ≡ 0
+pub record IsOver {D : Type 0} (below : D) (held : Layers) (it : Overlay D) : Type 0 where
+  pub below_is : it.below ≡ below
+  pub held_is : it.held ≡ held
+  pub starved : it.starved ≡ 0
+  pub moment : it.moment ≡ 0
+  pub spared : (file : File) → spared_of it.spared file ≡ 0
 
 -- under what is held each file reads as before
 abbrev pub HoldsSame : {D : Type 0} → Overlay D → Overlay D → Type 0

@@ -41,7 +41,7 @@ fn read_below<D: Disk>(
     requires end { IsTrue D.tells → end ≡ length (file_of file (D.files below.old)) }
     ensures units { OnOk result (IsTrue D.tells → (k : ℕ) → k < length into.old / 16
         → unit_in into.new k ≡ unit_at (file_of file (D.files below.old)) (unit + k)) }
-    ensures counts { CountsRead D.bytes_read file (length into.old) below.old below.new spared.old spared.new }
+    ensures counts { CountsRead D.Disk file (length into.old) below.old below.new spared.old spared.new }
     ensures reads { Reads D.Disk file (length into.old) result below.old below.new }
 {
     let there = end.saturating_sub(unit).min(into.len() as u64 / 16) as usize;
@@ -64,7 +64,7 @@ fn read_partly<D: Disk>(
         (file_of file (laid_files layers.now (D.files below.old))) }
     ensures units { OnOk result (IsTrue D.tells → units_of into.new
         ≡ take (length into.old / 16) (drop unit (file_of file (laid_files layers.now (D.files below.old))))) }
-    ensures counts { CountsRead D.bytes_read file (length into.old) below.old below.new spared.old spared.new }
+    ensures counts { CountsRead D.Disk file (length into.old) below.old below.new spared.old spared.new }
     ensures reads { Reads D.Disk file (length into.old) result below.old below.new }
 {
     let pages = layers.file(file);

@@ -81,12 +81,12 @@ impl<D: Disk> Disk for Overlay<D> {
 
     ghost moment = { λ disk. disk.moment };
 
-    ghost bytes_read = { λ disk file. overlay_read D.bytes_read disk file };
+    ghost bytes_read = { overlay_read D.Disk };
 
     ghost faults = { λ disk. D.faults disk.below + disk.starved };
 
     ghost follows = { λ old new. KeepsBelow D.Disk
-        old.below new.below (overlay_read D.bytes_read old) (overlay_read D.bytes_read new) };
+        old.below new.below (overlay_read D.Disk old) (overlay_read D.Disk new) };
 
     ghost outcome = { StarvesOrHolds };
 
@@ -95,12 +95,11 @@ impl<D: Disk> Disk for Overlay<D> {
     ghost earlier = { λ disk s t image told le below left. left };
 
     ghost follows_refl = { λ disk. keeps_refl _
-        disk.below (overlay_read D.bytes_read disk) (D.follows_refl disk.below) };
+        disk.below _ (D.follows_refl disk.below) };
 
     ghost follows_trans = { λ a b c f g.
         keeps_trans _ D.follows_trans
-        a.below b.below c.below (overlay_read D.bytes_read a) (overlay_read D.bytes_read b)
-        (overlay_read D.bytes_read c) f g };
+        a.below b.below c.below _ _ _ f g };
 
     fn len(&mut self, file: File) -> Result<u64, Failed> {
         let below = self.below.len(file)?;

@@ -2,33 +2,33 @@
 use Rattle.std.proofs.Common.{◌≡◌, ℕ, ◌+◌, ◌-◌, ◌≤◌, Bool, List, [], ◌++◌, take, drop, length, Result, Ok, Err, refl, sym, ap, ◌∙◌, append_assoc, arith}
 use Rattle.std.specs.Prelude.{IsTrue, IfOk, OnErr}
 use Rattle.std.proofs.lemmas.List.{append-nil, take-append-drop, take-take, drop-drop}
+use Rattle.rpm_outside.specs.declared.sink.Sink as sink
 use Rattle.rpm_outside.proofs.Vocabulary.{Begins, Gained, gained_more, gained_none}
 
 -- of what was held the sink took the first, and the others are held
-pub record Handed {S : Type 0} (tells : Bool) (taken : S → List ℕ) (faults : S → ℕ) (follows : S → S → Type 0) (old : S) (held : List ℕ) (now : S)
-    (holds : List ℕ) : Type 0 where
+pub record Handed {S : Type 0} (s : sink.Ghosts S) (old : S) (held : List ℕ) (now : S) (holds : List ℕ) : Type 0 where
   pub out : List ℕ
-  pub gained : Gained tells (taken old) (taken now) out
+  pub gained : Gained s.tells (s.taken old) (s.taken now) out
   pub whole : out ++ holds ≡ held
-  pub later : faults old ≤ faults now
-  pub goes_on : follows old now
+  pub later : s.faults old ≤ s.faults now
+  pub goes_on : s.follows old now
 
-module _ {S : Type 0} (tells : Bool) (taken : S → List ℕ) (faults : S → ℕ) (follows : S → S → Type 0) where
-  pub handed_start : (s : S) (held : List ℕ) → follows s s → Handed tells taken faults follows s held s held
-  handed_start s held same = record { out = []; gained = gained_none tells (taken s); whole = refl; later = omega arith; goes_on = same }
+module _ {S : Type 0} (s : sink.Ghosts S) where
+  pub handed_start : (x : S) (held : List ℕ) → s.follows x x → Handed s x held x held
+  handed_start x held same = record { out = []; gained = gained_none s.tells (s.taken x); whole = refl; later = omega arith; goes_on = same }
 
   -- the sink takes some of what is left
-  pub handed_more : (old mid new : S) (held items slice : List ℕ) (gone n : ℕ) → slice ≡ items → n ≤ length slice - gone → Handed tells taken faults
-      follows old held mid (drop gone items)
-      → Gained tells (taken mid) (taken new) (take n (take (length slice - gone) (drop gone slice))) → faults mid ≤ faults new → follows old new
-      → Handed tells taken faults follows old held new (drop (gone + n) items)
+  pub handed_more : (old mid new : S) (held items slice : List ℕ) (gone n : ℕ) → slice ≡ items → n ≤ length slice - gone
+      → Handed s old held mid (drop gone items)
+      → Gained s.tells (s.taken mid) (s.taken new) (take n (take (length slice - gone) (drop gone slice))) → s.faults mid ≤ s.faults new
+      → s.follows old new → Handed s old held new (drop (gone + n) items)
   handed_more old mid new held items slice gone n same le h g later goes =
       let piece : take n (take (length slice - gone) (drop gone slice)) ≡ take n (drop gone items) = take-take n (length slice - gone)
       (drop gone slice) le ∙ ap (λ (y : List ℕ). take n (drop gone y)) same in
       let left : drop (gone + n) items ≡ drop n (drop gone items) = sym (drop-drop n gone items) in
       record {
         out = h.out ++ take n (drop gone items);
-        gained = gained_more tells (taken old) (taken mid) (taken new) h.out (take n (drop gone items)) h.gained (λ t. rw piece at (g t));
+        gained = gained_more s.tells (s.taken old) (s.taken mid) (s.taken new) h.out (take n (drop gone items)) h.gained (λ t. rw piece at (g t));
         whole = ap (λ (y : List ℕ). (h.out ++ take n (drop gone items)) ++ y) left ∙ append_assoc h.out (take n (drop gone items))
             (drop n (drop gone items)) ∙ ap (λ (y : List ℕ). h.out ++ y) (take-append-drop n (drop gone items)) ∙ h.whole;
         later = omega (arith, h.later, later);

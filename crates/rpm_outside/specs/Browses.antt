@@ -1,6 +1,6 @@
 -- What a run of reads takes of a shelf.
-use Rattle.std.specs.Prelude.{◌≡◌, ℕ, ◌≤◌, Bool, IsTrue, List, [], ◌++◌, Option, Some, None, is_some}
-use Rattle.rpm_outside.specs.Shelves.{Paths}
+use Rattle.std.specs.Prelude.{◌≡◌, ℕ, ◌≤◌, IsTrue, List, [], ◌++◌, Option, Some, None, is_some}
+use Rattle.rpm_outside.specs.declared.shelf.Shelf as shelf
 
 -- the bytes that reads will give, none where no item is open
 abbrev pub left : Option (List ℕ) → List ℕ
@@ -17,8 +17,8 @@ abbrev pub TakesSome : Option (List ℕ) → Option (List ℕ) → Type 0
 TakesSome old new = (taken : List ℕ) × Takes old new taken
 
 -- bytes were taken from the front of the open item, and nothing else was done
-pub record Browses {S : Type 0} (tells : Bool) (paths : S → Paths) (rest : S → Option (List ℕ)) (absences faults : S → ℕ) (old new : S) : Type 0 where
-  pub paths_stay : IsTrue tells → paths new ≡ paths old
-  pub taken : IsTrue tells → TakesSome (rest old) (rest new)
-  pub absences_stay : absences new ≡ absences old
-  pub later : faults old ≤ faults new
+pub record Browses {S : Type 0} (s : shelf.Ghosts S) (old new : S) : Type 0 where
+  pub paths_stay : IsTrue s.tells → s.paths new ≡ s.paths old
+  pub taken : IsTrue s.tells → TakesSome (s.rest old) (s.rest new)
+  pub absences_stay : s.absences new ≡ s.absences old
+  pub later : s.faults old ≤ s.faults new

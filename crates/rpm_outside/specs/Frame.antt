@@ -1,5 +1,5 @@
 -- What stands around a call that takes a disk: the disk by the ghost members of its kind, which a clause names `D.Disk`. Short words for all clauses.
-use Rattle.std.specs.Prelude.{ℕ, ◌-◌, IsTrue, Result}
+use Rattle.std.specs.Prelude.{ℕ, ◌-◌, Result}
 use Rattle.rpm_outside.specs.declared.disk.Disk as disk
 use Rattle.rpm_outside.specs.declared.disk.File.{File}
 use Rattle.rpm_outside.specs.Causes.{HasCause, HasCauseAt}

@@ -1,5 +1,5 @@
 -- What a log says, and the files that it stands for.
-use Rattle.std.specs.Prelude.{ℕ, ◌+◌, ◌*◌, ◌==◌, nat_lt, nat_le, if◌then◌else◌, Bool, ◌&&◌, List, [], ◌∷◌, take, drop, length}
+use Rattle.std.specs.Prelude.{ℕ, ◌+◌, ◌==◌, nat_lt, nat_le, if◌then◌else◌, Bool, ◌&&◌, List, [], ◌∷◌, take, drop, length}
 use Rattle.std.proofs.Common.{zero, suc}
 use Rattle.std.specs.List.{list_all}
 use Rattle.rpm_outside.specs.declared.disk.File.{File}

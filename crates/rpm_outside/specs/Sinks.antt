@@ -1,6 +1,5 @@
 -- What a sink took.
-use Rattle.std.specs.Prelude.{◌≡◌, ℕ, ◌≤◌, Bool, IsTrue, List, ◌++◌, take, length, Result, OnErr, OnOk}
-use Rattle.rpm_outside.specs.Causes.{HasCause}
+use Rattle.std.specs.Prelude.{◌≡◌, ℕ, ◌≤◌, Bool, IsTrue, List, ◌++◌, take, length}
 
 -- what was taken gained these bytes, where it is told
 abbrev pub Gained : Bool → List ℕ → List ℕ → List ℕ → Type 0
@@ -13,11 +12,3 @@ GainedPart tells old new bytes = (n : ℕ) × (n ≤ length bytes) × Gained tel
 -- the second begins with the first
 abbrev pub Begins : List ℕ → List ℕ → Type 0
 Begins old new = (bytes : List ℕ) × (new ≡ old ++ bytes)
-
--- a call that writes these bytes to a sink, or fails after the first of them
-pub record Writes {S T E : Type 0} (tells : Bool) (taken : S → List ℕ) (faults : S → ℕ) (follows : S → S → Type 0) (old new : S) (bytes : List ℕ)
-    (result : Result T E) : Type 0 where
-  pub ok : OnOk result (Gained tells (taken old) (taken new) bytes)
-  pub err : OnErr result (GainedPart tells (taken old) (taken new) bytes)
-  pub cause : HasCause (faults old) (faults new) result
-  pub goes_on : follows old new

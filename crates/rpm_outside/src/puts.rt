@@ -2,8 +2,8 @@
 
 ghost use Rattle.std.specs.Prelude.{◌≡◌, [], drop};
 ghost use Rattle.rpm_outside.specs.Prelude.{begins_refl, begins_trans};
-ghost use Rattle.rpm_outside.specs.Buffered.{all_taken, inner};
-ghost use Rattle.rpm_outside.specs.SinkFrame.{Flushes, GoesOn, Writes};
+ghost use Rattle.rpm_outside.specs.Buffered.{all_taken, Flushes, GoesOn, inner};
+ghost use Rattle.rpm_outside.specs.SinkFrame.{Writes};
 
 use crate::{Buffered, Failed, Sink};
 
@@ -69,18 +69,17 @@ pub fn put_and_flush<O: Sink + Drop>(sink: &mut Buffered<O>, bytes: &[u8]) -> Re
 impl<O: Sink + Drop> Sink for Buffered<O> {
     ghost tells = { O.tells };
 
-    ghost taken = { λ b. all_taken O.taken b };
+    ghost taken = { all_taken O.Sink };
 
     ghost faults = { λ b. O.faults (inner b) };
 
     ghost follows = { GoesOn O.Sink };
 
-    ghost follows_refl = { λ b. (O.follows_refl (inner b), λ told. begins_refl (all_taken O.taken b)) };
+    ghost follows_refl = { λ b. (O.follows_refl (inner b), λ told. begins_refl _) };
 
     ghost follows_trans = { λ a b c f g. (
       O.follows_trans (inner a) (inner b) (inner c) f.0 g.0,
-      λ told. begins_trans (all_taken O.taken a)
-          (all_taken O.taken b) (all_taken O.taken c) (f.1 told) (g.1 told),
+      λ told. begins_trans _ _ _ (f.1 told) (g.1 told),
     ) };
 
     ghost follows_grows = { λ a b f told. f.1 told };

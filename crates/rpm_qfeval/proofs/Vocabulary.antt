@@ -11,7 +11,7 @@ unfoldable pub use Rattle.jiff_core.specs.DateTime.{civil_nanos}
 pub use Rattle.jiff_core.specs.Time.{time_nanos, time_seconds}
 pub use Rattle.jiff_core.specs.declared.civil.date.Date.{Date}
 pub use Rattle.rpm_header.specs.Header.{Header, Numbers, Texts}
-pub use Rattle.rpm_outside.specs.Sinks.{Writes}
+pub use Rattle.rpm_outside.specs.SinkFrame.{Writes}
 pub use Rattle.rpm_outside.specs.inner.Upto.{both, first_stops, Upto, upto_done, upto_last, upto_more, upto_start, upto_stop}
 pub use Rattle.rpm_qfeval.specs.Dates.{day_number, four, last_begun, month_name, spaced, two, weekday_name}
 unfoldable pub use Rattle.rpm_qfeval.specs.Dates.{day_of, month_of, year_of}

@@ -1,6 +1,5 @@
 pub mod Dates
 pub mod Formatters
-pub mod Frame
 pub mod Meaning
 pub mod Numbers
 pub mod Padded

@@ -1,5 +1,6 @@
 -- What a call that prints did.
-use Rattle.std.specs.Prelude.{◌≡◌, ℕ, ◌≤◌, Bool, List, Result, Ok, Err}
+use Rattle.std.specs.Prelude.{◌≡◌, ℕ, ◌≤◌, List, Result, Ok, Err}
+use Rattle.rpm_outside.specs.declared.sink.Sink as sink
 use Rattle.rpm_outside.specs.Causes.{Rose}
 use Rattle.rpm_outside.specs.Sinks.{Gained, GainedPart}
 use Rattle.rpm_qfeval.specs.declared.printing.DirectFault.{DirectFault}
@@ -27,17 +28,17 @@ eval_ending (Err (eval.SizesDiffer first second)) = Differs first second
 eval_ending (Err eval.OutFault) = Fails
 eval_ending (Err eval.NoMemory) = Starves
 
--- Of a format that means bytes they are written, or the first of them where the sink's count of faults rose. Of any other
--- one its counts are told, and nothing is written. Nothing else comes.
-abbrev pub EndsSo : {S : Type 0} → Bool → (S → List ℕ) → (S → ℕ) → Result (List ℕ) (ℕ × ℕ) → S → S → Ending → Type 0
-EndsSo tells taken faults (Ok bytes) old new Done = Gained tells (taken old) (taken new) bytes
-EndsSo tells taken faults (Ok bytes) old new Fails = GainedPart tells (taken old) (taken new) bytes × Rose (faults old) (faults new)
-EndsSo tells taken faults (Err counts) old new (Differs first second) = (counts ≡ (first, second)) × (new ≡ old)
-EndsSo tells taken faults meaning old new ending = ⊥
+module _ {O : Type 0} (o : sink.Ghosts O) where
+  -- Of a format that means bytes they are written, or the first of them where the sink's count of faults rose. Of any other
+  -- one its counts are told, and nothing is written. Nothing else comes.
+  abbrev pub EndsSo : Result (List ℕ) (ℕ × ℕ) → O → O → Ending → Type 0
+  EndsSo (Ok bytes) old new Done = Gained o.tells (o.taken old) (o.taken new) bytes
+  EndsSo (Ok bytes) old new Fails = GainedPart o.tells (o.taken old) (o.taken new) bytes × Rose (o.faults old) (o.faults new)
+  EndsSo (Err counts) old new (Differs first second) = (counts ≡ (first, second)) × (new ≡ old)
+  EndsSo meaning old new ending = ⊥
 
--- what a call that prints did: its ending, faults only more, and the sink goes on from what it was
-pub record Prints {S : Type 0} (tells : Bool) (taken : S → List ℕ) (faults : S → ℕ) (follows : S → S → Type 0) (meaning : Result (List ℕ) (ℕ × ℕ))
-    (old new : S) (ending : Ending) : Type 0 where
-  pub ends : EndsSo tells taken faults meaning old new ending
-  pub later : faults old ≤ faults new
-  pub goes_on : follows old new
+  -- what a call that prints did: its ending, faults only more, and the sink goes on from what it was
+  pub record Prints (meaning : Result (List ℕ) (ℕ × ℕ)) (old new : O) (ending : Ending) : Type 0 where
+    pub ends : EndsSo meaning old new ending
+    pub later : o.faults old ≤ o.faults new
+    pub goes_on : o.follows old new

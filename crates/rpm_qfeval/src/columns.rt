@@ -1,7 +1,7 @@
 //! The values of the tags of a bracket, which are kept for its rounds.
 
 ghost use Rattle.std.specs.Prelude.{◌≡◌};
-ghost use Rattle.rpm_qfeval.specs.Prelude.{AreValues, count_of, Found, found_text, IsColumn, IsValue, option_map, Puts, value};
+ghost use Rattle.rpm_qfeval.specs.Prelude.{AreValues, count_of, Found, found_text, IsColumn, IsValue, option_map, value, Writes};
 
 use crate::cursor::Cursor;
 use crate::elements::{put_none, put_value};
@@ -87,7 +87,7 @@ fn put_found<O: Sink>(
     found: &Found<'_>,
     round: u32,
 ) -> Result<(), Failed>
-    ensures { Puts O.Sink sink.old sink.new (found_text part.now round found.now.value) result }
+    ensures { Writes O.Sink sink.old sink.new (found_text part.now round found.now.value) result }
 {
     match &found.value {
         None => put_none(sink, part),
@@ -126,7 +126,7 @@ impl<'v, 'a> Column<'v, 'a> {
 
     /// Puts the value by the role of a tag, in a round.
     pub fn put<O: Sink>(&mut self, sink: &mut O, part: &TagPart, round: u32) -> Result<(), Failed>
-        ensures puts { Puts O.Sink sink.old sink.new (found_text part.now round self.old.value) result }
+        ensures puts { Writes O.Sink sink.old sink.new (found_text part.now round self.old.value) result }
         ensures same { self.new ≡ self.old }
     {
         let place = match part.role {

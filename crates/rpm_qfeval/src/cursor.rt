@@ -1,7 +1,7 @@
 //! The texts of a value, for rounds that go from one to the next.
 
 ghost use Rattle.std.specs.Prelude.{◌≡◌, Some};
-ghost use Rattle.rpm_qfeval.specs.Prelude.{class_of, element_text, Puts};
+ghost use Rattle.rpm_qfeval.specs.Prelude.{class_of, element_text, Writes};
 ghost use Rattle.rpm_tags.specs.declared.values.Class.TheVariants as Class;
 
 use crate::elements::{put_element, put_text};
@@ -63,7 +63,7 @@ impl<'v, 'a> Cursor<'v, 'a> {
 
     /// Puts the text at a place. Over places that rise each text is read once.
     pub fn put<O: Sink>(&mut self, sink: &mut O, part: &TagPart, place: u32) -> Result<(), Failed>
-        ensures puts { Puts O.Sink sink.old sink.new (element_text part.now self.old place) result }
+        ensures puts { Writes O.Sink sink.old sink.new (element_text part.now self.old place) result }
         ensures same { self.new ≡ self.old }
     {
         self.go_to(place);

@@ -1,7 +1,7 @@
 //! An element of a value is put as its formatter shows it.
 
 ghost use Rattle.std.specs.Prelude.{◌≡◌, decimal, None};
-ghost use Rattle.rpm_qfeval.specs.Prelude.{blob_text, concat, count_of, element_text, in_width, number_text, or_none, Puts, tag_text, text_text, value_text};
+ghost use Rattle.rpm_qfeval.specs.Prelude.{blob_text, concat, count_of, element_text, in_width, number_text, or_none, tag_text, text_text, value_text, Writes};
 ghost use Rattle.rpm_qfeval.specs.Dates as dates;
 
 use crate::dates::{date, day};
@@ -18,7 +18,7 @@ use rpm_tags::{Class, Joined, TagValue, value};
 
 /// Puts bytes in the width of a tag.
 pub fn put_plain<O: Sink>(sink: &mut O, part: &TagPart, text: &[u8]) -> Result<(), Failed>
-    ensures { Puts O.Sink sink.old sink.new (in_width part.now text.now) result }
+    ensures { Writes O.Sink sink.old sink.new (in_width part.now text.now) result }
 {
     if part.width == 0 {
         return put_all(sink, text);
@@ -27,14 +27,14 @@ pub fn put_plain<O: Sink>(sink: &mut O, part: &TagPart, text: &[u8]) -> Result<(
 }
 
 fn put_decimal<O: Sink>(sink: &mut O, part: &TagPart, number: u64) -> Result<(), Failed>
-    ensures { Puts O.Sink sink.old sink.new (in_width part.now (decimal number)) result }
+    ensures { Writes O.Sink sink.old sink.new (in_width part.now (decimal number)) result }
 {
     let mut digits = Decimal::new();
     put_plain(sink, part, digits.format(number).as_bytes())
 }
 
 fn put_day<O: Sink>(sink: &mut O, part: &TagPart, number: u64) -> Result<(), Failed>
-    ensures { Puts O.Sink sink.old sink.new (in_width part.now (dates.day number)) result }
+    ensures { Writes O.Sink sink.old sink.new (in_width part.now (dates.day number)) result }
 {
     match u32::try_from(number) {
         Ok(second) => put_plain(sink, part, &day(second)),
@@ -43,7 +43,7 @@ fn put_day<O: Sink>(sink: &mut O, part: &TagPart, number: u64) -> Result<(), Fai
 }
 
 fn put_date<O: Sink>(sink: &mut O, part: &TagPart, number: u64) -> Result<(), Failed>
-    ensures { Puts O.Sink sink.old sink.new (in_width part.now (dates.date number)) result }
+    ensures { Writes O.Sink sink.old sink.new (in_width part.now (dates.date number)) result }
 {
     match u32::try_from(number) {
         Ok(second) => put_plain(sink, part, &date(second)),
@@ -58,7 +58,7 @@ pub fn put_number<O: Sink>(
     count: u32,
     number: u64,
 ) -> Result<(), Failed>
-    ensures { Puts O.Sink sink.old sink.new (in_width part.now (number_text part.now.show count number)) result }
+    ensures { Writes O.Sink sink.old sink.new (in_width part.now (number_text part.now.show count number)) result }
 {
     match part.show {
         Show::Plain | Show::Shescape => put_decimal(sink, part, number),
@@ -82,7 +82,7 @@ pub fn put_text<O: Sink>(
     count: u32,
     text: &Joined<'_>,
 ) -> Result<(), Failed>
-    ensures { Puts O.Sink sink.old sink.new
+    ensures { Writes O.Sink sink.old sink.new
         (in_width part.now (text_text part.now.show count (concat text.now))) result }
 {
     match part.show {
@@ -101,7 +101,7 @@ pub fn put_stored_text<O: Sink>(
     value: &TagValue<'_>,
     text: &[u8],
 ) -> Result<(), Failed>
-    ensures { Puts O.Sink sink.old sink.new
+    ensures { Writes O.Sink sink.old sink.new
         (in_width part.now (text_text part.now.show (count_of value.now) text.now)) result }
 {
     match part.show {
@@ -115,7 +115,7 @@ pub fn put_stored_text<O: Sink>(
 
 /// Puts a blob, which is the only element of its value.
 pub fn put_blob<O: Sink>(sink: &mut O, part: &TagPart, bytes: &[u8]) -> Result<(), Failed>
-    ensures { Puts O.Sink sink.old sink.new (in_width part.now (blob_text part.now.show bytes.now)) result }
+    ensures { Writes O.Sink sink.old sink.new (in_width part.now (blob_text part.now.show bytes.now)) result }
 {
     match part.show {
         Show::Plain => put_padded(sink, part.left, part.width, &Shown::Hex(bytes)),
@@ -128,7 +128,7 @@ pub fn put_blob<O: Sink>(sink: &mut O, part: &TagPart, bytes: &[u8]) -> Result<(
 
 /// Puts what stands for an element that isn't there.
 pub fn put_none<O: Sink>(sink: &mut O, part: &TagPart) -> Result<(), Failed>
-    ensures { Puts O.Sink sink.old sink.new (in_width part.now (or_none None)) result }
+    ensures { Writes O.Sink sink.old sink.new (in_width part.now (or_none None)) result }
 {
     put_plain(sink, part, b"(none)")
 }
@@ -141,7 +141,7 @@ pub fn put_element<O: Sink>(
     value: &TagValue<'_>,
     place: u32,
 ) -> Result<(), Failed>
-    ensures { Puts O.Sink sink.old sink.new (element_text part.now value.now place) result }
+    ensures { Writes O.Sink sink.old sink.new (element_text part.now value.now place) result }
 {
     let count = value.count();
     if place >= count {
@@ -161,7 +161,7 @@ pub fn put_value<O: Sink>(
     value: &TagValue<'_>,
     round: u32,
 ) -> Result<(), Failed>
-    ensures { Puts O.Sink sink.old sink.new
+    ensures { Writes O.Sink sink.old sink.new
         (in_width part.now (value_text part.now.role part.now.show round value.now)) result }
 {
     match part.role {
@@ -182,7 +182,7 @@ pub fn put_looked_up<O: Sink>(
     number: u32,
     round: u32,
 ) -> Result<(), Failed>
-    ensures { Puts O.Sink sink.old sink.new (tag_text view.now number round part.now) result }
+    ensures { Writes O.Sink sink.old sink.new (tag_text view.now number round part.now) result }
 {
     match value(view, number, part.tag) {
         None => put_none(sink, part),

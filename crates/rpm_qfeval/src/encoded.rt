@@ -1,7 +1,7 @@
 //! Bytes in hex and in base64, a piece at a time.
 
 ghost use Rattle.std.specs.Prelude.{◌≡◌, ◌≤◌, length};
-ghost use Rattle.rpm_qfeval.specs.Prelude.{base64_text, hex_text, Puts};
+ghost use Rattle.rpm_qfeval.specs.Prelude.{base64_text, hex_text, Writes};
 
 use base64::engine::general_purpose::STANDARD;
 use hex::encode_to_slice;
@@ -9,7 +9,7 @@ use rpm_outside::{Failed, Sink, put_all};
 
 fn put_hex_piece<O: Sink>(sink: &mut O, bytes: &[u8]) -> Result<(), Failed>
     requires { length bytes.now ≤ 256 }
-    ensures { Puts O.Sink sink.old sink.new (hex_text bytes.now) result }
+    ensures { Writes O.Sink sink.old sink.new (hex_text bytes.now) result }
 {
     let mut digits = [0; 512];
     let len = bytes.len() * 2;
@@ -21,7 +21,7 @@ fn put_hex_piece<O: Sink>(sink: &mut O, bytes: &[u8]) -> Result<(), Failed>
 
 /// Puts two digits for each byte, with small letters.
 pub fn put_hex<O: Sink>(sink: &mut O, bytes: &[u8]) -> Result<(), Failed>
-    ensures { Puts O.Sink sink.old sink.new (hex_text bytes.now) result }
+    ensures { Writes O.Sink sink.old sink.new (hex_text bytes.now) result }
 {
     let mut rest = bytes;
     while rest.len() > 256 {
@@ -34,7 +34,7 @@ pub fn put_hex<O: Sink>(sink: &mut O, bytes: &[u8]) -> Result<(), Failed>
 
 fn put_base64_piece<O: Sink>(sink: &mut O, bytes: &[u8]) -> Result<(), Failed>
     requires { length bytes.now ≤ 192 }
-    ensures { Puts O.Sink sink.old sink.new (base64_text bytes.now) result }
+    ensures { Writes O.Sink sink.old sink.new (base64_text bytes.now) result }
 {
     let mut letters = [0; 256];
     match STANDARD.encode_slice(bytes, &mut letters) {
@@ -45,7 +45,7 @@ fn put_base64_piece<O: Sink>(sink: &mut O, bytes: &[u8]) -> Result<(), Failed>
 
 /// Puts bytes in base64, in one line, by the standard alphabet and with padding.
 pub fn put_base64<O: Sink>(sink: &mut O, bytes: &[u8]) -> Result<(), Failed>
-    ensures { Puts O.Sink sink.old sink.new (base64_text bytes.now) result }
+    ensures { Writes O.Sink sink.old sink.new (base64_text bytes.now) result }
 {
     // Groups of three bytes are whole in each piece, so that the padding stands at the end alone.
     let mut rest = bytes;

@@ -1,7 +1,7 @@
 //! A bracket is put over the columns of its tags, round by round.
 
 ghost use Rattle.std.specs.Prelude.{◌≡◌, ◌∷◌, [], true, IfSome, slice_get};
-ghost use Rattle.rpm_qfeval.specs.Prelude.{AreProper, AreValues, bracket_bytes, bytes, part_bytes, PartIsProper, Puts, rounds, StandReady, StandsReady};
+ghost use Rattle.rpm_qfeval.specs.Prelude.{AreProper, AreValues, bracket_bytes, bytes, part_bytes, PartIsProper, rounds, StandReady, StandsReady, Writes};
 
 use crate::columns::Column;
 use crate::lookup::{is_present, put_tag};
@@ -24,7 +24,7 @@ fn put_inner_part<O: Sink>(
 ) -> Result<(), Failed>
     requires told { AreValues view.now number columns.old }
     requires proper { PartIsProper true part.now }
-    ensures puts { Puts O.Sink sink.old sink.new (part_bytes view.now number round part.now) result }
+    ensures puts { Writes O.Sink sink.old sink.new (part_bytes view.now number round part.now) result }
     ensures same { columns.new ≡ columns.old }
 {
     match part {
@@ -55,7 +55,7 @@ fn put_inner_parts<O: Sink>(
 ) -> Result<(), Failed>
     requires told { AreValues view.now number columns.old }
     requires proper { AreProper true parts.now }
-    ensures puts { Puts O.Sink sink.old sink.new (bytes view.now number round parts.now) result }
+    ensures puts { Writes O.Sink sink.old sink.new (bytes view.now number round parts.now) result }
     ensures same { columns.new ≡ columns.old }
 {
     for i in 0..parts.len() {
@@ -80,7 +80,7 @@ fn put_part_at<O: Sink>(
     requires told { AreValues view.now number columns.old }
     requires plain { IfSome (slice_get ready.old i) (StandsReady view.now number part.now) }
     requires proper { PartIsProper true part.now }
-    ensures puts { Puts O.Sink sink.old sink.new (part_bytes view.now number round part.now) result }
+    ensures puts { Writes O.Sink sink.old sink.new (part_bytes view.now number round part.now) result }
     ensures columns { columns.new ≡ columns.old }
     ensures ready { ready.new ≡ ready.old }
 {
@@ -116,7 +116,7 @@ fn put_round<O: Sink>(
     requires told { AreValues view.now number columns.old }
     requires ready { StandReady view.now number inner.now ready.old }
     requires proper { AreProper true inner.now }
-    ensures puts { Puts O.Sink sink.old sink.new (bytes view.now number round inner.now) result }
+    ensures puts { Writes O.Sink sink.old sink.new (bytes view.now number round inner.now) result }
     ensures columns { columns.new ≡ columns.old }
     ensures ready { ready.new ≡ ready.old }
 {
@@ -149,7 +149,7 @@ fn put_rounds<O: Sink>(
     requires told { AreValues view.now number columns.old }
     requires ready { StandReady view.now number inner.now ready.old }
     requires proper { AreProper true inner.now }
-    ensures { Puts O.Sink sink.old sink.new (rounds (count ∷ []) (λ i. bytes view.now number i inner.now)) result }
+    ensures { Writes O.Sink sink.old sink.new (rounds (count ∷ []) (λ i. bytes view.now number i inner.now)) result }
 {
     let mut next = 0;
     for round in 0..count {
@@ -170,7 +170,7 @@ pub fn put_over<O: Sink>(
     requires told { AreValues view.now number columns.old }
     requires ready { StandReady view.now number inner.now ready.old }
     requires proper { AreProper true inner.now }
-    ensures { Puts O.Sink sink.old sink.new (bracket_bytes view.now number inner.now) result }
+    ensures { Writes O.Sink sink.old sink.new (bracket_bytes view.now number inner.now) result }
 {
     match count_rounds(inner, columns, ready, view, number) {
         None => put_all(sink, b"(none)\n"),

@@ -1,7 +1,7 @@
 //! Tags are asked for, in a bracket from the columns of its tags.
 
 ghost use Rattle.std.specs.Prelude.{◌≡◌, ◌<◌, length, true, IfSome};
-ghost use Rattle.rpm_qfeval.specs.Prelude.{AreValues, count_of, is_present, IsOf, option_map, Puts, tag_text, value};
+ghost use Rattle.rpm_qfeval.specs.Prelude.{AreValues, count_of, IsOf, is_present, option_map, tag_text, value, Writes};
 
 use crate::columns::{Asked, Column};
 use crate::elements::put_looked_up;
@@ -102,7 +102,7 @@ pub fn put_tag<O: Sink>(
     round: u32,
 ) -> Result<(), Failed>
     requires { AreValues view.now number columns.old }
-    ensures puts { Puts O.Sink sink.old sink.new (tag_text view.now number round part.now) result }
+    ensures puts { Writes O.Sink sink.old sink.new (tag_text view.now number round part.now) result }
     ensures same { columns.new ≡ columns.old }
 {
     if let Some(k) = place_of(columns, next, Asked::by(part)) {

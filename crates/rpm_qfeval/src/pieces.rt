@@ -1,7 +1,7 @@
 //! A text is put piece by piece.
 
 ghost use Rattle.std.specs.Prelude.{◌≡◌, ◌<◌, ◌≤◌, ◌==◌, ◌++◌, codes, length, replicate, IfSome, IfNone};
-ghost use Rattle.rpm_qfeval.specs.Prelude.{concat, escaped_text, hex_text, in_quotes, padded, position, Puts, quoted, text_of};
+ghost use Rattle.rpm_qfeval.specs.Prelude.{concat, escaped_text, hex_text, in_quotes, padded, position, quoted, text_of, Writes};
 
 use crate::encoded::{put_base64, put_hex};
 use crate::measure::lack;
@@ -19,7 +19,7 @@ fn spaces(count: usize) -> &'static [u8]
 }
 
 fn put_spaces<O: Sink>(sink: &mut O, count: u32) -> Result<(), Failed>
-    ensures { Puts O.Sink sink.old sink.new (replicate count 32) result }
+    ensures { Writes O.Sink sink.old sink.new (replicate count 32) result }
 {
     let mut left = count as usize;
     while left > 64 {
@@ -30,7 +30,7 @@ fn put_spaces<O: Sink>(sink: &mut O, count: u32) -> Result<(), Failed>
 }
 
 pub fn put_joined<O: Sink>(sink: &mut O, text: &Joined<'_>) -> Result<(), Failed>
-    ensures { Puts O.Sink sink.old sink.new (concat text.now) result }
+    ensures { Writes O.Sink sink.old sink.new (concat text.now) result }
 {
     let mut k = 0;
     while let Some(part) = text.part(k) {
@@ -62,14 +62,14 @@ fn cut_at_quote(text: &[u8]) -> Option<(&[u8], &[u8])>
 
 /// Puts bytes that have no quote, and a quote after them.
 fn put_run<O: Sink>(sink: &mut O, run: &[u8]) -> Result<(), Failed>
-    ensures { Puts O.Sink sink.old sink.new (run.now ++ codes "'\\''") result }
+    ensures { Writes O.Sink sink.old sink.new (run.now ++ codes "'\\''") result }
 {
     put_all(sink, run)?;
     put_all(sink, b"'\\''")
 }
 
 fn put_escaped<O: Sink>(sink: &mut O, text: &[u8]) -> Result<(), Failed>
-    ensures { Puts O.Sink sink.old sink.new (escaped_text text.now) result }
+    ensures { Writes O.Sink sink.old sink.new (escaped_text text.now) result }
 {
     let mut rest = text;
     while let Some((run, behind)) = cut_at_quote(rest) {
@@ -80,7 +80,7 @@ fn put_escaped<O: Sink>(sink: &mut O, text: &[u8]) -> Result<(), Failed>
 }
 
 fn put_escaped_parts<O: Sink>(sink: &mut O, text: &Joined<'_>) -> Result<(), Failed>
-    ensures { Puts O.Sink sink.old sink.new (escaped_text (concat text.now)) result }
+    ensures { Writes O.Sink sink.old sink.new (escaped_text (concat text.now)) result }
 {
     let mut k = 0;
     while let Some(part) = text.part(k) {
@@ -91,7 +91,7 @@ fn put_escaped_parts<O: Sink>(sink: &mut O, text: &Joined<'_>) -> Result<(), Fai
 }
 
 fn put_quoted<O: Sink>(sink: &mut O, text: &Joined<'_>) -> Result<(), Failed>
-    ensures { Puts O.Sink sink.old sink.new (quoted (concat text.now)) result }
+    ensures { Writes O.Sink sink.old sink.new (quoted (concat text.now)) result }
 {
     put_all(sink, b"'")?;
     put_escaped_parts(sink, text)?;
@@ -99,7 +99,7 @@ fn put_quoted<O: Sink>(sink: &mut O, text: &Joined<'_>) -> Result<(), Failed>
 }
 
 fn put_quoted_bytes<O: Sink>(sink: &mut O, text: &[u8]) -> Result<(), Failed>
-    ensures { Puts O.Sink sink.old sink.new (quoted text.now) result }
+    ensures { Writes O.Sink sink.old sink.new (quoted text.now) result }
 {
     put_all(sink, b"'")?;
     put_escaped(sink, text)?;
@@ -107,7 +107,7 @@ fn put_quoted_bytes<O: Sink>(sink: &mut O, text: &[u8]) -> Result<(), Failed>
 }
 
 fn put_quoted_hex<O: Sink>(sink: &mut O, bytes: &[u8]) -> Result<(), Failed>
-    ensures { Puts O.Sink sink.old sink.new (in_quotes (hex_text bytes.now)) result }
+    ensures { Writes O.Sink sink.old sink.new (in_quotes (hex_text bytes.now)) result }
 {
     put_all(sink, b"'")?;
     put_hex(sink, bytes)?;
@@ -115,7 +115,7 @@ fn put_quoted_hex<O: Sink>(sink: &mut O, bytes: &[u8]) -> Result<(), Failed>
 }
 
 fn put_shown<O: Sink>(sink: &mut O, text: &Shown<'_>) -> Result<(), Failed>
-    ensures { Puts O.Sink sink.old sink.new (text_of text.now) result }
+    ensures { Writes O.Sink sink.old sink.new (text_of text.now) result }
 {
     match text {
         Shown::Plain(bytes) => put_all(sink, bytes),
@@ -136,7 +136,7 @@ pub fn put_padded<O: Sink>(
     width: u32,
     text: &Shown<'_>,
 ) -> Result<(), Failed>
-    ensures { Puts O.Sink sink.old sink.new (padded left width (text_of text.now)) result }
+    ensures { Writes O.Sink sink.old sink.new (padded left width (text_of text.now)) result }
 {
     if width == 0 {
         return put_shown(sink, text);

@@ -1,7 +1,7 @@
 //! The paths of files that a part of a bracket prints as they are.
 
 ghost use Rattle.std.specs.Prelude.{◌≡◌, ◌++◌, length, slice_get};
-ghost use Rattle.rpm_qfeval.specs.Prelude.{or_none, Puts};
+ghost use Rattle.rpm_qfeval.specs.Prelude.{or_none, Writes};
 
 use crate::pieces::put_joined;
 use rpm_outside::{Failed, Sink, put_all};
@@ -33,7 +33,7 @@ impl<'v, 'a> Model for PlainPaths<'v, 'a> {
 /// Puts a directory, and a name after it.
 #[inline(always)]
 fn put_path<O: Sink>(sink: &mut O, dir: &[u8], base: &[u8]) -> Result<(), Failed>
-    ensures { Puts O.Sink sink.old sink.new (dir.now ++ base.now) result }
+    ensures { Writes O.Sink sink.old sink.new (dir.now ++ base.now) result }
 {
     put_all(sink, dir)?;
     put_all(sink, base)
@@ -62,7 +62,7 @@ impl<'v, 'a> PlainPaths<'v, 'a> {
     #[cold]
     #[inline(never)]
     fn put_again<O: Sink>(&self, sink: &mut O, round: u32) -> Result<(), Failed>
-        ensures { Puts O.Sink sink.old sink.new (or_none (slice_get self.now round)) result }
+        ensures { Writes O.Sink sink.old sink.new (or_none (slice_get self.now round)) result }
     {
         if round >= self.count {
             return put_all(sink, b"(none)");
@@ -73,7 +73,7 @@ impl<'v, 'a> PlainPaths<'v, 'a> {
     /// Puts the path of a round.
     #[inline(always)]
     pub fn put<O: Sink>(&mut self, sink: &mut O, round: u32) -> Result<(), Failed>
-        ensures puts { Puts O.Sink sink.old sink.new (or_none (slice_get self.old round)) result }
+        ensures puts { Writes O.Sink sink.old sink.new (or_none (slice_get self.old round)) result }
         ensures same { self.new ≡ self.old }
     {
         if self.place != round {

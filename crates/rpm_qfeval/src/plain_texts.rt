@@ -1,7 +1,7 @@
 //! The texts that a part of a bracket prints as they are.
 
 ghost use Rattle.std.specs.Prelude.{◌≡◌, length, slice_get};
-ghost use Rattle.rpm_qfeval.specs.Prelude.{or_none, Puts};
+ghost use Rattle.rpm_qfeval.specs.Prelude.{or_none, Writes};
 
 use rpm_outside::{Failed, Sink, put_all};
 use rpm_tags::{TextIter, Texts};
@@ -33,7 +33,7 @@ impl<'a> Model for PlainTexts<'a> {
 /// Puts a text, which is mostly empty where there are many.
 #[inline(always)]
 fn put_short<O: Sink>(sink: &mut O, text: &[u8]) -> Result<(), Failed>
-    ensures { Puts O.Sink sink.old sink.new text.now result }
+    ensures { Writes O.Sink sink.old sink.new text.now result }
 {
     if text.is_empty() {
         return Ok(());
@@ -65,7 +65,7 @@ impl<'a> PlainTexts<'a> {
     #[cold]
     #[inline(never)]
     fn put_again<O: Sink>(&self, sink: &mut O, round: u32) -> Result<(), Failed>
-        ensures { Puts O.Sink sink.old sink.new (or_none (slice_get self.now round)) result }
+        ensures { Writes O.Sink sink.old sink.new (or_none (slice_get self.now round)) result }
     {
         if round >= self.count {
             return put_all(sink, b"(none)");
@@ -76,7 +76,7 @@ impl<'a> PlainTexts<'a> {
     /// Puts the text of a round. Each element of a bracket comes by here, so the call is no call.
     #[inline(always)]
     pub fn put<O: Sink>(&mut self, sink: &mut O, round: u32) -> Result<(), Failed>
-        ensures puts { Puts O.Sink sink.old sink.new (or_none (slice_get self.old round)) result }
+        ensures puts { Writes O.Sink sink.old sink.new (or_none (slice_get self.old round)) result }
         ensures same { self.new ≡ self.old }
     {
         if self.place != round {

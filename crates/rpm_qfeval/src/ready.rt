@@ -1,7 +1,7 @@
 //! The parts of a bracket that print texts or numbers of the header as they are.
 
 ghost use Rattle.std.specs.Prelude.{◌≡◌, [], map, decimal, slice_get};
-ghost use Rattle.rpm_qfeval.specs.Prelude.{AreFiles, option_copied, or_none, Puts, StandReady, StandsReady};
+ghost use Rattle.rpm_qfeval.specs.Prelude.{AreFiles, option_copied, or_none, StandReady, StandsReady, Writes};
 ghost use Rattle.rpm_qfparse.specs.declared.tree.Part.TheVariants as part;
 
 use crate::plain_paths::PlainPaths;
@@ -32,7 +32,7 @@ pub fn is_ready(ready: &[Ready<'_, '_>], i: usize) -> bool {
 
 /// Puts the number of a round. Where counts differ nothing is printed, so each round has its number.
 pub fn put_number_of<O: Sink>(sink: &mut O, numbers: &Numbers<'_>, round: u32) -> Result<(), Failed>
-    ensures { Puts O.Sink sink.old sink.new (or_none (slice_get (map decimal numbers.now) round)) result }
+    ensures { Writes O.Sink sink.old sink.new (or_none (slice_get (map decimal numbers.now) round)) result }
 {
     if round >= numbers.count() {
         return put_all(sink, b"(none)");

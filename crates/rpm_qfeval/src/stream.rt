@@ -1,7 +1,7 @@
 //! The stored texts of a value, for rounds that go from one to the next.
 
 ghost use Rattle.std.specs.Prelude.{◌≡◌};
-ghost use Rattle.rpm_qfeval.specs.Prelude.{element_text, Puts, TextList};
+ghost use Rattle.rpm_qfeval.specs.Prelude.{element_text, TextList, Writes};
 
 use crate::elements::{put_element, put_stored_text};
 use rpm_outside::{Failed, Sink};
@@ -60,7 +60,7 @@ impl<'v, 'a> Stream<'v, 'a> {
 
     /// Puts the text at a place. Over places that rise each text is read once.
     pub fn put<O: Sink>(&mut self, sink: &mut O, part: &TagPart, place: u32) -> Result<(), Failed>
-        ensures puts { Puts O.Sink sink.old sink.new (element_text part.now self.old place) result }
+        ensures puts { Writes O.Sink sink.old sink.new (element_text part.now self.old place) result }
         ensures same { self.new ≡ self.old }
     {
         self.go_to(place);

@@ -1,7 +1,7 @@
 //! The parts of a format are put, one after the other.
 
 ghost use Rattle.std.specs.Prelude.{◌≤◌, true, false};
-ghost use Rattle.rpm_qfeval.specs.Prelude.{AreFiles, AreProper, bracket_bytes, bytes, option_copied, part_bytes, PartIsProper, Puts, StandReady};
+ghost use Rattle.rpm_qfeval.specs.Prelude.{AreFiles, AreProper, bracket_bytes, bytes, option_copied, part_bytes, PartIsProper, StandReady, Writes};
 
 use crate::columns::{
     Asked, Column, Found, MOST, add_columns, ask_for_paths, ask_more, asked_in, look_up,
@@ -31,7 +31,7 @@ fn put_with<O: Sink, const N: usize>(
     requires room { N ≤ 4096 }
     requires ready { StandReady view.now number inner.now ready.old }
     requires proper { AreProper true inner.now }
-    ensures { Puts O.Sink sink.old sink.new (bracket_bytes view.now number inner.now) result }
+    ensures { Writes O.Sink sink.old sink.new (bracket_bytes view.now number inner.now) result }
 {
     let mut found: ArrayVec<Option<Found<'_>>, N> = ArrayVec::new();
     look_up(&mut found, asked, view, number);
@@ -53,7 +53,7 @@ fn put_asked<O: Sink>(
 ) -> Result<(), Failed>
     requires ready { StandReady view.now number inner.now ready.old }
     requires proper { AreProper true inner.now }
-    ensures { Puts O.Sink sink.old sink.new (bracket_bytes view.now number inner.now) result }
+    ensures { Writes O.Sink sink.old sink.new (bracket_bytes view.now number inner.now) result }
 {
     let asked = asked_in(inner, ready);
     let asked = asked.as_slice();
@@ -78,7 +78,7 @@ fn put_prepared<O: Sink, const R: usize>(
     requires places { R ≤ 4096 }
     requires files { AreFiles view.now number (option_copied files) }
     requires proper { AreProper true inner.now }
-    ensures { Puts O.Sink sink.old sink.new (bracket_bytes view.now number inner.now) result }
+    ensures { Writes O.Sink sink.old sink.new (bracket_bytes view.now number inner.now) result }
 {
     let mut ready: ArrayVec<Ready<'_, '_>, R> = ArrayVec::new();
     make_ready(&mut ready, inner, view, number, files);
@@ -95,7 +95,7 @@ fn put_prepared<O: Sink, const R: usize>(
 #[inline(never)]
 fn put_far<O: Sink>(sink: &mut O, inner: &Parts, view: &View<'_>, number: u32) -> Result<(), Failed>
     requires proper { AreProper true inner.now }
-    ensures { Puts O.Sink sink.old sink.new (bracket_bytes view.now number inner.now) result }
+    ensures { Writes O.Sink sink.old sink.new (bracket_bytes view.now number inner.now) result }
 {
     let mut room = PlacesRoom::new();
     put_prepared::<O, MOST>(sink, inner, view, number, None, Some(&mut room))
@@ -111,7 +111,7 @@ fn put_near<O: Sink>(
 ) -> Result<(), Failed>
     requires files { AreFiles view.now number (option_copied files) }
     requires proper { AreProper true inner.now }
-    ensures { Puts O.Sink sink.old sink.new (bracket_bytes view.now number inner.now) result }
+    ensures { Writes O.Sink sink.old sink.new (bracket_bytes view.now number inner.now) result }
 {
     match inner.len() {
         0..=3 => put_prepared::<O, 3>(sink, inner, view, number, files, None),
@@ -129,7 +129,7 @@ fn put_bracket<O: Sink>(
     number: u32,
 ) -> Result<(), Failed>
     requires { AreProper true inner.now }
-    ensures { Puts O.Sink sink.old sink.new (bracket_bytes view.now number inner.now) result }
+    ensures { Writes O.Sink sink.old sink.new (bracket_bytes view.now number inner.now) result }
 {
     if !ask_for_paths(inner) {
         return put_near(sink, inner, view, number, None);
@@ -150,7 +150,7 @@ fn put_bracket<O: Sink>(
 #[cycle(writing)]
 fn put_part<O: Sink>(sink: &mut O, part: &Part, view: &View<'_>, number: u32) -> Result<(), Failed>
     requires { PartIsProper false part.now }
-    ensures { Puts O.Sink sink.old sink.new (part_bytes view.now number 0 part.now) result }
+    ensures { Writes O.Sink sink.old sink.new (part_bytes view.now number 0 part.now) result }
 {
     match part {
         Part::Text(text) => put_all(sink, text.as_slice()),
@@ -176,7 +176,7 @@ pub fn put_parts<O: Sink>(
     number: u32,
 ) -> Result<(), Failed>
     requires { AreProper false parts.now }
-    ensures { Puts O.Sink sink.old sink.new (bytes view.now number 0 parts.now) result }
+    ensures { Writes O.Sink sink.old sink.new (bytes view.now number 0 parts.now) result }
 {
     for i in 0..parts.len() {
         put_part(sink, parts.at(i), view, number)?;

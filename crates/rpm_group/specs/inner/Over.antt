@@ -15,5 +15,5 @@ module _ {D : Type 0} (d : disk.Ghosts D) where
   pub record ReadsOver (layers : Layers) (file : File) (unit : ℕ) (bytes : ℕ) (after : List ℕ) (result : Result (Unit {0}) Failed) (old new : D)
       (so sn : Spared) : Type 0 where
     pub units : OnOk result (IsTrue d.tells → units_of after ≡ take (bytes / 16) (drop unit (file_of file (laid_files layers (d.files old)))))
-    pub counts : CountsRead d.bytes_read file bytes old new so sn
+    pub counts : CountsRead d file bytes old new so sn
     pub reads : Reads d file bytes result old new

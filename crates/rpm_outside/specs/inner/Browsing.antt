@@ -1,7 +1,8 @@
 -- How a run of reads of a shelf goes on.
-use Rattle.std.specs.Prelude.{◌≡◌, ℕ, Bool, List, [], ◌++◌, Option, Some, None, is_some}
+use Rattle.std.specs.Prelude.{◌≡◌, ℕ, List, [], ◌++◌, Option, Some, None, is_some}
 use Rattle.std.proofs.Common.{refl, sym, ap, ◌∙◌, append_assoc, arith}
-use Rattle.rpm_outside.specs.Shelves.{Paths, TakesFront}
+use Rattle.rpm_outside.specs.declared.shelf.Shelf as shelf
+use Rattle.rpm_outside.specs.Shelves.{TakesFront}
 use Rattle.rpm_outside.specs.Browses.{left, Takes, Browses}
 
 pub takes_none : (old new : Option (List ℕ)) → new ≡ old → Takes old new []
@@ -26,18 +27,22 @@ reads_one None new taken r =
 reads_one (Some bytes) None taken r = absurd r
 reads_one (Some bytes) (Some rest) taken r = record { takes = record { front = r.0; opened = refl }; ended = r.1 }
 
-module _ {S : Type 0} (tells : Bool) (paths : S → Paths) (rest : S → Option (List ℕ)) (absences faults : S → ℕ) where
-  pub browses_none : (s : S) → Browses tells paths rest absences faults s s
-  browses_none s = record { paths_stay = λ told. refl; taken = λ told. ([], takes_none (rest s) (rest s) refl); absences_stay = refl; later = omega arith }
+module _ {S : Type 0} (s : shelf.Ghosts S) where
+  pub browses_none : (x : S) → Browses s x x
+  browses_none x = record {
+    paths_stay = λ told. refl;
+    taken = λ told. ([], takes_none (s.rest x) (s.rest x) refl);
+    absences_stay = refl;
+    later = omega arith;
+  }
 
-  pub browses_then : (a b c : S) → Browses tells paths rest absences faults a b → Browses tells paths rest absences faults b c
-      → Browses tells paths rest absences faults a c
+  pub browses_then : (a b c : S) → Browses s a b → Browses s b c → Browses s a c
   browses_then a b c first second = record {
     paths_stay = λ told. second.paths_stay told ∙ first.paths_stay told;
     taken = λ told.
         let f = first.taken told in
-        let s = second.taken told in
-        (f.0 ++ s.0, takes_then (rest a) (rest b) (rest c) f.0 s.0 f.1 s.1);
+        let g = second.taken told in
+        (f.0 ++ g.0, takes_then (s.rest a) (s.rest b) (s.rest c) f.0 g.0 f.1 g.1);
     absences_stay = second.absences_stay ∙ first.absences_stay;
     later = omega (arith, first.later, second.later);
   }

@@ -3,9 +3,11 @@ use Rattle.std.specs.Prelude.{◌≡◌, ℕ, ◌≤◌, Bool, true, false, IsTr
 use Rattle.std.proofs.Common.{refl, sym, ap, ◌∙◌, subst, append_assoc, arith, length-append}
 use Rattle.std.proofs.Math.Seq.{take-append_seam}
 use Rattle.std.proofs.lemmas.List.{append-nil, append_cancel_left, take-append-drop}
+use Rattle.rpm_outside.specs.declared.sink.Sink as sink
 use Rattle.rpm_outside.specs.declared.buffered.Buffered.{Buffered}
-use Rattle.rpm_outside.specs.Sinks.{Gained, GainedPart, Begins, Writes}
-use Rattle.rpm_outside.specs.Buffered.{inner, holds, all_taken, GoesOn, Flushes}
+use Rattle.rpm_outside.specs.SinkFrame.{Writes}
+use Rattle.rpm_outside.specs.Sinks.{Gained, GainedPart, Begins}
+use Rattle.rpm_outside.specs.Buffered.{inner, holds, all_taken, buffered, Flushes}
 
 -- what a sink gained is the first of the bytes, where the rest of them is held
 front : (a b held bytes : List ℕ) → Begins a b → b ++ held ≡ a ++ bytes → (n : ℕ) × (n ≤ length bytes) × (b ≡ a ++ take n bytes)
@@ -34,43 +36,40 @@ reached tells a before b held bytes nothing grew whole =
 pub handed : (tells : Bool) (a b out held holds : List ℕ) → Gained tells a b out → out ++ holds ≡ held → IsTrue tells → b ++ holds ≡ a ++ held
 handed tells a b out held holds g whole told = ap (λ (y : List ℕ). y ++ holds) (g told) ∙ append_assoc a out holds ∙ ap (λ (y : List ℕ). a ++ y) whole
 
-module _ {O : Type 0} {tells : Bool} {taken : O → List ℕ} {faults : O → ℕ} {follows : O → O → Type 0} (grows : (a b : O) → follows a b → IsTrue tells
-    → Begins (taken a) (taken b)) where
+module _ {O : Type 0} {o : sink.Ghosts O} (grows : (a b : O) → o.follows a b → IsTrue o.tells → Begins (o.taken a) (o.taken b)) where
   -- a call that failed
-  pub stopped : {T U E F : Type 0} {bytes : List ℕ} {old new : Buffered O} {e : E} (r : Result U F) → IsErr r → holds old ≡ [] → Writes {T = T}
-      {E = E} tells (all_taken taken) (λ b. faults (inner b)) (GoesOn tells taken follows) old new bytes (Err e) → Writes tells taken faults follows
-      (inner old) (inner new) bytes r
+  pub stopped : {T U E F : Type 0} {bytes : List ℕ} {old new : Buffered O} {e : E} (r : Result U F) → IsErr r → holds old ≡ []
+      → Writes (buffered o) {T = T} {E = E} old new bytes (Err e) → Writes o (inner old) (inner new) bytes r
   stopped (Ok u) fails nothing w = absurd cc
   stopped {bytes = bytes} {old = old} {new = new} (Err f) fails nothing w = record {
     ok = tt;
-    err = reached tells (taken (inner old)) (holds old) (taken (inner new)) (holds new ++ drop w.err.0 bytes) bytes nothing
+    err = reached o.tells (o.taken (inner old)) (holds old) (o.taken (inner new)) (holds new ++ drop w.err.0 bytes) bytes nothing
         (grows (inner old) (inner new) w.goes_on.0) (λ told.
-        sym (append_assoc (taken (inner new)) (holds new) (drop w.err.0 bytes)) ∙ ap (λ (y : List ℕ). y ++ drop w.err.0 bytes) (w.err.2 told)
-        ∙ append_assoc (all_taken taken old) (take w.err.0 bytes) (drop w.err.0 bytes) ∙ ap (λ (y : List ℕ). all_taken taken old ++ y)
+        sym (append_assoc (o.taken (inner new)) (holds new) (drop w.err.0 bytes)) ∙ ap (λ (y : List ℕ). y ++ drop w.err.0 bytes) (w.err.2 told)
+        ∙ append_assoc (all_taken o old) (take w.err.0 bytes) (drop w.err.0 bytes) ∙ ap (λ (y : List ℕ). all_taken o old ++ y)
         (take-append-drop w.err.0 bytes));
     cause = record { later = w.cause.later; failed = w.cause.failed };
     goes_on = w.goes_on.0;
   }
 
   -- a flush after one that didn't
-  pub flushed : {T U E F : Type 0} {bytes : List ℕ} {old mid : Buffered O} {t : T} (then : (a b c : O) → follows a b → follows b c → follows a c)
-      (new : Buffered O) (r : Result U F) → holds old ≡ []
-      → Writes {T = T} {E = E} tells (all_taken taken) (λ b. faults (inner b)) (GoesOn tells taken follows) old mid bytes (Ok t) → Flushes tells taken
-      faults follows (inner mid) (holds mid) (inner new) (holds new) r → Writes tells taken faults follows (inner old) (inner new) bytes r
+  pub flushed : {T U E F : Type 0} {bytes : List ℕ} {old mid : Buffered O} {t : T} (then : (a b c : O) → o.follows a b → o.follows b c → o.follows a c)
+      (new : Buffered O) (r : Result U F) → holds old ≡ [] → Writes (buffered o) {T = T} {E = E} old mid bytes (Ok t) → Flushes o mid new r
+      → Writes o (inner old) (inner new) bytes r
   flushed {bytes = bytes} {old = old} {mid = mid} then new (Ok u) nothing w f = record {
     ok = λ told.
-        sym (append-nil (taken (inner new))) ∙ ap (λ (y : List ℕ). taken (inner new) ++ y) (sym f.none) ∙ handed tells (taken (inner mid))
-        (taken (inner new)) f.out (holds mid) (holds new) f.gained f.whole told ∙ w.ok told
-        ∙ ap (λ (y : List ℕ). (taken (inner old) ++ y) ++ bytes) nothing ∙ ap (λ (y : List ℕ). y ++ bytes) (append-nil (taken (inner old)));
+        sym (append-nil (o.taken (inner new))) ∙ ap (λ (y : List ℕ). o.taken (inner new) ++ y) (sym f.none) ∙ handed o.tells (o.taken (inner mid))
+        (o.taken (inner new)) f.out (holds mid) (holds new) f.gained f.whole told ∙ w.ok told
+        ∙ ap (λ (y : List ℕ). (o.taken (inner old) ++ y) ++ bytes) nothing ∙ ap (λ (y : List ℕ). y ++ bytes) (append-nil (o.taken (inner old)));
     err = tt;
     cause = record { later = omega (arith, w.cause.later, f.cause.later); failed = tt };
     goes_on = then (inner old) (inner mid) (inner new) w.goes_on.0 f.goes_on;
   }
   flushed {bytes = bytes} {old = old} {mid = mid} then new (Err e) nothing w f = record {
     ok = tt;
-    err = reached tells (taken (inner old)) (holds old) (taken (inner new)) (holds new) bytes nothing
+    err = reached o.tells (o.taken (inner old)) (holds old) (o.taken (inner new)) (holds new) bytes nothing
         (grows (inner old) (inner new) (then (inner old) (inner mid) (inner new) w.goes_on.0 f.goes_on))
-        (λ told. handed tells (taken (inner mid)) (taken (inner new)) f.out (holds mid) (holds new) f.gained f.whole told ∙ w.ok told);
+        (λ told. handed o.tells (o.taken (inner mid)) (o.taken (inner new)) f.out (holds mid) (holds new) f.gained f.whole told ∙ w.ok told);
     cause = record { later = omega (arith, w.cause.later, f.cause.later); failed = omega (arith, w.cause.later, f.cause.failed) };
     goes_on = then (inner old) (inner mid) (inner new) w.goes_on.0 f.goes_on;
   }

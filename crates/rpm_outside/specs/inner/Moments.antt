@@ -1,5 +1,5 @@
 -- How a run of calls on a disk goes on.
-use Rattle.std.proofs.Common.{inl, inr, ⊎_elim, ℕ, arith}
+use Rattle.std.proofs.Common.{inl, inr, ⊎_elim, arith}
 use Rattle.rpm_outside.specs.declared.disk.Disk as disk
 use Rattle.rpm_outside.specs.Files.{Files}
 use Rattle.rpm_outside.specs.Crash.{Elapses}

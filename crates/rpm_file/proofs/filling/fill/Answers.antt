@@ -28,7 +28,7 @@ loop-done-preserved g c =
       taken = λ told. subst (Takes (rest c.args.shelf.now) (rest c.read.new.self)) (sym (front_put done room count into part inside (omega arith)))
           (takes_then (rest c.args.shelf.now) (rest c.loop-done.shelf) (rest c.read.new.self) (take done into) (take count part)
           (c.loop-done.invariant.taken told) (came told));
-      browses = browses_then g.S.Shelf.tells g.S.Shelf.paths rest g.S.Shelf.absences g.S.Shelf.faults c.args.shelf.now c.loop-done.shelf
+      browses = browses_then g.S.Shelf c.args.shelf.now c.loop-done.shelf
           c.read.new.self c.loop-done.invariant.browses
           (record {
             paths_stay = c.in_ok-count.ensures.paths;

@@ -7,7 +7,7 @@ abbrev pub invariant-loop-done : goal.invariant-loop-done
 invariant-loop-done g l = record {
   within : l.done ≤ length l.into;
   taken : IsTrue g.S.Shelf.tells → Takes (g.S.Shelf.rest l.initial.shelf) (g.S.Shelf.rest l.shelf) (take l.done l.into);
-  browses : Browses g.S.Shelf.tells g.S.Shelf.paths g.S.Shelf.rest g.S.Shelf.absences g.S.Shelf.faults l.initial.shelf l.shelf;
+  browses : Browses g.S.Shelf l.initial.shelf l.shelf;
 }
 
 abbrev pub decreases-loop-done : goal.decreases-loop-done

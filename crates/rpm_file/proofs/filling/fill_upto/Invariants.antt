@@ -9,7 +9,7 @@ invariant-loop-done g l = record {
   long : l.done ≤ vec_len l.room;
   more : IsTrue g.S.Shelf.tells → Extends (g.S.Shelf.rest l.initial.shelf) (g.S.Shelf.rest l.shelf) (take l.from l.initial.room.items)
       (take l.done l.room.items);
-  browses : Browses g.S.Shelf.tells g.S.Shelf.paths g.S.Shelf.rest g.S.Shelf.absences g.S.Shelf.faults l.initial.shelf l.shelf;
+  browses : Browses g.S.Shelf l.initial.shelf l.shelf;
 }
 
 abbrev pub decreases-loop-done : goal.decreases-loop-done

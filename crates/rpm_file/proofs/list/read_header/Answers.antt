@@ -12,5 +12,5 @@ returns-then-begins-clause-answers g c = λ told.
     (c.read_behind.ensures.answers told)
 
 pub returns-then-begins-clause-browses : goal.returns-then-begins-clause-browses
-returns-then-begins-clause-browses g c = browses_then g.S.Shelf.tells g.S.Shelf.paths g.S.Shelf.rest g.S.Shelf.absences g.S.Shelf.faults
+returns-then-begins-clause-browses g c = browses_then g.S.Shelf
     c.args.shelf.now c.take_intro.new.shelf c.read_behind.new.shelf c.take_intro.ensures.browses c.read_behind.ensures.browses

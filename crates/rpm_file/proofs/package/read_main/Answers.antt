@@ -24,7 +24,7 @@ returns-in_err-blob-clause-answers g c = λ told.
     (c.in_err-blob.ensures.answers told))
 
 pub returns-in_err-blob-clause-browses : goal.returns-in_err-blob-clause-browses
-returns-in_err-blob-clause-browses g c = browses_then g.S.Shelf.tells g.S.Shelf.paths g.S.Shelf.rest g.S.Shelf.absences g.S.Shelf.faults
+returns-in_err-blob-clause-browses g c = browses_then g.S.Shelf
     c.args.shelf.now c.skip_padding.new.shelf c.read_part.new.shelf c.skip_padding.ensures.browses c.read_part.ensures.browses
 
 pub returns-in_err-main-clause-answers : goal.returns-in_err-main-clause-answers
@@ -39,7 +39,7 @@ returns-in_err-main-clause-answers g c = λ told.
     (c.in_err-main.ensures.value ∙ ap header c.deref.ensures.value))
 
 pub returns-in_err-main-clause-browses : goal.returns-in_err-main-clause-browses
-returns-in_err-main-clause-browses g c = browses_then g.S.Shelf.tells g.S.Shelf.paths g.S.Shelf.rest g.S.Shelf.absences g.S.Shelf.faults
+returns-in_err-main-clause-browses g c = browses_then g.S.Shelf
     c.args.shelf.now c.skip_padding.new.shelf c.read_part.new.shelf c.skip_padding.ensures.browses c.read_part.ensures.browses
 
 pub returns-clause-answers : goal.returns-clause-answers
@@ -55,7 +55,7 @@ returns-clause-answers g c = λ told.
     made_answers (behind_signature s) (merged s.entries c.in_ok-main.main) old new c.joined.result whole c.joined.ensures
 
 pub returns-clause-browses : goal.returns-clause-browses
-returns-clause-browses g c = browses_then g.S.Shelf.tells g.S.Shelf.paths g.S.Shelf.rest g.S.Shelf.absences g.S.Shelf.faults c.args.shelf.now
+returns-clause-browses g c = browses_then g.S.Shelf c.args.shelf.now
     c.skip_padding.new.shelf c.read_part.new.shelf c.skip_padding.ensures.browses c.read_part.ensures.browses
 
 pub returns-clause-cause : goal.returns-clause-cause

@@ -36,7 +36,7 @@ returns-in_err-blob-clause-answers g c = λ told.
     (c.in_err-blob.ensures.answers told))
 
 pub returns-in_err-blob-clause-browses : goal.returns-in_err-blob-clause-browses
-returns-in_err-blob-clause-browses g c = browses_then g.S.Shelf.tells g.S.Shelf.paths g.S.Shelf.rest g.S.Shelf.absences g.S.Shelf.faults
+returns-in_err-blob-clause-browses g c = browses_then g.S.Shelf
     c.args.shelf.now c.skip_lead.new.shelf c.read_part.new.shelf c.skip_lead.ensures.browses c.read_part.ensures.browses
 
 pub returns-in_err-signature-clause-answers : goal.returns-in_err-signature-clause-answers
@@ -50,7 +50,7 @@ returns-in_err-signature-clause-answers g c = λ told.
     (c.in_ok-blob.ensures.answers told) q.0 (sym q.1 ∙ c.parse.ensures.value ∙ ap header c.deref.ensures.value))
 
 pub returns-in_err-signature-clause-browses : goal.returns-in_err-signature-clause-browses
-returns-in_err-signature-clause-browses g c = browses_then g.S.Shelf.tells g.S.Shelf.paths g.S.Shelf.rest g.S.Shelf.absences g.S.Shelf.faults
+returns-in_err-signature-clause-browses g c = browses_then g.S.Shelf
     c.args.shelf.now c.skip_lead.new.shelf c.read_part.new.shelf c.skip_lead.ensures.browses c.read_part.ensures.browses
 
 pub returns-clause-answers : goal.returns-clause-answers
@@ -66,7 +66,7 @@ returns-clause-answers g c = λ told.
 
 pub returns-clause-browses : goal.returns-clause-browses
 returns-clause-browses g c =
-    let first = browses_then g.S.Shelf.tells g.S.Shelf.paths g.S.Shelf.rest g.S.Shelf.absences g.S.Shelf.faults c.args.shelf.now c.skip_lead.new.shelf
+    let first = browses_then g.S.Shelf c.args.shelf.now c.skip_lead.new.shelf
     c.read_part.new.shelf c.skip_lead.ensures.browses c.read_part.ensures.browses in
-    browses_then g.S.Shelf.tells g.S.Shelf.paths g.S.Shelf.rest g.S.Shelf.absences g.S.Shelf.faults c.args.shelf.now c.read_part.new.shelf
+    browses_then g.S.Shelf c.args.shelf.now c.read_part.new.shelf
     c.read_main.new.shelf first c.read_main.ensures.browses

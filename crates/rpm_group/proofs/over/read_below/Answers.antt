@@ -48,5 +48,5 @@ returns-clause-counts g c =
       length-put_mid (16 * t) (length into - 16 * t) into c.fill.new.self zeros_long
           (omega (arith, c.min-there.ensures)),
     ) in
-    counts_both g.D.Disk.bytes_read c.args.file (length (take (16 * t) mid)) (length into - 16 * t) (length into) c.args.below.now c.read_some.new.below
+    counts_both g.D.Disk c.args.file (length (take (16 * t) mid)) (length into - 16 * t) (length into) c.args.below.now c.read_some.new.below
     c.args.spared.now c.add.new.self (omega (arith, part, c.min-there.ensures)) c.read_some.ensures.counts c.add.ensures

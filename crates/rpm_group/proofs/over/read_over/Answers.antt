@@ -21,7 +21,7 @@ returns-then-copy_held g c = record {
       (c.if-copy_held.ensures.lays refl)
       ∙ ap (λ (p : Pages). take n (drop unit (laid_file p file))) c.file.ensures
       ∙ ap (λ (us : Units). take n (drop unit us)) (sym (file_of-laid c.args.file c.args.layers.now files));
-  counts = counts_spared g.D.Disk.bytes_read c.args.file _ _ c.args.below.now c.args.below.now c.args.spared.now c.add.new.self c.copy_held.auto.into (λ f.
+  counts = counts_spared g.D.Disk c.args.file _ _ c.args.below.now c.args.below.now c.args.spared.now c.add.new.self c.copy_held.auto.into (λ f.
       refl) c.add.ensures;
   reads = record {
     looks = record {

@@ -78,23 +78,23 @@ returns-clause-units g c = λ told.
     ∙ ap (λ (us : Units). take n (drop c.args.unit us)) (sym (file_of-laid c.args.file c.args.layers.now files))
 
 pub returns-then-pages-eq0-clause-counts : goal.returns-then-pages-eq0-clause-counts
-returns-then-pages-eq0-clause-counts g c = counts_below g.D.Disk.bytes_read c.args.file _ c.args.below.now c.read_at.new.self c.args.spared.now
+returns-then-pages-eq0-clause-counts g c = counts_below g.D.Disk c.args.file _ c.args.below.now c.read_at.new.self c.args.spared.now
     c.read_at.ensures.reads
 
 pub returns-in_default-clause-counts : goal.returns-in_default-clause-counts
-returns-in_default-clause-counts g c = counts_spared g.D.Disk.bytes_read c.args.file _ _ c.args.below.now c.len.new.self c.args.spared.now
+returns-in_default-clause-counts g c = counts_spared g.D.Disk c.args.file _ _ c.args.below.now c.len.new.self c.args.spared.now
     c.add.new.self refl c.in_default.ensures.reads c.add.ensures
 
 pub returns-then-unit-whole-clause-counts : goal.returns-then-unit-whole-clause-counts
-returns-then-unit-whole-clause-counts g c = counts_after g.D.Disk.bytes_read c.args.file _ c.args.below.now c.len.new.self
+returns-then-unit-whole-clause-counts g c = counts_after g.D.Disk c.args.file _ c.args.below.now c.len.new.self
     c.read_at-then-unit-whole.new.self c.args.spared.now c.args.spared.now c.in-Ok.ensures.reads
-    (counts_below g.D.Disk.bytes_read c.args.file _ c.len.new.self c.read_at-then-unit-whole.new.self c.args.spared.now
+    (counts_below g.D.Disk c.args.file _ c.len.new.self c.read_at-then-unit-whole.new.self c.args.spared.now
     c.read_at-then-unit-whole.ensures.reads)
 
 pub returns-in_err-read_below-clause-counts : goal.returns-in_err-read_below-clause-counts
-returns-in_err-read_below-clause-counts g c = counts_after g.D.Disk.bytes_read c.args.file _ c.args.below.now c.len.new.self c.read_below.new.below
+returns-in_err-read_below-clause-counts g c = counts_after g.D.Disk c.args.file _ c.args.below.now c.len.new.self c.read_below.new.below
     c.args.spared.now c.read_below.new.spared c.in-Ok.ensures.reads c.in_err-read_below.ensures.counts
 
 pub returns-clause-counts : goal.returns-clause-counts
-returns-clause-counts g c = counts_after g.D.Disk.bytes_read c.args.file _ c.args.below.now c.len.new.self c.read_below.new.below
+returns-clause-counts g c = counts_after g.D.Disk c.args.file _ c.args.below.now c.len.new.self c.read_below.new.below
     c.args.spared.now c.read_below.new.spared c.in-Ok.ensures.reads c.in_ok-read_below.ensures.counts

@@ -21,7 +21,7 @@ returns-then-covers g c = record {
       c.lay.ensures
       ∙ ap (λ (p : Pages). take n (drop unit (laid_file p file))) c.file-pages.ensures
       ∙ ap (λ (us : Units). take n (drop unit us)) (sym (file_of-laid c.args.file c.args.layers.now files));
-  counts = counts_spared g.D.Disk.bytes_read c.args.file _ _ c.args.below.now c.args.below.now c.args.spared.now c.add.new.self refl (λ f. refl) c.add.ensures;
+  counts = counts_spared g.D.Disk c.args.file _ _ c.args.below.now c.args.below.now c.args.spared.now c.add.new.self refl (λ f. refl) c.add.ensures;
   reads = record {
     looks = record {
       untouched = λ told. record { same = refl; images = λ t image left. left; kept = λ t image left. left };

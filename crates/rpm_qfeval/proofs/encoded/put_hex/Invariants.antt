@@ -3,7 +3,7 @@ use Rattle.rpm_qfeval.proofs.Vocabulary.{hex_text, Upto}
 use Rattle.rpm_qfeval.proofs.encoded.put_hex.Given as goal
 
 abbrev pub invariant-loop-rest : goal.invariant-loop-rest
-invariant-loop-rest g l = Upto g.O.Sink.tells g.O.Sink.taken g.O.Sink.faults g.O.Sink.follows (hex_text l.bytes) (hex_text l.rest) l.initial.sink l.sink
+invariant-loop-rest g l = Upto g.O.Sink (hex_text l.bytes) (hex_text l.rest) l.initial.sink l.sink
 
 abbrev pub decreases-loop-rest : goal.decreases-loop-rest
 decreases-loop-rest g l = length l.rest

@@ -9,6 +9,6 @@ first_counts (n ∷ ns) count f e = let same : count ≡ n = cc in ap (λ (k : �
 
 pub returns-in-Some : goal.returns-in-Some
 returns-in-Some g c =
-    subst (λ (x : List ℕ). Writes g.O.Sink.tells g.O.Sink.taken g.O.Sink.faults g.O.Sink.follows c.args.sink.now c.put_rounds.new.sink x c.put_rounds.result)
+    subst (λ (x : List ℕ). Writes g.O.Sink c.args.sink.now c.put_rounds.new.sink x c.put_rounds.result)
     (first_counts (counts c.args.view.now c.args.number c.args.inner.now) c.in-Some.count (λ i. bytes c.args.view.now c.args.number i
     c.args.inner.now) c.in-Some.ensures) c.put_rounds.ensures

@@ -6,6 +6,6 @@ abbrev pub invariant-loop-i : goal.invariant-loop-i
 invariant-loop-i g l = record {
   columns : l.columns ≡ l.initial.columns;
   ready : l.ready ≡ l.initial.ready;
-  upto : Upto g.O.Sink.tells g.O.Sink.taken g.O.Sink.faults g.O.Sink.follows (bytes l.view l.number l.round l.inner)
+  upto : Upto g.O.Sink (bytes l.view l.number l.round l.inner)
       (bytes l.view l.number l.round (tree_of (drop l.i (parts_of l.inner)))) l.initial.sink l.sink;
 }

@@ -6,7 +6,7 @@ abbrev pub invariant-loop-round : goal.invariant-loop-round
 invariant-loop-round g l = record {
   columns : l.columns ≡ l.initial.columns;
   ready : l.ready ≡ l.initial.ready;
-  upto : Upto g.O.Sink.tells g.O.Sink.taken g.O.Sink.faults g.O.Sink.follows
+  upto : Upto g.O.Sink
       (concat (map (λ j. bytes l.view l.number j l.inner) (range_with_len 0 l.count)))
       (concat (map (λ j. bytes l.view l.number j l.inner) (range_with_len l.round (l.count - l.round)))) l.initial.sink l.sink;
 }

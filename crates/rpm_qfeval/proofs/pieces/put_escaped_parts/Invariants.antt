@@ -3,7 +3,7 @@ use Rattle.rpm_qfeval.proofs.Vocabulary.{concat, escaped_text, Upto}
 use Rattle.rpm_qfeval.proofs.pieces.put_escaped_parts.Given as goal
 
 abbrev pub invariant-loop-part : goal.invariant-loop-part
-invariant-loop-part g l = Upto g.O.Sink.tells g.O.Sink.taken g.O.Sink.faults g.O.Sink.follows (escaped_text (concat l.text))
+invariant-loop-part g l = Upto g.O.Sink (escaped_text (concat l.text))
     (escaped_text (concat (drop l.k l.text))) l.initial.sink l.sink
 
 abbrev pub decreases-loop-part : goal.decreases-loop-part

@@ -9,5 +9,5 @@ abbrev pub decreases-put_parts : goal.decreases-put_parts
 decreases-put_parts g l = 2 * weight l.parts.now
 
 abbrev pub invariant-put_parts-loop-i : goal.invariant-put_parts-loop-i
-invariant-put_parts-loop-i g l = Upto g.O.Sink.tells g.O.Sink.taken g.O.Sink.faults g.O.Sink.follows
+invariant-put_parts-loop-i g l = Upto g.O.Sink
     (bytes l.view l.number 0 l.parts) (bytes l.view l.number 0 (tree_of (drop l.i (parts_of l.parts)))) l.initial.sink l.sink

@@ -10,6 +10,6 @@ loop-self-preserved g c =
     let fits : c.in_ok-self.field-0 ≤ length c.as_slice.result.now - c.loop-self.self.gone = omega arith in
     let goes = g.met.O.Sink.follows_trans (inner c.args.self.now) c.loop-self.self.sink c.write.new.self c.loop-self.invariant.goes_on
     c.write.ensures.follows in
-    handed_more g.O.Sink.tells g.O.Sink.taken g.O.Sink.faults g.O.Sink.follows (inner c.args.self.now) c.loop-self.self.sink c.write.new.self
+    handed_more g.O.Sink (inner c.args.self.now) c.loop-self.self.sink c.write.new.self
     (holds c.args.self.now) c.loop-self.self.held.items c.as_slice.result.now c.loop-self.self.gone c.in_ok-self.field-0 c.as_slice.ensures.value
     fits c.loop-self.invariant c.in_ok-self.ensures.taken c.write.ensures.cause.later goes

@@ -4,7 +4,7 @@ use Rattle.rpm_outside.proofs.Buffering.{Handed}
 use Rattle.rpm_outside.proofs.buffered.Buffered.flush.Given as goal
 
 abbrev pub invariant-loop-self : goal.invariant-loop-self
-invariant-loop-self g l = Handed g.O.Sink.tells g.O.Sink.taken g.O.Sink.faults g.O.Sink.follows (inner l.initial.self) (holds l.initial.self)
+invariant-loop-self g l = Handed g.O.Sink (inner l.initial.self) (holds l.initial.self)
     (inner l.self) (holds l.self)
 
 abbrev pub decreases-loop-self : goal.decreases-loop-self

@@ -17,13 +17,13 @@ invariant_of-self-in-Some g c =
 pub returns-in-None-clause-puts : goal.returns-in-None-clause-puts
 returns-in-None-clause-puts g c =
     let none : drop c.self.inside.place c.self.inside.all ≡ [] = sym c.self.invariant.behind ∙ c.in-None.ensures.steps.0 in
-    subst (λ (x : List ℕ). Writes g.O.Sink.tells g.O.Sink.taken g.O.Sink.faults g.O.Sink.follows c.args.sink.now c.put_all.new.sink x c.put_all.result)
+    subst (λ (x : List ℕ). Writes g.O.Sink c.args.sink.now c.put_all.new.sink x c.put_all.result)
     (text_here c.self.inside.all c.args.self.now c.self.inside.place c.args.round None c.self.view_is c.if-self-round.false
     (get_none c.self.inside.all c.self.inside.place none)) c.put_all.ensures
 
 pub returns-in-Some-clause-puts : goal.returns-in-Some-clause-puts
 returns-in-Some-clause-puts g c =
     let b = begins_with c.self.inside.all c.self.inside.place c.in-Some.text.now c.next.new.self (sym c.self.invariant.behind ∙ c.in-Some.ensures.steps) in
-    subst (λ (x : List ℕ). Writes g.O.Sink.tells g.O.Sink.taken g.O.Sink.faults g.O.Sink.follows c.args.sink.now c.put_short.new.sink x c.put_short.result)
+    subst (λ (x : List ℕ). Writes g.O.Sink c.args.sink.now c.put_short.new.sink x c.put_short.result)
     (text_here c.self.inside.all c.args.self.now c.self.inside.place c.args.round (Some c.in-Some.text.now) c.self.view_is c.if-self-round.false b.here)
     c.put_short.ensures
