@@ -1,11 +1,11 @@
 -- One row more.
 use Rattle.std.proofs.Common.{◌≡◌, ℕ, suc, ◌+◌, ◌-◌, ◌^◌, ◌<◌, ◌≤◌, List, [], ◌∷◌, ◌++◌, take, drop, reverse, length, get_or, refl, sym, ap, ◌∙◌, arith, subst, inl, inr, length-append, length-drop}
-use Rattle.std.proofs.lemmas.List.{map-append, drop-append-le, take-append-le, drop_at, take_all, length_push, get_or_append_left, get_or_push, length-reverse, get_or-reverse}
+use Rattle.std.proofs.lemmas.List.{get_or-map, get_or_default, length-map, length-take, map-append, drop-append-le, take-append-le, drop_at, take_all, length_push, get_or_append_left, get_or_push, length-reverse, get_or-reverse}
 use Rattle.std.proofs.lemmas.Grind.{reverse_onto}
 use Rattle.std.proofs.lemmas.List.Sorted.{sum_by-IsPermutation, IsPermutation-reverse}
 use Rattle.std.proofs.lemmas.List.Sums.{sum_by_push}
 use Rattle.std.proofs.lemmas.Bool.{cases_lt}
-use Rattle.rpm_hindex.proofs.Vocabulary.{IsPacked, live_of, no_head, record_units, Row, row_in, RowHead, rows_in}
+use Rattle.rpm_hindex.proofs.Vocabulary.{IsPacked, live_of, no_head, no_row, record_units, Row, row_in, row_nth, RowHead, rows_in}
 
 pub packed_none : IsPacked [] [] 0
 unfolding live_of
@@ -106,3 +106,29 @@ packed_reversed heads keys live packed = record {
   most = packed.most;
   count = omega (arith, length-reverse heads, packed.count);
 }
+
+-- ---- one row
+
+-- what a head says of its row
+pub record IsHeadOf (keys : List ℕ) (row : Row) (h : RowHead) : Type 0 where
+  pub row_is : row ≡ row_in keys h
+  pub within : h.start + h.length ≤ length keys
+  pub long : length row.key ≡ h.length
+  pub short : h.length < 2 ^ 28
+  pub kinds : h.kind < 16
+
+pub head_is : (heads : List RowHead) (keys : List ℕ) (live : ℕ) → IsPacked heads keys live → (rows : List Row) → rows_in keys heads ≡ rows
+    → (i : ℕ) → i < length rows → (h : RowHead) → h ≡ get_or heads i h → IsHeadOf keys (row_nth rows i) h
+head_is heads keys live packed rows view i lt h is =
+    let below : i < length heads = omega (arith, ap length view, length-map heads (row_in keys), lt) in
+    let same : h ≡ get_or heads i no_head = is ∙ get_or_default heads i h no_head below in
+    let row : row_nth rows i ≡ row_in keys h =
+    ap (λ (rs : List Row). row_nth rs i) (sym view) ∙ get_or-map (row_in keys) heads i no_head no_row below ∙ ap (row_in keys) (sym same) in
+    let within : h.start + h.length ≤ length keys = subst (λ (g : RowHead). g.start + g.length ≤ length keys) (sym same) (packed.within i below) in
+    record {
+      row_is = row;
+      within = within;
+      long = ap (λ (r : Row). length r.key) row ∙ omega (arith, within, length-take h.length (drop h.start keys), length-drop h.start keys);
+      short = subst (λ (g : RowHead). g.length < 2 ^ 28) (sym same) (packed.short i below);
+      kinds = subst (λ (g : RowHead). g.kind < 16) (sym same) (packed.kinds i below);
+    }

@@ -41,25 +41,24 @@ loop-left-init g c = record {
       let no' : ⊥ = cc in no'
 
 -- what reading a chain cost, in the words of the first disk
-cost_here : {D : Type 0} (files : D → Files) (later first : D) (e d : Extent) (r row : Row) (old new : ℕ) → files later ≡ files first → e ≡ d → r ≡ row
-    → ChainCosts (chain (index_in e.buckets (files later).idx) (hash_of r.kind r.key % e.buckets)) (units_at (unit_at (files later).idx)) old new
-    → ChainCosts (chain (index_in d.buckets (files first).idx) (hash_of row.kind row.key % d.buckets)) (units_at (unit_at (files first).idx)) old new
-cost_here files later first e d r row old new same extent is costs =
+cost_here : (later first : Files) (e d : Extent) (r row : Row) (old new : ℕ) → later ≡ first → e ≡ d → r ≡ row
+    → ChainCosts (chain (index_in e.buckets later.idx) (hash_of r.kind r.key % e.buckets)) (units_at (unit_at later.idx)) old new
+    → ChainCosts (chain (index_in d.buckets first.idx) (hash_of row.kind row.key % d.buckets)) (units_at (unit_at first.idx)) old new
+cost_here later first e d r row old new same extent is costs =
     let C : Files → Extent → Row → Type 0 = λ f x q. ChainCosts (chain (index_in x.buckets f.idx) (hash_of q.kind q.key % x.buckets))
     (units_at (unit_at f.idx)) old new in
-    subst (λ (q : Row). C (files first) d q) is (subst (λ (x : Extent). C (files first) x r) extent (subst (λ (f : Files). C f e r) same costs))
+    subst (λ (q : Row). C first d q) is (subst (λ (x : Extent). C first x r) extent (subst (λ (f : Files). C f e r) same costs))
 
 -- the index, in the words of the first disk
-index_here : {D : Type 0} (files : D → Files) (later first : D) (e d : Extent) → files later ≡ files first → e ≡ d
-    → index_in e.buckets (files later).idx ≡ index_in d.buckets (files first).idx
-index_here files later first e d same extent =
-    ap (λ (f : Files). index_in e.buckets f.idx) same ∙ ap (λ (x : Extent). index_in x.buckets (files first).idx) extent
+index_here : (later first : Files) (e d : Extent) → later ≡ first → e ≡ d → index_in e.buckets later.idx ≡ index_in d.buckets first.idx
+index_here later first e d same extent =
+    ap (λ (f : Files). index_in e.buckets f.idx) same ∙ ap (λ (x : Extent). index_in x.buckets first.idx) extent
 
 -- starts, in the words of the first disk
-starts_here : {D : Type 0} (files : D → Files) (later first : D) (e d : Extent) (kept : ℕ → Bool) (starts : ℕ → Option Start) → files later ≡ files first
-    → e ≡ d → AreStarts (index_in e.buckets (files later).idx) kept starts → AreStarts (index_in d.buckets (files first).idx) kept starts
-starts_here files later first e d kept starts same extent are =
-    subst (λ (x : Extent). AreStarts (index_in x.buckets (files first).idx) kept starts) extent
+starts_here : (later first : Files) (e d : Extent) (kept : ℕ → Bool) (starts : ℕ → Option Start) → later ≡ first → e ≡ d
+    → AreStarts (index_in e.buckets later.idx) kept starts → AreStarts (index_in d.buckets first.idx) kept starts
+starts_here later first e d kept starts same extent are =
+    subst (λ (x : Extent). AreStarts (index_in x.buckets first.idx) kept starts) extent
     (subst (λ (f : Files). AreStarts (index_in e.buckets f.idx) kept starts) same are)
 
 pub drop_row-requires-clause-starts : goal.drop_row-requires-clause-starts
@@ -67,7 +66,7 @@ drop_row-requires-clause-starts g c =
     let l = c.loop-left in
     record {
       stand = subst (λ (e : Extent). StandWithin e.buckets e.used (λ b. get nat_cmp l.starts b)) (sym l.invariant.extent) l.invariant.stand;
-      chained = λ told. starts_here g.D.Disk.files c.args.disk.now l.disk c.args.change.now.extent l.change.extent
+      chained = λ told. starts_here (g.D.Disk.files c.args.disk.now) (g.D.Disk.files l.disk) c.args.change.now.extent l.change.extent
           (is_kept (λ p. contains nat_cmp l.change.dropped p))
           (λ b. get nat_cmp l.starts b) (sym ((l.invariant.looks.untouched told).same)) (sym l.invariant.extent) (l.invariant.starts told);
     }
@@ -87,7 +86,7 @@ loop-left-preserved g c =
       none = λ e. absurd (omega (arith, e, lt));
       stand = subst (λ (e : Extent). StandWithin e.buckets e.used (λ b. get nat_cmp c.drop_row.new.starts b)) l.invariant.extent
           c.in_ok-drop_row.ensures.starts.stand;
-      starts = λ told. starts_here g.D.Disk.files l.disk c.args.disk.now l.change.extent c.args.change.now.extent
+      starts = λ told. starts_here (g.D.Disk.files l.disk) (g.D.Disk.files c.args.disk.now) l.change.extent c.args.change.now.extent
           (is_kept (λ p. contains nat_cmp c.drop_row.new.self.dropped p)) (λ b. get nat_cmp c.drop_row.new.starts b)
           ((l.invariant.looks.untouched told).same) l.invariant.extent (c.in_ok-drop_row.ensures.starts.chained told);
       less = λ told whole.
@@ -108,7 +107,8 @@ loop-left-preserved g c =
           let first : Change = c.args.change.now in
           let last : Change = c.drop_row.new.self in
           let here = subst (λ (y : Index). HasNoFault y → HasGone (row_nth rows i ∷ []) l.change last y)
-          (index_here g.D.Disk.files l.disk c.args.disk.now l.change.extent first.extent ((l.invariant.looks.untouched told).same) l.invariant.extent)
+          (index_here (g.D.Disk.files l.disk) (g.D.Disk.files c.args.disk.now) l.change.extent first.extent
+          ((l.invariant.looks.untouched told).same) l.invariant.extent)
           (subst (λ (r : Row). HasNoFault (index_in l.change.extent.buckets (g.D.Disk.files l.disk).idx)
           → HasGone (r ∷ []) l.change last (index_in l.change.extent.buckets (g.D.Disk.files l.disk).idx)) c.row_ref.ensures.row
           (c.in_ok-drop_row.ensures.dropped told).gone) in
@@ -125,7 +125,7 @@ loop-left-preserved g c =
           ((l.invariant.looks.untouched told).same) (c.in_ok-drop_row.ensures.dropped told).honest (l.invariant.honest told is);
       cost = λ told whole. chain_more c.args.change.now.extent.buckets (g.D.Disk.files c.args.disk.now).idx whole c.requires.go.some rows i l.left _ _ _ lt next
           (l.invariant.cost told whole)
-          (cost_here g.D.Disk.files l.disk c.args.disk.now l.change.extent c.args.change.now.extent _ (row_nth rows i) _ _
+          (cost_here (g.D.Disk.files l.disk) (g.D.Disk.files c.args.disk.now) l.change.extent c.args.change.now.extent _ (row_nth rows i) _ _
           ((l.invariant.looks.untouched told).same) l.invariant.extent c.row_ref.ensures.row (c.in_ok-drop_row.ensures.cost told));
       looks = looks_at_then _ Idx g.met.D.Disk.follows_trans _ _ _ l.invariant.looks c.drop_row.ensures.reads.looks;
       faults = omega (arith, l.invariant.faults, c.drop_row.ensures.reads.cause.later);
@@ -141,7 +141,7 @@ returns-in_err-drop_row-clause-cost g c = λ told whole.
     let B = c.args.change.now.extent.buckets in
     let file = (g.D.Disk.files c.args.disk.now).idx in
     let more = chain_more B file whole c.requires.go.some rows i l.left _ _ _ lt next (l.invariant.cost told whole)
-    (cost_here g.D.Disk.files l.disk c.args.disk.now l.change.extent c.args.change.now.extent _ (row_nth rows i) _ _
+    (cost_here (g.D.Disk.files l.disk) (g.D.Disk.files c.args.disk.now) l.change.extent c.args.change.now.extent _ (row_nth rows i) _ _
     ((l.invariant.looks.untouched told).same) l.invariant.extent c.row_ref.ensures.row (c.in_err-drop_row.ensures.cost told)) in
     omega (arith, more, chains_drop B file whole c.requires.go.some rows i)
 
@@ -159,7 +159,8 @@ returns-in_err-drop_row-clause-refused g c =
     record {
       short = λ none.
           let here = subst (λ (y : Index). HasNoFault y → IsShort (row_nth rows i ∷ []) l.change y c.in_err-drop_row.field-0.0)
-          (index_here g.D.Disk.files l.disk c.args.disk.now l.change.extent first.extent ((l.invariant.looks.untouched told).same) l.invariant.extent)
+          (index_here (g.D.Disk.files l.disk) (g.D.Disk.files c.args.disk.now) l.change.extent first.extent
+          ((l.invariant.looks.untouched told).same) l.invariant.extent)
           (subst (λ (r : Row). HasNoFault (index_in l.change.extent.buckets (g.D.Disk.files l.disk).idx)
           → IsShort (r ∷ []) l.change (index_in l.change.extent.buckets (g.D.Disk.files l.disk).idx) c.in_err-drop_row.field-0.0) c.row_ref.ensures.row
           fault.short) in

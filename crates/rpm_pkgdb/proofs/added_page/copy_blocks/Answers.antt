@@ -83,3 +83,14 @@ returns-clause-writes g c =
     let S = SameOutside c.args.to c.args.count in
     writes_then g.D.Disk g.met.D.Disk.follows_trans c.loop-done.invariant.writes c.settle.ensures.writes (omega (arith, c.loop-done.invariant.to_end))
     (λ x y r. r) (λ x y z r same. subst (S x) (sym same) r)
+
+pub returns-in_err-read_units-clause-writes : goal.returns-in_err-read_units-clause-writes
+returns-in_err-read_units-clause-writes g c =
+    let l = c.loop-done in
+    let to = c.args.to in
+    let count = c.args.count in
+    let some = c.min-some.result in
+    let le : l.done + some ≤ count = omega (arith, c.min-some.ensures, l.invariant.to_end) in
+    writes_failed g.D.Disk (writes_then g.D.Disk g.met.D.Disk.follows_trans {T = SameOutside to count} {most = 16 * count} l.invariant.writes
+    (writes_reads g.D.Disk c.in_err-read_units.ensures.reads (outside_refl to count)) (omega (arith, length-take (16 * some) l.page)) (λ x y r. r)
+    (outside_then to count))

@@ -1,5 +1,5 @@
 use Rattle.std.proofs.Common.{◌≡◌, List, replicate, refl, sym, ap, subst, ◌∙◌, arith}
-use Rattle.rpm_pkgdb.proofs.Vocabulary.{free, HasUsed, IsKept, IsWritten, Slot, Store}
+use Rattle.rpm_pkgdb.proofs.Vocabulary.{free, HasUsed, IsKept, IsWritten, made_new, Slot, Store}
 use Rattle.rpm_pkgdb.proofs.Makes.{new_map}
 use Rattle.rpm_pkgdb.proofs.News.{new_kept, new_used, new_slots, none_taken}
 use Rattle.std.specs.FinMap as finite
@@ -38,3 +38,11 @@ returns-clause-made g c = λ told.
       next = c.in-Ok.ensures.next told;
       reach = omega (arith, (c.write_new.ensures.writes.changes.pkg told).no_longer);
     }
+
+pub returns-clause-ok : goal.returns-clause-ok
+returns-clause-ok g c =
+    let i = c.self.inside in
+    let none : i.pages ≡ 0 = ap (λ (v : Store). v.pages) c.self.view_is ∙ c.requires.blank in
+    let is = new_slots i.numbers.pairs i.pages i.slots.items c.self.invariant.kept none c.add_free.new.slots.items c.add_free.ensures.items in
+    let one : Store = record { generation = 1; pages = 1; field = 1; slots = replicate 254 free; spare = i.spare; is_stopped = i.stopped } in
+    ap (λ (l : List Slot). record one { slots = l }) is ∙ ap made_new c.self.view_is

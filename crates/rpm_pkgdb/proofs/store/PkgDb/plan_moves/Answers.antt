@@ -1,8 +1,16 @@
-use Rattle.std.proofs.Common.{◌≡◌, ℕ, ◌+◌, ◌*◌, ◌<◌, List, ap, sym, subst, Err}
-use Rattle.rpm_pkgdb.proofs.Vocabulary.{AllMoved, AreBehind, CantMove, count_before, IsFirstBefore, next_end, Slot, Store, StoreFull}
+use Rattle.std.proofs.Common.{◌≡◌, ℕ, ◌+◌, ◌*◌, ◌<◌, List, [], ap, sym, subst, ◌∙◌, arith, Err}
+use Rattle.rpm_pkgdb.proofs.Vocabulary.{after_moves, AllMoved, AreBehind, AreMoves, CantMove, count_before, HasPlacesBefore, IsFirstBefore}
+use Rattle.rpm_pkgdb.proofs.Vocabulary.{IsPlanning, next_end, Page, Slot, Store, StoreFull, vec_len}
+use Rattle.std.proofs.lemmas.List.{nil_from_length}
 use Rattle.rpm_pkgdb.proofs.Changing.{err_given}
 use Rattle.rpm_pkgdb.proofs.PageLaws.{cant_move, all_moved, fewer_before}
 use Rattle.rpm_pkgdb.proofs.store.PkgDb.plan_moves.Goals as goal
+
+-- no moves yet
+planning_none : (slots : List Slot) (end : ℕ) (page : Page) → vec_len page.moves ≡ 0 → page.slots.items ≡ slots → IsPlanning slots end page
+planning_none slots end page none same =
+    let empty : page.moves.items ≡ [] = nil_from_length page.moves.items (omega (arith, none)) in
+    record { moves = subst (AreMoves slots end) (sym empty) tt; slots_are = same ∙ ap (after_moves slots) (sym empty) }
 
 pub returns-in_err-add_move-clause-full : goal.returns-in_err-add_move-clause-full
 returns-in_err-add_move-clause-full c =
@@ -36,3 +44,12 @@ returns-clause-page c =
     subst (λ (n : ℕ). AllMoved st.slots n l.page) same
     (all_moved st.slots end l.page l.invariant.planning (subst (λ (s : List Slot). AreBehind s end) c.deref-in-loop-place.ensures.value
     c.in_default.ensures))
+
+pub loop-place-init : goal.loop-place-init
+loop-place-init c = record {
+  ranged = c.in_ok-page.ensures.ranged;
+  planning = planning_none c.args.self.now.slots (256 * (c.self.inside.pages + 1)) c.in_ok-page.page c.in_ok-page.ensures.none c.in_ok-page.ensures.slots;
+  places =
+      let same = c.deref.ensures.value ∙ (ap (λ (v : Store). v.slots) c.self.view_is ∙ sym c.in_ok-page.ensures.slots) in
+      subst (λ (s : List Slot). HasPlacesBefore s (256 * (c.self.inside.pages + 1)) c.in_ok-places.places.items) same c.in_ok-places.ensures;
+}
