@@ -67,7 +67,7 @@ module _ {D : Type 0} (d : disk.Ghosts D) (stays : (x : D) → d.follows x x) (j
       record {
         ended = λ told. rw (same (tells told)) (ends (state_in d old db));
         limits = λ told i rows.
-            rw (same (tells told)) (none_made i (state_in d old db) (room db) (room db) (room db).spare uncounted refl);
+            rw (same (tells told)) (none_made i (state_in d old db) (room db) (room db) uncounted refl);
         whole = λ told was. rw (same told) was;
         left = left_looked (Ok uncounted) (record { later = later; rose = λ is. absurd cc });
       }

@@ -4,9 +4,9 @@ use Rattle.std.proofs.lemmas.Bool.Decides.{nat_tests}
 use Rattle.std.proofs.lemmas.List.{length-replicate}
 use Rattle.std.specs.Prelude.{IsTrue}
 use Rattle.rpm_outside.specs.declared.disk.Disk as disk
-use Rattle.rpm_change.proofs.Vocabulary.{blank, CarriedOn, ChangeFault, Course, Database, due, due_units, Halt, halt_of, halted_by, idx_more}
-use Rattle.rpm_change.proofs.Vocabulary.{is_indexed, is_limit, IsGathering, IsIndexed, IsOfIndex, IsOfReading, IsOrdered, IsOwing, IsReady, IsSettledUp}
-use Rattle.rpm_change.proofs.Vocabulary.{IsWholeIndex, other_stop, OwesOn, packages, room, Rose, Row, Runs, SameLog}
+use Rattle.rpm_change.proofs.Vocabulary.{blank, CarriedOn, ChangeFault, Course, Database, due, due_units, generation_of, Halt, halt_of, halted_by}
+use Rattle.rpm_change.proofs.Vocabulary.{has_failed, idx_more, is_indexed, is_limit, IsGathering, IsIndexed, IsOfIndex, IsOfReading, IsOrdered, IsOwing}
+use Rattle.rpm_change.proofs.Vocabulary.{IsReady, IsSettledUp, IsWholeIndex, other_stop, OwesOn, packages, room, Rose, Row, Runs, SameLog}
 use Rattle.rpm_change.proofs.Vocabulary.{sealed_in, State, state_in, suspended, Tally, then_by, times, times_none, Went, WentOwing}
 use Rattle.rpm_change.proofs.Vocabulary.{whole_halt, WholeCause}
 use Rattle.rpm_db.specs.declared.change_fault.ChangeFault.TheVariants as fault
@@ -32,8 +32,8 @@ module _ {D : Type 0} (d : disk.Ghosts D) where
 
 -- ---- a list of headers that was gone through, from the additions' begin on
 
-module _ {D : Type 0} (d : disk.Ghosts D) {a : D} {db : Database} {owed : List Row} (ready : IsReady d a db) (going : (room db).is_stopped ≡ false)
-    (ordered : IsOrdered db.index) (sealed : sealed_in db.index ≡ (room db).generation) (none : owed ≡ []) where
+module _ {D : Type 0} (d : disk.Ghosts D) {a : D} {db : Database} {owed : List Row} (ready : IsReady d a db) (going : has_failed db ≡ false)
+    (ordered : IsOrdered db.index) (sealed : sealed_in db.index ≡ generation_of db) (none : owed ≡ []) where
   pub owing_begun : IsOwing d (IsIndexed d a db) a (suspended db) owed
   owing_begun = record {
     gathering = record {
@@ -73,7 +73,7 @@ module _ {D : Type 0} (d : disk.Ghosts D) {a : D} {db : Database} {owed : List R
 
       begins : length (due (d.files a) (suspended db) owed).idx ≡ length (d.files a).idx
       begins =
-          let test : (sealed_in db.index == (room db).generation) ≡ true = grind (arith, nat_tests, sealed) in
+          let test : (sealed_in db.index == generation_of db) ≡ true = grind (arith, nat_tests, sealed) in
           length-replicate (due_units (d.files a).pkg (d.files a).idx (suspended db) owed) blank ∙ rw test refl
 
       -- the index has all rows

@@ -2,9 +2,9 @@
 use Rattle.std.proofs.Common.{◌≡◌, ◌≢◌, ◌≤◌, Bool, true, false, Ok, Err, refl}
 use Rattle.std.specs.Prelude.{IsTrue}
 use Rattle.rpm_outside.specs.declared.disk.Disk as disk
-use Rattle.rpm_change.proofs.Vocabulary.{Change, ChangeFault, changing, Database, fault_kind, fault_spent, FaultIs, FullCause, halt_of, halted_went}
-use Rattle.rpm_change.proofs.Vocabulary.{HasCauseAt, HasNumber, IsLeft, left_made, Makes, MakesOne, needed, next-state, next_number, one_made, one_refused}
-use Rattle.rpm_change.proofs.Vocabulary.{ReachesTo, refused_quietly, room, Runs, SameLog, state_in, Tally, through_none}
+use Rattle.rpm_change.proofs.Vocabulary.{Change, ChangeFault, changing, Database, fault_kind, fault_spent, FaultIs, FullCause, generation_of, halt_of}
+use Rattle.rpm_change.proofs.Vocabulary.{halted_went, HasCauseAt, HasNumber, IsLeft, left_made, Makes, MakesOne, needed, next-state, next_number}
+use Rattle.rpm_change.proofs.Vocabulary.{one_made, one_refused, ReachesTo, refused_quietly, room, Runs, SameLog, state_in, Tally, through_none}
 use Rattle.rpm_db.specs.declared.change_fault.ChangeFault.TheVariants as fault
 
 abbrev changed : Tally
@@ -13,7 +13,7 @@ changed = record { failed = 0; changes = 1 }
 module _ {D : Type 0} (d : disk.Ghosts D) {A : Type 0} (change : Change) {old new : D} {before after kept : Database} (going : before.stopped ≡ false)
     (runs : Runs d SameLog old new) where
   pub made_one : (a : A) → Makes d old new change before after (Ok a) → IsLeft d old new before after kept (Ok a) → HasNumber (state_in d old before) change
-      → (room before).generation ≢ 4294967295 → (IsTrue d.tells → ReachesTo (room after) (d.files old).pkg (d.files new).pkg) → d.faults old ≤ d.faults new
+      → generation_of before ≢ 4294967295 → (IsTrue d.tells → ReachesTo (room after) (d.files old).pkg (d.files new).pkg) → d.faults old ≤ d.faults new
       → MakesOne d change old new before after (Ok changed)
   made_one a makes left number unspent end later = record {
     went = record {
@@ -32,7 +32,7 @@ module _ {D : Type 0} (d : disk.Ghosts D) {A : Type 0} (change : Change) {old ne
 
   pub refused_one : {X : Type 0} (f : ChangeFault) → Makes d {A = A} old new change before after (Err f) → IsLeft d {A = A} old new before after kept (Err f)
       → ((i : Bool) → (i ≡ true → FullCause (needed (state_in d old before) change) f) → FaultIs i (state_in d old before) change (room before) f)
-      → next_number kept ≡ next_number before → (room kept).generation ≡ (room before).generation
+      → next_number kept ≡ next_number before → generation_of kept ≡ generation_of before
       → HasCauseAt X (d.faults old) (d.faults new) → (f ≡ fault.DiskFault → X) → MakesOne d change old new before after (Err (halt_of f))
   refused_one f makes left refuses number generation cause failed =
       let s = state_in d old before in

@@ -33,7 +33,7 @@ pub use Rattle.rpm_change.specs.inner.Telling.{told_all, told_none, told_part}
 pub use Rattle.rpm_db.specs.Above.{next_above, none_is, nothing_above}
 pub use Rattle.rpm_db.specs.Changed.{IsLeft, IsReady, Makes}
 pub use Rattle.rpm_db.specs.Changes.{Add, Change, Erase, next, Put}
-pub use Rattle.rpm_db.specs.Database.{Database, is_indexed, IsNext, next_number}
+pub use Rattle.rpm_db.specs.Database.{Database, generation_of, has_failed, is_indexed, IsNext, next_number}
 pub use Rattle.rpm_db.specs.Frame.{IsIndexed, packages_in, room, Runs, state_in}
 pub use Rattle.rpm_db.specs.Gathering.{due, due_units, IsGathering, IsOrdered, IsSettledUp, OwesOn, resumed, sealed_in, suspended}
 pub use Rattle.rpm_db.specs.Lawful.{IsWholeIndex, Remade}

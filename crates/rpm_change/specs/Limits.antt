@@ -4,9 +4,8 @@ use Rattle.std.specs.Option.{option_or, option_and_then}
 use Rattle.rpm_hindex.specs.Sizes.{units_for}
 use Rattle.rpm_outside.specs.Files.{Files}
 use Rattle.rpm_pkgdb.specs.Store.{Store}
-use Rattle.rpm_pkgdb.specs.Written.{with_spare}
 use Rattle.rpm_db.specs.Changes.{Change, Add, apply, next}
-use Rattle.rpm_db.specs.Room.{next_store}
+use Rattle.rpm_db.specs.Room.{RoomBecomes, next_store}
 use Rattle.rpm_db.specs.Rows.{rows}
 use Rattle.rpm_db.specs.State.{State}
 use Rattle.rpm_change.specs.declared.tally.Tally.{Tally}
@@ -77,6 +76,6 @@ StopsAt indexed first (Err h) = is_limit indexed h ≡ true → first ≡ Some h
 -- than they make it
 pub record LimitsTurn (indexed : Bool) (s : State) (old new : Store) (before after : Files) (changes : List Change) (r : Result Tally Halt) : Type 0 where
   pub first : StopsAt indexed (first_refusal indexed s old changes) r
-  pub stores : OnOk r (next_stores changes old ≡ Some (with_spare old.spare new))
+  pub stores : OnOk r (RoomBecomes (next_stores changes old) old new)
   pub raised : OnOk r (new.generation ≡ old.generation + length changes)
   pub reached : OnOk r (Reached indexed s old changes before after)

@@ -4,6 +4,7 @@ pub use Rattle.rpm_db.specs.Changes.{Add, Erase, Put, apply}
 pub use Rattle.rpm_db.specs.Database.{holds, is_indexed}
 pub use Rattle.rpm_db.specs.Frame.{Runs, state_in}
 pub use Rattle.rpm_db.specs.Gathering.{IsGathering}
+pub use Rattle.rpm_db.specs.Room.{RoomBecomes}
 pub use Rattle.rpm_db.specs.State.{Bad, Package, State}
 pub use Rattle.rpm_db.specs.Runs.{SameLog}
 pub use Rattle.rpm_file.specs.List.{list_head}
@@ -14,7 +15,6 @@ pub use Rattle.rpm_header.specs.Laid.{data_of, laid}
 pub use Rattle.rpm_outside.specs.Browses.{left}
 pub use Rattle.rpm_outside.specs.Frame.{DiskFault}
 pub use Rattle.rpm_outside.specs.Shelves.{bytes_at}
-pub use Rattle.rpm_pkgdb.specs.Written.{with_spare}
 pub use Rattle.rpm_change.specs.declared.tally.Halt.TheVariants.{NoMemory}
 pub use Rattle.rpm_change.specs.Adding.{GivesInstalled, IsOfPutting, add_files, as_installed, change_at}
 pub use Rattle.rpm_change.specs.Adding.{put_file, put_read, replace, stop_in}

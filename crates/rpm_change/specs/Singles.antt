@@ -2,13 +2,12 @@
 use Rattle.std.specs.Prelude.{◌≡◌, ◌≢◌, ℕ, true, IsTrue, IfOk, IfErr, Option, Some, None, Result}
 use Rattle.rpm_outside.specs.declared.disk.Disk as disk
 use Rattle.rpm_db.specs.Changes.{Change, Put, Erase}
-use Rattle.rpm_db.specs.Database.{Database, holds, next_number}
+use Rattle.rpm_db.specs.Database.{Database, generation_of, holds, next_number}
 use Rattle.rpm_change.specs.declared.tally.Tally.{Tally}
 use Rattle.rpm_change.specs.declared.tally.Halt.{Halt}
 use Rattle.rpm_change.specs.declared.tally.Halt.TheVariants as halt
 use Rattle.rpm_change.specs.Steps.{changing}
 use Rattle.rpm_change.specs.Went.{EndedQuietly, Went}
-use Rattle.rpm_db.specs.Frame.{room}
 
 -- a header goes under a new number, or under one that a package has
 abbrev pub IsHeld : Option ℕ → Database → Type 0
@@ -18,7 +17,7 @@ IsHeld (Some n) db = holds n db ≡ true
 -- no number, no generation is left in this value
 abbrev pub IsSpent : Database → Halt → Type 0
 IsSpent db halt.NumbersSpent = next_number db ≡ 4294967295
-IsSpent db halt.GenerationSpent = (room db).generation ≡ 4294967295
+IsSpent db halt.GenerationSpent = generation_of db ≡ 4294967295
 IsSpent db others = Unit {0}
 
 -- only a header under a new number takes a number, and only a header takes room in the store

@@ -2,7 +2,7 @@
 
 ghost use Rattle.std.specs.Prelude.{◌≡◌, ◌+◌, ◌≤◌, true, IsTrue, Some, Err, IfOk, IfErr, OnOk};
 ghost use Rattle.std.specs.FinMap as finite;
-ghost use Rattle.rpm_change.specs.Prelude.{Bad, DiskFault, dropped, dropped_line, EndedOnOut, first_limit, Hand, holds, is_indexed, IsCurrent, IsOfRebuilding, IsReady, next_stores, Package, ReachedAnew, rebuild, room, Runs, SameLog, state_in, StopsAt, Went, with_spare};
+ghost use Rattle.rpm_change.specs.Prelude.{Bad, DiskFault, dropped, dropped_line, EndedOnOut, first_limit, Hand, holds, is_indexed, IsCurrent, IsOfRebuilding, IsReady, next_stores, Package, ReachedAnew, rebuild, room, RoomBecomes, Runs, SameLog, state_in, StopsAt, Went};
 
 use crate::single::take_out;
 use crate::tally::{Halt, IDLE, Tally};
@@ -141,8 +141,9 @@ pub fn rebuild<D: Disk, O: Sink + Drop>(
         (rebuild (state_in D.Disk disk.old db.old)).changes) result }
     ensures current { IfOk result (λ _tally. IsCurrent D.Disk disk.new db.new) }
     ensures indexed { is_indexed db.new ≡ true }
-    ensures stores { OnOk result (IsTrue D.tells → next_stores (rebuild (state_in D.Disk disk.old db.old)).changes
-        (room db.old) ≡ Some (with_spare (room db.old).spare (room db.new))) }
+    ensures stores { OnOk result (IsTrue D.tells
+        → RoomBecomes (next_stores (rebuild (state_in D.Disk disk.old db.old)).changes (room db.old)) (room db.old)
+        (room db.new)) }
     ensures reach { OnOk result (IsTrue D.tells → ReachedAnew (state_in D.Disk disk.old db.old) (room db.old)
         (rebuild (state_in D.Disk disk.old db.old)).changes (D.files disk.old) (D.files disk.new)) }
     ensures kinds { IfErr result IsOfRebuilding }

@@ -2,7 +2,7 @@
 use Rattle.std.proofs.Common.{◌≡◌, ℕ, List, Bool, false, Option, Some, None, Ok, Err, refl, ap, ◌∙◌, is_some}
 use Rattle.std.specs.Prelude.{Result, Vec}
 use Rattle.rpm_db.proofs.Vocabulary.{AnswerIs, blob_in, checksum_holds, checksums_hold, Database, Frame, frames, get-blobs-frames, GetFault, given, Global}
-use Rattle.rpm_db.proofs.Vocabulary.{IsNext, option_map, package_of, ReadIs, Slot, slot_with, Units, verdict, verdict_of}
+use Rattle.rpm_db.proofs.Vocabulary.{IsNext, option_map, package_of, ReadIs, room, Slot, slot_with, Units, verdict, verdict_of}
 use Rattle.rpm_pkgdb.specs.declared.blob.GetFault.TheVariants.{NoSuch, Bad, DiskFault, NoMemory}
 use Rattle.rpm_pkgdb.specs.Pairs as pairs
 use Rattle.rpm_db.specs.declared.verify.Verdict.TheVariants.{BadHeader}
@@ -30,10 +30,10 @@ broken_is None is = absurd cc
 broken_is (Some None) is = refl
 broken_is (Some (Some frame)) is = absurd cc
 
-pub broken : (file : Units) (db : Database) (n : ℕ) → checksums_hold file db.store n ≡ Some None → verdict file db n ≡ Some BadHeader
+pub broken : (file : Units) (db : Database) (n : ℕ) → checksums_hold file (room db) n ≡ Some None → verdict file db n ≡ Some BadHeader
 broken file db n is =
-    ap (λ (blob : Option (Option (List ℕ))). verdict_of blob (checksums_hold file db.store n)) (get-blobs-frames file db.store n)
-    ∙ broken_is (frames file db.store n) is
+    ap (λ (blob : Option (Option (List ℕ))). verdict_of blob (checksums_hold file (room db) n)) (get-blobs-frames file (room db) n)
+    ∙ broken_is (frames file (room db) n) is
 
 -- ---- the slots
 

@@ -1,9 +1,8 @@
 -- The log stays where another file changes, and the store stays quiet while the index does.
 use Rattle.std.proofs.Common.{◌≡◌, ℕ, refl, sym, ◌∙◌, subst, arith}
 use Rattle.std.specs.Prelude.{IsTrue}
-use Rattle.rpm_db.proofs.Vocabulary.{bytes_for, CameOf, Changed, Changes, File, Files, Idx, images}
-use Rattle.rpm_db.proofs.Vocabulary.{IsQuiet, leaves_weaker, Log, OnlyIn, Pkg}
-use Rattle.rpm_db.proofs.Vocabulary.{Runs, runs_then, SameLog, StandsAs, Store, Units}
+use Rattle.rpm_db.proofs.Vocabulary.{bytes_for, CameOf, Changed, Changes, File, Files, Idx, images, IsQuiet, leaves_weaker, Log, OnlyIn, Pkg, Runs, runs_then}
+use Rattle.rpm_db.proofs.Vocabulary.{SameLog, StandsAs, Store, Units}
 use Rattle.rpm_outside.specs.declared.disk.Disk as disk
 
 module _ {D : Type 0} (d : disk.Ghosts D) where

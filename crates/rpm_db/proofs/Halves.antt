@@ -3,10 +3,10 @@ use Rattle.std.proofs.Common.{◌≡◌, ℕ, ◌+◌, ◌≤◌, true, sym, ap,
 use Rattle.std.specs.Prelude.{IsTrue}
 use Rattle.rpm_outside.specs.declared.disk.Disk as disk
 use Rattle.rpm_db.proofs.Vocabulary.{Anything, AreLawful, AreRead, BlobMap, blobs, BlobsTo, CanChange, Changes, Files, Idx, images, IndexTo, IsApplied}
-use Rattle.rpm_db.proofs.Vocabulary.{IsChangedStill, IsLawful, IsQuiet, IsSealedAfter, IsSettled, IsStored, Keeps, LeavesIn, packages_of, Pkg, rows}
-use Rattle.rpm_db.proofs.Vocabulary.{Runs, SameFiles, StandsFor, state, state-blobs, state_of, Stops, Store, store, Units, Work, WritesRows}
+use Rattle.rpm_db.proofs.Vocabulary.{IsChangedStill, IsLawful, IsQuiet, IsSealedAfter, IsSettled, IsStored, Keeps, LeavesIn, packages_of, Pkg, rows, Runs}
+use Rattle.rpm_db.proofs.Vocabulary.{SameFiles, StandsFor, state, state-blobs, state_of, Stops, Store, store, Units, Work, WritesRows, HasRows, nat_cmp}
+use Rattle.rpm_db.proofs.Vocabulary.{Package, packages, packages-blobs, Changed, leaves_then, leaves_weaker}
 use Rattle.rpm_db.specs.State.{State}
-use Rattle.rpm_db.proofs.Vocabulary.{HasRows, nat_cmp, Package, packages, packages-blobs}
 use Rattle.std.specs.FinMap as finite
 use Rattle.rpm_hindex.specs.State as hindex
 use Rattle.rpm_db.proofs.Both.{quiet_then}
@@ -14,7 +14,6 @@ use Rattle.rpm_db.proofs.Found.{current_in_order}
 use Rattle.rpm_db.proofs.Unwritten.{quiet_same, settled_same, stops_written}
 use Rattle.rpm_db.proofs.Changed.{Fits, index_stop, rows_sealed, store_stop}
 use Rattle.rpm_db.proofs.Raised.{stands_same}
-use Rattle.rpm_db.proofs.Vocabulary.{Changed, leaves_then, leaves_weaker}
 use Rattle.rpm_db.proofs.Making.{no_later_of_lawful, rows_of_lawful}
 
 -- the state of these blobs and this number field

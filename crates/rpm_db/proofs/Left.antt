@@ -3,15 +3,15 @@ use Rattle.std.proofs.Common.{◌≡◌, ℕ, ◌+◌, ◌≤◌, ◌^◌, ◌==
 use Rattle.std.specs.Prelude.{IsTrue}
 use Rattle.std.proofs.lemmas.Bool.Decides.{nat_tests}
 use Rattle.rpm_outside.specs.declared.disk.Disk as disk
-use Rattle.rpm_db.proofs.Vocabulary.{added, apply, AreLawful, BadCause, BlobMap, CanChange, Change, ChangeFault, Database, DiskFault, FullCause, HasRows}
-use Rattle.rpm_db.proofs.Vocabulary.{images, is_stopping, IsChangedStill, IsConsistent, IsDone, IsLeft, IsRefusal, IsRefused, IsServing, LeavesIn}
+use Rattle.rpm_db.proofs.Vocabulary.{added, apply, AreLawful, BadCause, BlobMap, CanChange, Change, ChangeFault, Database, database_of, DiskFault, FullCause}
+use Rattle.rpm_db.proofs.Vocabulary.{HasRows, images, is_stopping, IsChangedStill, IsConsistent, IsDone, IsLeft, IsRefusal, IsRefused, IsServing, LeavesIn}
 use Rattle.rpm_db.proofs.Vocabulary.{Makes, next_store, packages, packages_of, RoomCause, rows, state, state_of, StaysBetween, Store, units_for, with_spare}
 use Rattle.rpm_hindex.specs.State as hindex
 use Rattle.rpm_db.specs.State.{State}
 use Rattle.rpm_db.proofs.Applied.{held_by}
 use Rattle.rpm_db.proofs.Unwritten.{stops_told}
 use Rattle.rpm_db.proofs.Refused.{is_refusal, stopping_is}
-use Rattle.rpm_db.proofs.Served.{database_of, indexed_as, rows_of_disk, serving_same}
+use Rattle.rpm_db.proofs.Served.{indexed_as, rows_of_disk, serving_same}
 use Rattle.rpm_db.proofs.Wholes.{whole_cause}
 
 -- a store with pages isn't blank

@@ -1,9 +1,11 @@
 -- Making the index.
 use Rattle.std.proofs.Common.{◌≡◌, ◌⊎◌, ℕ, zero, suc, ◌<◌, ◌≤◌, ◌∷◌, [], List, length, true, Ok, refl, sym, ap, ◌∙◌, subst, inl, inr, arith}
 use Rattle.std.proofs.lemmas.Bool.Decides.{nat_tests}
-use Rattle.rpm_db.proofs.Vocabulary.{blank, blobs, Files, HasRows, in_file, is_bucket_count, is_current, is_current_at, is_in_order, is_ordered}
+use Rattle.rpm_db.proofs.Vocabulary.{blank, blobs, bytes_for, Changes, File, Files, HasRows, Idx, in_file, is_bucket_count, is_current, is_current_at}
 use Rattle.rpm_db.proofs.Vocabulary.{IsIndexOf, IsLawful, IsOfRows, IsSealed, IsUnsealed, IsWellFormed, packages, put, records, Remade, Row, rows, SameRows}
 use Rattle.rpm_db.proofs.Vocabulary.{seal_unit, sealed, SealedOrSame, State, Store, store, unit_at, Units, VoidOrSame}
+use Rattle.rpm_db.proofs.Vocabulary.{is_in_order, is_ordered, Log, Looks, remade_none, remade_then, Runs, runs_index, runs_looks, runs_then}
+use Rattle.rpm_outside.specs.declared.disk.Disk as disk
 use Rattle.rpm_hindex.specs.State as hindex
 use Rattle.rpm_hindex.specs.State.{state_of}
 
@@ -60,6 +62,17 @@ voiding from image m pkg void log = record { pkg = pkg; log = log; idx = either 
     either : VoidOrSame from.idx image.idx → (image.idx ≡ from.idx) ⊎ ((unit_at image.idx 0 ≡ blank) ⊎ IsIndexOf image.pkg image.idx)
     either (inl zeros) = inr (inl zeros)
     either (inr same) = inl same
+
+-- runs of calls that leave the packages, and make the index anew at most
+module _ {D : Type 0} (d : disk.Ghosts D) where
+  pub remade_look : {file : File} {n : ℕ} {a b : D} → Looks d file n a b → bytes_for file Log n ≡ 0 → Runs d Remade a b
+  remade_look {file} {n} {a} {b} looks none = runs_looks d Remade remade_none file n a b none looks
+
+  pub remade_void : {a b : D} → Changes d Idx VoidOrSame 0 a b → Runs d Remade a b
+  remade_void {a} {b} = runs_index d Remade VoidOrSame (λ f. Unit {0}) 0 a b voiding (λ told. tt) (λ told image left. tt)
+
+  pub remade_both : ((a b c : D) → d.follows a b → d.follows b c → d.follows a c) → {a b c : D} → Runs d Remade a b → Runs d Remade b c → Runs d Remade a c
+  remade_both trans {a} {b} {c} = runs_then d trans Remade Remade Remade a b c (λ x y r. r) remade_then
 
 -- the packages of a value are those of its file
 pub packages-in_file : (file : Units) (value : Store) → packages file (in_file value) ≡ packages file value

@@ -4,7 +4,7 @@ use Rattle.std.specs.Prelude.{IsTrue, Result}
 use Rattle.std.proofs.lemmas.Bool.{and_parts}
 use Rattle.rpm_db.proofs.Vocabulary.{Damage, Files, HasRows, images, is_current_at, IsLawful, IsOpened, IsQuiet, IsSettled, Looks, must_make, packages, Pkg}
 use Rattle.rpm_db.proofs.Vocabulary.{Remade, remade_none, rows, Runs, runs_looks, StandsAs, StaysLawful, stops_lawful, Store, store, unit_at, Units}
-use Rattle.rpm_db.proofs.Vocabulary.{units_for, units_needed}
+use Rattle.rpm_db.proofs.Vocabulary.{database_of, units_for, units_needed}
 use Rattle.rpm_pkgdb.specs.Store as pkgdb
 use Rattle.rpm_hindex.specs.State as hindex
 use Rattle.rpm_db.proofs.Making.{current_same}
@@ -17,7 +17,7 @@ pub opened_made : (old mid new : Files) (value : Store) (index : hindex.State) �
     → new.pkg ≡ mid.pkg → pkgdb.Keeps mid.pkg value → hindex.Keeps new.idx index → hindex.is_current value.generation index ≡ true
     → (IsLawful mid.pkg mid.idx → HasRows (packages new.pkg value) new.idx)
     → (is_current_at value.generation mid.idx ≡ false → HasRows (packages new.pkg value) new.idx)
-    → IsOpened old new (Ok (record { store = value; index = Some index; stopped = false }))
+    → IsOpened old new (Ok (database_of value (Some index) false))
 opened_made old mid new value index said same made full wrote pkg kept keeps current rows_are rows_made = record {
   store_is = said;
   full = subst (λ (s : Result Store Damage). must_make old.idx s ≡ true → units_needed old.pkg s ≤ 2 ^ 28) (sym said)

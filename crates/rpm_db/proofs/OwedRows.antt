@@ -6,7 +6,7 @@ use Rattle.std.proofs.lemmas.Bool.Decides.{nat_tests}
 use Rattle.std.specs.FinMap as finite
 use Rattle.rpm_db.proofs.Vocabulary.{blank, Database, due, due_units, Files, HasChanged, HasRows, Header, header, header_rows, is_current, is_in_order}
 use Rattle.rpm_db.proofs.Vocabulary.{IsInOrder, IsOrdered, live_of, nat_cmp, next_number, Package, packages, packages_of, put_map, Row, rows}
-use Rattle.rpm_db.proofs.Vocabulary.{sealed, sealed_in, State, Store, times-append, times_none, Units, units_for}
+use Rattle.rpm_db.proofs.Vocabulary.{generation_of, room, sealed, sealed_in, State, Store, times-append, times_none, Units, units_for}
 use Rattle.rpm_db.proofs.Found.{current_in_order}
 use Rattle.rpm_db.proofs.Edited.{rows_put}
 use Rattle.rpm_db.proofs.Reached.{live_none}
@@ -61,25 +61,25 @@ sealed_of g (Some s) some is = current_sealed g s is
 -- ---- how far the index is to reach
 
 module _ (pkg idx : Units) (db : Database) (owed : List Row) where
-  due_least : (sealed_in db.index ≡ db.store.generation → owed ≡ []) → length idx + live_of owed ≤ due_units pkg idx db owed
-  due_least clear = elim (cases_Bool (sealed_in db.index == db.store.generation)) [
+  due_least : (sealed_in db.index ≡ generation_of db → owed ≡ []) → length idx + live_of owed ≤ due_units pkg idx db owed
+  due_least clear = elim (cases_Bool (sealed_in db.index == generation_of db)) [
     | inl same ↦
-        (let is : sealed_in db.index ≡ db.store.generation = grind (arith, nat_tests, same) in
+        (let is : sealed_in db.index ≡ generation_of db = grind (arith, nat_tests, same) in
         let none : live_of owed ≡ 0 = ap live_of (clear is) ∙ live_none in
         rw same (omega (arith, none)))
     | inr other ↦ rw other (omega arith)
   ]
 
-  due_behind : (sealed_in db.index ≡ db.store.generation → ⊥)
-      → due_units pkg idx db owed ≡ max (length idx + live_of owed) (units_for (rows (packages pkg db.store)))
+  due_behind : (sealed_in db.index ≡ generation_of db → ⊥)
+      → due_units pkg idx db owed ≡ max (length idx + live_of owed) (units_for (rows (packages pkg (room db))))
   due_behind other =
-      let test : (sealed_in db.index == db.store.generation) ≡ false = grind (arith, nat_tests, other) in
+      let test : (sealed_in db.index == generation_of db) ≡ false = grind (arith, nat_tests, other) in
       rw test refl
 
 -- with the rows of a header more
 pub due_more : (old new : Files) (before after : Database) (owed more rows_more : List Row) (added needed : ℕ) → new.idx ≡ old.idx
-    → (sealed_in before.index ≡ before.store.generation → owed ≡ []) → (sealed_in after.index ≡ after.store.generation → ⊥)
-    → more ≡ owed ++ rows_more → added ≡ live_of rows_more → needed ≡ units_for (rows (packages new.pkg after.store))
+    → (sealed_in before.index ≡ generation_of before → owed ≡ []) → (sealed_in after.index ≡ generation_of after → ⊥)
+    → more ≡ owed ++ rows_more → added ≡ live_of rows_more → needed ≡ units_for (rows (packages new.pkg (room after)))
     → length (due new after more).idx ≤ max (length (due old before owed).idx + added) needed
 due_more old new before after owed more rows_more added needed same clear apart is added_is needed_is =
     omega (

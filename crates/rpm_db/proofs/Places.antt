@@ -1,7 +1,6 @@
 -- Rows by kind and place.
 use Rattle.std.proofs.Common.{◌≡◌, ℕ, zero, suc, ◌+◌, ◌≤◌, ◌<◌, Bool, false, List, [], ◌∷◌, drop, length, cond, ap, ◌∙◌, inl, inr, arith, add-one}
-use Rattle.rpm_db.proofs.Vocabulary.{AreByPlace, Each, Row, row_nth, same_row, StandsBefore, StandsNotBehind, times, times-append}
-use Rattle.rpm_db.proofs.Vocabulary.{times_none, times_one}
+use Rattle.rpm_db.proofs.Vocabulary.{AreByPlace, Each, Row, row_nth, same_row, StandsBefore, StandsNotBehind, times, times-append, times_none, times_one}
 use Rattle.std.proofs.lemmas.Bool.{cases_Bool}
 use Rattle.rpm_hindex.specs.inner.RowLaws.{same_is}
 use Rattle.rpm_db.proofs.Shared.{times_from}

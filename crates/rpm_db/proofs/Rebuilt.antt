@@ -1,7 +1,7 @@
 -- An index that was rebuilt, as a value keeps it.
 use Rattle.std.proofs.Common.{◌≡◌, ℕ, Bool, true, Option, Some, None, is_some, sym, ap, ◌∙◌}
 use Rattle.rpm_db.proofs.Vocabulary.{Files, Idx, is_current_at, IsIndexed, IsIndexOf, IsInOrder, IsServing, IsSettled, KeepsUnits, Pkg, Remade, Store, store}
-use Rattle.rpm_db.proofs.Vocabulary.{Units}
+use Rattle.rpm_db.proofs.Vocabulary.{database_of, Units}
 use Rattle.rpm_pkgdb.specs.Store as pkgdb
 use Rattle.rpm_hindex.specs.State as hindex
 use Rattle.rpm_db.proofs.Making.{current_same, rows_of_index}
@@ -15,7 +15,7 @@ kept_current g idx (Some s) some order keeps = sym (current_same g idx s keeps) 
 pub rebuilt : (old new : Files) (value : Store) (index : Option hindex.State) (stopped : Bool) → Remade old new → pkgdb.Keeps old.pkg value
     → is_some index ≡ true
     → IsInOrder value.generation index → KeepsUnits new.idx index → IsIndexOf new.pkg new.idx
-    → IsIndexed new.pkg new.idx (record { store = value; index = index; stopped = stopped })
+    → IsIndexed new.pkg new.idx (database_of value index stopped)
 rebuilt old new value index stopped made keeps some order kept is = record {
   current = kept_current value.generation new.idx index some order kept;
   rows_are = rows_of_index new.pkg new.idx value (ap store made.pkg ∙ keeps) is;
@@ -24,7 +24,7 @@ rebuilt old new value index stopped made keeps some order kept is = record {
 -- a store's index that was made beside it
 pub indexed_now : (pkg idx : Units) (value : Store) (index : Option hindex.State) (stopped : Bool) → pkgdb.Keeps pkg value → is_some index ≡ true
     → IsInOrder value.generation index → KeepsUnits idx index → IsIndexOf pkg idx
-    → IsIndexed pkg idx (record { store = value; index = index; stopped = stopped })
+    → IsIndexed pkg idx (database_of value index stopped)
 indexed_now pkg idx value index stopped keeps some order kept is = record {
   current = kept_current value.generation idx index some order kept;
   rows_are = rows_of_index pkg idx value keeps is;
@@ -33,7 +33,7 @@ indexed_now pkg idx value index stopped keeps some order kept is = record {
 -- a settled store, whose index was made beside it, serves
 pub serving_now : (files : Files) (images : Files → Type 0) (value : Store) (index : Option hindex.State) (stopped : Bool) → pkgdb.Keeps files.pkg value
     → KeepsUnits files.idx index → IsSettled Pkg files images → IsSettled Idx files images
-    → IsServing files images (record { store = value; index = index; stopped = stopped })
+    → IsServing files images (database_of value index stopped)
 serving_now files images value index stopped keeps kept pkg idx = record {
   keeps = keeps;
   index = kept;

@@ -3,7 +3,7 @@ use Rattle.std.proofs.Common.{◌≡◌, ℕ, ◌^◌, ◌≤◌, List, length, 
 use Rattle.std.specs.Prelude.{Result}
 use Rattle.rpm_db.proofs.Vocabulary.{AddIs, BadHeader, BadIndex, ChangeFault, Database, DiskFault, EraseCause, FullCause, Header}
 use Rattle.rpm_db.proofs.Vocabulary.{header, holds, IndexFull, is_stopping, IsFull, IsOfIndex, IsOfReading, IsRefusal, LaterCause, LaterIs}
-use Rattle.rpm_db.proofs.Vocabulary.{NoMemory, NoSuch, NumbersSpent, Stopped}
+use Rattle.rpm_db.proofs.Vocabulary.{generation_of, NoMemory, NoSuch, NumbersSpent, room, Stopped}
 use Rattle.rpm_db.specs.Database.{next_number}
 
 -- after the generation and the room in the store
@@ -29,7 +29,7 @@ refusal_goes DiskFault is = absurd is
 refusal_goes others is = refl
 
 -- a number that is there, of a value that isn't stopped
-pub erase_cause : (db : Database) (n : ℕ) (fault : ChangeFault) → db.stopped ≡ false → holds n db ≡ true → LaterCause db.store.generation ⊥ fault
+pub erase_cause : (db : Database) (n : ℕ) (fault : ChangeFault) → db.stopped ≡ false → holds n db ≡ true → LaterCause (generation_of db) ⊥ fault
     → EraseCause db n fault
 erase_cause db n (BadHeader f) going here later = absurd later
 erase_cause db n NoSuch going here later = absurd later
@@ -47,7 +47,7 @@ reading_of others needed is full fits = is
 
 -- a header that is added, to a value that isn't stopped and has a number left
 pub add_cause : (db : Database) (bytes : List ℕ) (own : Header) (fault : ChangeFault) → db.stopped ≡ false → header bytes ≡ Ok own
-    → (next_number db ≡ 4294967295 → ⊥) → LaterCause db.store.generation (IsFull db.store true (length own.blob)) fault → AddIs {A = ℕ} db bytes (Err fault)
+    → (next_number db ≡ 4294967295 → ⊥) → LaterCause (generation_of db) (IsFull (room db) true (length own.blob)) fault → AddIs {A = ℕ} db bytes (Err fault)
 add_cause db bytes own (BadHeader f) going read left later = absurd later
 add_cause db bytes own NoSuch going read left later = absurd later
 add_cause db bytes own NumbersSpent going read left later = absurd later
@@ -55,6 +55,6 @@ add_cause db bytes own Stopped going read left later = absurd later
 add_cause db bytes own others going read left later = (left, record { going = going; own = own; read = read; later = later })
 
 pub add_is : (db : Database) (bytes : List ℕ) (own : Header) (result : Result ℕ ChangeFault) → db.stopped ≡ false → header bytes ≡ Ok own
-    → (next_number db ≡ 4294967295 → ⊥) → LaterIs db.store.generation (IsFull db.store true (length own.blob)) result → AddIs db bytes result
+    → (next_number db ≡ 4294967295 → ⊥) → LaterIs (generation_of db) (IsFull (room db) true (length own.blob)) result → AddIs db bytes result
 add_is db bytes own (Ok n) going read left later = (left, record { going = going; own = own; read = read; later = later })
 add_is db bytes own (Err fault) going read left later = add_cause db bytes own fault going read left later

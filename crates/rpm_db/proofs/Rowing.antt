@@ -2,7 +2,7 @@
 use Rattle.std.proofs.Common.{◌≡◌, ℕ, ◌+◌, ◌<◌, List, [], ◌++◌, take, true, false, Option, Some, None, Ok, Err, Result, is_some, refl, sym, ap, ◌∙◌, append_assoc}
 use Rattle.rpm_db.proofs.Vocabulary.{above, all_above_zero, blob_in, blobs, flat_map, frame_of, get-blobs, get-packages, Header, header, header-own}
 use Rattle.rpm_db.proofs.Vocabulary.{HeaderFault, is_there, IsNext, Kind, kinds, nat_cmp, next_above, nothing_above, option_map, Package, package_of}
-use Rattle.rpm_db.proofs.Vocabulary.{package_rows, packages, read_as, Row, rows, rows_at, rows_in, rows_read, slot_with, Store, Units}
+use Rattle.rpm_db.proofs.Vocabulary.{package_rows, packages, read_as, Row, rows, rows_at, rows_in, rows_read, slot_with, Store, unindexed, Units}
 use Rattle.std.specs.FinMap as finite
 use Rattle.std.proofs.lemmas.List.{take_more, flat_map_more, append-nil}
 use Rattle.std.proofs.Math.ListN.{get_or}
@@ -38,7 +38,7 @@ pub next_package : (file : Units) (store : Store) (n : ℕ) (r : Option ℕ) →
     → IsNext (λ m. is_some (finite.get (packages file store) m)) n r
 next_package file store n r next =
     next_is (λ m. is_some (finite.get (packages file store) m)) (λ m. is_some (slot_with m store.slots)) n r
-    (λ k. is_there file (record { store = store; index = None; stopped = false }) k) (next_of_slots store.slots n r next)
+    (λ k. is_there file (unindexed store) k) (next_of_slots store.slots n r next)
 
 -- ---- going through the numbers
 

@@ -1,7 +1,7 @@
 -- What a changing call leaves of a value.
-use Rattle.std.proofs.Common.{◌≡◌, ◌≤◌, Bool, true, Option, Some, refl, sym, ap, ◌∙◌, subst}
+use Rattle.std.proofs.Common.{◌≡◌, ◌≤◌, Bool, true, Some, refl, sym, ap, ◌∙◌, subst}
 use Rattle.std.specs.Prelude.{IsTrue}
-use Rattle.rpm_db.proofs.Vocabulary.{Database, Files, HasRows, images, IsIndexed, IsLawful, IsQuiet, IsServing, packages, Runs, SameFiles, Store, store}
+use Rattle.rpm_db.proofs.Vocabulary.{database_of, Files, HasRows, images, IsIndexed, IsLawful, IsQuiet, IsServing, packages, Runs, SameFiles, Store, store}
 use Rattle.rpm_db.proofs.Vocabulary.{Units, with_room, with_spare}
 use Rattle.rpm_pkgdb.specs.Store as pkgdb
 use Rattle.rpm_hindex.specs.State as hindex
@@ -9,9 +9,6 @@ use Rattle.rpm_db.proofs.Edited.{quiet_room}
 use Rattle.rpm_db.proofs.Unwritten.{quiet_same, settled_same}
 use Rattle.rpm_db.proofs.Making.{current_same, rows_of_lawful}
 use Rattle.rpm_outside.specs.declared.disk.Disk as disk
-
-abbrev pub database_of : Store → Option hindex.State → Bool → Database
-database_of value index stopped = record { store = value; index = index; stopped = stopped }
 
 -- a current index of the packages
 pub indexed_as : (pkg idx : Units) (value : Store) (index : hindex.State) (stopped : Bool) → hindex.Keeps idx index

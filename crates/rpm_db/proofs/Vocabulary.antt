@@ -3,7 +3,8 @@ pub use Rattle.rpm_db.specs.Above.{all_above_zero, next_above, nothing_above}
 pub use Rattle.rpm_db.specs.Answers.{ReadIs}
 pub use Rattle.rpm_db.specs.Changed.{IsLeft, Makes}
 pub use Rattle.rpm_db.specs.Changes.{Add, apply, Change, Erase, IsBetween, IsChangedStill, IsServing, next, Put, ReadsAtMost, Says, with_room}
-pub use Rattle.rpm_db.specs.Database.{Database, holds, IsConsistent, IsIndexed, IsInOrder, IsNext, KeepsUnits}
+pub use Rattle.rpm_db.specs.Database.{Database, database_of, generation_of, has_failed, holds, IsConsistent, IsIndexed, IsInOrder, IsNext}
+pub use Rattle.rpm_db.specs.Database.{KeepsUnits, room, unindexed}
 pub use Rattle.rpm_db.specs.Frame.{Runs, StaysBetween}
 pub use Rattle.rpm_db.specs.FromOne.{none_stored}
 pub use Rattle.rpm_db.specs.Gathering.{due, due_units, IsOrdered, resumed, sealed_in}
@@ -20,7 +21,7 @@ pub use Rattle.rpm_db.specs.Room.{next_store, raised, RoomCause}
 pub use Rattle.rpm_db.specs.RowLaws.{of_at, rows-insert, rows-remove, times-append, times-rows, times_none, times_one}
 pub use Rattle.rpm_db.specs.Rows.{key_row, kind_rows, kinds, package_rows, rows_at, rows_in, rows_read}
 unfoldable pub use Rattle.rpm_db.specs.Rows.{header_rows, rows}
-pub use Rattle.rpm_db.specs.Running.{runs_index, runs_looks, runs_then, runs_weaker}
+pub use Rattle.rpm_db.specs.Running.{runs_index, runs_looks, runs_none, runs_sync, runs_then, runs_weaker}
 pub use Rattle.rpm_db.specs.Runs.{CameOf, SameFiles, SameLog}
 pub use Rattle.rpm_db.specs.State.{above, Bad, Good, Package, package_of, read_as, state}
 unfoldable pub use Rattle.rpm_db.specs.State.{packages}
@@ -58,6 +59,7 @@ pub use Rattle.rpm_hindex.specs.declared.faults.FindFault.{FindFault}
 pub use Rattle.rpm_hindex.specs.declared.faults.RewriteFault.{RewriteFault}
 pub use Rattle.rpm_hindex.specs.declared.hits.Hit.{Hit}
 pub use Rattle.rpm_hindex.specs.declared.plan.Work.{Work}
+pub use Rattle.rpm_outside.specs.Causes.{HasCauseAt}
 pub use Rattle.rpm_outside.specs.Changes.{Changed, IsSettled, OnlyIn, Stops}
 pub use Rattle.rpm_outside.specs.Crash.{bytes_for}
 pub use Rattle.rpm_outside.specs.Leaves.{LeavesOnly}

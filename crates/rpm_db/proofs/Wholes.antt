@@ -1,9 +1,8 @@
 -- An index that is well formed as a whole, while a change of it is worked out and written.
 use Rattle.std.proofs.Common.{◌≡◌, ℕ, List, Ok, Err, sym, subst}
 use Rattle.std.specs.Prelude.{Result, IfErr}
-use Rattle.rpm_db.proofs.Vocabulary.{BadCause, BadIndex, BadIndexIs, buckets_of, ChangeFault, Files}
-use Rattle.rpm_db.proofs.Vocabulary.{IsPlanFor, IsSealedAfter, IsWellFormed, IsWholeIndex, Row, unit_at}
-use Rattle.rpm_db.proofs.Vocabulary.{Units, WholeCause, Work, WritesWhole}
+use Rattle.rpm_db.proofs.Vocabulary.{BadCause, BadIndex, BadIndexIs, buckets_of, ChangeFault, Files, IsPlanFor, IsSealedAfter, IsWellFormed, IsWholeIndex, Row}
+use Rattle.rpm_db.proofs.Vocabulary.{unit_at, Units, WholeCause, Work, WritesWhole}
 use Rattle.rpm_db.proofs.Prepared.{never_bad}
 
 -- a change is worked out, told by the first unit that a value keeps

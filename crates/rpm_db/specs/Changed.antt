@@ -4,7 +4,7 @@ use Rattle.rpm_outside.specs.declared.disk.Disk as disk
 use Rattle.rpm_db.specs.declared.change_fault.ChangeFault.{ChangeFault}
 use Rattle.rpm_db.specs.declared.change_fault.ChangeFault.TheVariants.{DiskFault}
 use Rattle.rpm_db.specs.Changes.{AllSay, Change, IsServing, apply}
-use Rattle.rpm_db.specs.Database.{Database, IsIndexed, is_blank, is_indexed}
+use Rattle.rpm_db.specs.Database.{Database, IsIndexed, generation_of, is_blank, is_indexed, room}
 use Rattle.rpm_db.specs.Frame.{Runs, StaysBetween, state_in}
 use Rattle.rpm_db.specs.Lawful.{IsWholeIndex}
 use Rattle.rpm_db.specs.Reaches.{Reaches, needed}
@@ -23,17 +23,17 @@ module _ {D : Type 0} (d : disk.Ghosts D) where
   -- a change was made: the files say the state after it, also after each crash from now on
   pub record Changed (old new : D) (change : Change) (before after : Database) : Type 0 where
     pub state_is : IsTrue d.tells
-        → state (d.files new).pkg after.store ≡ apply change (state (d.files old).pkg before.store)
+        → state (d.files new).pkg (room after) ≡ apply change (state (d.files old).pkg (room before))
     pub held : IsTrue d.tells
-        → AllSay (apply change (state (d.files old).pkg before.store))
+        → AllSay (apply change (state (d.files old).pkg (room before)))
         (d.left_since new (d.moment new))
     pub reach : IsTrue d.tells → IsIndexed (d.files old).pkg (d.files old).idx before
-        → Reaches (state (d.files old).pkg before.store) change (d.files old).idx (d.files new).idx
+        → Reaches (state (d.files old).pkg (room before)) change (d.files old).idx (d.files new).idx
 
   -- a change by its answer: whether it found room in both files, what it made, and what crashes leave meanwhile
   pub record Makes {A : Type 0} (old new : D) (change : Change) (before after : Database)
       (result : Result A ChangeFault) : Type 0 where
-    pub room : RoomIs (next_store change before.store) before.store after.store result
+    pub room : RoomIs (next_store change (room before)) (room before) (room after) result
     pub changed : OnOk result (Changed old new change before after)
     pub full : IsTrue d.tells → before.stopped ≡ false → IsIndexed (d.files old).pkg (d.files old).idx before
         → FullIndexIs (needed (state_in d old before) change) result
@@ -44,7 +44,7 @@ module _ {D : Type 0} (d : disk.Ghosts D) where
       (result : Result A ChangeFault) : Type 0 where
     pub indexed : is_indexed after ≡ true
     pub not_blank : is_blank after ≡ false
-    pub generation : OnOk result (after.store.generation ≡ before.store.generation + 1)
+    pub generation : OnOk result (generation_of after ≡ generation_of before + 1)
     pub index : OnOk result (IsTrue d.tells → IsIndexed (d.files old).pkg (d.files old).idx before
         → IsIndexed (d.files new).pkg (d.files new).idx after)
     pub whole : IsTrue d.tells → IsWholeIndex (d.files old).idx

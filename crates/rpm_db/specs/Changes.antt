@@ -9,7 +9,8 @@ use Rattle.rpm_pkgdb.specs.Costs.{cost}
 use Rattle.rpm_pkgdb.specs.Growing.{NeedsPage, moving_cost}
 use Rattle.rpm_pkgdb.specs.Quiet.{IsQuiet}
 use Rattle.rpm_pkgdb.specs.Store.{Store, store}
-use Rattle.rpm_db.specs.Database.{Database, Keeps, KeepsIndex}
+use Rattle.rpm_pkgdb.specs.Written.{with_spare}
+use Rattle.rpm_db.specs.Database.{Database, Keeps, KeepsIndex, database_of, room}
 use Rattle.rpm_db.specs.Lawful.{IsLawful}
 use Rattle.rpm_db.specs.State.{State, Good, state}
 
@@ -64,12 +65,12 @@ pub record IsChangedStill (before after : State) (images : Files → Type 0) (im
 pub record IsServing (files : Files) (images : Files → Type 0) (db : Database) : Type 0 where
   pub keeps : Keeps files.pkg db
   pub index : KeepsIndex files.idx db
-  pub quiet : IsQuiet db.store files images
+  pub quiet : IsQuiet (room db) files images
   pub settled : IsSettled Idx files images
 
 -- a value that may have made room in memory, and is the same
 abbrev pub with_room : ℕ → Database → Database
-with_room spare db = record { store = record db.store { spare = spare }; index = db.index; stopped = db.stopped }
+with_room spare db = database_of (with_spare spare (room db)) db.index db.stopped
 
 -- what putting reads at most of Packages.db: the package that a number has; and for a new number the ranges that a slot page moves, if one is added
 abbrev pub ReadsAtMost : Option ℕ → Store → ℕ → ℕ → Type 0

@@ -14,9 +14,29 @@ use Rattle.rpm_db.specs.State.{packages}
 
 -- its store, the first units of the index where it keeps one, and whether it is stopped: a changing call failed at the disk, or additions go on
 pub record Database : Type 0 where
-  pub store : Store
+  store : Store
   pub index : Option hindex.State
   pub stopped : Bool
+
+-- the room that is left of a database: the one reading of its store
+abbrev pub room : Database → Store
+room db = db.store
+
+-- the database of such a store
+abbrev pub database_of : Store → Option hindex.State → Bool → Database
+database_of value index stopped = record { store = value; index = index; stopped = stopped }
+
+-- a store that was opened without its index
+abbrev pub unindexed : Store → Database
+unindexed value = database_of value None false
+
+-- the generation of its packages, which each change raises by one
+abbrev pub generation_of : Database → ℕ
+generation_of db = (room db).generation
+
+-- a writing call of its store failed
+abbrev pub has_failed : Database → Bool
+has_failed db = (room db).is_stopped
 
 -- whether a database was opened with its index
 abbrev pub is_indexed : Database → Bool
@@ -24,7 +44,7 @@ is_indexed db = is_some db.index
 
 -- what a value keeps of a file is what the file says
 abbrev pub Keeps : Units → Database → Type 0
-Keeps file db = pkgdb.Keeps file db.store
+Keeps file db = pkgdb.Keeps file (room db)
 
 -- the value of an index is that of Hindex.db as it reads
 abbrev pub KeepsUnits : Units → Option hindex.State → Type 0
@@ -48,16 +68,20 @@ pub record IsConsistent (store : Store) (index : Option hindex.State) (stopped :
 
 -- the index of these files is current, and holds the rows of the packages
 pub record IsIndexed (pkg idx : Units) (db : Database) : Type 0 where
-  pub current : is_current_at db.store.generation idx ≡ true
-  pub rows_are : HasRows (packages pkg db.store) idx
+  pub current : is_current_at (generation_of db) idx ≡ true
+  pub rows_are : HasRows (packages pkg (room db)) idx
 
 -- no database was made yet
 abbrev pub is_blank : Database → Bool
-is_blank db = db.store.pages == 0
+is_blank db = (room db).pages == 0
+
+-- a store has a page: a database was made
+abbrev pub IsPaged : Store → Type 0
+IsPaged value = 1 ≤ value.pages
 
 -- there is a package of this number, Good or Bad
 abbrev pub holds : ℕ → Database → Bool
-holds n db = is_some (slot_with n db.store.slots)
+holds n db = is_some (slot_with n (room db).slots)
 
 -- m is the least number above n that is there, and None says that there is none
 abbrev pub IsNext : (ℕ → Bool) → ℕ → Option ℕ → Type 0
@@ -66,23 +90,23 @@ IsNext there n (Some m) = (n < m) × (there m ≡ true) × ((k : ℕ) → n < k 
 
 -- the number that the next new package gets
 abbrev pub next_number : Database → ℕ
-next_number db = pkgdb.next_number db.store
+next_number db = pkgdb.next_number (room db)
 
 -- the bytes of a number's blocks
 abbrev pub cost : ℕ → Database → ℕ
-cost n db = costs.cost n db.store
+cost n db = costs.cost n (room db)
 
 -- of all numbers up to this one
 abbrev pub cost_to : ℕ → Database → ℕ
-cost_to n db = costs.cost_to n db.store
+cost_to n db = costs.cost_to n (room db)
 
 -- of all numbers
 abbrev pub cost_all : Database → ℕ
-cost_all db = costs.cost_all db.store
+cost_all db = costs.cost_all (room db)
 
 -- what opening answers of this store, without an index
 abbrev pub OpenIs : Result Store Damage → Result Database DbOpenFault → Type 0
-OpenIs said (Ok db) = said ≡ Ok db.store
+OpenIs said (Ok db) = said ≡ Ok (room db)
 OpenIs said (Err (Damaged d)) = said ≡ Err d
 OpenIs said (Err (IndexFull needed)) = ⊥
 OpenIs said (Err DiskFault) = Unit {0}

@@ -5,18 +5,14 @@ use Rattle.std.specs.FinMap.{FinMap}
 use Rattle.rpm_outside.specs.declared.disk.Disk as disk
 use Rattle.rpm_outside.specs.Files.{Files}
 use Rattle.rpm_outside.specs.Frame.{DiskFault, LeavesIn, images}
-use Rattle.rpm_pkgdb.specs.Store.{Store}
 use Rattle.rpm_db.specs.Changes as changes
 use Rattle.rpm_db.specs.Changes.{Change, IsChangedStill, apply}
 use Rattle.rpm_db.specs.Database.{Database, Keeps, KeepsIndex}
+pub use Rattle.rpm_db.specs.Database.{room}
 use Rattle.rpm_db.specs.Database as database
 use Rattle.rpm_db.specs.Lawful.{AreLawful}
 use Rattle.rpm_db.specs.Runs as runs
 use Rattle.rpm_db.specs.State.{Package, State, packages, state}
-
--- the room that is left of a database, as one reading
-abbrev pub room : Database → Store
-room db = db.store
 
 module _ {D : Type 0} (d : disk.Ghosts D) where
   -- the files, and what a crash leaves, came of those before as a relation says
@@ -46,11 +42,11 @@ module _ {D : Type 0} (d : disk.Ghosts D) where
 
   -- the state that a database stands for on this disk
   abbrev pub state_in : D → Database → State
-  state_in it db = state (d.files it).pkg db.store
+  state_in it db = state (d.files it).pkg (room db)
 
   -- its packages
   abbrev pub packages_in : D → Database → FinMap nat_cmp Package
-  packages_in it db = packages (d.files it).pkg db.store
+  packages_in it db = packages (d.files it).pkg (room db)
 
   -- a crash meanwhile leaves lawful files with the packages from before a change or after it, where those at the start are lawful
   abbrev pub StaysBetween : D → D → Change → Database → Type 0

@@ -10,7 +10,7 @@ use Rattle.rpm_hindex.specs.Sizes.{live_of, units_for}
 use Rattle.rpm_hindex.specs.State as hindex
 use Rattle.rpm_db.specs.declared.change_fault.ChangeFault.{ChangeFault}
 use Rattle.rpm_db.specs.Changes.{Change, IsServing, apply}
-use Rattle.rpm_db.specs.Database.{Database, IsIndexed, is_indexed}
+use Rattle.rpm_db.specs.Database.{Database, IsIndexed, database_of, generation_of, has_failed, is_indexed, room}
 use Rattle.rpm_db.specs.Frame.{Runs, StaysBetween, state_in}
 use Rattle.rpm_db.specs.Lawful.{HasRows}
 use Rattle.rpm_db.specs.Reaches.{Reaches, needed}
@@ -32,24 +32,24 @@ IsOrdered (Some index) = hindex.is_in_order index ≡ true
 
 -- a value as it answers once the additions are over
 abbrev pub resumed : Database → Database
-resumed db = record { store = db.store; index = db.index; stopped = false }
+resumed db = database_of (room db) db.index false
 
 -- while they go on
 abbrev pub suspended : Database → Database
-suspended db = record { store = db.store; index = db.index; stopped = true }
+suspended db = database_of (room db) db.index true
 
 -- the index holds the rows of some packages, and with those that it is owed it holds the rows of the packages of now; there is room for these
 pub record Owes (pkg idx : Units) (db : Database) (owed : List Row) : Type 0 where
   pub from : FinMap nat_cmp Package
   pub has : HasRows from idx
-  pub changed : HasChanged [] owed (rows from) (rows (packages pkg db.store))
-  pub fits : sealed_in db.index ≢ db.store.generation → units_for (rows (packages pkg db.store)) ≤ 2 ^ 28
+  pub changed : HasChanged [] owed (rows from) (rows (packages pkg (room db)))
+  pub fits : sealed_in db.index ≢ generation_of db → units_for (rows (packages pkg (room db))) ≤ 2 ^ 28
 
 -- the units of Hindex.db once it has them
 abbrev pub due_units : Units → Units → Database → List Row → ℕ
 due_units pkg idx db owed =
-    if sealed_in db.index == db.store.generation then length idx
-    else max (length idx + live_of owed) (units_for (rows (packages pkg db.store)))
+    if sealed_in db.index == generation_of db then length idx
+    else max (length idx + live_of owed) (units_for (rows (packages pkg (room db))))
 
 -- files as long as these are then
 abbrev pub due : Files → Database → List Row → Files
@@ -60,10 +60,10 @@ module _ {D : Type 0} (d : disk.Ghosts D) where
   pub record IsGathering (at : D) (db : Database) (owed : List Row) : Type 0 where
     pub indexed : is_indexed db ≡ true
     pub suspends : db.stopped ≡ true
-    pub going : db.store.is_stopped ≡ false
+    pub going : has_failed db ≡ false
     pub ordered : IsOrdered db.index
-    pub behind : sealed_in db.index ≤ db.store.generation
-    pub clear : sealed_in db.index ≡ db.store.generation → owed ≡ []
+    pub behind : sealed_in db.index ≤ generation_of db
+    pub clear : sealed_in db.index ≡ generation_of db → owed ≡ []
     pub serving : IsTrue d.tells → IsServing (d.files at) (d.left_since at (d.moment at)) db
 
   -- the rows of these files and packages are owed
@@ -73,17 +73,17 @@ module _ {D : Type 0} (d : disk.Ghosts D) where
   -- a change was made in the store, and its rows were gathered
   pub record Gathered (old new : D) (change : Change) (before after : Database) (owed more : List Row) : Type 0 where
     pub gathering : IsGathering new after more
-    pub generation : after.store.generation ≡ before.store.generation + 1
+    pub generation : generation_of after ≡ generation_of before + 1
     pub state_is : IsTrue d.tells
-        → state (d.files new).pkg after.store ≡ apply change (state (d.files old).pkg before.store)
+        → state (d.files new).pkg (room after) ≡ apply change (state (d.files old).pkg (room before))
     pub owes : IsTrue d.tells → OwesOn old before owed → OwesOn new after more
-    pub reach : IsTrue d.tells → OwesOn old before owed → Reaches (state (d.files old).pkg before.store) change
+    pub reach : IsTrue d.tells → OwesOn old before owed → Reaches (state (d.files old).pkg (room before)) change
         (due (d.files old) before owed).idx (due (d.files new) after more).idx
 
   -- an addition by its answer: whether it found room in both files, what it made, and what crashes leave meanwhile
   pub record Gathers {A : Type 0} (old new : D) (change : Change) (before after : Database) (owed more : List Row)
       (result : Result A ChangeFault) : Type 0 where
-    pub room : RoomIs (next_store change before.store) before.store after.store result
+    pub room : RoomIs (next_store change (room before)) (room before) (room after) result
     pub gathered : OnOk result (Gathered old new change before after owed more)
     pub full : IsTrue d.tells → OwesOn old before owed → FullIndexIs (needed (state_in d old before) change) result
     pub stops : StaysBetween d old new change before

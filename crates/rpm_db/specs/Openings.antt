@@ -13,7 +13,7 @@ use Rattle.rpm_hindex.specs.declared.faults.RewriteFault.{RewriteFault}
 use Rattle.rpm_hindex.specs.declared.faults.RewriteFault.TheVariants as rewrite
 use Rattle.rpm_db.specs.declared.open_fault.DbOpenFault.{DbOpenFault}
 use Rattle.rpm_db.specs.declared.open_fault.DbOpenFault.TheVariants.{Damaged, IndexFull, DiskFault, NoMemory}
-use Rattle.rpm_db.specs.Database.{Database, Keeps, KeepsIndex, IsIndexed, holds, is_blank, is_indexed}
+use Rattle.rpm_db.specs.Database.{Database, Keeps, KeepsIndex, IsIndexed, holds, is_blank, is_indexed, room}
 use Rattle.rpm_db.specs.Lawful.{IsLawful, is_current_at}
 use Rattle.rpm_db.specs.Reaches.{ReachesMade}
 use Rattle.rpm_db.specs.Rows.{rows}
@@ -29,7 +29,7 @@ StoreIs said (Err NoMemory) = Unit {0}
 
 -- and as a database
 abbrev pub OpensAs : Result Store Damage → Result Database DbOpenFault → Type 0
-OpensAs said (Ok db) = said ≡ Ok db.store
+OpensAs said (Ok db) = said ≡ Ok (room db)
 OpensAs said (Err (Damaged d)) = said ≡ Err d
 OpensAs said (Err (IndexFull needed)) = Unit {0}
 OpensAs said (Err DiskFault) = Unit {0}
@@ -89,7 +89,7 @@ module _ {D : Type 0} (d : disk.Ghosts D) where
   -- it was opened on this disk: both files are settled, and the index is as long as it was or as one that was made
   pub record IsOpenedOn (old new : D) (db : Database) : Type 0 where
     pub fresh : IsFresh db
-    pub quiet : IsTrue d.tells → IsQuiet db.store (d.files new) (d.left_since new (d.moment new))
+    pub quiet : IsTrue d.tells → IsQuiet (room db) (d.files new) (d.left_since new (d.moment new))
     pub durable : IsTrue d.tells → IsSettled Pkg (d.files new) (d.left_since new (d.moment new))
     pub settled : IsTrue d.tells → IsSettled Idx (d.files new) (d.left_since new (d.moment new))
     pub reach : IsTrue d.tells

@@ -10,7 +10,7 @@ use Rattle.rpm_pkgdb.specs.Store.{Store}
 use Rattle.rpm_pkgdb.specs.Blobs.{blobs}
 use Rattle.rpm_pkgdb.specs.BlobLaws.{is_some-get-blobs}
 use Rattle.rpm_pkgdb.specs.Costs.{cost_to_more, cost_to-cost_all}
-use Rattle.rpm_db.specs.Database.{Database, holds, cost, cost_to, cost_all}
+use Rattle.rpm_db.specs.Database.{Database, holds, cost, cost_to, cost_all, room}
 use Rattle.rpm_db.specs.State.{package_of, packages}
 
 -- a map whose values are changed one by one
@@ -37,18 +37,21 @@ is_some-map f None = refl
 is_some-map f (Some x) = refl
 
 -- a value holds the numbers that are there in each file
-pub is_there : (file : Units) (db : Database) (n : ℕ) → is_some (finite.get (packages file db.store) n) ≡ holds n db
-is_there file db n = ap is_some (get-packages file db.store n) ∙ is_some-map package_of (finite.get (blobs file db.store) n) ∙ is_some-get-blobs file db.store n
+pub is_there : (file : Units) (db : Database) (n : ℕ) → is_some (finite.get (packages file (room db)) n) ≡ holds n db
+is_there file db n =
+    ap is_some (get-packages file (room db) n)
+    ∙ is_some-map package_of (finite.get (blobs file (room db)) n)
+    ∙ is_some-get-blobs file (room db) n
 
 -- a number costs no more than what it adds to those below it
 pub cost_more : (db : Database) (n m : ℕ) → n < m → cost_to n db + cost m db ≤ cost_to m db
-cost_more db n m below = cost_to_more db.store n m below
+cost_more db n m below = cost_to_more (room db) n m below
 
 pub cost_some : (db : Database) (n : ℕ) → cost_to n db ≤ cost_all db
-cost_some db n = cost_to-cost_all db.store n
+cost_some db n = cost_to-cost_all (room db) n
 
 pub cost_up : (db : Database) (n m : ℕ) → n ≤ m → cost_to n db ≤ cost_to m db
 cost_up db n m le = elim (cases_lt n m) [
-  | inl below ↦ omega (arith, cost_to_more db.store n m below)
+  | inl below ↦ omega (arith, cost_to_more (room db) n m below)
   | inr not ↦ (let same : n ≡ m = omega arith in rw same (omega arith))
 ]

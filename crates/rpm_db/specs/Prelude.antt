@@ -33,9 +33,9 @@ pub use Rattle.rpm_tags.specs.Value.{first_text}
 pub use Rattle.rpm_db.specs.Answers.{CutIs, FoundIs, GetIs, ReadIs, VerifyIs, key_chain}
 pub use Rattle.rpm_db.specs.Changed.{IsLeft, IsReady, Makes}
 pub use Rattle.rpm_db.specs.Changes.{Add, Erase, IsChangedStill, IsServing, Put, ReadsAtMost, apply, next, with_room}
-pub use Rattle.rpm_db.specs.Database.{IsIndexed, IsNext, KeepsIndex, KeepsUnits, OpenIs, cost, holds, is_blank}
-pub use Rattle.rpm_db.specs.Database.{is_indexed, next_number}
-pub use Rattle.rpm_db.specs.Frame.{Runs, RunsOr}
+pub use Rattle.rpm_db.specs.Database.{IsIndexed, IsNext, KeepsIndex, KeepsUnits, OpenIs, cost, generation_of, has_failed, holds}
+pub use Rattle.rpm_db.specs.Database.{is_blank, is_indexed, next_number, room}
+pub use Rattle.rpm_db.specs.Frame.{Runs, RunsOr, state_in}
 pub use Rattle.rpm_db.specs.Gathering.{Gathers, IsGathering, IsLeftSuspended, IsOrdered, IsSettledUp, OwesOn, resumed}
 pub use Rattle.rpm_db.specs.Gathering.{sealed_in, suspended}
 pub use Rattle.rpm_db.specs.Inits.{IsEmptyStill, IsInit, IsInitFault, IsThere, StopsAs}

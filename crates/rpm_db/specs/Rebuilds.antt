@@ -8,7 +8,7 @@ use Rattle.rpm_hindex.specs.Sizes.{units_for}
 use Rattle.rpm_db.specs.declared.change_fault.ChangeFault.{ChangeFault}
 use Rattle.rpm_db.specs.declared.change_fault.ChangeFault.TheVariants.{Stopped, IndexFull, DiskFault, NoMemory}
 use Rattle.rpm_db.specs.Changes.{IsServing}
-use Rattle.rpm_db.specs.Database.{Database, KeepsIndex, IsIndexed, is_blank, is_indexed}
+use Rattle.rpm_db.specs.Database.{Database, KeepsIndex, IsIndexed, generation_of, is_blank, is_indexed, room}
 use Rattle.rpm_db.specs.Reaches.{ReachesMade}
 use Rattle.rpm_db.specs.Rows.{rows}
 use Rattle.rpm_db.specs.State.{packages}
@@ -16,9 +16,9 @@ use Rattle.rpm_db.specs.State.{packages}
 -- after an answer but DiskFault: the files stay and so does the value, or the index is current and that of the packages
 abbrev pub IsRebuilt : Files → Files → Database → Database → Result (Unit {0}) ChangeFault → Type 0
 IsRebuilt old new before after (Ok done) =
-    (units_for (rows (packages old.pkg before.store)) ≤ 2 ^ 28) × (after.stopped ≡ false) × KeepsIndex new.idx after × IsIndexed new.pkg new.idx after
+    (units_for (rows (packages old.pkg (room before))) ≤ 2 ^ 28) × (after.stopped ≡ false) × KeepsIndex new.idx after × IsIndexed new.pkg new.idx after
 IsRebuilt old new before after (Err (IndexFull needed)) =
-    (new ≡ old) × (after ≡ before) × (2 ^ 28 < needed) × (needed ≡ units_for (rows (packages old.pkg before.store)))
+    (new ≡ old) × (after ≡ before) × (2 ^ 28 < needed) × (needed ≡ units_for (rows (packages old.pkg (room before))))
 IsRebuilt old new before after (Err NoMemory) = (new ≡ old) × (after ≡ before)
 IsRebuilt old new before after (Err Stopped) = (new ≡ old) × (after ≡ before) × (before.stopped ≡ true)
 IsRebuilt old new before after (Err DiskFault) = after.stopped ≡ true
@@ -43,13 +43,13 @@ module _ {D : Type 0} (d : disk.Ghosts D) where
     pub pkg : IsTrue d.tells → IsSettled Pkg (d.files new) (d.left_since new (d.moment new))
     pub settled : IsTrue d.tells → IsSettled Idx (d.files new) (d.left_since new (d.moment new))
     pub reach : IsTrue d.tells
-        → ReachesMade (units_for (rows (packages (d.files old).pkg before.store)))
+        → ReachesMade (units_for (rows (packages (d.files old).pkg (room before))))
         (d.files old).idx (d.files new).idx
 
 -- whatever it answers: the store stays, and the value is stopped by a fault of the disk alone
 pub record IsStill (before after : Database) (result : Result (Unit {0}) ChangeFault) : Type 0 where
-  pub store : after.store ≡ before.store
-  pub generation : after.store.generation ≡ before.store.generation
+  pub store : room after ≡ room before
+  pub generation : generation_of after ≡ generation_of before
   pub indexed : is_indexed after ≡ true
   pub not_blank : is_blank after ≡ false
   pub stopped : (after.stopped ≡ true → (before.stopped ≡ true) ⊎ (result ≡ Err DiskFault))

@@ -8,7 +8,7 @@ use Rattle.rpm_hindex.specs.State.{buckets_of}
 use Rattle.rpm_hindex.specs.declared.faults.PrepareFault.TheVariants as prepare
 use Rattle.rpm_db.specs.declared.change_fault.ChangeFault.{ChangeFault}
 use Rattle.rpm_db.specs.declared.change_fault.ChangeFault.TheVariants.{BadHeader, NoSuch, NumbersSpent, GenerationSpent, StoreFull, IndexFull, BadIndex, Stopped, DiskFault, NoMemory}
-use Rattle.rpm_db.specs.Database.{Database, holds, next_number}
+use Rattle.rpm_db.specs.Database.{Database, generation_of, holds, next_number, room}
 use Rattle.rpm_db.specs.Lawful.{IsWholeIndex}
 
 -- after the header and the number: the generation, and then the room in the store; the index comes last
@@ -31,7 +31,7 @@ pub record PutsHeader {A : Type 0} (db : Database) (is_new : Bool) (bytes : List
   pub going : db.stopped ≡ false
   pub own : Header
   pub read : header bytes ≡ Ok own
-  pub later : LaterIs db.store.generation (IsFull db.store is_new (length own.blob)) result
+  pub later : LaterIs (generation_of db) (IsFull (room db) is_new (length own.blob)) result
 
 -- a value that isn't stopped, and bytes that are a header
 pub record IsRead (db : Database) (bytes : List ℕ) : Type 0 where
@@ -57,11 +57,11 @@ PutIs db n bytes result = (holds n db ≡ true) × PutsHeader db false bytes res
 abbrev pub EraseCause : Database → ℕ → ChangeFault → Type 0
 EraseCause db n Stopped = db.stopped ≡ true
 EraseCause db n NoSuch = (db.stopped ≡ false) × (holds n db ≡ false)
-EraseCause db n fault = (db.stopped ≡ false) × (holds n db ≡ true) × LaterCause db.store.generation ⊥ fault
+EraseCause db n fault = (db.stopped ≡ false) × (holds n db ≡ true) × LaterCause (generation_of db) ⊥ fault
 
 -- an erasure that was made had its package there; one that was refused has its cause
 abbrev pub EraseIs : {A : Type 0} → Database → ℕ → Result A ChangeFault → Type 0
-EraseIs db n (Ok done) = (db.stopped ≡ false) × (holds n db ≡ true) × LaterIs db.store.generation ⊥ (Ok done)
+EraseIs db n (Ok done) = (db.stopped ≡ false) × (holds n db ≡ true) × LaterIs (generation_of db) ⊥ (Ok done)
 EraseIs db n (Err fault) = EraseCause db n fault
 
 -- ---- the index

@@ -17,6 +17,10 @@ next_store (Add bytes) value = put_in None (length bytes) (raised value)
 next_store (Put n bytes) value = put_in (Some n) (length bytes) (raised value)
 next_store (Erase n) value = Some (erased n (raised value))
 
+-- a store becomes the one that is said, up to room in memory
+abbrev pub RoomBecomes : Option Store → Store → Store → Type 0
+RoomBecomes said old new = said ≡ Some (with_spare old.spare new)
+
 -- the store is full exactly where there is none, and the index comes after it
 abbrev pub RoomCause : {X : Type 0} → Option X → ChangeFault → Type 0
 RoomCause said StoreFull = said ≡ None
@@ -24,7 +28,7 @@ RoomCause said (IndexFull needed) = IsSome said
 RoomCause said (BadIndex unit) = IsSome said
 RoomCause said _ = Unit {0}
 
--- once the change was made the store is that one, up to room in memory
+-- once the change was made the store is that one
 abbrev pub RoomIs : {A : Type 0} → Option Store → Store → Store → Result A ChangeFault → Type 0
-RoomIs said old new (Ok done) = said ≡ Some (with_spare old.spare new)
+RoomIs said old new (Ok done) = RoomBecomes said old new
 RoomIs said old new (Err fault) = RoomCause said fault

@@ -12,7 +12,7 @@ use Rattle.rpm_pkgdb.specs.Checksums.{checksums_hold}
 use Rattle.rpm_tags.specs.Value.{first_text}
 use Rattle.rpm_db.specs.declared.verify.Verdict.{Verdict}
 use Rattle.rpm_db.specs.declared.verify.Verdict.TheVariants.{Sound, BadHeader, BadChecksum, BadDigest}
-use Rattle.rpm_db.specs.Database.{Database}
+use Rattle.rpm_db.specs.Database.{Database, room}
 
 -- both are there, and the text isn't the digest in lower-case hex
 abbrev pub differs : Option (List ℕ) → Option (List ℕ) → Bool
@@ -40,4 +40,4 @@ verdict_of _ _ = None
 
 -- what verifying says of a package, none where there is no such number
 abbrev pub verdict : Units → Database → ℕ → Option Verdict
-verdict file db n = verdict_of (finite.get (blobs file db.store) n) (checksums_hold file db.store n)
+verdict file db n = verdict_of (finite.get (blobs file (room db)) n) (checksums_hold file (room db) n)

@@ -1,7 +1,7 @@
 //! Adding several headers, with one change of the index.
 
 ghost use Rattle.std.specs.Prelude.{◌≡◌, [], IsTrue, true, false, Ok, Err, OnOk, IfOk, IfErr};
-ghost use Rattle.rpm_db.specs.Prelude.{Add, AddIs, AreLawful, DiskFault, Gathers, Header, header, HeaderFault, images, is_indexed, IsGathering, IsLawfulStill, IsLeftSuspended, IsOfIndex, IsOfReading, IsOrdered, IsSettledUp, IsWholeIndex, LeavesIn, next_number, OwesOn, ReachesTo, resumed, Runs, SameLog, sealed_in, StaysWhole, suspended, WholeCause, with_room};
+ghost use Rattle.rpm_db.specs.Prelude.{Add, AddIs, AreLawful, DiskFault, Gathers, generation_of, has_failed, Header, header, HeaderFault, images, is_indexed, IsGathering, IsLawfulStill, IsLeftSuspended, IsOfIndex, IsOfReading, IsOrdered, IsSettledUp, IsWholeIndex, LeavesIn, next_number, OwesOn, ReachesTo, resumed, room, Runs, SameLog, sealed_in, StaysWhole, suspended, WholeCause, with_room};
 
 use crate::change_fault::ChangeFault;
 use crate::database::Db;
@@ -35,9 +35,9 @@ impl Additions {
         requires going { db.old.stopped ≡ false }
         ensures none { result ≡ [] }
         ensures same { db.new ≡ suspended db.old }
-        ensures goes { db.old.store.is_stopped ≡ false }
+        ensures goes { has_failed db.old ≡ false }
         ensures order { IsOrdered db.old.index }
-        ensures sealed { sealed_in db.old.index ≡ db.old.store.generation }
+        ensures sealed { sealed_in db.old.index ≡ generation_of db.old }
     {
         db.is_stopped = true;
         Additions {
@@ -72,10 +72,10 @@ impl Additions {
         ensures whole { IsTrue D.tells → IsWholeIndex (D.files disk.old).idx → IfErr result WholeCause }
         ensures refused { (fault : HeaderFault) → result ≡ Err (ChangeFault.BadHeader fault)
             → (disk.new ≡ disk.old) × (db.new ≡ db.old) × (self.new ≡ self.old) }
-        ensures left { IsLeftSuspended D.Disk disk.old disk.new db.new (with_room db.new.store.spare db.old) result }
+        ensures left { IsLeftSuspended D.Disk disk.old disk.new db.new (with_room (room db.new).spare db.old) result }
         ensures index { IsTrue D.tells → (D.files disk.new).idx ≡ (D.files disk.old).idx }
         ensures end { OnOk result (IsTrue D.tells
-            → ReachesTo db.new.store (D.files disk.old).pkg (D.files disk.new).pkg) }
+            → ReachesTo (room db.new) (D.files disk.old).pkg (D.files disk.new).pkg) }
         ensures runs { Runs D.Disk SameLog disk.old disk.new }
         ensures cause { DiskFault D.Disk (result ≡ Err ChangeFault.DiskFault) disk.old disk.new }
     {
@@ -116,8 +116,8 @@ impl Additions {
         ensures whole { IsTrue D.tells → IsWholeIndex (D.files disk.old).idx
             → StaysWhole (D.files disk.new).idx result }
         ensures kinds { IfErr result IsOfIndex }
-        ensures unwritten { sealed_in db.old.index ≡ db.old.store.generation → disk.new ≡ disk.old }
-        ensures store { db.new.store ≡ db.old.store }
+        ensures unwritten { sealed_in db.old.index ≡ generation_of db.old → disk.new ≡ disk.old }
+        ensures store { room db.new ≡ room db.old }
         ensures packages { IsTrue D.tells → (D.files disk.new).pkg ≡ (D.files disk.old).pkg }
         ensures left { IsLeftSuspended D.Disk disk.old disk.new db.new db.old result }
         ensures stops { IsTrue D.tells → AreLawful (images D.Disk disk.old) → OwesOn D.Disk disk.old db.old self

@@ -2,7 +2,7 @@
 
 ghost use Rattle.std.specs.Prelude.{◌≡◌, ◌≢◌, ℕ, ◌+◌, ◌^◌, ◌≤◌, IsTrue, true, false, is_some, None, Err, IfOk};
 ghost use Rattle.std.specs.FinMap as finite;
-ghost use Rattle.rpm_db.specs.Prelude.{DiskFault, holds, Idx, is_blank, is_indexed, IsNext, IsOpened, IsOpenedOn, IsSettled, Looks, next, next_number, opening_cost, OpeningReads, OpenIs, Pkg, Remade, Runs, slot_with, state, StaysLawful, store, StoreIs, Units};
+ghost use Rattle.rpm_db.specs.Prelude.{DiskFault, holds, Idx, is_blank, is_indexed, IsNext, IsOpened, IsOpenedOn, IsSettled, Looks, next, next_number, opening_cost, OpeningReads, OpenIs, Pkg, Remade, room, Runs, slot_with, state, StaysLawful, store, StoreIs, Units};
 ghost use Rattle.rpm_db.specs.Database.{Keeps};
 ghost use Rattle.rpm_pkgdb.specs.Store as pkgdb;
 
@@ -23,11 +23,18 @@ pub struct Db {
 }
 
 impl Model for Db {
-    ghost use Rattle.rpm_db.specs.Database.{Database, IsConsistent};
+    ghost use Rattle.std.specs.Prelude.{Bool, Option, refl};
+    ghost use Rattle.std.specs.Coded.{code_by, codes};
+    ghost use Rattle.rpm_hindex.specs.State.{State};
+    ghost use Rattle.rpm_pkgdb.specs.Store.{Store};
+    ghost use Rattle.rpm_db.specs.Database.{Database, database_of, IsConsistent, room};
 
     ghost Value = { Database };
 
-    ghost view = { λ s. record { store = s.store; index = s.index; stopped = s.is_stopped } };
+    ghost coded = { code_by (Store × Option State × Bool) (Prim.hlevel codes) (λ db. (room db, db.index, db.stopped))
+        (λ p. database_of p.0 p.1 p.2) (λ _. refl) };
+
+    ghost view = { λ s. database_of s.store s.index s.is_stopped };
 
     ghost invariant = { λ s. IsConsistent s.store s.index s.is_stopped };
 }
@@ -167,7 +174,7 @@ impl Db {
     /// The number of the next package: the greater of the number field and one above the greatest number.
     pub fn next_number(&self) -> u32
         ensures number { result ≡ next_number self.now }
-        ensures told { (file : Units) → result ≡ next (state file self.now.store) }
+        ensures told { (file : Units) → result ≡ next (state file (room self.now)) }
     {
         self.store.next_number()
     }
@@ -175,7 +182,7 @@ impl Db {
     /// Whether a package has this number, Good or Bad. Reads nothing, and takes log n steps.
     pub fn holds(&self, n: u32) -> bool
         ensures held { result ≡ holds n self.now }
-        ensures told { (file : Units) → result ≡ is_some (finite.get (state file self.now.store).packages n) }
+        ensures told { (file : Units) → result ≡ is_some (finite.get (state file (room self.now)).packages n) }
     {
         self.store.holds(n)
     }
@@ -183,7 +190,7 @@ impl Db {
     /// The least number above this one that a package has, Good or Bad; `None` where there is none. Takes log n steps.
     pub fn next_above(&self, n: u32) -> Option<u32>
         ensures next { IsNext (λ m. holds m self.now) n result }
-        ensures told { (file : Units) → IsNext (λ m. is_some (finite.get (state file self.now.store).packages m)) n
+        ensures told { (file : Units) → IsNext (λ m. is_some (finite.get (state file (room self.now)).packages m)) n
             result }
     {
         self.store.next_above(n)

@@ -1,7 +1,7 @@
 //! Adding, putting and erasing.
 
 ghost use Rattle.std.specs.Prelude.{◌≡◌, ◌+◌, ◌≤◌, length, IsTrue, true, false, None, Some, Ok, Err, OnOk, IfOk};
-ghost use Rattle.rpm_db.specs.Prelude.{Add, AddIs, BadIndexIs, cost, DiskFault, Erase, EraseIs, Header, header, holds, images, is_indexed, IsLeft, IsServing, Makes, next_number, Pkg, Put, PutIs, ReachesTo, ReadsAtMost, Runs, SameLog, with_room};
+ghost use Rattle.rpm_db.specs.Prelude.{Add, AddIs, BadIndexIs, cost, DiskFault, Erase, EraseIs, Header, header, holds, images, is_indexed, IsLeft, IsServing, Makes, next_number, Pkg, Put, PutIs, ReachesTo, ReadsAtMost, room, Runs, SameLog, with_room};
 
 use crate::change_fault::ChangeFault;
 use crate::database::Db;
@@ -50,12 +50,12 @@ impl Db {
         ensures number { IfOk result (λ n. n ≡ next_number self.old) }
         ensures makes { (h : Header) → header blob.now ≡ Ok h
             → Makes D.Disk disk.old disk.new (Add h.blob) self.old self.new result }
-        ensures left { IsLeft D.Disk disk.old disk.new self.old self.new (with_room self.new.store.spare self.old)
+        ensures left { IsLeft D.Disk disk.old disk.new self.old self.new (with_room (room self.new).spare self.old)
             result }
         ensures end { OnOk result (IsTrue D.tells
-            → ReachesTo self.new.store (D.files disk.old).pkg (D.files disk.new).pkg) }
+            → ReachesTo (room self.new) (D.files disk.old).pkg (D.files disk.new).pkg) }
         ensures bad { IsTrue D.tells → BadIndexIs (D.files disk.old).idx result }
-        ensures reads { ReadsAtMost None self.old.store (D.bytes_read disk.old Pkg) (D.bytes_read disk.new Pkg) }
+        ensures reads { ReadsAtMost None (room self.old) (D.bytes_read disk.old Pkg) (D.bytes_read disk.new Pkg) }
         ensures runs { Runs D.Disk SameLog disk.old disk.new }
         ensures cause { DiskFault D.Disk (result ≡ Err ChangeFault.DiskFault) disk.old disk.new }
     {
@@ -107,10 +107,10 @@ impl Db {
         ensures causes { PutIs self.old n blob.now result }
         ensures makes { (h : Header) → header blob.now ≡ Ok h
             → Makes D.Disk disk.old disk.new (Put n h.blob) self.old self.new result }
-        ensures left { IsLeft D.Disk disk.old disk.new self.old self.new (with_room self.new.store.spare self.old)
+        ensures left { IsLeft D.Disk disk.old disk.new self.old self.new (with_room (room self.new).spare self.old)
             result }
         ensures end { OnOk result (IsTrue D.tells
-            → ReachesTo self.new.store (D.files disk.old).pkg (D.files disk.new).pkg) }
+            → ReachesTo (room self.new) (D.files disk.old).pkg (D.files disk.new).pkg) }
         ensures bad { IsTrue D.tells → BadIndexIs (D.files disk.old).idx result }
         ensures reads { D.bytes_read disk.new Pkg ≤ D.bytes_read disk.old Pkg + cost n self.old }
         ensures runs { Runs D.Disk SameLog disk.old disk.new }

@@ -2,7 +2,7 @@
 
 ghost use Rattle.std.specs.Prelude.{◌≡◌, ℕ, ◌+◌, ◌≤◌, ◌↔◌, IsTrue, false, Ok, Err, IfOk, MatchResult};
 ghost use Rattle.std.specs.FinMap as finite;
-ghost use Rattle.rpm_db.specs.Prelude.{cost, CutIs, DiskFault, GetIs, holds, Looks, package_of, Pkg, ReadIs, state};
+ghost use Rattle.rpm_db.specs.Prelude.{cost, CutIs, DiskFault, GetIs, holds, Looks, package_of, Pkg, ReadIs, state_in};
 ghost use Rattle.rpm_db.specs.Database.{Keeps};
 
 use crate::database::Db;
@@ -40,8 +40,7 @@ impl Db {
         requires keeps { IsTrue D.tells → Keeps (D.files disk.old).pkg self.now }
         requires runs { self.now.stopped ≡ false }
         ensures kept { IsTrue D.tells → Keeps (D.files disk.new).pkg self.now }
-        ensures told { IsTrue D.tells → ReadIs (finite.get (state (D.files disk.old).pkg self.now.store).packages n)
-            result }
+        ensures told { IsTrue D.tells → ReadIs (finite.get (state_in D.Disk disk.old self.now).packages n) result }
         ensures absent { (result ≡ Err GetFault.NoSuch) ↔ (holds n self.now ≡ false) }
         ensures looks { Looks D.Disk Pkg (cost n self.now) disk.old disk.new }
         ensures cause { DiskFault D.Disk (result ≡ Err GetFault.DiskFault) disk.old disk.new }
@@ -59,8 +58,7 @@ impl Db {
         requires keeps { IsTrue D.tells → Keeps (D.files disk.old).pkg self.now }
         requires runs { self.now.stopped ≡ false }
         ensures kept { IsTrue D.tells → Keeps (D.files disk.new).pkg self.now }
-        ensures told { IsTrue D.tells → ReadIs (finite.get (state (D.files disk.old).pkg self.now.store).packages n)
-            result }
+        ensures told { IsTrue D.tells → ReadIs (finite.get (state_in D.Disk disk.old self.now).packages n) result }
         ensures absent { (result ≡ Err GetFault.NoSuch) ↔ (holds n self.now ≡ false) }
         ensures looks { Looks D.Disk Pkg (cost n self.now) disk.old disk.new }
         ensures cause { DiskFault D.Disk (result ≡ Err GetFault.DiskFault) disk.old disk.new }
@@ -82,8 +80,7 @@ impl Db {
         requires keeps { IsTrue D.tells → Keeps (D.files disk.old).pkg self.now }
         requires runs { self.now.stopped ≡ false }
         ensures kept { IsTrue D.tells → Keeps (D.files disk.new).pkg self.now }
-        ensures told { IsTrue D.tells → GetIs (finite.get (state (D.files disk.old).pkg self.now.store).packages n)
-            result }
+        ensures told { IsTrue D.tells → GetIs (finite.get (state_in D.Disk disk.old self.now).packages n) result }
         ensures absent { (result ≡ Err GetFault.NoSuch) ↔ (holds n self.now ≡ false) }
         ensures looks { Looks D.Disk Pkg (cost n self.now) disk.old disk.new }
         ensures cause { DiskFault D.Disk (result ≡ Err GetFault.DiskFault) disk.old disk.new }
@@ -100,8 +97,7 @@ impl Db {
         requires keeps { IsTrue D.tells → Keeps (D.files disk.old).pkg self.now }
         requires runs { self.now.stopped ≡ false }
         ensures kept { IsTrue D.tells → Keeps (D.files disk.new).pkg self.now }
-        ensures told { IsTrue D.tells → GetIs (finite.get (state (D.files disk.old).pkg self.now.store).packages n)
-            result }
+        ensures told { IsTrue D.tells → GetIs (finite.get (state_in D.Disk disk.old self.now).packages n) result }
         ensures absent { (result ≡ Err GetFault.NoSuch) ↔ (holds n self.now ≡ false) }
         ensures looks { Looks D.Disk Pkg (cost n self.now) disk.old disk.new }
         ensures cause { DiskFault D.Disk (result ≡ Err GetFault.DiskFault) disk.old disk.new }

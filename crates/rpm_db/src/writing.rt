@@ -18,7 +18,11 @@ pub enum Edit {
     Erase(u32),
 }
 
-/// Changes the store so.
+/// Puts a planned blob into the store, or erases the package of a number.
+///
+/// # Errors
+///
+/// `DiskFault` where the disk failed. The store has as many pages as before.
 fn edit_store<D: Disk>(
     disk: &mut D,
     store: &mut PkgDb,
@@ -45,7 +49,11 @@ fn edit_store<D: Disk>(
     }
 }
 
-/// Raises the generation, and then changes the store so.
+/// Raises the generation of the store, and then puts a planned blob or erases the package of a number.
+///
+/// # Errors
+///
+/// `DiskFault` where the disk failed. The store has as many pages as before.
 pub fn edit_raised<D: Disk>(
     disk: &mut D,
     store: &mut PkgDb,
@@ -91,7 +99,11 @@ fn apply_sealed<D: Disk>(
     index.seal(disk, generation)
 }
 
-/// The same, with its fault told as one of a change.
+/// Writes a change of the index, and seals it once it is durable.
+///
+/// # Errors
+///
+/// `ChangeFault::DiskFault` where the disk failed.
 pub fn write_rows<D: Disk>(
     disk: &mut D,
     index: &mut Hindex,

@@ -8,7 +8,6 @@ use Rattle.rpm_outside.specs.declared.buffered.Buffered.{Buffered}
 use Rattle.rpm_outside.specs.Causes.{HasCauseAt}
 use Rattle.rpm_outside.specs.Files.{Files, Units}
 use Rattle.rpm_pkgdb.specs.Store.{Store}
-use Rattle.rpm_pkgdb.specs.Written.{with_spare}
 use Rattle.rpm_db.specs.declared.change_fault.ChangeFault.{ChangeFault}
 use Rattle.rpm_db.specs.declared.change_fault.ChangeFault.TheVariants as fault
 use Rattle.rpm_db.specs.Changes.{Change}
@@ -35,10 +34,10 @@ use Rattle.rpm_db.specs.Frame.{room}
 
 -- ---- lines
 
-pub line_limits : {files : Files} (i : Bool) (s : State) (v w : Store) (k : ℕ) (r : Result Tally Halt) → w ≡ with_spare k v → IfErr r IsOfLines
+pub line_limits : {files : Files} (i : Bool) (s : State) (v w : Store) (r : Result Tally Halt) → w ≡ v → IfErr r IsOfLines
     → LimitsTurn i s v w files files [] r
-line_limits i s v w k (Ok tally) same kinds = none_made i s v w k tally same
-line_limits i s v w k (Err h) same kinds = other_stop i s v w [] h (elim kinds [ inl is ↦ rw is refl | inr is ↦ rw is refl ])
+line_limits i s v w (Ok tally) same kinds = none_made i s v w tally same
+line_limits i s v w (Err h) same kinds = other_stop i s v w [] h (elim kinds [ inl is ↦ rw is refl | inr is ↦ rw is refl ])
 
 line_whole : (idx : Units) (r : Result Tally Halt) → IfErr r IsOfLines → IsWholeIndex idx → WholeTurn idx r
 line_whole idx (Ok tally) kinds whole = whole
@@ -92,7 +91,7 @@ module _ {D : Type 0} (d : disk.Ghosts D) where
         → WentBy d C A T from from at at db db (Ok uncounted) E idle
     none_went ends = record {
       ended = λ told. ends;
-      limits = λ told i rows. none_made i (state_in d at db) (room db) (room db) (room db).spare uncounted refl;
+      limits = λ told i rows. limits_none i (state_in d at db) (room db) uncounted;
       whole = λ told whole. whole;
       left = none_by d stays C carried at db indexed (Ok uncounted) (λ is. cc);
     }
@@ -109,7 +108,7 @@ module _ {D : Type 0} (d : disk.Ghosts D) where
             (fails.ended for (state_in d old before));
         limits = λ told i rows.
             subst (λ (f : Files). LimitsTurn i (state_in d old before) (room before) (room after) from f [] r) (sym (files told))
-            (line_limits i (state_in d old before) (room before) (room after) (room before).spare r store fails.kinds);
+            (line_limits i (state_in d old before) (room before) (room after) r store fails.kinds);
         whole = λ told was. line_whole (d.files new).idx r fails.kinds (subst IsWholeIndex (sym (idx told)) was);
         left = left (line_disk r fails.kinds);
       }

@@ -91,7 +91,7 @@ first_before i (x ∷ xs) ys s v h is =
 
 -- no limit is met where there are no changes
 pub limits_none : {files : Files} (i : Bool) (s : State) (v : Store) (tally : Tally) → LimitsTurn i s v v files files [] (Ok tally)
-limits_none i s v tally = none_made i s v v v.spare tally refl
+limits_none i s v tally = none_made i s v v tally refl
 
 -- the first of several changes were made
 module _ {old mid : Files} (i : Bool) (xs ys : List Change) (s t : State) (v w x : Store) (tally : Tally) (is : t ≡ apply_all xs s)

@@ -9,7 +9,7 @@ use Rattle.rpm_pkgdb.specs.Store.{Store}
 use Rattle.rpm_pkgdb.specs.Written.{with_spare}
 use Rattle.rpm_db.specs.Changes.{Change, apply}
 use Rattle.rpm_db.specs.Reaches.{Reaches, ReachesMade, added, needed}
-use Rattle.rpm_db.specs.Room.{next_store}
+use Rattle.rpm_db.specs.Room.{RoomBecomes, next_store}
 use Rattle.rpm_db.specs.Rows.{rows}
 use Rattle.rpm_db.specs.State.{State}
 use Rattle.rpm_db.specs.RoomLaws.{next_spare}
@@ -67,7 +67,7 @@ pub reached_none : (i : Bool) (s : State) (v : Store) (files : Files) → Reache
 reached_none i s v files = record { pkg = omega arith; idx = λ asked. omega arith }
 
 -- one change
-pub reached_one : (i : Bool) (s : State) (c : Change) (v w : Store) (old new : Files) → next_store c v ≡ Some (with_spare v.spare w)
+pub reached_one : (i : Bool) (s : State) (c : Change) (v w : Store) (old new : Files) → RoomBecomes (next_store c v) v w
     → ReachesTo w old.pkg new.pkg → (i ≡ true → Reaches s c old.idx new.idx) → Reached i s v (c ∷ []) old new
 reached_one i s c v w old new placed pkg idx = record {
   pkg = omega (arith, pkg, ap (λ (o : Option Store). store_end (unwrap_or o v)) placed);
@@ -75,7 +75,7 @@ reached_one i s c v w old new placed pkg idx = record {
 }
 
 pub reached_more : (i : Bool) (xs ys : List Change) (s t : State) (v w : Store) (old mid new : Files) → t ≡ apply_all xs s
-    → next_stores xs v ≡ Some (with_spare v.spare w) → Reached i s v xs old mid → Reached i t w ys mid new → Reached i s v (xs ++ ys) old new
+    → RoomBecomes (next_stores xs v) v w → Reached i s v xs old mid → Reached i t w ys mid new → Reached i s v (xs ++ ys) old new
 reached_more i xs ys s t v w old mid new is stores first next = record {
   pkg = omega (
     arith,

@@ -10,10 +10,10 @@ use Rattle.rpm_pkgdb.specs.Written.{with_spare}
 use Rattle.rpm_db.specs.declared.change_fault.ChangeFault.{ChangeFault}
 use Rattle.rpm_db.specs.declared.change_fault.ChangeFault.TheVariants as fault
 use Rattle.rpm_db.specs.Changes.{Change, Add, Put, Erase, next}
-use Rattle.rpm_db.specs.Database.{Database, next_number}
+use Rattle.rpm_db.specs.Database.{Database, generation_of, next_number}
 use Rattle.rpm_db.specs.Reaches.{Reaches}
 use Rattle.rpm_db.specs.Refusals.{AddIs, PutIs, EraseCause, FullCause, IsRefusal}
-use Rattle.rpm_db.specs.Room.{RoomCause, next_store}
+use Rattle.rpm_db.specs.Room.{RoomBecomes, RoomCause, next_store}
 use Rattle.rpm_db.specs.State.{State}
 use Rattle.rpm_change.specs.declared.tally.Tally.{Tally}
 use Rattle.rpm_change.specs.declared.tally.Halt.{Halt}
@@ -116,7 +116,7 @@ module _ (i : Bool) (s : State) (c : Change) (v : Store) where
 
   -- ---- a change
 
-  pub one_made : {old new : Files} (w : Store) (tally : Tally) → HasNumber s c → v.generation ≢ 4294967295 → next_store c v ≡ Some (with_spare v.spare w)
+  pub one_made : {old new : Files} (w : Store) (tally : Tally) → HasNumber s c → v.generation ≢ 4294967295 → RoomBecomes (next_store c v) v w
       → w.generation ≡ v.generation + 1 → (i ≡ true → needed s c ≤ 2 ^ 28) → ReachesTo w old.pkg new.pkg
       → (i ≡ true → Reaches s c old.idx new.idx) → LimitsTurn i s v w old new (c ∷ []) (Ok tally)
   one_made {old = old} {new = new} w tally number unspent placed raised fits pkg idx = record {
@@ -175,20 +175,20 @@ spent_number s (Put n bytes) is = absurd cc
 spent_number s (Erase n) is = absurd cc
 
 pub fault_spent : (i : Bool) (s : State) (c : Change) (db after kept : Database) (f : ChangeFault) → next s ≡ next_number db
-    → next_number kept ≡ next_number db → (room kept).generation ≡ (room db).generation → (IsRefusal f → after ≡ kept) → FaultIs i s c (room db) f
+    → next_number kept ≡ next_number db → generation_of kept ≡ generation_of db → (IsRefusal f → after ≡ kept) → FaultIs i s c (room db) f
     → IsSpent after (halt_of f)
 fault_spent i s c db after kept fault.NumbersSpent law number generation same is =
     ap next_number (same tt) ∙ number ∙ sym law ∙ spent_number s c is
 fault_spent i s c db after kept fault.GenerationSpent law number generation same is =
-    ap (λ (x : Database). (room x).generation) (same tt) ∙ generation ∙ is.1
+    ap generation_of (same tt) ∙ generation ∙ is.1
 fault_spent i s c db after kept others law number generation same is = tt
 
 -- ---- no change
 
--- the store stays, up to room in memory, and so do the files
-pub none_made : {files : Files} (i : Bool) (s : State) (v w : Store) (k : ℕ) (tally : Tally) → w ≡ with_spare k v
+-- the store stays, and so do the files
+pub none_made : {files : Files} (i : Bool) (s : State) (v w : Store) (tally : Tally) → w ≡ v
     → LimitsTurn i s v w files files [] (Ok tally)
-none_made {files = files} i s v w k tally same = record {
+none_made {files = files} i s v w tally same = record {
   first = refl;
   stores = ap (λ (u : Store). Some (with_spare v.spare u)) (sym same);
   raised = ap (λ (u : Store). u.generation) same ∙ omega arith;

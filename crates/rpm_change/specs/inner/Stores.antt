@@ -1,14 +1,12 @@
 -- Several changes of a store, some of them and then the others.
-use Rattle.std.proofs.Common.{◌≡◌, ℕ, ◌≤◌, List, [], ◌∷◌, ◌++◌, length, Option, Some, None, refl, ap, ◌∙◌, subst, arith}
+use Rattle.std.proofs.Common.{◌≡◌, ℕ, List, [], ◌∷◌, ◌++◌, Option, Some, None, refl, ap, ◌∙◌, subst}
 use Rattle.std.specs.Option.{option_map, option_and_then}
-use Rattle.rpm_pkgdb.specs.declared.added_page.Move.{Move}
-use Rattle.rpm_pkgdb.specs.Growing.{pages_after}
-use Rattle.rpm_pkgdb.specs.Placing.{Placement, placed, with_placed}
 use Rattle.rpm_pkgdb.specs.Store.{Store}
-use Rattle.rpm_pkgdb.specs.Written.{with_spare, erased}
-use Rattle.rpm_db.specs.Changes.{Change, Add, Put, Erase}
-use Rattle.rpm_db.specs.Room.{next_store, raised}
-use Rattle.rpm_db.specs.RoomLaws.{next_spare}
+use Rattle.rpm_pkgdb.specs.Written.{with_spare}
+use Rattle.rpm_db.specs.Changes.{Change}
+use Rattle.rpm_db.specs.Database.{IsPaged}
+use Rattle.rpm_db.specs.Room.{RoomBecomes, next_store}
+use Rattle.rpm_db.specs.RoomLaws.{next_paged, next_spare}
 use Rattle.rpm_change.specs.Limits.{next_stores}
 
 -- ---- places
@@ -40,29 +38,16 @@ stores_behind xs ys k v w is = next_stores-append xs ys v ∙ ap (option_and_the
 
 -- ---- pages
 
-more_pages : (moves : Option (List Move)) (pages : ℕ) → pages ≤ pages_after moves pages
-more_pages None pages = omega arith
-more_pages (Some moves) pages = omega arith
+paged_behind : (changes : List Change) (w : Store) → ((u : Store) → next_stores changes u ≡ Some w → IsPaged u → IsPaged w) → (o : Option Store)
+    → ((u : Store) → o ≡ Some u → IsPaged u) → option_and_then (next_stores changes) o ≡ Some w → IsPaged w
+paged_behind changes w more None first is = absurd cc
+paged_behind changes w more (Some u) first is = more u is (first u refl)
 
-placed_pages : (o : Option Placement) (v w : Store) → option_map (λ p. with_placed p v) o ≡ Some w → v.pages ≤ w.pages
-placed_pages None v w is = absurd cc
-placed_pages (Some p) v w is =
-    let same : with_placed p v ≡ w = cc in
-    subst (λ (u : Store). v.pages ≤ u.pages) same (more_pages p.moves v.pages)
+after_paged : (changes : List Change) (v w : Store) → next_stores changes v ≡ Some w → IsPaged v → IsPaged w
+after_paged [] v w is paged = let same : v ≡ w = cc in subst IsPaged same paged
+after_paged (x ∷ xs) v w is paged =
+    paged_behind xs w (λ u. after_paged xs u w) (next_store x v) (λ u one. next_paged x v u one paged) is
 
-next_pages : (change : Change) (v w : Store) → next_store change v ≡ Some w → v.pages ≤ w.pages
-next_pages (Add bytes) v w is = placed_pages (placed None (length bytes) (raised v)) (raised v) w is
-next_pages (Put n bytes) v w is = placed_pages (placed (Some n) (length bytes) (raised v)) (raised v) w is
-next_pages (Erase n) v w is =
-    let same : erased n (raised v) ≡ w = cc in
-    subst (λ (u : Store). v.pages ≤ u.pages) same (omega arith)
-
-pages_behind : (changes : List Change) (v w : Store) → ((u : Store) → next_stores changes u ≡ Some w → u.pages ≤ w.pages) → (o : Option Store)
-    → ((u : Store) → o ≡ Some u → v.pages ≤ u.pages) → option_and_then (next_stores changes) o ≡ Some w → v.pages ≤ w.pages
-pages_behind changes v w more None first is = absurd cc
-pages_behind changes v w more (Some u) first is = let a = first u refl in let b = more u is in omega (arith, a, b)
-
--- no slot page is ever taken away
-pub stores_pages : (changes : List Change) (v w : Store) → next_stores changes v ≡ Some w → v.pages ≤ w.pages
-stores_pages [] v w is = let same : v ≡ w = cc in subst (λ (u : Store). v.pages ≤ u.pages) same (omega arith)
-stores_pages (x ∷ xs) v w is = pages_behind xs v w (λ u. stores_pages xs u w) (next_store x v) (next_pages x v) is
+-- a store that has a page has one after all of them
+pub stores_paged : (changes : List Change) (v w : Store) → RoomBecomes (next_stores changes v) v w → IsPaged v → IsPaged w
+stores_paged changes v w becomes = after_paged changes v (with_spare v.spare w) becomes

@@ -1,9 +1,9 @@
-use Rattle.std.proofs.Common.{refl, ap, ◌∙◌, arith, rules}
-use Rattle.rpm_db.proofs.Vocabulary.{Anything, blobs, edited, Files, IsApplied, IsStored}
+use Rattle.std.proofs.Common.{refl, sym, ap, ◌∙◌, subst, arith, rules}
+use Rattle.rpm_db.proofs.Vocabulary.{Anything, blobs, edited, EditReaches, Files, IsApplied, IsStored}
 use Rattle.rpm_db.proofs.Both.{runs_both, runs_store}
 use Rattle.rpm_db.proofs.Halves.{applied_since, both_stop, half_stops, read_of, rows_written, state_written, stored_then}
-use Rattle.rpm_db.proofs.Results.{map_ok}
-use Rattle.rpm_db.proofs.Unwritten.{log_same, log_then}
+use Rattle.rpm_db.proofs.Results.{map_ok, on_ok}
+use Rattle.rpm_db.proofs.Unwritten.{log_same, log_then, stops_refused}
 use Rattle.rpm_db.proofs.Wholes.{whole_sealed}
 use Rattle.rpm_db.proofs.changing.change_both.Goals as goal
 
@@ -16,6 +16,9 @@ prepare_change-requires-clause-read g c = read_of g.D.Disk _ _ _ c.requires.read
 
 pub returns-in-Err-clause-runs : goal.returns-in-Err-clause-runs
 returns-in-Err-clause-runs g c = record { files = log_same g.D.Disk _ _ c.in-Err.ensures.runs; cause = search rules }
+
+pub returns-in-Err-clause-stops : goal.returns-in-Err-clause-stops
+returns-in-Err-clause-stops g c = λ told lawful has. stops_refused _ _ g.D.Disk _ _ told lawful c.in-Err.ensures.runs
 
 -- ---- the store was, in part
 
@@ -85,3 +88,9 @@ returns-clause-done g c =
       reach = λ told has. omega (arith, leads.reach told has, applied.grows);
       whole = λ told whole. whole_sealed _ work old old new.idx refl (e.whole told whole) (applied.sealed told);
     }) c.write_rows.ensures.applied
+
+pub returns-clause-end : goal.returns-clause-end
+returns-clause-end g c = on_ok c.write_rows.result (λ told.
+    subst (λ (f : Files). EditReaches c.args.edit c.edit_raised.new.store f.pkg (g.D.Disk.files c.write_rows.new.disk).pkg) (c.in-Ok.ensures.runs.reads_as told)
+    (subst (EditReaches c.args.edit c.edit_raised.new.store (g.D.Disk.files c.prepare_change.new.disk).pkg) (sym (c.write_rows.ensures.writes.changes.pkg told))
+    (c.in-Ok-edit_raised.ensures.end told)))

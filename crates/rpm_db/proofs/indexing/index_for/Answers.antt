@@ -1,8 +1,7 @@
-use Rattle.std.proofs.Common.{◌≡◌, ℕ, true, false, ap, sym, ◌∙◌, subst}
+use Rattle.std.proofs.Common.{◌≡◌, ℕ, true, false, ap, refl, sym, ◌∙◌, subst}
 use Rattle.std.specs.Prelude.{IsTrue}
-use Rattle.rpm_db.proofs.Vocabulary.{Files, HasRows, is_current, is_current_at, packages}
-use Rattle.rpm_db.proofs.Vocabulary.{store}
-use Rattle.rpm_db.proofs.Making.{rows_of_lawful, rows_of_index, current_same}
+use Rattle.rpm_db.proofs.Vocabulary.{Files, HasRows, is_current, is_current_at, packages, store}
+use Rattle.rpm_db.proofs.Making.{rows_of_lawful, rows_of_index, current_same, remade_both, remade_look}
 use Rattle.rpm_db.proofs.indexing.index_for.Goals as goal
 
 pub returns-then-is_current-clause-index : goal.returns-then-is_current-clause-index
@@ -49,3 +48,19 @@ returns-in-Ok-make_index-clause-index g c =
       rows_are = λ told lawful. rows_now told;
       made = λ told stale. rows_now told;
     }
+
+pub returns-in-Ok-make_index-clause-runs : goal.returns-in-Ok-make_index-clause-runs
+returns-in-Ok-make_index-clause-runs g c =
+    remade_both g.D.Disk g.met.D.Disk.follows_trans (remade_look g.D.Disk c.in-Ok.ensures.reads.looks refl) c.in-Ok-make_index.ensures.runs
+
+pub returns-in-Err-IndexFull-clause-runs : goal.returns-in-Err-IndexFull-clause-runs
+returns-in-Err-IndexFull-clause-runs g c =
+    remade_both g.D.Disk g.met.D.Disk.follows_trans (remade_look g.D.Disk c.in-Ok.ensures.reads.looks refl) c.in-Err-IndexFull.ensures.runs
+
+pub returns-in-Err-DiskFault-clause-runs : goal.returns-in-Err-DiskFault-clause-runs
+returns-in-Err-DiskFault-clause-runs g c =
+    remade_both g.D.Disk g.met.D.Disk.follows_trans (remade_look g.D.Disk c.in-Ok.ensures.reads.looks refl) c.in-Err-DiskFault.ensures.runs
+
+pub returns-in-Err-NoMemory-clause-runs : goal.returns-in-Err-NoMemory-clause-runs
+returns-in-Err-NoMemory-clause-runs g c =
+    remade_both g.D.Disk g.met.D.Disk.follows_trans (remade_look g.D.Disk c.in-Ok.ensures.reads.looks refl) c.in-Err-NoMemory.ensures.runs

@@ -1,7 +1,7 @@
-use Rattle.std.proofs.Common.{ℕ, ◌≤◌, max, List, ap, sym, ◌∙◌, subst, arith}
+use Rattle.std.proofs.Common.{ℕ, ◌≤◌, max, List, ap, refl, sym, ◌∙◌, subst, arith}
 use Rattle.rpm_db.proofs.Vocabulary.{Files, IsOfRows, IsSealedHere, packages, Row, rows, units_for}
 use Rattle.rpm_db.proofs.Results.{both_ok}
-use Rattle.rpm_db.proofs.Making.{of_rows}
+use Rattle.rpm_db.proofs.Making.{of_rows, remade_both, remade_look}
 use Rattle.rpm_db.proofs.indexing.make_index.Goals as goal
 
 pub write_index-requires-clause-rows : goal.write_index-requires-clause-rows
@@ -23,3 +23,6 @@ returns-clause-reach g c =
     c.generation.result after) told.
     let most = subst (λ (rs : List Row). after.units ≤ max before (units_for rs)) (c.in_ok-rows.ensures.rows told) grows in
     omega (arith, most, (sealed.kept told).units, (c.requires.index told).units)) c.write_index.ensures.grows c.write_index.ensures.sealed
+
+pub returns-clause-runs : goal.returns-clause-runs
+returns-clause-runs g c = remade_both g.D.Disk g.met.D.Disk.follows_trans (remade_look g.D.Disk c.in_ok-rows.ensures.looks refl) c.write_index.ensures.runs

@@ -60,3 +60,6 @@ returns-in-Ok-prepare_rows-clause-leads g c = λ new changed.
 pub returns-in-Ok-prepare_rows-clause-runs : goal.returns-in-Ok-prepare_rows-clause-runs
 returns-in-Ok-prepare_rows-clause-runs g c =
     looked_both g.D.Disk g.met.D.Disk.follows_trans _ _ _ _ _ c.in-Ok.ensures.looks c.in-Ok-prepare_rows.ensures.looks
+
+pub returns-clause-runs : goal.returns-clause-runs
+returns-clause-runs g c = looked_both g.D.Disk g.met.D.Disk.follows_trans _ _ _ _ _ c.in-Ok.ensures.looks c.in-Err-prepare_rows.ensures.looks

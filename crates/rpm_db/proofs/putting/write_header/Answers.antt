@@ -1,10 +1,11 @@
-use Rattle.std.proofs.Common.{◌+◌, ℕ, List, sym, ap, ◌∙◌, subst}
-use Rattle.rpm_db.proofs.Vocabulary.{AreByPlace, BlobMap, HasChanged, header_rows, live_of}
-use Rattle.rpm_db.proofs.Vocabulary.{old_rows, packages, packages_of, Row, rows}
+use Rattle.std.proofs.Common.{◌+◌, ℕ, List, refl, sym, ap, ◌∙◌, subst}
+use Rattle.rpm_db.proofs.Vocabulary.{AreByPlace, BlobMap, CanEdit, HasChanged, header_rows, live_of, old_rows, packages, packages_of, Row, rows, runs_none}
+use Rattle.rpm_db.proofs.Vocabulary.{SameFiles, SameLog}
+use Rattle.rpm_db.specs.declared.writing.Edit.TheVariants as edit
 use Rattle.rpm_db.proofs.ByPlace.{by_place_header}
 use Rattle.rpm_db.proofs.Planning.{done_roomed, field_is, index_planned, map_is, planned, rows_roomed, state_is, state_same}
 use Rattle.rpm_db.proofs.Puts.{number_same, reads_put, rows_planned}
-use Rattle.rpm_db.proofs.Results.{map_ok}
+use Rattle.rpm_db.proofs.Results.{cause_memory, map_ok}
 use Rattle.rpm_db.proofs.Rooms.{finds_none, finds_room}
 use Rattle.rpm_db.proofs.Unwritten.{stops_told}
 use Rattle.rpm_db.proofs.putting.write_header.Goals as goal
@@ -14,7 +15,26 @@ use Rattle.rpm_db.proofs.putting.write_header.Goals as goal
 pub returns-in-Err-clause-room : goal.returns-in-Err-clause-room
 returns-in-Err-clause-room g c = finds_none _ _ _ _ c.in-Err.fault c.in-Err.ensures.later c.in-Err.ensures.placed
 
+-- ---- memory was refused
+
+pub returns-in_default-clause-refused : goal.returns-in_default-clause-refused
+returns-in_default-clause-refused g c = λ refusal. record {
+  store_is = c.in-Ok.ensures.value;
+  index_is = refl;
+  runs = runs_none g.D.Disk g.met.D.Disk.follows_refl SameFiles (λ f. refl) c.args.disk.now;
+}
+
+pub returns-in_default-clause-runs : goal.returns-in_default-clause-runs
+returns-in_default-clause-runs g c = record {
+  files = runs_none g.D.Disk g.met.D.Disk.follows_refl SameLog (λ f. refl) c.args.disk.now;
+  cause = cause_memory;
+}
+
 -- ---- what the change of both files asks for
+
+pub change_both-requires-clause-can : goal.change_both-requires-clause-can
+change_both-requires-clause-can g c =
+    subst (λ (b : List ℕ). CanEdit (edit.Put c.in-Ok.plan) b c.plan_blob.new.store) (sym c.blob.ensures.value) c.in-Ok.ensures.plan
 
 pub change_both-requires-clause-order : goal.change_both-requires-clause-order
 change_both-requires-clause-order g c =

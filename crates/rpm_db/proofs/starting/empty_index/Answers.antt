@@ -1,23 +1,19 @@
 use Rattle.std.proofs.Common.{◌≡◌, length, ap, refl, arith, rules}
-use Rattle.rpm_db.proofs.Vocabulary.{Files, Idx, Remade, remade_none, remade_then, runs_index, runs_looks, runs_then, units_for, VoidOrSame}
+use Rattle.rpm_db.proofs.Vocabulary.{Files, units_for}
 use Rattle.rpm_hindex.specs.declared.faults.RewriteFault.TheVariants as rewrite
 use Rattle.rpm_db.proofs.Emptied.{never_full}
-use Rattle.rpm_db.proofs.Making.{voiding}
+use Rattle.rpm_db.proofs.Making.{remade_both, remade_look, remade_void}
 use Rattle.rpm_db.proofs.starting.empty_index.Goals as goal
 
 pub returns-in-Ok-rewrite-clause-runs : goal.returns-in-Ok-rewrite-clause-runs
 returns-in-Ok-rewrite-clause-runs g c =
-    runs_then g.D.Disk g.met.D.Disk.follows_trans Remade Remade Remade c.args.disk.now c.open.new.disk c.rewrite.new.disk (λ x y r. r) remade_then
-    (runs_looks g.D.Disk Remade remade_none Idx 32 c.args.disk.now c.open.new.disk refl c.in-Ok.ensures.reads.looks)
-    (runs_index g.D.Disk Remade VoidOrSame (λ f. Unit {0}) 0
-    c.open.new.disk c.rewrite.new.disk voiding (λ told. tt) (λ told image left. tt) c.rewrite.ensures.writes.changes)
+    remade_both g.D.Disk g.met.D.Disk.follows_trans (remade_look g.D.Disk c.in-Ok.ensures.reads.looks refl)
+    (remade_void g.D.Disk c.rewrite.ensures.writes.changes)
 
 pub returns-clause-runs : goal.returns-clause-runs
 returns-clause-runs g c =
-    runs_then g.D.Disk g.met.D.Disk.follows_trans Remade Remade Remade c.args.disk.now c.open.new.disk c.rewrite.new.disk (λ x y r. r) remade_then
-    (runs_looks g.D.Disk Remade remade_none Idx 32 c.args.disk.now c.open.new.disk refl c.in-Ok.ensures.reads.looks)
-    (runs_index g.D.Disk Remade VoidOrSame (λ f. Unit {0}) 0
-    c.open.new.disk c.rewrite.new.disk voiding (λ told. tt) (λ told image left. tt) c.rewrite.ensures.writes.changes)
+    remade_both g.D.Disk g.met.D.Disk.follows_trans (remade_look g.D.Disk c.in-Ok.ensures.reads.looks refl)
+    (remade_void g.D.Disk c.rewrite.ensures.writes.changes)
 
 pub returns-clause-room : goal.returns-clause-room
 returns-clause-room g c = λ needed is.

@@ -1,5 +1,5 @@
 use Rattle.std.proofs.Common.{sym, ap, ◌∙◌, subst}
-use Rattle.rpm_db.proofs.Vocabulary.{IsUnsealed, SameOutside, store, Units}
+use Rattle.rpm_db.proofs.Vocabulary.{IsUnsealed, Remade, runs_weaker, SameLog, SameOutside, store, Units}
 use Rattle.rpm_pkgdb.specs.Store as pkgdb
 use Rattle.rpm_db.proofs.Emptied.{empty_unsealed}
 use Rattle.rpm_db.proofs.EmptyStops.{stops_all, stops_both, stops_first}
@@ -59,6 +59,9 @@ returns-in-Ok-seal_index-clause-empty g c =
       index_of = s.sealed.index_of;
       settled = s.sealed.settled;
     }
+
+pub returns-in-Err-clause-runs : goal.returns-in-Err-clause-runs
+returns-in-Err-clause-runs g c = runs_weaker g.D.Disk Remade SameLog _ _ (λ x y made. made.log) c.in-Err.ensures.runs
 
 pub returns-in_default-clause-runs : goal.returns-in_default-clause-runs
 returns-in_default-clause-runs g c =

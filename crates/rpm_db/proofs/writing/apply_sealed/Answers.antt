@@ -21,8 +21,8 @@ returns-in_default-clause-writes g c =
       cause = search rules;
     }
 
-pub returns-clause-writes : goal.returns-clause-writes
-returns-clause-writes g c =
+pub returns : goal.returns
+returns g c =
     let D = g.D.Disk in
     let n = c.args.generation in
     let work = c.args.plan.work in
@@ -32,42 +32,33 @@ returns-clause-writes g c =
     let i = c.apply.new.self in
     let e = c.in-Ok.ensures in
     let unit = seal_unit n i.pending in
-    let some = ordered_some i.pending i.units i.second (e.ordered c.requires.change.ordered) in
-    record {
-      changes = changes_between D Idx g.met.D.Disk.follows_trans VoidOrSameSeal (SealedOrSame unit)
-          (IndexTo n work file) (IsWritten n work file) 0 0 0 c.args.disk.now b c.seal.new.disk (omega arith) (unsealed_yet n work file)
-          (sealing_rows n work file unit (ap (seal_unit n) e.value.pending))
-          (λ told. is_written n work file i.pending mid mid e.value.pending (e.left.written told) (omega (arith, (e.left.kept told).units, some))
-          (c.seal.ensures.whichever told)
-          refl)
-          (λ told image left. is_written n work file i.pending mid image.idx e.value.pending (e.left.written told) (omega (
-            arith,
-            (e.left.kept told).units,
-            some,
-          ))
-          (c.seal.ensures.whichever told) (e.left.settled told image left)) e.writes.changes c.seal.ensures.writes.changes;
-      cause = search rules;
-    }
-
-pub returns-clause-applied : goal.returns-clause-applied
-returns-clause-applied g c =
-    let D = g.D.Disk in
-    let n = c.args.generation in
-    let work = c.args.plan.work in
-    let file = (D.files c.args.disk.now).idx in
-    let mid = (D.files c.apply.new.disk).idx in
-    let i = c.apply.new.self in
-    let e = c.in-Ok.ensures in
     let ordered = e.ordered c.requires.change.ordered in
     let some = ordered_some i.pending i.units i.second ordered in
-    three_ok c.seal.result (λ current is left. record {
-      current = current ordered;
-      grows = omega (arith, ap (λ (s : State). s.units) is, e.value.grows);
-      kept = left.kept;
-      sealed = λ told.
-          sealed_now n work file (seal_unit n i.pending) mid (D.files c.seal.new.disk).idx (ap (seal_unit n) e.value.pending)
-          (is_written n work file i.pending mid mid e.value.pending (e.left.written told) (omega (arith, (e.left.kept told).units, some))
-          (c.seal.ensures.whichever told)
-          refl) (left.written told);
-      settled = left.settled;
-    }) c.seal.ensures.current c.seal.ensures.state c.seal.ensures.left
+    record {
+      applied = three_ok c.seal.result (λ current is left. record {
+        current = current ordered;
+        grows = omega (arith, ap (λ (s : State). s.units) is, e.value.grows);
+        kept = left.kept;
+        sealed = λ told.
+            sealed_now n work file unit mid (D.files c.seal.new.disk).idx (ap (seal_unit n) e.value.pending)
+            (is_written n work file i.pending mid mid e.value.pending (e.left.written told) (omega (arith, (e.left.kept told).units, some))
+            (c.seal.ensures.whichever told)
+            refl) (left.written told);
+        settled = left.settled;
+      }) c.seal.ensures.current c.seal.ensures.state c.seal.ensures.left;
+      writes = record {
+        changes = changes_between D Idx g.met.D.Disk.follows_trans VoidOrSameSeal (SealedOrSame unit)
+            (IndexTo n work file) (IsWritten n work file) 0 0 0 c.args.disk.now b c.seal.new.disk (omega arith) (unsealed_yet n work file)
+            (sealing_rows n work file unit (ap (seal_unit n) e.value.pending))
+            (λ told. is_written n work file i.pending mid mid e.value.pending (e.left.written told) (omega (arith, (e.left.kept told).units, some))
+            (c.seal.ensures.whichever told)
+            refl)
+            (λ told image left. is_written n work file i.pending mid image.idx e.value.pending (e.left.written told) (omega (
+              arith,
+              (e.left.kept told).units,
+              some,
+            ))
+            (c.seal.ensures.whichever told) (e.left.settled told image left)) e.writes.changes c.seal.ensures.writes.changes;
+        cause = search rules;
+      };
+    }

@@ -8,3 +8,6 @@ returns-in-Err-clause-stops g c = rw c.in-Put.is (λ told quiet. (c.in-Err.ensur
 
 pub returns-in-Erase-clause-stops : goal.returns-in-Erase-clause-stops
 returns-in-Erase-clause-stops g c = rw c.in-Erase.is (λ told quiet. (c.erase.ensures.stops told quiet).images)
+
+pub returns-in-Ok-clause-edited : goal.returns-in-Ok-clause-edited
+returns-in-Ok-clause-edited g c = rw c.in-Put.is (λ told. let p = c.in-Ok.ensures.put told in record { written = p.written; reach = p.reach })

@@ -1,10 +1,10 @@
-use Rattle.std.proofs.Common.{◌≡◌, ◌≤◌, ◌^◌, ◌+◌, ◌++◌, ℕ, [], None, Ok, true, false, is_some, refl, sym, ap, ◌∙◌, subst, arith}
+use Rattle.std.proofs.Common.{rules, ◌≡◌, ◌≤◌, ◌^◌, ◌+◌, ◌++◌, ℕ, [], None, Ok, true, false, is_some, refl, sym, ap, ◌∙◌, subst, arith}
 use Rattle.std.proofs.lemmas.Bool.Decides.{nat_tests}
 use Rattle.std.specs.Prelude.{IsTrue}
 use Rattle.std.specs.FinMap as finite
-use Rattle.rpm_db.proofs.Vocabulary.{Add, AddIs, apply, ChangeFault, Database, FullIndexIs, HasChanged, HasRows, header, header-own, header_rows}
-use Rattle.rpm_db.proofs.Vocabulary.{IsChangedStill, IsOrdered, IsPutAside, IsRefusal, KeepsUnits, LeavesOnly, nat_cmp, next_number, Package, packages}
-use Rattle.rpm_db.proofs.Vocabulary.{packages-blobs, packages_of, put_map, resumed, rows, Runs, SameFiles, state, Store, Units, units_for, with_spare}
+use Rattle.rpm_db.proofs.Vocabulary.{Add, AddIs, apply, ChangeFault, Database, database_of, FullIndexIs, HasChanged, HasRows, header, header-own}
+use Rattle.rpm_db.proofs.Vocabulary.{header_rows, IsChangedStill, IsOrdered, IsPutAside, IsRefusal, KeepsUnits, LeavesOnly, nat_cmp, next_number, Package}
+use Rattle.rpm_db.proofs.Vocabulary.{packages, packages-blobs, packages_of, put_map, resumed, rows, Runs, SameFiles, state, Store, Units, units_for, with_spare}
 use Rattle.rpm_db.specs.State.{State}
 use Rattle.rpm_db.proofs.Applied.{put_state}
 use Rattle.rpm_db.proofs.FillStops.{taken_ok}
@@ -12,8 +12,7 @@ use Rattle.rpm_db.proofs.OwedRows.{due_more, gathered_rows}
 use Rattle.rpm_db.proofs.Halves.{state_written}
 use Rattle.rpm_db.proofs.Reached.{added_is}
 use Rattle.rpm_db.proofs.Refused.{add_is}
-use Rattle.rpm_db.proofs.Results.{both_ok, map_if_err, on_err}
-use Rattle.rpm_db.proofs.Served.{database_of}
+use Rattle.rpm_db.proofs.Results.{both_ok, if_err, map_if_err, on_err}
 use Rattle.rpm_db.proofs.Wholes.{whole_err}
 use Rattle.rpm_db.proofs.additions.Additions.add.Goals as goal
 
@@ -126,6 +125,14 @@ returns-clause-left g c =
           c.store_header.ensures.refused;
       same = map_if_err c.store_header.result (λ e (p : Refused e) refusal. (p refusal).1) c.store_header.ensures.refused;
     })
+
+pub returns-in_err-view-clause-left : goal.returns-in_err-view-clause-left
+returns-in_err-view-clause-left g c = record {
+  indexed = c.requires.gathering.indexed;
+  stopped = on_err c.from_residual.result c.requires.gathering.suspends;
+  refused = if_err c.from_residual.result (λ e refusal. refl);
+  same = search rules;
+}
 
 -- ---- the value holds together
 

@@ -1,11 +1,11 @@
 use Rattle.std.proofs.Common.{arith, false, Some, sym, ap, ◌∙◌}
 use Rattle.std.specs.FinMap as finite
-use Rattle.rpm_db.proofs.Vocabulary.{blobs, Erase, raised, with_spare}
+use Rattle.rpm_db.proofs.Vocabulary.{blobs, database_of, Erase, raised, with_spare}
 use Rattle.rpm_db.proofs.Applied.{erase_state}
 use Rattle.rpm_db.proofs.Left.{left_done, left_fault, makes_done, makes_fault, ready_inside}
 use Rattle.rpm_db.proofs.Refused.{refusal_goes, erase_cause}
 use Rattle.rpm_db.proofs.Rooms.{room_erased}
-use Rattle.rpm_db.proofs.Served.{database_of, room_same, refused_same}
+use Rattle.rpm_db.proofs.Served.{room_same, refused_same}
 use Rattle.rpm_db.proofs.database.Db.erase.Goals as goal
 
 pub erase_number-requires-clause-ready : goal.erase_number-requires-clause-ready

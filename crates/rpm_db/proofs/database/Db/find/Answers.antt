@@ -1,5 +1,5 @@
 use Rattle.std.proofs.Common.{◌≡◌, ℕ, List, false, sym, ap, ◌∙◌, subst}
-use Rattle.rpm_db.proofs.Vocabulary.{AreHits, code_of, Database, hash_of, IsInOrder, IsWellFormed, KeepsUnits, packages, records, rows, unit_at}
+use Rattle.rpm_db.proofs.Vocabulary.{AreHits, code_of, Database, hash_of, IsInOrder, IsWellFormed, KeepsUnits, packages, records, room, rows, unit_at}
 use Rattle.rpm_hindex.specs.State as hindex
 use Rattle.rpm_db.proofs.Found.{current_in_order, some_buckets, same_hits, ok_map, no_bad, chain_ok}
 use Rattle.rpm_db.proofs.database.Db.find.Goals as goal
@@ -14,7 +14,7 @@ pub returns-clause-rows : goal.returns-clause-rows
 returns-clause-rows g c =
     ok_map c.find.result _ _ c.find.ensures.rows (λ hits said told has.
     let idx = (g.D.Disk.files c.args.disk.now).idx in
-    let all = rows (packages (g.D.Disk.files c.args.disk.now).pkg c.args.self.now.store) in
+    let all = rows (packages (g.D.Disk.files c.args.disk.now).pkg (room c.args.self.now)) in
     let kept : hindex.Keeps idx c.in-Some.index =
     subst (KeepsUnits idx) (sym (ap (λ (db : Database). db.index) c.self.view_is) ∙ c.in-Some.is) (c.requires.keeps told) in
     let same = λ (first : List ℕ). IsWellFormed (hindex.buckets_of first) idx in

@@ -1,14 +1,13 @@
 use Rattle.std.proofs.Common.{subst}
-use Rattle.rpm_db.proofs.Vocabulary.{Files, IsOpenedOn, ReachesMade, Remade, remade_then, runs_then, store, units_needed}
+use Rattle.rpm_db.proofs.Vocabulary.{Files, IsOpenedOn, ReachesMade, store, units_needed}
+use Rattle.rpm_db.proofs.Making.{remade_both}
 use Rattle.rpm_db.proofs.Opened.{stays_lawful}
 use Rattle.rpm_db.proofs.Results.{map_if_ok}
 use Rattle.rpm_db.proofs.database.Db.open.Goals as goal
 
 pub returns-in-Ok-clause-runs : goal.returns-in-Ok-clause-runs
 returns-in-Ok-clause-runs g c =
-    runs_then g.D.Disk g.met.D.Disk.follows_trans
-    Remade Remade Remade c.args.disk.now c.settle.new.disk c.open_settled.new.disk (λ x y r. r) remade_then c.in-Ok.ensures.runs
-    c.open_settled.ensures.runs
+    remade_both g.D.Disk g.met.D.Disk.follows_trans c.in-Ok.ensures.runs c.open_settled.ensures.runs
 
 pub returns-in-Ok-clause-stops : goal.returns-in-Ok-clause-stops
 returns-in-Ok-clause-stops g c = λ told. stays_lawful g.D.Disk _ _ told (returns-in-Ok-clause-runs g c)

@@ -1,5 +1,5 @@
 use Rattle.std.proofs.Common.{◌≡◌, ◌≤◌, ◌^◌, false, sym, ap, ◌∙◌, subst}
-use Rattle.rpm_db.proofs.Vocabulary.{Database, packages, ReachesMade, rows, Store, store, units_for}
+use Rattle.rpm_db.proofs.Vocabulary.{Database, packages, ReachesMade, room, rows, Store, store, units_for}
 use Rattle.rpm_pkgdb.specs.Store as pkgdb
 use Rattle.rpm_db.proofs.Opened.{stays_lawful}
 use Rattle.rpm_db.proofs.Rebuilt.{rebuilt, serving_now}
@@ -11,7 +11,7 @@ returns-in-Ok-clause-rebuilt g c = λ told.
     let old = g.D.Disk.files c.args.disk.now in
     let new = g.D.Disk.files c.remake.new.disk in
     let value = c.self.inside.store in
-    let same : value ≡ c.args.self.now.store = ap (λ (db : Database). db.store) c.self.view_is in
+    let same : value ≡ room c.args.self.now = ap room c.self.view_is in
     let going : c.args.self.now.stopped ≡ false = sym (ap (λ (db : Database). db.stopped) c.self.view_is) ∙ c.if-self.false in
     let keeps = subst (pkgdb.Keeps old.pkg) (sym same) (c.requires.keeps going told) in (
       subst (λ (s : Store). units_for (rows (packages old.pkg s)) ≤ 2 ^ 28) same (e.full told),
@@ -27,7 +27,7 @@ returns-in-Ok-clause-renewed g c =
     let old = g.D.Disk.files c.args.disk.now in
     let new = c.remake.new.disk in
     let going : c.args.self.now.stopped ≡ false = sym (ap (λ (db : Database). db.stopped) c.self.view_is) ∙ c.if-self.false in
-    let same : c.self.inside.store ≡ c.args.self.now.store = ap (λ (db : Database). db.store) c.self.view_is in
+    let same : c.self.inside.store ≡ room c.args.self.now = ap room c.self.view_is in
     record {
       going = c.if-self.false;
       serving = λ told.

@@ -1,5 +1,5 @@
 use Rattle.std.proofs.Common.{◌≡◌, Some, subst}
-use Rattle.rpm_db.proofs.Vocabulary.{Database, verdict}
+use Rattle.rpm_db.proofs.Vocabulary.{Database, database_of, verdict}
 use Rattle.rpm_db.specs.declared.verify.Verdict.TheVariants.{BadHeader}
 use Rattle.rpm_db.proofs.Answers.{broken}
 use Rattle.rpm_db.proofs.database.Db.verify.Goals as goal
@@ -8,5 +8,5 @@ pub returns-in-Err-Bad-clause-told : goal.returns-in-Err-Bad-clause-told
 returns-in-Err-Bad-clause-told g c = λ told.
     let file = (g.D.Disk.files c.args.disk.now).pkg in
     subst (λ (db : Database). verdict file db c.args.n ≡ Some BadHeader) c.self.view_is
-    (broken file (record { store = c.self.inside.store; index = c.self.inside.index; stopped = c.self.inside.is_stopped }) c.args.n
+    (broken file (database_of c.self.inside.store c.self.inside.index c.self.inside.is_stopped) c.args.n
     (rw c.in-Err-Bad.field-0-is at (c.in-Err-Bad.ensures.holds told)))
