@@ -1,14 +1,16 @@
 -- Runs of calls that ask a database.
 use Rattle.std.proofs.Common.{◌≡◌, ℕ, List, ◌≤◌, Ok, Err, ◌∙◌, refl, sym, ap, subst, arith}
-use Rattle.std.specs.Prelude.{Result, OnOk, OnErr, IfOk, IfErr, false}
+use Rattle.std.specs.Prelude.{Result, OnOk, OnErr, IfOk, IfErr, IsTrue, false}
+use Rattle.std.specs.Result.{IsErrAnd}
+use Rattle.std.proofs.lemmas.Result.{err_from_is_err_and}
 use Rattle.rpm_outside.specs.declared.disk.Disk as disk
-use Rattle.rpm_check.proofs.Vocabulary.{Asks, AsksIndex, CheckFault, Database, DiskFault, fault_in, Files, is_broken, is_of_index, IsAskable, IsBroken, Keeps}
-use Rattle.rpm_check.proofs.Vocabulary.{Kept, KeptIndex, Kind, NoMemory, PickFault, Units}
+use Rattle.rpm_check.proofs.Vocabulary.{Asks, AsksIndex, AsksPackages, CheckFault, Database, DiskFault, fault_in, Files, is_broken, is_of_index, IsAskable, IsBroken, Keeps}
+use Rattle.rpm_check.proofs.Vocabulary.{FinMap, HasIndexRows, KeepsIndex, Kept, KeptIndex, Kind, nat_cmp, NoMemory, Package, packages, PickFault, room, Units}
 use Rattle.rpm_select.specs.declared.picked.PickFault.TheVariants as pick
 use Rattle.rpm_select.specs.Picks as picks
-use Rattle.rpm_check.specs.Frame.{Glances}
+use Rattle.rpm_check.specs.Frame.{Glances, HasRows, packages_in}
 use Rattle.rpm_check.proofs.Faulting.{broken_from}
-use Rattle.rpm_check.proofs.Glancing.{glances_none, glances_then, glances_index}
+use Rattle.rpm_check.proofs.Glancing.{glances_none, glances_then, glances_index, glances_packages}
 
 -- ---- answers
 
@@ -39,6 +41,11 @@ of_index_in : (fault : PickFault) → is_of_index (fault_in fault) ≡ picks.is_
 of_index_in (pick.BadIndex unit) = refl
 of_index_in pick.DiskFault = refl
 of_index_in pick.NoMemory = refl
+
+unbroken_in : (fault : PickFault) (idx : Units) → picks.is_of_index fault ≡ false → IsBroken idx (fault_in fault)
+unbroken_in (pick.BadIndex unit) idx is = absurd cc
+unbroken_in pick.DiskFault idx is = tt
+unbroken_in pick.NoMemory idx is = tt
 
 disk_in : (fault : PickFault) → fault_in fault ≡ DiskFault → fault ≡ pick.DiskFault
 disk_in (pick.BadIndex unit) is = absurd cc
@@ -82,17 +89,88 @@ module _ {D : Type 0} (d : disk.Ghosts D) where
     faults = omega (arith, first.faults, second.cause.later);
   }
 
-  -- a call that asks nothing, and fails only for want of memory
-  pub asks_nothing : {X : Type 0} (r : Result X CheckFault) → ((a : D) → d.follows a a) → (a : D) (db : Database) → IsAskable d a db
-      → OnErr r (r ≡ Err NoMemory) → Asks d a a db r
-  asks_nothing r same a db asked is = record {
+  pub asking_of : {X : Type 0} {r : Result X CheckFault} {a b : D} {db : Database} → Asks d a b db r → Asking a b db
+  asking_of asks = record { keeps = asks.kept; keeps_index = asks.kept_index; looks = asks.looks; faults = asks.cause.later }
+
+  -- a picker was made
+  pub asking_picker : {X : Type 0} {r : Result X PickFault} {keys : List (Kind × List ℕ)} {a b : D} {db : Database} → IsAskable d a db
+      → AsksIndex d keys a b db r → Asking a b db
+  asking_picker {a = a} {b = b} {db = db} asked made = record {
+    keeps = λ told. subst (λ (f : Files). Keeps f.pkg db) (sym (made.looks.untouched told).same) (asked.keeps told);
+    keeps_index = made.kept_index;
+    looks = glances_index d a b made.looks;
+    faults = made.cause.later;
+  }
+
+  -- and then it read packages
+  pub asking_next : {X : Type 0} {r : Result X PickFault} {most : ℕ} → ((a b c : D) → d.follows a b → d.follows b c → d.follows a c) → {a b c : D}
+      {db : Database} → Asking a b db → AsksPackages d most b c db r → Asking a c db
+  asking_next trans {a} {b} {c} {db} first second = record {
+    keeps = second.kept;
+    keeps_index = λ told. subst (λ (f : Files). KeepsIndex f.idx db) (sym (second.looks.untouched told).same) (first.keeps_index told);
+    looks = glances_then d trans a b c first.looks (glances_packages d _ b c second.looks);
+    faults = omega (arith, first.faults, second.cause.later);
+  }
+
+  -- so far, and it ended: it was answered, or memory was refused
+  pub asks_ended : {X : Type 0} (r : Result X CheckFault) {a b : D} {db : Database} → Asking a b db → OnErr r (r ≡ Err NoMemory) → Asks d a b db r
+  asks_ended r {a} asked is = record {
     kept = asked.keeps;
     kept_index = asked.keeps_index;
     broken = λ told. memory_unbroken r (d.files a).idx is;
     lawful = λ told rows. memory_lawful r is;
-    looks = glances_none d same a;
-    cause = record { later = omega arith; rose = λ hit. absurd (memory_no_fault r is hit) };
+    looks = asked.looks;
+    cause = record { later = asked.faults; rose = λ hit. absurd (memory_no_fault r is hit) };
   }
+
+  pub asks_memory : {X : Type 0} {r : Result X CheckFault} {a b : D} {db : Database} → Asking a b db → IsErrAnd r (λ fault. fault ≡ NoMemory) → Asks d a b db r
+  asks_memory {X} {r} asked is = (let p = err_from_is_err_and r is in rw (p.1, p.2) (asks_ended (failed X NoMemory) asked refl))
+
+  -- and then a call answered this
+  pub asks_then : {X : Type 0} {r : Result X CheckFault} → ((a b c : D) → d.follows a b → d.follows b c → d.follows a c) → {a b c : D} {db : Database}
+      → Asking a b db → Asks d b c db r → Asks d a c db r
+  asks_then {r = r} trans {a} {b} {c} {db} first second = record {
+    kept = second.kept;
+    kept_index = second.kept_index;
+    broken = λ told. subst (λ (f : Files). IfErr r (IsBroken f.idx)) (first.looks.untouched told).same (second.broken told);
+    lawful = λ told rows.
+        second.lawful told (subst (λ (f : Files). HasIndexRows db f.pkg f.idx) (sym (first.looks.untouched told).same) rows);
+    looks = glances_then d trans a b c first.looks second.looks;
+    cause = record {
+      later = omega (arith, first.faults, second.cause.later);
+      rose = λ hit. (let rose = second.cause.rose hit in omega (arith, first.faults, rose));
+    };
+  }
+
+  -- its fault, handed on in an answer of another type
+  pub asks_failed : {X Y : Type 0} {fault : CheckFault} {r : Result Y CheckFault} {a b : D} {db : Database} → Asks d a b db (failed X fault)
+      → IsErrAnd r (λ e. e ≡ fault) → Asks d a b db r
+  asks_failed {X} {Y} {fault} {r} asks is =
+      let p = err_from_is_err_and r is in
+      rw (p.1, p.2) (record {
+        kept = asks.kept;
+        kept_index = asks.kept_index;
+        broken = asks.broken;
+        lawful = asks.lawful;
+        looks = asks.looks;
+        cause = record { later = asks.cause.later; rose = λ hit. asks.cause.rose (ap (failed X) (err_in Y _ _ hit)) };
+      })
+
+  -- what is known of the packages, while they are asked
+  pub known_here : (K : FinMap nat_cmp Package → Type 0) {a b : D} {db : Database} → Asking a b db
+      → (IsTrue d.tells → HasRows d a db → K (packages_in d a db)) → IsTrue d.tells → HasRows d b db → K (packages_in d b db)
+  known_here K {db = db} asked is told =
+      subst (λ (f : Files). HasIndexRows db f.pkg f.idx → K (packages f.pkg (room db))) (sym (asked.looks.untouched told).same) (is told)
+
+  pub known_back : (K : FinMap nat_cmp Package → Type 0) {a b : D} {db : Database} → Asking a b db
+      → (IsTrue d.tells → HasRows d b db → K (packages_in d b db)) → IsTrue d.tells → HasRows d a db → K (packages_in d a db)
+  known_back K {db = db} asked is told =
+      subst (λ (f : Files). HasIndexRows db f.pkg f.idx → K (packages f.pkg (room db))) (asked.looks.untouched told).same (is told)
+
+  -- what follows of their files alone
+  pub told_back : (K : FinMap nat_cmp Package → Type 0) {a b : D} {db : Database} → Asking a b db → (IsTrue d.tells → K (packages_in d b db)) → IsTrue d.tells
+      → K (packages_in d a db)
+  told_back K {db = db} asked is told = subst (λ (f : Files). K (packages f.pkg (room db))) (asked.looks.untouched told).same (is told)
 
   -- a picker that failed as it was made
   pub asks_picker : (X Y : Type 0) (keys : List (Kind × List ℕ)) (fault : PickFault) (a b : D) (db : Database) → IsAskable d a db
@@ -105,3 +183,20 @@ module _ {D : Type 0} (d : disk.Ghosts D) where
     looks = glances_index d a b made.looks;
     cause = record { later = made.cause.later; rose = λ is. made.cause.rose (ap (unpicked Y) (disk_in fault (err_in X _ _ is))) };
   }
+
+  -- or as it read a package
+  pub asks_next : {X Y : Type 0} {fault : PickFault} {r : Result Y CheckFault} {most : ℕ} → ((a b c : D) → d.follows a b → d.follows b c → d.follows a c)
+      → {a b c : D} {db : Database} → Asking a b db → AsksPackages d most b c db (unpicked X fault) → IsErrAnd r (λ e. e ≡ fault_in fault) → Asks d a c db r
+  asks_next {X} {fault = fault} trans {a} {db = db} first second is =
+      let asked = asking_next trans first second in
+      asks_failed (record {
+        kept = asked.keeps;
+        kept_index = asked.keeps_index;
+        broken = λ told. unbroken_in fault (d.files a).idx second.unbroken;
+        lawful = λ told rows. of_index_in fault ∙ second.unbroken;
+        looks = asked.looks;
+        cause = record {
+          later = asked.faults;
+          rose = λ hit. (let rose = second.cause.rose (ap (unpicked X) (disk_in fault (err_in X _ _ hit))) in omega (arith, first.faults, rose));
+        };
+      }) is

@@ -240,12 +240,6 @@ module _ (is_lacking : Needed → Bool) (n i number place : ℕ) (need : Needed)
   pub not_lacking : is_lacking need ≡ false → from_here ≡ filter (is_above n i) (unmet_in is_lacking number needs (place + 1))
   not_lacking met = rw met refl
 
-  pub not_above : is_above n i pair ≡ false → from_here ≡ filter (is_above n i) (unmet_in is_lacking number needs (place + 1))
-  not_above under = elim (cases_Bool (is_lacking need)) [
-    | inl lacking ↦ rw lacking (rw under refl)
-    | inr met ↦ not_lacking met
-  ]
-
   pub first_lacking : is_above n i pair ≡ true → is_lacking need ≡ true → IsFirst from_here (Some pair)
   first_lacking over lacking = (filter (is_above n i) (unmet_in is_lacking number needs (place + 1)), rw lacking (rw over refl))
 

@@ -36,7 +36,7 @@ pub use Rattle.rpm_outside.specs.Looks.{Looks, LooksAt}
 pub use Rattle.rpm_outside.specs.declared.disk.File.{File}
 pub use Rattle.rpm_outside.specs.declared.disk.File.TheVariants.{Idx, Pkg}
 pub use Rattle.rpm_select.specs.Candidates.{keys_asked}
-pub use Rattle.rpm_select.specs.Frame.{AsksIndex}
+pub use Rattle.rpm_select.specs.Frame.{AsksIndex, AsksPackages}
 pub use Rattle.rpm_select.specs.Picks.{NextNumberIs}
 pub use Rattle.rpm_select.specs.Reach.{HasIndexRows, is_in, IsFaultOfOne, Serves}
 pub use Rattle.rpm_select.specs.Recents.{Recalls}

@@ -92,7 +92,6 @@ fn next_in<D: Disk>(
 /// # Errors
 ///
 /// Those of `unmet`, with the same causes.
-#[tactic(auto, using(crate::proofs::Enumerating::begins))]
 pub fn next_unmet<D: Disk>(
     alloc: Global,
     db: &Db,

@@ -1,5 +1,6 @@
 use Rattle.rpm_check.proofs.Vocabulary.{flat_map, givers, is_in, needs_at, packages, room}
-use Rattle.std.proofs.Common.{◌++◌, ℕ, List, sym, ap, ◌∙◌}
+use Rattle.std.proofs.Common.{◌++◌, ℕ, List, Ok, sym, ap, ◌∙◌}
+use Rattle.rpm_check.proofs.Asking.{asking_of, asks_ended, asks_failed}
 use Rattle.std.specs.FinMap as finite
 use Rattle.rpm_check.proofs.ends.ends_of.Goals as goal
 
@@ -15,3 +16,12 @@ returns-then-good-clause-told g c = λ told has m.
 
 pub returns-else-good-clause-good : goal.returns-else-good-clause-good
 returns-else-good-clause-good g c = λ told. sym c.if-good.false ∙ c.in_ok-good.ensures.good told
+
+pub returns-in_err-good-clause-asks : goal.returns-in_err-good-clause-asks
+returns-in_err-good-clause-asks g c = asks_failed g.D.Disk c.in_err-good.ensures.asks c.from_residual.ensures.1
+
+pub returns-then-good-clause-asks : goal.returns-then-good-clause-asks
+returns-then-good-clause-asks g c = asks_ended g.D.Disk (Ok _) (asking_of g.D.Disk c.in_ok-good.ensures.asks) tt
+
+pub returns-else-good-clause-asks : goal.returns-else-good-clause-asks
+returns-else-good-clause-asks g c = asks_ended g.D.Disk (Ok _) (asking_of g.D.Disk c.in_ok-good.ensures.asks) tt

@@ -1,7 +1,7 @@
 use Rattle.rpm_check.proofs.Vocabulary.{givers, packages, room}
-use Rattle.std.proofs.Common.{ℕ, ◌++◌, List, sym, ap, ◌∙◌}
+use Rattle.std.proofs.Common.{ℕ, ◌++◌, List, Ok, sym, ap, ◌∙◌}
 use Rattle.rpm_check.proofs.ends.push_givers.Goals as goal
-use Rattle.rpm_check.proofs.Asking.{asks_nothing, done_more}
+use Rattle.rpm_check.proofs.Asking.{asking_none, asking_of, asks_ended, asks_failed, asks_memory, done_more}
 
 pub returns-in-Some-clause-told : goal.returns-in-Some-clause-told
 returns-in-Some-clause-told g c =
@@ -13,7 +13,7 @@ returns-in-Some-clause-told g c =
 
 pub returns-in-Some-clause-asks : goal.returns-in-Some-clause-asks
 returns-in-Some-clause-asks g c =
-    asks_nothing g.D.Disk c.push_all.result g.met.D.Disk.follows_refl c.args.disk.now c.args.db.now c.requires.asked c.push_all.ensures.refused
+    asks_ended g.D.Disk c.push_all.result (asking_none g.D.Disk g.met.D.Disk.follows_refl _ _ c.requires.asked) c.push_all.ensures.refused
 
 pub returns-in_err-found-clause-remembered : goal.returns-in_err-found-clause-remembered
 returns-in_err-found-clause-remembered g c = λ told has.
@@ -40,3 +40,20 @@ returns-clause-remembered g c = λ told has.
     let found = c.in_ok-found.ensures in
     c.in_ok-put.ensures all (record { numbers = knows.numbers; recent = found.recalls told knows.recent })
     (found.told told has knows.recent ∙ ap (givers all) (sym c.in_ok-key.ensures))
+
+pub returns-in_err-key-clause-asks : goal.returns-in_err-key-clause-asks
+returns-in_err-key-clause-asks g c = asks_memory g.D.Disk (asking_none g.D.Disk g.met.D.Disk.follows_refl _ _ c.requires.asked) c.from_residual.ensures.1
+
+pub returns-in_err-found-clause-asks : goal.returns-in_err-found-clause-asks
+returns-in_err-found-clause-asks g c = asks_failed g.D.Disk c.in_err-found.ensures.asks c.from_residual-in_err-found.ensures.1
+
+pub returns-in_err-push_all-clause-asks : goal.returns-in_err-push_all-clause-asks
+returns-in_err-push_all-clause-asks g c =
+    asks_failed g.D.Disk (asks_ended g.D.Disk _ (asking_of g.D.Disk c.in_ok-found.ensures.asks) c.in_err-push_all.ensures.refused)
+    c.from_residual-in_err-push_all.ensures.1
+
+pub returns-in_err-put-clause-asks : goal.returns-in_err-put-clause-asks
+returns-in_err-put-clause-asks g c = asks_memory g.D.Disk (asking_of g.D.Disk c.in_ok-found.ensures.asks) c.from_residual-in_err-put.ensures.1
+
+pub returns-clause-asks : goal.returns-clause-asks
+returns-clause-asks g c = asks_ended g.D.Disk (Ok tt) (asking_of g.D.Disk c.in_ok-found.ensures.asks) tt

@@ -1,11 +1,10 @@
-use Rattle.rpm_check.proofs.Vocabulary.{above, Files, Keeps, KeepsIndex, keys_asked, NextNumberIs, packages, picks, Recalls, room, Serves}
-use Rattle.std.proofs.Common.{◌≡◌, ℕ, List, ◌++◌, Option, Some, None, Ok, arith, sym, ap, subst}
+use Rattle.rpm_check.proofs.Vocabulary.{above, Files, keys_asked, NextNumberIs, packages, picks, Recalls, room, Serves}
+use Rattle.std.proofs.Common.{◌≡◌, ℕ, List, ◌++◌, Option, Some, None, Ok, ap, subst}
 use Rattle.std.proofs.lemmas.Result.{err_from_is_err_and}
 use Rattle.rpm_check.proofs.Above.{numbers_above}
 use Rattle.rpm_check.proofs.Gaining.{gained, all_picked}
-use Rattle.rpm_check.proofs.Glancing.{glances_then, glances_index, glances_packages}
 use Rattle.rpm_check.proofs.giving.numbers_picked.Goals as goal
-use Rattle.rpm_check.proofs.Asking.{asks_picker}
+use Rattle.rpm_check.proofs.Asking.{asking_next, asking_picker, asks_ended, asks_memory, asks_next, asks_picker, told_back}
 
 pub returns-in_err-picker-clause-asks : goal.returns-in_err-picker-clause-asks
 returns-in_err-picker-clause-asks g c =
@@ -16,16 +15,8 @@ returns-in_err-picker-clause-asks g c =
 pub loop-numbers-init : goal.loop-numbers-init
 loop-numbers-init g c =
     let db = c.args.db.now in
-    let begun = c.in_ok-picker.ensures.asks in
     record {
-      asking = record {
-        keeps = λ told. subst (λ (f : Files). Keeps f.pkg db) (sym (begun.looks.untouched told).same) (c.requires.asked.keeps told);
-        keeps_index = begun.kept_index;
-        looks =
-            glances_index g.D.Disk c.args.disk.now
-            c.new.new.disk begun.looks;
-        faults = omega (arith, begun.cause.later);
-      };
+      asking = asking_picker g.D.Disk c.requires.asked c.in_ok-picker.ensures.asks;
       recalls = λ told holds. holds;
       told = λ told has holds.
           ap (λ (ns : List ℕ). ns ++ numbers_above (packages (g.D.Disk.files c.args.disk.now).pkg (room db)) c.args.selection.now 0)
@@ -42,19 +33,10 @@ loop-numbers-preserved g c =
     let picker = c.in_ok-picker.picker in
     let is : c.in_ok-next.field-0 ≡ Some c.in-Some.next = cc in
     record {
-      asking = record {
-        keeps = done.asks.kept;
-        keeps_index = λ told. subst (λ (f : Files). KeepsIndex f.idx db) (sym (done.asks.looks.untouched told).same) (inv.asking.keeps_index told);
-        looks =
-            glances_then g.D.Disk g.met.D.Disk.follows_trans
-            c.args.disk.now c.loop-numbers.disk c.next_number_after.new.disk inv.asking.looks
-            (glances_packages g.D.Disk _
-            c.loop-numbers.disk c.next_number_after.new.disk done.asks.looks);
-        faults = omega (arith, inv.asking.faults, done.asks.cause.later);
-      };
+      asking = asking_next g.D.Disk g.met.D.Disk.follows_trans inv.asking done.asks;
       recalls = λ told holds.
-          subst (λ (f : Files). Recalls (packages f.pkg (room db)) c.loop-numbers.recent → Recalls (packages f.pkg (room db)) c.next_number_after.new.recent)
-          (inv.asking.looks.untouched told).same (done.recalls told) (inv.recalls told holds);
+          told_back g.D.Disk (λ all. Recalls all c.loop-numbers.recent → Recalls all c.next_number_after.new.recent) inv.asking done.recalls told
+          (inv.recalls told holds);
       told = λ told has holds.
           let all = packages (g.D.Disk.files c.args.disk.now).pkg (room db) in
           let next = subst (λ (f : Files). Serves picker (packages f.pkg (room db)) sel → Recalls (packages f.pkg (room db)) c.loop-numbers.recent
@@ -81,21 +63,31 @@ returns-clause-told g c = λ told has holds.
 
 pub returns-clause-recalls : goal.returns-clause-recalls
 returns-clause-recalls g c = λ told holds.
-    let db = c.args.db.now in
     let inv = c.loop-numbers.invariant in
-    subst (λ (f : Files). Recalls (packages f.pkg (room db)) c.loop-numbers.recent → Recalls (packages f.pkg (room db)) c.next_number_after.new.recent)
-    (inv.asking.looks.untouched told).same (c.in_ok-next.ensures.recalls told) (inv.recalls told holds)
+    told_back g.D.Disk (λ all. Recalls all c.loop-numbers.recent → Recalls all c.next_number_after.new.recent) inv.asking c.in_ok-next.ensures.recalls told
+    (inv.recalls told holds)
 
 pub returns-in_err-next-clause-recalls : goal.returns-in_err-next-clause-recalls
 returns-in_err-next-clause-recalls g c = λ told holds.
-    let db = c.args.db.now in
     let inv = c.loop-numbers.invariant in
-    subst (λ (f : Files). Recalls (packages f.pkg (room db)) c.loop-numbers.recent → Recalls (packages f.pkg (room db)) c.next_number_after.new.recent)
-    (inv.asking.looks.untouched told).same (c.in_err-next.ensures.recalls told) (inv.recalls told holds)
+    told_back g.D.Disk (λ all. Recalls all c.loop-numbers.recent → Recalls all c.next_number_after.new.recent) inv.asking c.in_err-next.ensures.recalls told
+    (inv.recalls told holds)
 
 pub returns-in_err-push-clause-recalls : goal.returns-in_err-push-clause-recalls
 returns-in_err-push-clause-recalls g c = λ told holds.
-    let db = c.args.db.now in
     let inv = c.loop-numbers.invariant in
-    subst (λ (f : Files). Recalls (packages f.pkg (room db)) c.loop-numbers.recent → Recalls (packages f.pkg (room db)) c.next_number_after.new.recent)
-    (inv.asking.looks.untouched told).same (c.in_ok-next.ensures.recalls told) (inv.recalls told holds)
+    told_back g.D.Disk (λ all. Recalls all c.loop-numbers.recent → Recalls all c.next_number_after.new.recent) inv.asking c.in_ok-next.ensures.recalls told
+    (inv.recalls told holds)
+
+pub returns-in_err-next-clause-asks : goal.returns-in_err-next-clause-asks
+returns-in_err-next-clause-asks g c =
+    asks_next g.D.Disk g.met.D.Disk.follows_trans c.loop-numbers.invariant.asking c.in_err-next.ensures.asks c.from_residual-in_err-next.ensures.1
+
+pub returns-in_err-push-clause-asks : goal.returns-in_err-push-clause-asks
+returns-in_err-push-clause-asks g c =
+    asks_memory g.D.Disk (asking_next g.D.Disk g.met.D.Disk.follows_trans c.loop-numbers.invariant.asking c.in_ok-next.ensures.asks)
+    c.from_residual-in_err-push.ensures.1
+
+pub returns-clause-asks : goal.returns-clause-asks
+returns-clause-asks g c =
+    asks_ended g.D.Disk (Ok _) (asking_next g.D.Disk g.met.D.Disk.follows_trans c.loop-numbers.invariant.asking c.in_ok-next.ensures.asks) tt

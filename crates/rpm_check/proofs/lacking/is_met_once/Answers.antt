@@ -1,5 +1,6 @@
 use Rattle.rpm_check.proofs.Vocabulary.{is_met, packages, room}
-use Rattle.std.proofs.Common.{sym, ap, ◌∙◌}
+use Rattle.std.proofs.Common.{Ok, sym, ap, ◌∙◌}
+use Rattle.rpm_check.proofs.Asking.{asking_none, asking_of, asks_ended, asks_memory}
 use Rattle.rpm_check.proofs.lacking.is_met_once.Goals as goal
 
 pub returns-in-Some-clause-told : goal.returns-in-Some-clause-told
@@ -30,3 +31,12 @@ returns-clause-remembered g c = λ told has.
 
 pub returns-clause-told : goal.returns-clause-told
 returns-clause-told g c = λ told has. c.in_ok-found.ensures.told told has (c.requires.remembers told has).recent
+
+pub returns-in_err-key-clause-asks : goal.returns-in_err-key-clause-asks
+returns-in_err-key-clause-asks g c = asks_memory g.D.Disk (asking_none g.D.Disk g.met.D.Disk.follows_refl _ _ c.requires.asked) c.from_residual.ensures.1
+
+pub returns-in-Some-clause-asks : goal.returns-in-Some-clause-asks
+returns-in-Some-clause-asks g c = asks_ended g.D.Disk (Ok c.in-Some.known) (asking_none g.D.Disk g.met.D.Disk.follows_refl _ _ c.requires.asked) tt
+
+pub returns-in_err-put-clause-asks : goal.returns-in_err-put-clause-asks
+returns-in_err-put-clause-asks g c = asks_memory g.D.Disk (asking_of g.D.Disk c.in_ok-found.ensures.asks) c.from_residual-in_err-put.ensures.1

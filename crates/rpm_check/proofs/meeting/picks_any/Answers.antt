@@ -3,7 +3,7 @@ use Rattle.std.proofs.Common.{Ok, ap, ◌∙◌, subst}
 use Rattle.std.proofs.lemmas.Result.{err_from_is_err_and}
 use Rattle.rpm_check.proofs.Picking.{is_some_next}
 use Rattle.rpm_check.proofs.meeting.picks_any.Goals as goal
-use Rattle.rpm_check.proofs.Asking.{asks_picker}
+use Rattle.rpm_check.proofs.Asking.{asking_next, asking_picker, asks_ended, asks_next, asks_picker}
 
 pub returns-in_err-picker-clause-asks : goal.returns-in_err-picker-clause-asks
 returns-in_err-picker-clause-asks g c =
@@ -30,3 +30,13 @@ returns-clause-recalls g c = λ told holds.
     let db = c.args.db.now in
     subst (λ (f : Files). Recalls (packages f.pkg (room db)) c.args.recent.now → Recalls (packages f.pkg (room db)) c.next_number_after.new.recent)
     (c.in_ok-picker.ensures.asks.looks.untouched told).same (c.in_ok-picked.ensures.recalls told) holds
+
+pub returns-in_err-picked-clause-asks : goal.returns-in_err-picked-clause-asks
+returns-in_err-picked-clause-asks g c =
+    asks_next g.D.Disk g.met.D.Disk.follows_trans (asking_picker g.D.Disk c.requires.asked c.in_ok-picker.ensures.asks) c.in_err-picked.ensures.asks
+    c.from_residual-in_err-picked.ensures.1
+
+pub returns-clause-asks : goal.returns-clause-asks
+returns-clause-asks g c =
+    asks_ended g.D.Disk (Ok _) (asking_next g.D.Disk g.met.D.Disk.follows_trans (asking_picker g.D.Disk c.requires.asked c.in_ok-picker.ensures.asks)
+    c.in_ok-picked.ensures.asks) tt

@@ -1,8 +1,8 @@
-use Rattle.rpm_check.proofs.Vocabulary.{Files, HasIndexRows, header_at, is_above, IsFirst, lacks, packages, required, room, Unmet, unmet_in}
-use Rattle.std.proofs.Common.{◌≡◌, Some, sym, subst}
+use Rattle.rpm_check.proofs.Vocabulary.{Files, HasIndexRows, header_at, is_above, IsFirst, Knows, lacks, packages, required, room, Unmet, unmet_in}
+use Rattle.std.proofs.Common.{◌≡◌, Some, Ok, sym, subst}
 use Rattle.std.specs.Prelude.{filter, List}
 use Rattle.std.specs.FinMap as finite
-use Rattle.rpm_check.proofs.Asking.{told_more}
+use Rattle.rpm_check.proofs.Asking.{asking_of, asks_ended, asks_failed, asks_then, known_back, known_here, told_more}
 use Rattle.rpm_check.proofs.Heading.{unmet_some}
 use Rattle.rpm_check.proofs.next.next_in.Goals as goal
 
@@ -22,3 +22,20 @@ returns-in-Some-clause-told g c =
     let is : header_at (finite.get all number) ≡ Some view = cc in
     subst (λ (us : List Unmet). IsFirst (filter above us) next) (sym (unmet_some (lacks all) number (finite.get all number) view is)) first)
     c.next_lacking.ensures.told
+
+pub next_lacking-requires-clause-remembers : goal.next_lacking-requires-clause-remembers
+next_lacking-requires-clause-remembers g c =
+    known_here g.D.Disk (λ all. Knows all c.args.memo.now) (asking_of g.D.Disk c.in_ok-view.ensures.asks) c.requires.remembers
+
+pub returns-in_err-view-clause-asks : goal.returns-in_err-view-clause-asks
+returns-in_err-view-clause-asks g c = asks_failed g.D.Disk c.in_err-view.ensures.asks c.from_residual.ensures.1
+
+pub returns-in-None-clause-asks : goal.returns-in-None-clause-asks
+returns-in-None-clause-asks g c = asks_ended g.D.Disk (Ok _) (asking_of g.D.Disk c.in_ok-view.ensures.asks) tt
+
+pub returns-in-Some-clause-remembered : goal.returns-in-Some-clause-remembered
+returns-in-Some-clause-remembered g c =
+    known_back g.D.Disk (λ all. Knows all c.next_lacking.new.memo) (asking_of g.D.Disk c.in_ok-view.ensures.asks) c.next_lacking.ensures.remembered
+
+pub returns-in-Some-clause-asks : goal.returns-in-Some-clause-asks
+returns-in-Some-clause-asks g c = asks_then g.D.Disk g.met.D.Disk.follows_trans (asking_of g.D.Disk c.in_ok-view.ensures.asks) c.next_lacking.ensures.asks

@@ -1,9 +1,9 @@
-use Rattle.rpm_check.proofs.Vocabulary.{Files, HasIndexRows, is_above, IsFirst, Knows, lacks, Needed, packages, room, Unmet, unmet_in}
-use Rattle.std.proofs.Common.{◌≡◌, ◌∷◌, length, Some, rules, arith, true, false, sym, ap, ◌∙◌, subst}
+use Rattle.rpm_check.proofs.Vocabulary.{is_above, IsFirst, Knows, lacks, Needed, packages, room, Unmet, unmet_in}
+use Rattle.std.proofs.Common.{◌≡◌, ◌∷◌, length, Some, Ok, rules, arith, true, false, sym, ap, ◌∙◌, subst}
 use Rattle.std.specs.Prelude.{filter, List}
 use Rattle.rpm_check.proofs.Enumerating.{not_lacking, first_lacking}
 use Rattle.rpm_check.proofs.next.next_lacking.Goals as goal
-use Rattle.rpm_check.proofs.Asking.{asking_then}
+use Rattle.rpm_check.proofs.Asking.{asking_then, asks_ended, asks_failed, asks_then, known_back, known_here}
 
 pub returns-then-branch-clause-told : goal.returns-then-branch-clause-told
 returns-then-branch-clause-told g c = λ told has.
@@ -13,8 +13,7 @@ returns-then-branch-clause-told g c = λ told has.
     let cons : c.loop-place.left ≡ need ∷ c.next.new.self = search rules in
     let is_lacking = lacks (packages (g.D.Disk.files c.args.disk.now).pkg (room db)) in
     let lacking : is_lacking need ≡ true =
-    sym (subst (λ (f : Files). HasIndexRows db f.pkg f.idx → c.in_ok-lacks.field-0 ≡ lacks (packages f.pkg (room db)) need)
-    (inv.asking.looks.untouched told).same (c.in_ok-lacks.ensures.told told) has) ∙ c.if-branch.true in
+    sym (known_back g.D.Disk (λ all. c.in_ok-lacks.field-0 ≡ lacks all need) inv.asking c.in_ok-lacks.ensures.told told has) ∙ c.if-branch.true in
     let pair : Unmet = record { number = c.args.number; place = c.loop-place.place } in
     let over : is_above c.args.n c.args.i pair ≡ true = search rules in
     subst (λ (us : List Unmet). IsFirst us (Some pair)) (sym (inv.told told has))
@@ -32,15 +31,37 @@ loop-place-preserved g c =
     record {
       asking = asking_then g.D.Disk g.met.D.Disk.follows_trans c.args.disk.now c.loop-place.disk c.lacks.new.disk db inv.asking done.asks;
       places = omega (arith, inv.places, ap length cons);
-      remembers = λ told has.
-          subst (λ (f : Files). HasIndexRows db f.pkg f.idx → Knows (packages f.pkg (room db)) c.lacks.new.memo)
-          (inv.asking.looks.untouched told).same (done.remembered told) has;
+      remembers = known_back g.D.Disk (λ all. Knows all c.lacks.new.memo) inv.asking done.remembered;
       told = λ told has.
           let is_lacking = lacks (packages (g.D.Disk.files c.args.disk.now).pkg (room db)) in
           let met : is_lacking need ≡ false =
-          sym (subst (λ (f : Files). HasIndexRows db f.pkg f.idx → c.in_ok-lacks.field-0 ≡ lacks (packages f.pkg (room db)) need)
-          (inv.asking.looks.untouched told).same (done.told told) has) ∙ c.if-branch.false in
+          sym (known_back g.D.Disk (λ all. c.in_ok-lacks.field-0 ≡ lacks all need) inv.asking done.told told has) ∙ c.if-branch.false in
           inv.told told has
           ∙ ap (λ (needs : List Needed). filter (is_above c.args.n c.args.i) (unmet_in is_lacking c.args.number needs c.loop-place.place)) cons
           ∙ not_lacking is_lacking c.args.n c.args.i c.args.number c.loop-place.place need c.next.new.self met;
     }
+
+pub lacks-requires-clause-remembers : goal.lacks-requires-clause-remembers
+lacks-requires-clause-remembers g c = known_here g.D.Disk (λ all. Knows all c.loop-place.memo) c.loop-place.invariant.asking c.loop-place.invariant.remembers
+
+pub returns-in_err-lacks-clause-remembered : goal.returns-in_err-lacks-clause-remembered
+returns-in_err-lacks-clause-remembered g c =
+    known_back g.D.Disk (λ all. Knows all c.lacks.new.memo) c.loop-place.invariant.asking c.in_err-lacks.ensures.remembered
+
+pub returns-in_err-lacks-clause-asks : goal.returns-in_err-lacks-clause-asks
+returns-in_err-lacks-clause-asks g c =
+    asks_failed g.D.Disk (asks_then g.D.Disk g.met.D.Disk.follows_trans c.loop-place.invariant.asking c.in_err-lacks.ensures.asks) c.from_residual.ensures.1
+
+pub returns-then-branch-clause-remembered : goal.returns-then-branch-clause-remembered
+returns-then-branch-clause-remembered g c =
+    known_back g.D.Disk (λ all. Knows all c.lacks.new.memo) c.loop-place.invariant.asking c.in_ok-lacks.ensures.remembered
+
+pub returns-then-branch-clause-asks : goal.returns-then-branch-clause-asks
+returns-then-branch-clause-asks g c =
+    asks_ended g.D.Disk (Ok _) (asking_then g.D.Disk g.met.D.Disk.follows_trans _ _ _ _ c.loop-place.invariant.asking c.in_ok-lacks.ensures.asks) tt
+
+pub returns-in_default-clause-asks : goal.returns-in_default-clause-asks
+returns-in_default-clause-asks g c = asks_ended g.D.Disk (Ok _) c.loop-place.invariant.asking tt
+
+pub returns-clause-asks : goal.returns-clause-asks
+returns-clause-asks g c = asks_ended g.D.Disk (Ok _) c.loop-place.invariant.asking tt

@@ -1,11 +1,11 @@
-use Rattle.rpm_check.proofs.Vocabulary.{Files, HasIndexRows, is_above, IsFirst, Knows, lacks, packages, room, unmet_at}
-use Rattle.std.proofs.Common.{sym, ap, ◌∙◌, subst}
+use Rattle.rpm_check.proofs.Vocabulary.{is_above, IsFirst, Knows, lacks, packages, room, unmet_at}
+use Rattle.std.proofs.Common.{Ok, sym, ap, ◌∙◌}
 use Rattle.std.specs.Prelude.{filter}
 use Rattle.std.specs.FinMap as finite
-use Rattle.rpm_check.proofs.Enumerating.{after_in, after_from, found_here, none_here, none_later}
+use Rattle.rpm_check.proofs.Enumerating.{after_in, after_from, begins, found_here, none_here, none_later}
 use Rattle.rpm_check.proofs.Turning.{turns_above}
 use Rattle.rpm_check.proofs.next.next_unmet.Goals as goal
-use Rattle.rpm_check.proofs.Asking.{asking_none, asking_then}
+use Rattle.rpm_check.proofs.Asking.{asking_none, asking_then, asks_ended, asks_failed, asks_then, known_back, known_here}
 
 pub loop-number-init : goal.loop-number-init
 loop-number-init g c =
@@ -28,14 +28,12 @@ loop-number-preserved g c =
     let i = c.args.i in
     record {
       asking = asking_then g.D.Disk g.met.D.Disk.follows_trans c.args.disk.now c.loop-number.disk c.next_in.new.disk db inv.asking done.asks;
-      remembers = λ told has.
-          subst (λ (f : Files). HasIndexRows db f.pkg f.idx → Knows (packages f.pkg (room db)) c.next_in.new.memo)
-          (inv.asking.looks.untouched told).same (done.remembered told) has;
+      remembers = known_back g.D.Disk (λ all. Knows all c.next_in.new.memo) inv.asking done.remembered;
       told = λ told has.
           let pkg = (g.D.Disk.files c.args.disk.now).pkg in
           let all = packages pkg (room db) in
-          let here = subst (λ (f : Files). HasIndexRows db f.pkg f.idx → IsFirst (filter (is_above n i) (unmet_at (lacks (packages f.pkg (room db))) number
-          (finite.get (packages f.pkg (room db)) number))) c.in_ok-found.found) (inv.asking.looks.untouched told).same (done.told told) has in
+          let here = known_back g.D.Disk (λ all. IsFirst (filter (is_above n i) (unmet_at (lacks all) number (finite.get all number)))
+          c.in_ok-found.found) inv.asking done.told told has in
           none_here all n i c.loop-number.passed number c.in_ok-found.found (c.in-Some.ensures.told pkg) (inv.told told has) here
           (sym c.is_some.ensures ∙ c.if-is_some.false);
     }
@@ -49,8 +47,8 @@ returns-then-is_some-clause-told g c = λ told has.
     let i = c.args.i in
     let pkg = (g.D.Disk.files c.args.disk.now).pkg in
     let all = packages pkg (room db) in
-    let here = subst (λ (f : Files). HasIndexRows db f.pkg f.idx → IsFirst (filter (is_above n i) (unmet_at (lacks (packages f.pkg (room db))) number
-    (finite.get (packages f.pkg (room db)) number))) c.in_ok-found.found) (inv.asking.looks.untouched told).same (c.in_ok-found.ensures.told told) has in
+    let here = known_back g.D.Disk (λ all. IsFirst (filter (is_above n i) (unmet_at (lacks all) number (finite.get all number))) c.in_ok-found.found)
+    inv.asking c.in_ok-found.ensures.told told has in
     found_here all n i c.loop-number.passed number c.in_ok-found.found (c.in-Some.ensures.told pkg) (inv.told told has) here
     (sym c.is_some.ensures ∙ c.if-is_some.true)
 
@@ -59,3 +57,24 @@ returns-clause-told g c = λ told has.
     let pkg = (g.D.Disk.files c.args.disk.now).pkg in
     none_later (packages pkg (room c.args.db.now)) c.args.n c.args.i c.loop-number.passed (c.in_default.ensures.told pkg) (c.loop-number.invariant.told told
     has)
+
+pub next_in-requires-clause-remembers : goal.next_in-requires-clause-remembers
+next_in-requires-clause-remembers g c =
+    known_here g.D.Disk (λ all. Knows all c.loop-number.memo) c.loop-number.invariant.asking c.loop-number.invariant.remembers
+
+pub returns-in_err-found-clause-asks : goal.returns-in_err-found-clause-asks
+returns-in_err-found-clause-asks g c =
+    asks_failed g.D.Disk (asks_then g.D.Disk g.met.D.Disk.follows_trans c.loop-number.invariant.asking c.in_err-found.ensures.asks) c.from_residual.ensures.1
+
+pub returns-then-is_some-clause-asks : goal.returns-then-is_some-clause-asks
+returns-then-is_some-clause-asks g c =
+    asks_ended g.D.Disk (Ok _) (asking_then g.D.Disk g.met.D.Disk.follows_trans _ _ _ _ c.loop-number.invariant.asking c.in_ok-found.ensures.asks) tt
+
+pub returns-in_err-found-clause-begins : goal.returns-in_err-found-clause-begins
+returns-in_err-found-clause-begins g c = λ told. begins _ c.args.db.now (c.requires.asked.keeps told)
+
+pub returns-then-is_some-clause-begins : goal.returns-then-is_some-clause-begins
+returns-then-is_some-clause-begins g c = λ told. begins _ c.args.db.now (c.requires.asked.keeps told)
+
+pub returns-clause-begins : goal.returns-clause-begins
+returns-clause-begins g c = λ told. begins _ c.args.db.now (c.requires.asked.keeps told)

@@ -1,8 +1,9 @@
 use Rattle.rpm_check.proofs.Vocabulary.{Edge, edges_of, flat_map, givers, good_numbers, is_in, IsStrictlyIncreasing, needs_at, Node, numbers_of, packages}
 use Rattle.rpm_check.proofs.Vocabulary.{room}
-use Rattle.std.proofs.Common.{◌≡◌, ℕ, ◌≤◌, ◌++◌, [], ◌∷◌, List, Some, None, is_some, refl, sym, ap, ◌∙◌, subst, append-nil}
+use Rattle.std.proofs.Common.{◌≡◌, ℕ, ◌≤◌, ◌++◌, [], ◌∷◌, List, Some, None, Ok, is_some, refl, sym, ap, ◌∙◌, subst, append-nil}
 use Rattle.std.specs.Prelude.{All, IfSome}
 use Rattle.std.specs.FinMap as finite
+use Rattle.rpm_check.proofs.Asking.{asking_of, asks_ended}
 use Rattle.rpm_check.proofs.Ending.{same_ends}
 use Rattle.rpm_check.proofs.Gathering.{edges_push, nodes_reach, none_from}
 use Rattle.rpm_check.proofs.nodes.push_node.Goals.{in-Ok, in-Err-push}
@@ -51,3 +52,6 @@ returns-clause-told g c =
           ∙ ap (λ (es : List Edge). flat_map (edges_of good) nodes ++ es) (same_ends all number good ends.items refl rising same))
       | in-Err-push w ↦ rw w.result-is tt
     ]
+
+pub returns-in-Ok-None-clause-asks : goal.returns-in-Ok-None-clause-asks
+returns-in-Ok-None-clause-asks g c = asks_ended g.D.Disk (Ok tt) (asking_of g.D.Disk c.in-Ok-None.ensures.asks) tt

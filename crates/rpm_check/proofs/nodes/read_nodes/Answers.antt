@@ -1,4 +1,4 @@
-use Rattle.rpm_check.proofs.Vocabulary.{AreRising, Edge, edges_from, edges_of, Files, flat_map, from_one, good_if, good_numbers, good_of, HasIndexRows}
+use Rattle.rpm_check.proofs.Vocabulary.{AreRising, Edge, edges_from, edges_of, Files, flat_map, from_one, good_if, good_numbers, good_of}
 use Rattle.rpm_check.proofs.Vocabulary.{is_good_at, KnowsGivers, Node, numbers_of, Package, packages, room}
 use Rattle.std.proofs.Common.{◌≡◌, ℕ, ◌<◌, ◌≤◌, ◌++◌, [], List, Option, Some, sym, ap, ◌∙◌, subst, arith, append_assoc, append-nil}
 use Rattle.std.specs.FinMap as finite
@@ -6,7 +6,7 @@ use Rattle.std.proofs.lemmas.List.Elements.{All-nil, All-same, All-weaker}
 use Rattle.rpm_check.proofs.Gathering.{none_rise}
 use Rattle.rpm_check.proofs.Turning.{turns_above, one_turn, no_turn, all_turns, goods_are, edges_are_all}
 use Rattle.rpm_check.proofs.nodes.read_nodes.Goals as goal
-use Rattle.rpm_check.proofs.Asking.{asking_none, asking_then}
+use Rattle.rpm_check.proofs.Asking.{asking_none, asking_then, asks_failed, asks_then, known_back, known_here}
 
 pub loop-next-init : goal.loop-next-init
 loop-next-init g c =
@@ -48,9 +48,7 @@ loop-next-preserved g c =
     let more = c.push_node.new.nodes.items in
     record {
       asking = asking_then g.D.Disk g.met.D.Disk.follows_trans c.args.disk.now c.loop-next.disk c.push_node.new.disk db inv.asking done.asks;
-      remembers = λ told has.
-          subst (λ (f : Files). HasIndexRows db f.pkg f.idx → KnowsGivers (packages f.pkg (room db)) c.push_node.new.memo)
-          (inv.asking.looks.untouched told).same (done.remembered told) has;
+      remembers = known_back g.D.Disk (λ all. KnowsGivers all c.push_node.new.memo) inv.asking done.remembered;
       rising = done.rising;
       reached = done.reached;
       numbers = λ told.
@@ -63,9 +61,8 @@ loop-next-preserved g c =
           ∙ ap (λ (ns : List ℕ). old ++ ns) (sym turn.2) ∙ inv.numbers told;
       told = λ told has.
           let old = flat_map (edges_of (good_numbers all)) nodes in
-          let added = subst (λ (f : Files). HasIndexRows db f.pkg f.idx → flat_map (edges_of (good_numbers (packages f.pkg (room db)))) more
-          ≡ flat_map (edges_of (good_numbers (packages f.pkg (room db)))) nodes ++ edges_from (packages f.pkg (room db)) next)
-          (inv.asking.looks.untouched told).same (done.told told) has in
+          let added = known_back g.D.Disk (λ all. flat_map (edges_of (good_numbers all)) more ≡ flat_map (edges_of (good_numbers all)) nodes
+          ++ edges_from all next) inv.asking done.told told has in
           let turn = one_turn all f c.loop-next.passed next (c.in-Some.ensures.told pkg) in
           ap (λ (es : List Edge). es ++ turns_above all f next) added ∙ append_assoc old (edges_from all next) (turns_above all f next)
           ∙ ap (λ (es : List Edge). old ++ es) (sym turn.2) ∙ inv.told told has;
@@ -87,3 +84,11 @@ returns-clause-told g c = λ told has.
     let old = flat_map (edges_of (good_numbers all)) c.loop-next.nodes.items in
     sym (append-nil old) ∙ ap (λ (es : List Edge). old ++ es) (sym (no_turn all f c.loop-next.passed (c.in_default.ensures.told pkg)))
     ∙ c.loop-next.invariant.told told has
+
+pub push_node-requires-clause-remembers : goal.push_node-requires-clause-remembers
+push_node-requires-clause-remembers g c =
+    known_here g.D.Disk (λ all. KnowsGivers all c.loop-next.memo) c.loop-next.invariant.asking c.loop-next.invariant.remembers
+
+pub returns-in_err-push_node-clause-asks : goal.returns-in_err-push_node-clause-asks
+returns-in_err-push_node-clause-asks g c =
+    asks_failed g.D.Disk (asks_then g.D.Disk g.met.D.Disk.follows_trans c.loop-next.invariant.asking c.in_err-push_node.ensures.asks) c.from_residual.ensures.1

@@ -1,5 +1,6 @@
 use Rattle.rpm_check.proofs.Vocabulary.{AreRising, edges_of, flat_map, graph_of, HasEdgesOf, Network, Node, numbers_of, packages, room}
 use Rattle.std.proofs.Common.{◌≡◌, ℕ, List, sym, ap, ◌∙◌, subst}
+use Rattle.rpm_check.proofs.Asking.{asks_failed}
 use Rattle.rpm_check.proofs.Between.{has_edges}
 use Rattle.rpm_check.proofs.reading.read_graph.Goals as goal
 
@@ -24,3 +25,6 @@ pub returns-clause-edges : goal.returns-clause-edges
 returns-clause-edges g c = λ told has.
     let all = packages (g.D.Disk.files c.args.disk.now).pkg (room c.args.db.now) in
     subst (HasEdgesOf all) (sym (returns-clause-told g c told has)) (has_edges all)
+
+pub returns-in_err-nodes-clause-asks : goal.returns-in_err-nodes-clause-asks
+returns-in_err-nodes-clause-asks g c = asks_failed g.D.Disk c.in_err-nodes.ensures.asks c.from_residual.ensures.1

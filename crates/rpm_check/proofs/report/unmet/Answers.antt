@@ -1,10 +1,10 @@
-use Rattle.rpm_check.proofs.Vocabulary.{Files, from_one, HasIndexRows, Knows, lacks, packages, room, Unmet, unmet_at}
-use Rattle.std.proofs.Common.{◌≡◌, ◌++◌, sym, ap, ◌∙◌, subst, append_assoc, append-nil}
+use Rattle.rpm_check.proofs.Vocabulary.{from_one, Knows, lacks, packages, room, Unmet, unmet_at}
+use Rattle.std.proofs.Common.{◌≡◌, ◌++◌, sym, ap, ◌∙◌, append_assoc, append-nil}
 use Rattle.std.specs.Prelude.{List}
 use Rattle.std.specs.FinMap as finite
 use Rattle.rpm_check.proofs.Rounding.{unmet_above, one_round, no_round, all_rounds}
 use Rattle.rpm_check.proofs.report.unmet.Goals as goal
-use Rattle.rpm_check.proofs.Asking.{asking_none, asking_then}
+use Rattle.rpm_check.proofs.Asking.{asking_none, asking_then, asks_failed, asks_then, known_back, known_here}
 
 pub loop-next-init : goal.loop-next-init
 loop-next-init g c = record {
@@ -25,16 +25,13 @@ loop-next-preserved g c =
     let next = c.in-Some.next in
     record {
       asking = asking_then g.D.Disk g.met.D.Disk.follows_trans c.args.disk.now c.loop-next.disk c.push_unmet.new.disk db inv.asking done.asks;
-      remembers = λ told has.
-          subst (λ (f : Files). HasIndexRows db f.pkg f.idx → Knows (packages f.pkg (room db)) c.push_unmet.new.memo)
-          (inv.asking.looks.untouched told).same (done.remembered told) has;
+      remembers = known_back g.D.Disk (λ all. Knows all c.push_unmet.new.memo) inv.asking done.remembered;
       told = λ told has.
           let pkg = (g.D.Disk.files c.args.disk.now).pkg in
           let all = packages pkg (room db) in
           let old = c.loop-next.found.items in
-          let added = subst (λ (f : Files). HasIndexRows db f.pkg f.idx → c.push_unmet.new.found.items
-          ≡ old ++ unmet_at (lacks (packages f.pkg (room db))) next (finite.get (packages f.pkg (room db)) next)) (inv.asking.looks.untouched told).same
-          (done.told told) has in
+          let added = known_back g.D.Disk (λ all. c.push_unmet.new.found.items ≡ old ++ unmet_at (lacks all) next (finite.get all next)) inv.asking
+          done.told told has in
           ap (λ (us : List Unmet). us ++ unmet_above all (lacks all) next) added
           ∙ append_assoc old (unmet_at (lacks all) next (finite.get all next)) (unmet_above all (lacks all) next)
           ∙ ap (λ (us : List Unmet). old ++ us) (sym (one_round all (lacks all) c.loop-next.passed next (c.in-Some.ensures.told pkg)))
@@ -49,3 +46,10 @@ returns-clause-told g c = λ told has.
     c.of.ensures ∙ sym (append-nil old)
     ∙ ap (λ (us : List Unmet). old ++ us) (sym (no_round all (lacks all) c.loop-next.passed (c.in_default.ensures.told pkg)))
     ∙ c.loop-next.invariant.told told has
+
+pub push_unmet-requires-clause-remembers : goal.push_unmet-requires-clause-remembers
+push_unmet-requires-clause-remembers g c = known_here g.D.Disk (λ all. Knows all c.loop-next.memo) c.loop-next.invariant.asking c.loop-next.invariant.remembers
+
+pub returns-in_err-push_unmet-clause-asks : goal.returns-in_err-push_unmet-clause-asks
+returns-in_err-push_unmet-clause-asks g c =
+    asks_failed g.D.Disk (asks_then g.D.Disk g.met.D.Disk.follows_trans c.loop-next.invariant.asking c.in_err-push_unmet.ensures.asks) c.from_residual.ensures.1

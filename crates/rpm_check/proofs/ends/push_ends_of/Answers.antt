@@ -1,0 +1,34 @@
+use Rattle.std.proofs.Common.{Ok}
+use Rattle.rpm_check.proofs.Vocabulary.{KnowsGivers}
+use Rattle.rpm_check.proofs.Asking.{asking_of, asking_then, asks_ended, asks_failed, asks_then, known_back, known_here}
+use Rattle.rpm_check.proofs.ends.push_ends_of.Goals as goal
+
+pub push_ends-requires-clause-remembers : goal.push_ends-requires-clause-remembers
+push_ends-requires-clause-remembers g c =
+    known_here g.D.Disk (λ all. KnowsGivers all c.args.memo.now) (asking_of g.D.Disk c.in_ok-view.ensures.asks) c.requires.remembers
+
+pub returns-in_err-view-clause-asks : goal.returns-in_err-view-clause-asks
+returns-in_err-view-clause-asks g c = asks_failed g.D.Disk c.in_err-view.ensures.asks c.from_residual.ensures.1
+
+pub returns-in-None-clause-asks : goal.returns-in-None-clause-asks
+returns-in-None-clause-asks g c = asks_ended g.D.Disk (Ok _) (asking_of g.D.Disk c.in_ok-view.ensures.asks) tt
+
+pub returns-in_err-push_ends-in-Some-clause-remembered : goal.returns-in_err-push_ends-in-Some-clause-remembered
+returns-in_err-push_ends-in-Some-clause-remembered g c =
+    known_back g.D.Disk (λ all. KnowsGivers all c.push_ends.new.memo) (asking_of g.D.Disk c.in_ok-view.ensures.asks)
+    c.in_err-push_ends-in-Some.ensures.remembered
+
+pub returns-in_err-push_ends-in-Some-clause-asks : goal.returns-in_err-push_ends-in-Some-clause-asks
+returns-in_err-push_ends-in-Some-clause-asks g c =
+    asks_failed g.D.Disk (asks_then g.D.Disk g.met.D.Disk.follows_trans (asking_of g.D.Disk c.in_ok-view.ensures.asks) c.in_err-push_ends-in-Some.ensures.asks)
+    c.from_residual-in_err-push_ends-in-Some.ensures.1
+
+pub returns-in_ok-push_ends-in-Some-clause-remembered : goal.returns-in_ok-push_ends-in-Some-clause-remembered
+returns-in_ok-push_ends-in-Some-clause-remembered g c =
+    known_back g.D.Disk (λ all. KnowsGivers all c.push_ends.new.memo) (asking_of g.D.Disk c.in_ok-view.ensures.asks)
+    c.in_ok-push_ends-in-Some.ensures.remembered
+
+pub returns-in_ok-push_ends-in-Some-clause-asks : goal.returns-in_ok-push_ends-in-Some-clause-asks
+returns-in_ok-push_ends-in-Some-clause-asks g c =
+    asks_ended g.D.Disk (Ok _) (asking_then g.D.Disk g.met.D.Disk.follows_trans _ _ _ _ (asking_of g.D.Disk c.in_ok-view.ensures.asks)
+    c.in_ok-push_ends-in-Some.ensures.asks) tt
