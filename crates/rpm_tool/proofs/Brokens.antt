@@ -1,7 +1,7 @@
 -- A command that finds the index bad: it was broken when the command found it.
-use Rattle.rpm_tool.proofs.Vocabulary.{Damage, Database, done_why, Files, Halt, is_blank, is_current_at, IsBroken, IsOpened, IsWholeIndex, must_make, OpensBy}
-use Rattle.rpm_tool.proofs.Vocabulary.{room, Store, store, Units, WholeTurn, Why, why_of_halt}
-use Rattle.std.proofs.Common.{◌≡◌, ℕ, Bool, ◌&&◌, true, false, not, Result, Ok, Err, refl, sym, ◌∙◌, subst}
+use Rattle.rpm_tool.proofs.Vocabulary.{Damage, Database, done_why, Files, Halt, is_blank, IsBroken, IsOpened, IsWholeIndex, must_make, OpensBy}
+use Rattle.rpm_tool.proofs.Vocabulary.{kept_current, room, Store, store, Units, WholeTurn, Why, why_of_halt}
+use Rattle.std.proofs.Common.{◌≡◌, ℕ, Bool, true, false, Result, Ok, Err, refl, sym, ◌∙◌, subst}
 use Rattle.rpm_change.specs.declared.tally.Halt.TheVariants as halt
 use Rattle.rpm_tool.specs.declared.answer.Why.TheVariants as why
 use Rattle.rpm_tool.proofs.Outcomes.{by_done_why}
@@ -21,11 +21,6 @@ halt_unbroken idx others unit turn is = cc
 
 -- ---- what opening finds
 
-kept : (blank current : Bool) → (not blank && not current) ≡ false → blank ≡ false → current ≡ true
-kept true current must some = absurd cc
-kept false true must some = refl
-kept false false must some = absurd cc
-
 pub by_bool : {X : Type 0} (b : Bool) → (b ≡ true → X) → (b ≡ false → X) → X
 by_bool true holds fails = holds refl
 by_bool false holds fails = fails refl
@@ -34,14 +29,11 @@ by_bool false holds fails = fails refl
 pub open_broken : (old mid new : Files) (db : Database) → IsOpened old mid (Ok db) → ((is_blank db ≡ false → IsWholeIndex mid.idx) → IsWholeIndex new.idx)
     → ¬ IsWholeIndex new.idx → IsBroken old.pkg old.idx
 open_broken old mid new db opened goes broken =
-    let says = opened.store_is in
-    let must = λ (x : Result Store Damage). must_make old.idx x in
-    by_bool (must (store old.pkg)) (λ making. absurd (broken (goes (λ some. (opened.made making).rows_are.whole))))
+    by_bool (must_make old.idx (store old.pkg)) (λ making. absurd (broken (goes (λ some. (opened.made making).rows_are.whole))))
     (λ making. by_bool (is_blank db) (λ blank. absurd (broken (goes (λ some. absurd (let wrong : true ≡ false = sym blank ∙ some in cc)))))
     (λ some. record {
       value = (room db);
-      undamaged = says;
-      current =
-          kept (is_blank db) (is_current_at (room db).generation old.idx) (subst (λ (x : Result Store Damage). must x ≡ false) says making) some;
+      undamaged = opened.store_is;
+      current = kept_current old.idx (store old.pkg) db opened.store_is some making;
       broken = λ whole. broken (goes (λ _. subst (λ (f : Files). IsWholeIndex f.idx) (sym (opened.same making)) whole));
     }))

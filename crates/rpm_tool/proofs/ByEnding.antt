@@ -12,7 +12,7 @@ pub by_uncommitted : (P : Why → Type 0) → ((u : ℕ) → P (why.LogFull u)) 
 by_uncommitted P full fault memory (why.LogFull u) un = full u
 by_uncommitted P full fault memory why.DiskFault un = fault
 by_uncommitted P full fault memory why.NoMemory un = memory
-by_uncommitted P full fault memory others un = absurd un
+by_uncommitted P full fault memory others un = absurd cc
 
 -- how a group ends: committed, not committed, or stopped before, where want of memory may be told in place of a fault of the disk
 pub by_ends : (P : Result Tally Why → Why → ℕ → Type 0) → ((tally : Tally) → P (Ok tally) (done_why tally.failed) tally.changes)

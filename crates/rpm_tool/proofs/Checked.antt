@@ -6,7 +6,6 @@ use Rattle.rpm_tool.proofs.Vocabulary.{Portion, Reached, Step, Units, why_of_hal
 use Rattle.rpm_check.specs.declared.faults.CheckFault.TheVariants as check
 use Rattle.rpm_check.specs.Answers.{IsBroken}
 use Rattle.rpm_change.specs.declared.tally.Halt.TheVariants as halt
-use Rattle.rpm_tool.specs.declared.answer.Why.TheVariants as why
 
 pub broken_stops : (idx : Units) (f : CheckFault) → IsBroken idx f → HaltsOfSome idx (halt_of_check f)
 broken_stops idx (check.BadIndex unit) is = is
@@ -15,8 +14,8 @@ broken_stops idx check.NoMemory is = tt
 
 pub lawful_stops : (f : CheckFault) → is_of_index f ≡ false → IsOfRead (halt_of_check f)
 lawful_stops (check.BadIndex unit) is = absurd cc
-lawful_stops check.DiskFault is = tt
-lawful_stops check.NoMemory is = tt
+lawful_stops check.DiskFault is = refl
+lawful_stops check.NoMemory is = refl
 
 -- what was stopped within steps was stopped by no index
 pub reached_unbroken : (T : Type 0) (steps : List Step) (idx : Units) (s : Halt) (old new : Outputs) (reads_to : Bearer → Type 0)

@@ -1,12 +1,12 @@
 -- A course that was gone through on a database that was opened to be changed, as a command says it.
 use Rattle.rpm_tool.proofs.Vocabulary.{BadBy, begun, Change, command_limit, Course, Damage, Database, DiskFault, Done, done_why, EmptyBy, Ended, ended_as}
 use Rattle.rpm_tool.proofs.Vocabulary.{exercise, exercise_ended, ExerciseFault, Files, first_limit, first_refusal, Halt, Halted, HasRows, holds, idle}
-use Rattle.rpm_tool.proofs.Vocabulary.{in_file, is_halt, is_there, IsCurrent, IsIndexed, IsLawful, IsNext, IsOfOpening, IsRefused, Keeps, LimitsBy}
-use Rattle.rpm_tool.proofs.Vocabulary.{LimitsTurn, makes, makes_small, MayBegin, MeetsFirst, must_make, nat_cmp, next_stores, none_gone, NotEmpty, OnceBegun}
-use Rattle.rpm_tool.proofs.Vocabulary.{OpensBy, OpensIn, OpensOn, Outputs, Package, packages, reached_anew, reached_none, ReachedAnew, ReachesBy, Renewed}
-use Rattle.rpm_tool.proofs.Vocabulary.{room, Row, rows, rows_in, Runs, runs_then, SameLog, State, state, state_in, Stopped, StopsAt, Store, store, Tally}
-use Rattle.rpm_tool.proofs.Vocabulary.{Through, Units, units_for, units_needed, Why, why_of, why_of_halt, with_spare, WorkedBy, WorkedWith, WorksOn}
-use Rattle.std.proofs.Common.{◌≡◌, ℕ, ◌≤◌, Bool, true, false, [], Option, Some, None, Result, Ok, Err, refl, sym, ap, ◌∙◌, subst, arith, List, ◌^◌}
+use Rattle.rpm_tool.proofs.Vocabulary.{in_file, is_halt, is_there, IsCurrent, IsIndexed, IsLawful, IsNext, IsOfOpening, IsPaged, IsRefused, Keeps, LimitsBy}
+use Rattle.rpm_tool.proofs.Vocabulary.{LimitsTurn, made_paged, makes, makes_small, MayBegin, MeetsFirst, must_make, nat_cmp, next_stores, none_gone, NotEmpty}
+use Rattle.rpm_tool.proofs.Vocabulary.{OnceBegun, OpensBy, OpensIn, OpensOn, Outputs, Package, packages, reached_anew, reached_none, ReachedAnew}
+use Rattle.rpm_tool.proofs.Vocabulary.{ReachesBy, Renewed, room, RoomBecomes, Row, rows, rows_in, Runs, runs_then, SameLog, State, state, state_in, Stopped, StopsAt}
+use Rattle.rpm_tool.proofs.Vocabulary.{Store, store, stores_paged, Tally, Through, Units, units_for, units_needed, Why, why_of, why_of_halt, WorkedBy, WorkedWith, WorksOn}
+use Rattle.std.proofs.Common.{◌≡◌, ℕ, ◌≤◌, Bool, true, false, [], Option, None, Result, Ok, Err, refl, sym, ap, ◌∙◌, subst, arith, List, ◌^◌}
 use Rattle.std.specs.Prelude.{IsTrue, IfOk, OnOk, List}
 use Rattle.rpm_change.specs.Went.{Went}
 use Rattle.rpm_tool.proofs.Brokens.{done_unbroken, halt_unbroken, open_unbroken}
@@ -15,7 +15,7 @@ use Rattle.rpm_tool.proofs.FileReach.{reached_changed, reached_renewed}
 use Rattle.rpm_tool.proofs.Halting.{halts, later_cause, made_unbroken, opening_kinds, same_halt}
 use Rattle.rpm_tool.proofs.Limited.{limits_done, limits_halt, limits_unopened, made_stops}
 use Rattle.rpm_tool.proofs.Unmade.{through_none}
-use Rattle.rpm_tool.proofs.Works.{halt_stopped, if_found, made_paged, plain_stops, state-in_file, still_paged, worked_by}
+use Rattle.rpm_tool.proofs.Works.{halt_stopped, if_found, plain_stops, state-in_file, worked_by}
 use Rattle.rpm_tool.proofs.Verified.{no_entry, from_one}
 use Rattle.rpm_tool.proofs.ByEnding.{by_opening}
 use Rattle.rpm_outside.specs.declared.disk.Disk as disk
@@ -154,7 +154,7 @@ module _ {D : Type 0} (d : disk.Ghosts D) (trans : (a b c : D) → d.follows a b
     record Gone (told : IsTrue d.tells) (last : Database) (tally : Tally) : Type 0 where
       done : Done (course found) found (state_in d new last) tally before behind
       keeps : store (d.files new).pkg ≡ Ok (in_file (room last))
-      paged : 1 ≤ (room last).pages
+      paged : IsPaged (room last)
       index : MayBegin anew Lawful → IsIndexed (d.files new).pkg (d.files new).idx last
       first : Meets told (λ indexed first. first ≡ None)
       reached : ReachesBy anew Lawful course (d.files old) (d.files new)
@@ -218,7 +218,8 @@ module _ {D : Type 0} (d : disk.Ghosts D) (trans : (a b c : D) → d.follows a b
     went_works says (Ok tally) went ended = done_works false true false course new before behind last tally (λ t. record {
       done = ended t;
       keeps = (went.left.carried.serving t.0).keeps;
-      paged = still_paged (course found).changes db (room last) opened.not_blank (went.limits (says t) false (λ asked. absurd cc)).stores;
+      paged = stores_paged (course found).changes (room db) (room last) (went.limits (says t) false (λ asked. absurd cc)).stores
+          (made_paged db opened.not_blank);
       index = λ lawful. went.left.carried.index t.0 (opened.rows t.0 lawful);
       first = λ indexed may. plain_stops (d.files old) (d.files mid) db (opens t.0) (opened.found t.0) indexed course (Ok tally)
           (went.limits (says t) indexed (λ asked. opened.rows t.0 (may asked))).first;
@@ -237,13 +238,13 @@ module _ {D : Type 0} (d : disk.Ghosts D) (trans : (a b c : D) → d.follows a b
     pub anew_works : (none : Bool) (r : Result Tally Halt) → (IsTrue d.tells → EmptyBy none (d.files old) (why_of (ended_as r)))
         → (T → Ended (course found) found (state_in d new last) r before behind)
         → (IsTrue d.tells → StopsAt true (first_limit true found (room db) (course found).changes) r) → IfOk r (λ _tally. IsCurrent d new last)
-        → OnOk r (IsTrue d.tells → next_stores (course found).changes (room db) ≡ Some (with_spare (room db).spare (room last)))
+        → OnOk r (IsTrue d.tells → RoomBecomes (next_stores (course found).changes (room db)) (room db) (room last))
         → OnOk r (IsTrue d.tells → ReachedAnew found (room db) (course found).changes (d.files mid) (d.files new)) → Runs d SameLog mid new
         → DiskFault d (r ≡ Err halt.DiskFault) mid new → WorksOn d true false none course T before behind old new (ended_as r)
     anew_works none (Ok tally) empty ended stops current stores reach more fault = done_works true false none course new before behind last tally (λ t. record {
       done = ended t;
       keeps = (current.ready.serving t.0).keeps;
-      paged = still_paged (course found).changes db (room last) opened.not_blank (stores t.0);
+      paged = stores_paged (course found).changes (room db) (room last) (stores t.0) (made_paged db opened.not_blank);
       index = λ _. current.index t.0;
       first = λ indexed may. made_stops indexed true found (room db) (course found).changes (Ok tally) (stops t.0);
       reached = λ indexed may. reached_renewed indexed course (d.files old) (d.files mid) (d.files new) db (opens t.0) (opened.found t.0) (reach t.0);

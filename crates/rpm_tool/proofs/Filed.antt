@@ -1,5 +1,5 @@
 -- What is said of package files.
-use Rattle.std.proofs.Common.{◌≡◌, ℕ, Bool, true, false, not, ◌||◌, List, [], Option, Some, None, Result, Ok, Err, refl, sym, ap, ◌∙◌, subst}
+use Rattle.std.proofs.Common.{◌≡◌, ℕ, Bool, true, false, not, ◌||◌, List, [], Option, Some, None, Result, Err, refl, sym, ap, ◌∙◌, subst}
 use Rattle.rpm_tool.proofs.Vocabulary.{Anywhere, file_part, FileFault, found_part, Headed, is_bad, is_of_words, is_out}
 use Rattle.rpm_tool.proofs.Vocabulary.{IsFileFault, left, Outputs, package_header, PartIs, Paths, Reached, read_part, Step, Halt, Through}
 use Rattle.rpm_tool.proofs.Vocabulary.{Tree, why_of_halt}

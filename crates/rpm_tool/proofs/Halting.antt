@@ -115,7 +115,7 @@ opening_kinds (why.Damaged d) is = (refl, refl)
 opening_kinds (why.IndexFull u) is = (refl, refl)
 opening_kinds why.DiskFault is = (refl, refl)
 opening_kinds why.NoMemory is = (refl, refl)
-opening_kinds others is = absurd is
+opening_kinds others is = absurd cc
 
 -- so neither a stream nor packages that were found stop it
 abbrev refused : Why → Result Tally Why
@@ -131,5 +131,5 @@ pub unopened_streams : {S O E : Type 0} (s : shelf.Ghosts S) (o : sink.Ghosts O)
     → Streams s o e reads (λ why. refused w ≡ refused why) (a, out, err) (a, out, err)
 unopened_streams s o e reads w a out err kind out_stays err_stays =
     streams_by s o e (refused w) (λ h. refused w ≡ refused (why_of_halt h)) (λ h is. is) reads a a out out err err (λ is. refl) (λ told. refl)
-    (never_cause (s.faults a) (opening_never w why.ShelfFault kind (λ x. x)))
-    (idle_hand o out out_stays (opening_never w why.OutFault kind (λ x. x))) (idle_hand e err err_stays (opening_never w why.ErrFault kind (λ x. x)))
+    (never_cause (s.faults a) (opening_never w why.ShelfFault kind (λ x. cc)))
+    (idle_hand o out out_stays (opening_never w why.OutFault kind (λ x. cc))) (idle_hand e err err_stays (opening_never w why.ErrFault kind (λ x. cc)))

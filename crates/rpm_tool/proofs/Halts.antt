@@ -22,7 +22,7 @@ of_print halt.DiskFault of = refl
 of_print halt.OutFault of = refl
 of_print halt.ErrFault of = refl
 of_print halt.NoMemory of = refl
-of_print others of = absurd of
+of_print others of = absurd cc
 
 pub not_of_opening : (h : Halt) → IsOfPrint h → is_of_opening (why_of_halt h) ≡ false
 not_of_opening (halt.BadIndex unit) of = refl
@@ -30,7 +30,7 @@ not_of_opening halt.DiskFault of = refl
 not_of_opening halt.OutFault of = refl
 not_of_opening halt.ErrFault of = refl
 not_of_opening halt.NoMemory of = refl
-not_of_opening others of = absurd of
+not_of_opening others of = absurd cc
 
 -- what the ending of a report goes by
 pub ruleset of_report = (of_print, not_of_opening, of_disk, of_out, of_err)

@@ -1,5 +1,5 @@
 -- A command on the files that a disk's files stand for.
-use Rattle.std.proofs.Common.{ℕ, ◌+◌, ◌≤◌, true, false, [], Result, Ok, Err, refl, sym, subst, arith}
+use Rattle.std.proofs.Common.{ℕ, ◌+◌, ◌≤◌, true, false, [], Result, Ok, Err, arith}
 use Rattle.rpm_tool.proofs.Vocabulary.{Bearer, Course, Damage, Deeds, IsSound, Loaded, LogState, Malformed, Opened, Outputs, Refused}
 use Rattle.rpm_tool.proofs.Vocabulary.{Store, Through, Went, Why}
 use Rattle.rpm_tool.specs.declared.answer.Why.TheVariants as why

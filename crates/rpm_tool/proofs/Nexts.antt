@@ -33,7 +33,7 @@ goes_halts : {ot et : Bool} {all left : List Step} {o e o' e' : List ℕ} → Go
     → IsOfRead what → Reached {T = Bool} all (Err what) (outputs ot o et e) (outputs ot o' et e') reads_to
 goes_halts {left = left} g halt.DiskFault reads_to is = (g.done, left, g.parts, g.went)
 goes_halts {left = left} g halt.NoMemory reads_to is = (g.done, left, g.parts, g.went)
-goes_halts g others reads_to is = absurd is
+goes_halts g others reads_to is = absurd cc
 
 module _ {step : ℕ → ℕ × Package → Step} {es : List (ℕ × Package)} {after : ℕ} {ot et : Bool} {o e : List ℕ} where
   pub printed_none : PrintedTo step es after after false false ot et o e o e

@@ -1,12 +1,12 @@
 -- A database that is opened with its index, and then asked.
-use Rattle.rpm_tool.proofs.Vocabulary.{asked_reaches, AskParts, BadIs, Bearer, CauseIs, Damage, Database, Files, has_index, HasIndex}
-use Rattle.rpm_tool.proofs.Vocabulary.{HasIndexRows, is_blank, is_current_at, is_indexed, IsLawful, IsOpened, must_make, no_index_rows, packages}
-use Rattle.rpm_tool.proofs.Vocabulary.{Peeks, Reach, reach_sum, reached_by, room, Runs, Store, store, unindexed, Units, Why}
+use Rattle.rpm_tool.proofs.Vocabulary.{asked_reaches, AskParts, BadIs, Bearer, blank_unpaged, CauseIs, Database, Files, has_index, HasIndex}
+use Rattle.rpm_tool.proofs.Vocabulary.{HasIndexRows, is_blank, is_indexed, IsLawful, IsOpened, kept_current, must_make, no_index_rows, packages}
+use Rattle.rpm_tool.proofs.Vocabulary.{Peeks, Reach, reach_sum, reached_by, room, Runs, store, unindexed, Units, Why}
 use Rattle.rpm_outside.specs.declared.disk.Disk as disk
 use Rattle.rpm_outside.specs.Frame.{LeavesIn}
-use Rattle.std.proofs.Common.{◌≡◌, ℕ, ◌≤◌, Bool, true, false, not, ◌&&◌, List, Result, Ok, refl, sym, ap, ◌∙◌, subst, inl, inr, arith}
+use Rattle.std.proofs.Common.{◌≡◌, ℕ, ◌≤◌, Bool, true, false, not, List, Ok, refl, sym, ap, ◌∙◌, subst, inl, inr, arith}
 use Rattle.std.specs.Prelude.{IsTrue}
-use Rattle.std.proofs.lemmas.Bool.{cases_Bool, eqb-true}
+use Rattle.std.proofs.lemmas.Bool.{cases_Bool}
 use Rattle.rpm_tool.specs.declared.answer.Why.TheVariants as why
 use Rattle.rpm_tool.proofs.Sums.{store_by, store_sum}
 
@@ -49,11 +49,6 @@ not_not : (b : Bool) → not b ≡ true → b ≡ false
 not_not true is = absurd cc
 not_not false is = refl
 
-current_of : (blank current : Bool) → blank ≡ false → (not blank && not current) ≡ false → current ≡ true
-current_of true current some made = absurd cc
-current_of false true some made = refl
-current_of false false some made = absurd cc
-
 module _ (old new : Files) (db : Database) (opened : IsOpened old new (Ok db)) (pkg : new.pkg ≡ old.pkg) (indexed : is_indexed db ≡ not (is_blank db)) where
   not_blank : is_indexed db ≡ true → is_blank db ≡ false
   not_blank some = not_not (is_blank db) (sym indexed ∙ some)
@@ -67,7 +62,7 @@ module _ (old new : Files) (db : Database) (opened : IsOpened old new (Ok db)) (
     value = (room db);
     undamaged = ap store pkg ∙ opened.store_is;
     index = elim (cases_Bool (is_blank db)) [
-      | inl blank ↦ inl (eqb-true (room db).pages 0 blank)
+      | inl blank ↦ inl (blank_unpaged db blank)
       | inr some ↦ (let is = opened.index some lawful in inr (is.current, is.rows_are))
     ];
   }
@@ -82,8 +77,7 @@ module _ (old new : Files) (db : Database) (opened : IsOpened old new (Ok db)) (
         | inr kept ↦ (
           (room db),
           opened.store_is,
-          current_of (is_blank db) (is_current_at (room db).generation old.idx) some
-              (subst (λ (s : Result Store Damage). must_make old.idx s ≡ false) opened.store_is kept),
+          kept_current old.idx (store old.pkg) db opened.store_is some kept,
           subst (λ (f : Files). CauseIs words a f.idx (why.BadIndex unit)) (opened.same kept) cause,
         )
       ]

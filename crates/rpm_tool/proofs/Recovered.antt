@@ -5,7 +5,7 @@ use Rattle.rpm_outside.specs.declared.disk.Disk as disk
 use Rattle.rpm_outside.specs.Frame.{LeavesIn}
 use Rattle.rpm_tool.proofs.Vocabulary.{AnswersByKey, AreLawful, AreLawfulGroups, AreSettled, asked_reaches, AskParts, BadIs, Bearer, blocks_cost, Closed}
 use Rattle.rpm_tool.proofs.Vocabulary.{Damage, Database, deed_of, Deeds, DidByKey, DoesBy, Files, FullByUnits, FullIs, has_index, HasIndex, images, is_blank}
-use Rattle.rpm_tool.proofs.Vocabulary.{is_done, is_foreign, is_indexed, is_of_opening, is_query, IsLawful, IsLawfulGroup, IsLawfulStill, IsOpened, IsSound}
+use Rattle.rpm_tool.proofs.Vocabulary.{is_done, is_foreign, is_indexed, is_of_opening, is_query, IsLawful, IsLawfulStill, IsOpened}
 use Rattle.rpm_tool.proofs.Vocabulary.{keyed_cost, keyed_to, leaves_then, leaves_weaker, log_state, must_make, OnLawful, Opened, Outputs, outputs, pkg_read}
 use Rattle.rpm_tool.proofs.Vocabulary.{reach_sum, reached_by, RecoverSays, Remade, reopened, ReopensAsOneOf, room, StandsStill, started, Store, store}
 use Rattle.rpm_tool.proofs.Vocabulary.{Through, Tree, Units, units_needed, unlogged, Why}

@@ -88,14 +88,14 @@ pub reached_unsunk : (T : Type 0) (all : List Step) (what : Halt) (old new : Out
     → Reached {T = T} all (Err what) old new reads_to
 reached_unsunk T all halt.DiskFault old new reads_to is t = ([], all, refl, t)
 reached_unsunk T all halt.NoMemory old new reads_to is t = ([], all, refl, t)
-reached_unsunk T all others old new reads_to is t = absurd is
+reached_unsunk T all others old new reads_to is t = absurd cc
 
 -- or a read after all was gone through
 pub reached_over : (T : Type 0) (all : List Step) (what : Halt) (old new : Outputs) (reads_to : Bearer → Type 0) → IsOfRead what → Through all old new
     → Reached {T = T} all (Err what) old new reads_to
 reached_over T all halt.DiskFault old new reads_to is t = (all, [], sym (append-nil all), t)
 reached_over T all halt.NoMemory old new reads_to is t = (all, [], sym (append-nil all), t)
-reached_over T all others old new reads_to is t = absurd is
+reached_over T all others old new reads_to is t = absurd cc
 
 -- where nothing was gone through before
 pub reached_later : (T : Type 0) (ot et : Bool) (all : List Step) (r : Result T Halt) (o o' o'' e e' e'' : List ℕ) (reads_to : Bearer → Type 0)

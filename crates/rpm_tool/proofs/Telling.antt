@@ -2,11 +2,10 @@
 use Rattle.std.proofs.Common.{◌≡◌, ℕ, ◌+◌, ◌<◌, Bool, true, false, ◌==◌, List, [], ◌∷◌, ◌++◌, map, drop, length, get_or, Some, Result, Ok, Err, refl, sym, ap, ◌∙◌, subst, add-one, drop-cons, arith}
 use Rattle.std.specs.Prelude.{codes, slice_index_or}
 use Rattle.rpm_tool.proofs.Vocabulary.{Anywhere, Bearer, class_steps, cycle_line, fails, flat_map, Halt, header, Header, header-own, HeaderFault, label_step}
-use Rattle.rpm_tool.proofs.Vocabulary.{nat_cmp, Outputs, Package, package_of, package_text, packages, PartIs, Reached, read_as, read_text, Step, StepIs}
+use Rattle.rpm_tool.proofs.Vocabulary.{nat_cmp, Outputs, Package, package_of, package_text, PartIs, Reached, read_as, read_text, Step, StepIs}
 use Rattle.rpm_tool.proofs.Vocabulary.{ToOut, whole}
 use Rattle.std.proofs.lemmas.Bool.Decides.{nat_tests}
 use Rattle.std.specs.FinMap as finite
-use Rattle.rpm_change.specs.declared.tally.Halt.TheVariants as halt
 use Rattle.rpm_tool.proofs.Stopping.{reached_first, reached_reads}
 
 -- ---- a package

@@ -4,7 +4,6 @@ use Rattle.rpm_tool.proofs.Vocabulary.{outputs, packages, PartIs, Portion, Reach
 use Rattle.rpm_tool.proofs.Vocabulary.{Went, why_of_halt}
 use Rattle.std.proofs.Common.{◌≡◌, ℕ, ◌+◌, ◌<◌, ◌≤◌, ◌≢◌, Bool, true, false, if◌then◌else◌, List, [], ◌++◌, map, drop, length, Result, Ok, Err, Some, refl, ap, ◌∙◌, subst, arith}
 use Rattle.std.specs.Prelude.{slice_get}
-use Rattle.rpm_tool.specs.declared.answer.Why.TheVariants as why
 use Rattle.rpm_tool.specs.Steps.{before, in_turn}
 use Rattle.rpm_tool.proofs.Answering.{drop_get, none_left, went_stop}
 use Rattle.rpm_tool.proofs.Reached.{rows_at}

@@ -11,8 +11,8 @@ use Rattle.rpm_tool.specs.declared.answer.Why.TheVariants as why
 
 pub stop_unsunk : (fault : PickFault) → is_of_index fault ≡ false → IsOfRead (halt_of_pick fault)
 stop_unsunk (pick.BadIndex unit) is = absurd cc
-stop_unsunk pick.DiskFault is = tt
-stop_unsunk pick.NoMemory is = tt
+stop_unsunk pick.DiskFault is = refl
+stop_unsunk pick.NoMemory is = refl
 
 pub step_unbroken : (step : Step) (r : Result Bool Halt) (old new : Outputs) → StepIs step r old new → (unit : ℕ) → r ≡ Err (halt.BadIndex unit) → ⊥
 step_unbroken step (Ok o) old new one unit is = cc

@@ -2,7 +2,7 @@
 pub use Rattle.rpm_change.specs.Adding.{add_file, add_files, as_installed, IsOfPutting, put_found, put_installed, replace, replaced}
 pub use Rattle.rpm_change.specs.Endings.{Done, Ended, IsOfErasing, Outputs, outputs, Through, WholeTurn}
 pub use Rattle.rpm_change.specs.Erasing.{erase, erase_one, erased}
-pub use Rattle.rpm_change.specs.Hands.{Hand, KeepsShelf}
+pub use Rattle.rpm_change.specs.Hands.{Hand}
 pub use Rattle.rpm_change.specs.Importing.{import_end, import_from, import_list, imported, listed, max_headers, place_fails}
 pub use Rattle.rpm_change.specs.Limits.{first_limit, first_refusal, is_large, is_limit, is_spent, LimitsTurn, needed, next_stores, refusal, StopsAt}
 pub use Rattle.rpm_change.specs.Reaches.{idx_reach, pkg_reach, ReachedAnew}
@@ -17,7 +17,7 @@ pub use Rattle.rpm_change.specs.declared.tally.Tally.{Tally}
 pub use Rattle.rpm_change.specs.inner.Courses.{none_gone}
 pub use Rattle.rpm_change.specs.inner.LimitLaws.{makes_large, makes_small, never_bad_made, stops_unasked}
 pub use Rattle.rpm_change.specs.inner.ReachLaws.{idx_more, pkg_more, reached_anew, reached_none}
-pub use Rattle.rpm_change.specs.inner.Stores.{stores_pages}
+pub use Rattle.rpm_change.specs.inner.Stores.{stores_paged}
 pub use Rattle.rpm_check.specs.Answers.{is_of_index}
 pub use Rattle.rpm_check.specs.Edges.{graph_of}
 pub use Rattle.rpm_check.specs.Frame.{Glances}
@@ -27,24 +27,23 @@ pub use Rattle.rpm_check.specs.declared.list.Unmet.{Unmet}
 pub use Rattle.rpm_check.specs.inner.Needs.{needed_in}
 pub use Rattle.rpm_db.specs.Above.{all_above_zero, both_true, next_above, none_is, nothing_above}
 pub use Rattle.rpm_db.specs.Changes.{Add, apply, Change, Erase, greatest_in, next, Put, Says}
-pub use Rattle.rpm_db.specs.Database.{cost, cost_all, cost_to, Database, holds, is_blank, is_indexed, IsIndexed, IsNext, Keeps, KeepsIndex, KeepsUnits}
+pub use Rattle.rpm_db.specs.Database.{cost_all, cost_to, Database, holds, is_blank, is_indexed, IsIndexed, IsNext, IsPaged, Keeps}
+pub use Rattle.rpm_db.specs.Database.{KeepsIndex, KeepsUnits, unindexed}
 pub use Rattle.rpm_db.specs.Frame.{room}
 pub use Rattle.rpm_db.specs.FromOne.{from_one}
 pub use Rattle.rpm_db.specs.Kept.{kept_above}
-pub use Rattle.rpm_db.specs.Lawful.{AreLawful, HasRows, is_current_at, IsLawful, IsLawfulStill, IsWholeIndex, Remade}
+pub use Rattle.rpm_db.specs.Lawful.{AreLawful, HasRows, IsLawful, IsLawfulStill, IsWholeIndex, Remade}
 pub use Rattle.rpm_db.specs.Openings.{IsOpened, must_make, units_needed}
 pub use Rattle.rpm_db.specs.Own.{header-own}
 pub use Rattle.rpm_db.specs.PackageLaws.{cost_more, cost_some, cost_up, is_there}
-pub use Rattle.rpm_db.specs.Room.{next_store}
+pub use Rattle.rpm_db.specs.Room.{next_store, RoomBecomes}
+pub use Rattle.rpm_db.specs.RoomLaws.{blank_unpaged, kept_current, made_paged}
 pub use Rattle.rpm_db.specs.Rows.{rows_in}
 unfoldable pub use Rattle.rpm_db.specs.Rows.{rows}
 pub use Rattle.rpm_db.specs.Running.{runs_none, runs_then}
-pub use Rattle.rpm_db.specs.Runs.{CameOf, SameLog}
+pub use Rattle.rpm_db.specs.Runs.{SameLog}
 pub use Rattle.rpm_db.specs.State.{above, Bad, Good, Package, package_of, read_as, State, state}
 unfoldable pub use Rattle.rpm_db.specs.State.{packages}
-pub use Rattle.rpm_db.specs.Verdicts.{verdict}
-pub use Rattle.rpm_db.specs.declared.verify.Verdict.{Verdict}
-pub use Rattle.rpm_db.specs.declared.verify.Verdict.TheVariants.{BadChecksum, BadDigest, BadHeader, Sound}
 pub use Rattle.rpm_exercise.specs.Endings.{IsRefused, OnceBegun, Renewed}
 pub use Rattle.rpm_exercise.specs.Exercised.{exercise}
 pub use Rattle.rpm_exercise.specs.Ready.{IsStop}
@@ -78,16 +77,16 @@ pub use Rattle.rpm_hindex.specs.Sizes.{doubled, units_for}
 pub use Rattle.rpm_hindex.specs.State.{is_in_order, sealed, state_of}
 unfoldable pub use Rattle.rpm_hindex.specs.State.{is_current}
 pub use Rattle.rpm_outside.specs.Browses.{left}
-pub use Rattle.rpm_outside.specs.Buffered.{all_taken, Flushes, GoesOn, inner}
+pub use Rattle.rpm_outside.specs.Buffered.{buffered, Flushes, inner}
 pub use Rattle.rpm_outside.specs.Causes.{HasCauseAt, Rose}
 pub use Rattle.rpm_outside.specs.Changes.{AreSettled}
 pub use Rattle.rpm_outside.specs.Crash.{Untouched}
-pub use Rattle.rpm_outside.specs.Leaves.{LeavesOnly}
 pub use Rattle.rpm_outside.specs.Files.{Files, unit_at, Units, units_of, with_file}
 pub use Rattle.rpm_outside.specs.Frame.{images, LeavesIn, LooksAt}
 pub use Rattle.rpm_outside.specs.Logs.{Closed, log_state, LogState, Malformed, reopened, unlogged, with_state}
 pub use Rattle.rpm_outside.specs.Shelves.{bytes_at, Paths}
-pub use Rattle.rpm_outside.specs.Sinks.{Begins, Gained, GainedPart, Writes}
+pub use Rattle.rpm_outside.specs.SinkFrame.{Writes}
+pub use Rattle.rpm_outside.specs.Sinks.{Begins, Gained, GainedPart}
 pub use Rattle.rpm_outside.specs.declared.buffered.Buffered.{Buffered}
 pub use Rattle.rpm_outside.specs.declared.disk.File.{File}
 pub use Rattle.rpm_outside.specs.declared.disk.File.TheVariants.{Idx, Log, Pkg}
@@ -103,7 +102,6 @@ pub use Rattle.rpm_pkgdb.specs.Reaches.{store_end}
 pub use Rattle.rpm_pkgdb.specs.Slots.{slot_of}
 pub use Rattle.rpm_pkgdb.specs.Store.{blank_store, in_file, Store, store}
 unfoldable pub use Rattle.rpm_pkgdb.specs.Words.{word}
-pub use Rattle.rpm_pkgdb.specs.Written.{made_new, with_spare}
 pub use Rattle.rpm_pkgdb.specs.declared.slot.Damage.{Damage}
 pub use Rattle.rpm_pkgdb.specs.declared.slot.Reason.{Reason}
 pub use Rattle.rpm_pkgdb.specs.declared.slot.Reason.TheVariants.{BadMagic, BadPages, BadRange, BadSlot, Overlap, SameNumber}
@@ -111,9 +109,7 @@ pub use Rattle.rpm_qfeval.specs.Meaning.{meaning, text_or_none}
 unfoldable pub use Rattle.rpm_qfeval.specs.Meaning.{bytes, sizes}
 pub use Rattle.rpm_qfeval.specs.Numbers.{depflags, has, letters}
 pub use Rattle.rpm_qfeval.specs.Padded.{padded}
-pub use Rattle.rpm_qfeval.specs.Printed.{Differs, ending, EndsSo, Fails, Prints}
-pub use Rattle.rpm_qfeval.specs.declared.printing.DirectFault.{DirectFault}
-pub use Rattle.rpm_qfeval.specs.declared.printing.DirectFault.TheVariants.{OutFault, SizesDiffer}
+pub use Rattle.rpm_qfeval.specs.Printed.{Differs, EndsSo, Fails, Prints}
 unfoldable pub use Rattle.rpm_qfparse.specs.Format.{format, reading}
 unfoldable pub use Rattle.rpm_qfparse.specs.Moves.{condition, move_of}
 unfoldable pub use Rattle.rpm_qfparse.specs.Tag.{after_number, number_of, show_in, table, tag_part}
@@ -141,30 +137,29 @@ unfoldable pub use Rattle.rpm_tags.specs.Value.{first_text, numbers_in, stored, 
 pub use Rattle.rpm_tags.specs.declared.kind.Kind.{Kind}
 pub use Rattle.rpm_tags.specs.declared.tag.Tag.{Tag}
 pub use Rattle.rpm_tags.specs.declared.tag.Tag.TheVariants.{Filenames, Nvra, Stored}
-pub use Rattle.rpm_tool.specs.Answers.{Anywhere, Closes, ComesWhere, Ends, is_foreign, is_of_opening, is_of_words, IsOfPrint, IsOfRead, is_some_of, Misread, PartIs}
-pub use Rattle.rpm_tool.specs.Answers.{Reached, Refused, StepIs, halt_of_pick, StoppedWithin, ThroughSome, Undone, unless_starved, Went, why_of_halt}
-pub use Rattle.rpm_tool.specs.Answers.{why_of_load}
+pub use Rattle.rpm_tool.specs.Answers.{Anywhere, Closes, Ends, halt_of_pick, is_some_of, Misread, PartIs, Reached, Refused, StepIs}
+pub use Rattle.rpm_tool.specs.Answers.{StoppedWithin, ThroughSome, Undone, unless_starved, Went, why_of_halt, why_of_load}
 pub use Rattle.rpm_tool.specs.Asked.{always_keyed, by_key, changes_in, command_in, deed_of, format_in, is_changing, is_changing_in, is_package, is_query}
 pub use Rattle.rpm_tool.specs.Asked.{needs_no_index, of_files, opens_index}
 unfoldable pub use Rattle.rpm_tool.specs.Asked.{asks, asks_change, asks_format, label_format, list_format}
 pub use Rattle.rpm_tool.specs.Changing.{after, AllFit, BadBy, ChangesWith, Did, DidLoaded, DidOn, DidOpened, EmptyBy, EmptyIs, EmptyOn, HasCurrent, HasState}
-pub use Rattle.rpm_tool.specs.Changing.{is_done_or_fault, is_held, is_of_lawful, IsBroken, IsMade, IsSealed, LeavesState, makes, MayBegin, RowsFit}
-pub use Rattle.rpm_tool.specs.Changing.{StandsStillOr}
+pub use Rattle.rpm_tool.specs.Changing.{IsBroken, IsMade, LeavesState, makes, MayBegin, RowsFit, StandsStillOr}
+pub use Rattle.rpm_tool.specs.Classes.{is_done, is_done_or_fault, is_done_or_outside, is_foreign, is_halt, is_held, is_of_lawful, is_of_opening}
+pub use Rattle.rpm_tool.specs.Classes.{is_of_streams, is_of_words, is_refusal, IsOfOpening, IsOfPrint, IsOfRead, IsUncommitted}
 unfoldable pub use Rattle.rpm_tool.specs.Closing.{closing, damage_line, fault_text, format_line, rule_text, usage_line}
 pub use Rattle.rpm_tool.specs.Deeds.{asked_reaches, blocks_cost, Deeds, DidPlain, DoesBy, Loaded, Opened, Queried, query_cost, read_to}
 pub use Rattle.rpm_tool.specs.FileReport.{check_files, conflict_step, label_told, report_steps, told_steps, unread_step}
 unfoldable pub use Rattle.rpm_tool.specs.FileReport.{conflict_line}
-pub use Rattle.rpm_tool.specs.Frame.{DiskFault, IsAskable, Leaves, Looks, outs, OutTakes, packages_in, Peeks, pkg_read, Runs, shown, state_in, TellsErr, TellsOut}
+pub use Rattle.rpm_tool.specs.Frame.{DiskFault, IsAskable, Leaves, Looks, outs, OutTakes, packages_in, Peeks, pkg_read, Runs, shown, state_in, TellsOut}
 pub use Rattle.rpm_tool.specs.Given.{given_in, given_on, IsAhead, numbers_given, RiseWithin}
-pub use Rattle.rpm_tool.specs.History.{AllStand, calls_of, course_of, Cuts, FromOneOf, Leads, made_by, Moves, RunCall, StandsIn, TellsCalls, TellsLines}
+pub use Rattle.rpm_tool.specs.History.{AllStand, calls_of, course_of, Cuts, FromOneOf, Leads, Moves, RunCall, StandsIn, TellsCalls, TellsLines}
 pub use Rattle.rpm_tool.specs.History.{uses_in, uses_shelf}
-pub use Rattle.rpm_tool.specs.Keyed.{AnswersByKey, AreLawfulGroups, BadIs, CauseIs, DidByKey, FullByUnits, FullIs, has_index, HasIndex, HasRoom, is_done}
-pub use Rattle.rpm_tool.specs.Keyed.{is_done_or_outside, is_refusal, IsLawfulGroup, keyed_cost, keyed_to, KeyedIs, OnLawful, StandsStill, WentBy}
-pub use Rattle.rpm_tool.specs.Keyed.{why_of_recover}
+pub use Rattle.rpm_tool.specs.Keyed.{AnswersByKey, AreLawfulGroups, BadIs, CauseIs, DidByKey, FullByUnits, FullIs, has_index, HasIndex, HasRoom}
+pub use Rattle.rpm_tool.specs.Keyed.{IsLawfulGroup, keyed_cost, keyed_to, KeyedIs, OnLawful, StandsStill, WentBy, why_of_recover}
 pub use Rattle.rpm_tool.specs.Labels.{header_label, label_in}
 unfoldable pub use Rattle.rpm_tool.specs.Labels.{label_tree}
-pub use Rattle.rpm_tool.specs.Limits.{begun, command_limit, LimitsBy, LimitsOn, LogIs, LogOn, MeetsFirst, ReachedOn, ReachesBy, ReachesOn, StoodStill}
-pub use Rattle.rpm_tool.specs.Limits.{LogBy, OneChange, ToldAll}
+pub use Rattle.rpm_tool.specs.Limits.{begun, command_limit, LimitsBy, LimitsOn, LogIs, LogOn, MeetsFirst, ReachedOn, ReachesBy, ReachesOn}
+pub use Rattle.rpm_tool.specs.Limits.{LogBy, OneChange}
 pub use Rattle.rpm_tool.specs.Lines.{Between, between, InTurn, LineIs}
 pub use Rattle.rpm_tool.specs.PackageFiles.{file_part, found_part, query_files, read_part}
 pub use Rattle.rpm_tool.specs.Queries.{answered, AreQuestions, argument_part, bad_step, capability_in, header_step, is_question, lent, packages_part}
@@ -173,19 +168,18 @@ unfoldable pub use Rattle.rpm_tool.specs.Queries.{missing_part, picked, sizes_li
 pub use Rattle.rpm_tool.specs.Reads.{IsFaultOf, IsOfChain, IsOfChains, reach_before, reach_of, reach_sum, reached, reached_by, reached_in, reaches_by}
 pub use Rattle.rpm_tool.specs.Reads.{ReadsIn, ReadsOf}
 unfoldable pub use Rattle.rpm_tool.specs.Reads.{argument_reach}
-pub use Rattle.rpm_tool.specs.Reports.{entry_verdict, export, step_by, unindexed, verdict_part, verify}
+pub use Rattle.rpm_tool.specs.Reports.{entry_verdict, export, step_by, verify}
 unfoldable pub use Rattle.rpm_tool.specs.Reports.{verdict_line}
-pub use Rattle.rpm_tool.specs.Requirements.{bad_at, bad_part, bad_parts, behind, class_steps, classes_part, IsListed, IsOfSome, IsRead, label_step}
+pub use Rattle.rpm_tool.specs.Requirements.{bad_part, behind, class_steps, classes_part, IsListed, IsOfSome, label_step}
 pub use Rattle.rpm_tool.specs.Requirements.{label_text, line_of, order_part, ordering, package_text, read_text, halt_of_check, HaltsOfSome, unmet_lines}
 pub use Rattle.rpm_tool.specs.Requirements.{unmet_part, unmet_step, unmet_text, unsatisfied, unsatisfied_part, why_of_report}
 unfoldable pub use Rattle.rpm_tool.specs.Requirements.{cycle_line, unmet_line}
 pub use Rattle.rpm_tool.specs.Steps.{bearer_of, before, fails, is_bad, Portion, RisesFrom, together, with_number}
 pub use Rattle.rpm_tool.specs.Tasks.{Adding, asked_course, asked_task, changes_index, Erasing, Exercising, Importing, is_anew, Making, needs_none}
 pub use Rattle.rpm_tool.specs.Tasks.{reads_shelf, Rebuilding, Replacing, task_course, task_parts, TaskParts}
-pub use Rattle.rpm_tool.specs.Theorem.{Answers, AnswersChange, AnswersKeyed, AnswersOfFiles, AnswersPlain, AnswersWords, Does, ran, Run}
-pub use Rattle.rpm_tool.specs.Working.{done_why, ended_as, EndsAs, EndsGroup, exercise_ended, GroupLeaves, is_halt, is_of_streams, IsOfOpening, IsShut}
-pub use Rattle.rpm_tool.specs.Working.{IsUncommitted, OpensBy, OpensIn, OpensWithin, Stopped, why_of, why_of_exercise, WorkedBy, WorkedOn}
-pub use Rattle.rpm_tool.specs.Working.{WorkedWith}
+pub use Rattle.rpm_tool.specs.Theorem.{Answers, AnswersChange, AnswersKeyed, AnswersOfFiles, AnswersPlain, Does, ran, Run}
+pub use Rattle.rpm_tool.specs.Working.{done_why, ended_as, EndsAs, EndsGroup, exercise_ended, IsShut, OpensBy, OpensIn}
+pub use Rattle.rpm_tool.specs.Working.{Stopped, why_of, why_of_exercise, WorkedBy, WorkedOn, WorkedWith}
 pub use Rattle.rpm_tool.specs.declared.answer.Outcome.{Outcome}
 pub use Rattle.rpm_tool.specs.declared.answer.Why.{Why}
 pub use Rattle.rpm_tool.specs.declared.asked.Deed.{Deed}

@@ -1,10 +1,9 @@
 -- From the opening of a database to the last change of a command: how its courses end.
-use Rattle.rpm_tool.proofs.Vocabulary.{begun, blobs, Change, command_limit, Course, Damage, Database, Ended, Files, first_refusal, FoundAs, Halt, in_file}
-use Rattle.rpm_tool.proofs.Vocabulary.{is_blank, makes, must_make, next_stores, OpensBy, Outputs, packages, room, rows, State, state, Stopped, StopsAt, Store}
-use Rattle.rpm_tool.proofs.Vocabulary.{store, stores_pages, Tally, Units, units_for, units_needed, Why, why_of_halt, with_spare, WorkedBy, WorkedOn}
-use Rattle.std.proofs.Common.{◌≡◌, ◌^◌, ◌≤◌, Bool, true, false, List, Option, Some, Result, Ok, Err, refl, sym, subst, arith}
+use Rattle.rpm_tool.proofs.Vocabulary.{begun, blobs, command_limit, Course, Damage, Database, Ended, Files, first_refusal, FoundAs, Halt, in_file}
+use Rattle.rpm_tool.proofs.Vocabulary.{makes, must_make, OpensBy, Outputs, packages, room, rows, State, state, Stopped, StopsAt, Store}
+use Rattle.rpm_tool.proofs.Vocabulary.{store, Tally, Units, units_for, units_needed, Why, why_of_halt, WorkedBy, WorkedOn}
+use Rattle.std.proofs.Common.{◌≡◌, ◌^◌, ◌≤◌, Bool, true, false, Option, Result, Ok, Err, refl, sym, subst}
 use Rattle.std.specs.Prelude.{IfOk}
-use Rattle.std.proofs.lemmas.Bool.Decides.{nat_tests}
 use Rattle.rpm_change.specs.declared.tally.Halt.TheVariants as halt
 use Rattle.rpm_tool.proofs.Limited.{small_command}
 use Rattle.rpm_tool.proofs.Standing.{ok_is}
@@ -17,17 +16,6 @@ state-in_file file value = refl
 pub halt_stopped : (c : Course) (s t : State) (h : Halt) (before now : Outputs) → Ended c s t (Err h) before now → Stopped c (why_of_halt h) before now
 halt_stopped c s t halt.NumbersSpent before now ended = ended
 halt_stopped c s t others before now ended = ended
-
--- a database that was made stays made through the changes
-pub made_paged : (db : Database) → is_blank db ≡ false → 1 ≤ (room db).pages
-made_paged db made = grind (arith, nat_tests)
-
-pub still_paged : (changes : List Change) (db : Database) (last : Store) → is_blank db ≡ false
-    → next_stores changes (room db) ≡ Some (with_spare (room db).spare last) → 1 ≤ last.pages
-still_paged changes db last made placed =
-    let first = made_paged db made in
-    let more = stores_pages changes (room db) (with_spare (room db).spare last) placed in
-    omega (arith, first, more)
 
 module _ (old mid : Files) (db : Database) (opens : OpensBy old (store old.pkg) mid (Ok db)) (is : FoundAs old mid db) where
   -- the state that was opened

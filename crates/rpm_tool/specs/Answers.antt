@@ -1,6 +1,6 @@
 -- How far a command went, and what it answers. On it rest `plain` and `files` of the page (Theorem.antt), and `Ends`, by which `run` puts the
 -- closing line after all of it.
-use Rattle.std.specs.Prelude.{◌≡◌, ◌≢◌, ◌⊎◌, ℕ, ◌+◌, ◌-◌, ◌<◌, ◌≤◌, List, [], ◌∷◌, ◌++◌, map, Bool, true, false, Option, Some, None, Result, Ok, Err, IfOk, IsTrue}
+use Rattle.std.specs.Prelude.{◌≡◌, ◌≢◌, ◌⊎◌, ℕ, ◌<◌, List, [], ◌∷◌, ◌++◌, Bool, true, false, Option, Some, Result, Ok, Err, IfOk}
 use Rattle.rpm_outside.specs.Causes.{Rose}
 use Rattle.rpm_outside.specs.Sinks.{Gained, GainedPart}
 use Rattle.rpm_group.specs.declared.load.LoadFault.{LoadFault}
@@ -68,21 +68,6 @@ abbrev pub fails_in : Result PrintedPackages Halt → Result Bool Halt
 fails_in (Ok p) = Ok p.fails
 fails_in (Err stop) = Err stop
 
--- what halts a command that prints or reports of a database: no limit of a change, and no fault of the shelf
-abbrev pub IsOfPrint : Halt → Type 0
-IsOfPrint (halt.BadIndex unit) = Unit {0}
-IsOfPrint halt.DiskFault = Unit {0}
-IsOfPrint halt.OutFault = Unit {0}
-IsOfPrint halt.ErrFault = Unit {0}
-IsOfPrint halt.NoMemory = Unit {0}
-IsOfPrint others = ⊥
-
--- of these what halts a call that only reads
-abbrev pub IsOfRead : Halt → Type 0
-IsOfRead halt.DiskFault = Unit {0}
-IsOfRead halt.NoMemory = Unit {0}
-IsOfRead others = ⊥
-
 -- whether a list has anything
 abbrev pub is_some_of : {X : Type 0} → List X → Bool
 is_some_of [] = false
@@ -123,37 +108,6 @@ Undone asked read (why.Usage fault) = (asked ≡ Err fault) × (fault.kind ≢ k
 Undone asked read (why.BadFormat fault) = (read ≡ Some (Err fault)) × (fault.kind ≢ wrong.NoMemory)
 Undone asked read why.NoMemory = Unit {0}
 Undone asked read _ = ⊥
-
--- one of them, want of memory aside
-abbrev pub is_of_words : Why → Bool
-is_of_words (why.Usage fault) = true
-is_of_words (why.BadFormat fault) = true
-is_of_words others = false
-
--- so no command on a database ends that changes nothing
-abbrev pub is_foreign : Why → Bool
-is_foreign (why.Usage fault) = true
-is_foreign (why.BadFormat fault) = true
-is_foreign why.NumbersSpent = true
-is_foreign why.GenerationSpent = true
-is_foreign why.StoreFull = true
-is_foreign (why.NotEmpty held) = true
-is_foreign (why.LogFull needed) = true
-is_foreign why.ShelfFault = true
-is_foreign others = false
-
--- so a command ends whose database isn't opened
-abbrev pub is_of_opening : Why → Bool
-is_of_opening (why.BadLog unit) = true
-is_of_opening (why.Damaged damage) = true
-is_of_opening (why.IndexFull needed) = true
-is_of_opening others = false
-
--- done, with or without arguments that failed
-abbrev pub is_done : Why → Bool
-is_done why.Done = true
-is_done (why.Failed n) = true
-is_done others = false
 
 -- ---- the answers of a command that opens the database, before the closing line
 

@@ -23,6 +23,12 @@ deed_of Verify = deed.Unmet
 deed_of Order = deed.Order
 deed_of others = deed.Print
 
+-- those that print packages, by the format or as they are
+abbrev pub prints_packages : Deed → Bool
+prints_packages deed.Print = true
+prints_packages deed.Export = true
+prints_packages others = false
+
 -- the reports on requirements open the database with its index, whatever the words say
 abbrev pub always_keyed : Deed → Bool
 always_keyed deed.Unmet = true

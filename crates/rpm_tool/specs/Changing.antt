@@ -21,7 +21,8 @@ use Rattle.rpm_change.specs.Endings.{Outputs, Through, ThroughSome, StoppedWithi
 use Rattle.rpm_tool.specs.declared.answer.Why.{Why}
 use Rattle.rpm_tool.specs.declared.answer.Why.TheVariants as why
 use Rattle.rpm_tool.specs.Answers.{Misread, Refused}
-use Rattle.rpm_tool.specs.Keyed.{IsLawfulGroup, AreLawfulGroups, StandsStill, is_done}
+use Rattle.rpm_tool.specs.Classes.{is_done, is_done_or_fault, is_held, is_of_lawful}
+use Rattle.rpm_tool.specs.Keyed.{IsLawfulGroup, AreLawfulGroups, StandsStill}
 
 -- ---- what a command answers
 
@@ -71,13 +72,6 @@ LeavesState course s why.Done changes files = (changes ≡ length (course s).cha
 LeavesState course s (why.Failed n) changes files = (changes ≡ length (course s).changes) × HasState (after course s) files
 LeavesState course s why.DiskFault changes files = (changes ≡ 0) × (HasState s files ⊎ HasState (after course s) files)
 LeavesState course s others changes files = (changes ≡ 0) × HasState s files
-
--- done, or a fault of the disk
-abbrev pub is_done_or_fault : Why → Bool
-is_done_or_fault why.Done = true
-is_done_or_fault (why.Failed n) = true
-is_done_or_fault why.DiskFault = true
-is_done_or_fault others = false
 
 -- the index is current, and holds the rows of the packages, each as often
 pub record HasCurrent (pkg idx : Units) : Type 0 where
@@ -132,24 +126,10 @@ EmptyIs packages others = IsNext (λ n. is_some (finite.get packages n)) 0 None
 abbrev pub EmptyOn : Files → Why → Type 0
 EmptyOn files given = IfOk (store files.pkg) (λ value. EmptyIs (packages files.pkg value) given)
 
--- packages were found where there were to be none
-abbrev pub is_held : Why → Bool
-is_held (why.NotEmpty held) = true
-is_held others = false
-
 -- of a command that asks for none; another is never refused so
 abbrev pub EmptyBy : Bool → Files → Why → Type 0
 EmptyBy true files given = EmptyOn files given
 EmptyBy false files given = is_held given ≡ false
-
--- an ending that a lawful database may have: done, a limit, a fault of the outside, or want of memory
-abbrev pub is_of_lawful : Why → Bool
-is_of_lawful (why.Usage fault) = false
-is_of_lawful (why.BadFormat fault) = false
-is_of_lawful (why.BadLog unit) = false
-is_of_lawful (why.Damaged damage) = false
-is_of_lawful (why.BadIndex unit) = false
-is_of_lawful others = true
 
 -- an index that is current, and isn't well formed as a whole
 pub record IsBroken (pkg idx : Units) : Type 0 where

@@ -8,6 +8,7 @@ use Rattle.rpm_outside.specs.Logs.{LogState, Closed, Malformed, Open, log_state,
 use Rattle.rpm_pkgdb.specs.declared.slot.Damage.{Damage}
 use Rattle.rpm_pkgdb.specs.Store.{Store, store}
 use Rattle.rpm_pkgdb.specs.Costs.{opening_cost}
+use Rattle.rpm_db.specs.Database.{unindexed}
 use Rattle.rpm_db.specs.State.{Package, packages}
 use Rattle.rpm_check.specs.Edges.{graph_of}
 use Rattle.rpm_words.specs.Words.{text_at}
@@ -20,11 +21,12 @@ use Rattle.rpm_tool.specs.declared.asked.Deed.TheVariants as deed
 use Rattle.rpm_tool.specs.Asked.{deed_of}
 use Rattle.rpm_change.specs.Endings.{Outputs, Through}
 use Rattle.rpm_change.specs.Steps.{Bearer}
-use Rattle.rpm_tool.specs.Answers.{Went, Misread, Refused, Anywhere, is_done}
+use Rattle.rpm_tool.specs.Answers.{Went, Misread, Refused, Anywhere}
+use Rattle.rpm_tool.specs.Classes.{is_done}
 use Rattle.rpm_tool.specs.FileReport.{check_files}
 use Rattle.rpm_tool.specs.Queries.{query}
 use Rattle.rpm_tool.specs.Reads.{argument_reach, reaches_by, reach_sum, reached_by}
-use Rattle.rpm_tool.specs.Reports.{unindexed, export, verify}
+use Rattle.rpm_tool.specs.Reports.{export, verify}
 use Rattle.rpm_tool.specs.Requirements.{unsatisfied, ordering, IsListed}
 
 -- ---- what is read

@@ -16,7 +16,7 @@ use Rattle.rpm_change.specs.declared.tally.Halt.{Halt}
 use Rattle.rpm_change.specs.declared.tally.Halt.TheVariants as halt
 use Rattle.rpm_tool.specs.declared.answer.Why.{Why}
 use Rattle.rpm_tool.specs.declared.answer.Why.TheVariants as why
-use Rattle.rpm_tool.specs.Answers.{IsOfPrint, IsOfRead}
+use Rattle.rpm_tool.specs.Classes.{IsOfPrint, IsOfRead}
 pub use Rattle.rpm_outside.specs.Frame.{images, Looks, LooksAt, LeavesIn, DiskFault}
 pub use Rattle.rpm_db.specs.Asked.{IsAskable}
 pub use Rattle.rpm_db.specs.Frame.{Runs, Kept, KeptIndex, Serving, IsIndexed, state_in, packages_in}

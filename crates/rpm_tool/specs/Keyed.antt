@@ -1,5 +1,5 @@
 -- Questions by key and the reports on requirements, which open the database with its index and change no package: what they answer and leave.
--- On it rests `keyed` of the page (Theorem.antt), and what all of it calls done and lawful.
+-- On it rests `keyed` of the page (Theorem.antt), and what all of it calls lawful.
 use Rattle.std.specs.Prelude.{◌≡◌, ◌⊎◌, ℕ, ◌+◌, ◌^◌, ◌<◌, ◌≤◌, List, [], map, Bool, true, false, not, ◌==◌, ◌||◌, Result, Ok, Err, IsTrue}
 use Rattle.rpm_outside.specs.Frame.{LeavesIn, images}
 use Rattle.rpm_outside.specs.declared.disk.Disk as disk
@@ -11,7 +11,7 @@ use Rattle.rpm_group.specs.declared.recovery.RecoverFault.TheVariants as recover
 use Rattle.rpm_group.specs.Loads.{IsSound}
 use Rattle.rpm_pkgdb.specs.Store.{Store, store}
 use Rattle.rpm_pkgdb.specs.Costs.{opening_cost}
-use Rattle.rpm_db.specs.Database.{Database, is_indexed}
+use Rattle.rpm_db.specs.Database.{Database, is_indexed, unindexed}
 use Rattle.rpm_db.specs.Frame.{room}
 use Rattle.rpm_db.specs.State.{Package, packages}
 use Rattle.rpm_db.specs.Lawful.{IsLawful, HasRows, is_current_at}
@@ -26,13 +26,11 @@ use Rattle.rpm_tool.specs.declared.asked.Deed.{Deed}
 use Rattle.rpm_tool.specs.declared.asked.Deed.TheVariants as deed
 use Rattle.rpm_tool.specs.Asked.{always_keyed, is_query, deed_of}
 use Rattle.rpm_change.specs.Steps.{Bearer}
-use Rattle.rpm_tool.specs.Reports.{unindexed}
 use Rattle.rpm_tool.specs.Requirements.{IsOfSome}
 use Rattle.rpm_tool.specs.Frame.{HasRows as HasIndexRows, packages_in, Peeks, pkg_read}
 use Rattle.rpm_tool.specs.Reads.{reach_sum, reached_by, IsOfChains}
 use Rattle.rpm_change.specs.Endings.{Outputs, Through}
-use Rattle.rpm_tool.specs.Answers.{is_foreign}
-pub use Rattle.rpm_tool.specs.Answers.{is_done}
+use Rattle.rpm_tool.specs.Classes.{is_done, is_done_or_outside, is_foreign, is_refusal}
 use Rattle.rpm_tool.specs.Deeds.{Deeds, Loaded, DoesBy, reaches_of, asked_reaches, blocks_cost}
 
 -- ---- lawful disks
@@ -65,12 +63,6 @@ pub record IsReady (files : Files) : Type 0 where
   pub indexed : HasIndex files.pkg files.idx
 
 -- ---- the endings
-
--- an ending that says what is wrong with the files: neither comes where they can be read
-abbrev pub is_refusal : Why → Bool
-is_refusal (why.BadLog unit) = true
-is_refusal (why.Damaged damage) = true
-is_refusal others = false
 
 -- its index may have to be made, and be too large, and then nothing is done
 abbrev pub WentBy : (Why → Outputs → Outputs → Type 0) → Why → Outputs → Outputs → Type 0
@@ -111,16 +103,6 @@ BadIs words a files others = Unit {0}
 -- an index that must be made has room
 abbrev pub HasRoom : Files → Type 0
 HasRoom files = must_make files.idx (store files.pkg) ≡ true → units_needed files.pkg (store files.pkg) ≤ 2 ^ 28
-
--- an ending that nothing in the files makes: done, a fault of the disk or of a sink, or want of memory
-abbrev pub is_done_or_outside : Why → Bool
-is_done_or_outside why.Done = true
-is_done_or_outside (why.Failed n) = true
-is_done_or_outside why.DiskFault = true
-is_done_or_outside why.OutFault = true
-is_done_or_outside why.ErrFault = true
-is_done_or_outside why.NoMemory = true
-is_done_or_outside others = false
 
 -- ---- what is read
 

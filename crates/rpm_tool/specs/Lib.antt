@@ -1,6 +1,7 @@
 pub mod Answers
 pub mod Asked
 pub mod Changing
+pub mod Classes
 pub mod Closing
 pub mod Deeds
 pub mod FileReport

@@ -10,15 +10,16 @@ use Rattle.rpm_words.specs.Ask.{AskParts, ask}
 use Rattle.rpm_qfparse.specs.declared.fault.FormatFault.{FormatFault}
 use Rattle.rpm_qfparse.specs.Tree.{Tree}
 use Rattle.rpm_tool.specs.declared.answer.Why.TheVariants as why
-use Rattle.rpm_tool.specs.Answers.{ComesWhere, Anywhere, Went, Closes, Ends, is_foreign}
+use Rattle.rpm_tool.specs.Answers.{ComesWhere, Anywhere, Went, Closes, Ends}
 use Rattle.rpm_tool.specs.Asked.{of_files, by_key, is_changing, asks_change, asks_format, asks}
 use Rattle.rpm_tool.specs.Changing.{EmptyBy}
+use Rattle.rpm_tool.specs.Classes.{is_done, is_done_or_outside, is_foreign}
 use Rattle.rpm_tool.specs.Closing.{status_of, closing}
 use Rattle.rpm_tool.specs.Deeds.{Queried}
 use Rattle.rpm_tool.specs.Frame.{images, pkg_read, Leaves, LeavesIn}
 use Rattle.rpm_tool.specs.Given.{given_on}
 use Rattle.rpm_tool.specs.History.{RunCall, course_of}
-use Rattle.rpm_tool.specs.Keyed.{AreLawfulGroups, IsLawfulGroup, StandsStill, IsReady, KeyedIs, FullIs, BadIs, HasRoom, is_done, is_done_or_outside}
+use Rattle.rpm_tool.specs.Keyed.{AreLawfulGroups, IsLawfulGroup, StandsStill, IsReady, KeyedIs, FullIs, BadIs, HasRoom}
 use Rattle.rpm_tool.specs.Limits.{OneChange}
 use Rattle.rpm_tool.specs.PackageFiles.{query_files}
 use Rattle.rpm_tool.specs.Tasks.{asked_task, asked_course, needs_none, reads_shelf}

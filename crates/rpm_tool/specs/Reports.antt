@@ -1,5 +1,5 @@
 -- What the commands do that go over all packages of the database: courses of `plain` on the page (Theorem.antt).
-use Rattle.std.specs.Prelude.{ℕ, List, [], ◌∷◌, ◌++◌, map, false, codes, decimal, Option, Some, None}
+use Rattle.std.specs.Prelude.{ℕ, List, [], ◌∷◌, ◌++◌, map, codes, decimal, Option, Some, None}
 use Rattle.std.specs.List.{concat}
 use Rattle.std.specs.Ordering.{nat_cmp}
 use Rattle.std.specs.FinMap.{FinMap, entries}
@@ -7,7 +7,7 @@ use Rattle.rpm_header.specs.Digest.{magic}
 use Rattle.rpm_outside.specs.Files.{Units}
 use Rattle.rpm_pkgdb.specs.Store.{Store}
 use Rattle.rpm_db.specs.State.{Package, Good, Bad, packages}
-use Rattle.rpm_db.specs.Database.{Database}
+use Rattle.rpm_db.specs.Database.{unindexed}
 use Rattle.rpm_db.specs.declared.verify.Verdict.{Verdict}
 use Rattle.rpm_db.specs.declared.verify.Verdict.TheVariants.{Sound, BadHeader, BadChecksum, BadDigest}
 use Rattle.rpm_db.specs.Verdicts.{verdict}
@@ -49,10 +49,6 @@ verdict_part n (Some Sound) = nothing
 verdict_part n (Some BadHeader) = unsound n (codes "header cannot be read")
 verdict_part n (Some BadChecksum) = unsound n (codes "checksum differs")
 verdict_part n (Some BadDigest) = unsound n (codes "header digest differs")
-
--- a store that was opened without its index
-abbrev pub unindexed : Store → Database
-unindexed store = record { store = store; index = None; stopped = false }
 
 -- of the number of an entry
 abbrev pub entry_verdict : Units → Store → ℕ × Package → Portion

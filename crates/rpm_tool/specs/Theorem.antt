@@ -1,7 +1,7 @@
 -- The theorem, on one page. `run` (src/command.rt) is proved to have what stands here: each record is a clause
--- of it or a field of one, and each field says one thing. `run` requires nothing. What a disk or a shelf holds
--- is said only where its kind tells it (`tells`). A database is lawful that isn't damaged, whose log isn't
--- malformed, and whose index is of no later generation, and holds the rows of the packages where it is of this one.
+-- of it or a field of one, and each field says one thing. It requires nothing. What a disk or a shelf holds is
+-- said where its kind tells it (`tells`). A database is lawful that isn't damaged, whose log isn't malformed, and
+-- whose index is of no later generation, and holds the rows of the packages where it is of this one.
 use Rattle.std.specs.Prelude.{◌≡◌, ◌≢◌, ℕ, ◌+◌, ◌≤◌, List, [], true, false, IsTrue, Some, None, Err, Ok}
 use Rattle.std.specs.Ordering.{nat_cmp}
 use Rattle.std.specs.FinMap.{FinMap}
@@ -25,12 +25,13 @@ use Rattle.rpm_change.specs.Endings.{Outputs}
 use Rattle.rpm_change.specs.Steps.{Course}
 use Rattle.rpm_tool.specs.declared.answer.Why.{Why}
 use Rattle.rpm_tool.specs.declared.answer.Why.TheVariants as why
-use Rattle.rpm_tool.specs.Answers.{ComesWhere, Anywhere, Went, is_foreign}
+use Rattle.rpm_tool.specs.Answers.{ComesWhere, Anywhere, Went}
 use Rattle.rpm_tool.specs.Asked.{is_query, of_files, by_key, is_changing, asks_change, asks_format, asks}
 use Rattle.rpm_tool.specs.Changing.{DidOn, ChangesWith, EmptyBy}
+use Rattle.rpm_tool.specs.Classes.{is_done, is_done_or_outside, is_foreign}
 use Rattle.rpm_tool.specs.Deeds.{Queried, query_cost}
 use Rattle.rpm_tool.specs.Frame.{images, pkg_read, Leaves, LeavesIn}
-use Rattle.rpm_tool.specs.Keyed.{AreLawfulGroups, IsLawfulGroup, StandsStill, IsReady, KeyedIs, FullIs, BadIs, HasRoom, is_done, is_done_or_outside, keyed_cost}
+use Rattle.rpm_tool.specs.Keyed.{AreLawfulGroups, IsLawfulGroup, StandsStill, IsReady, KeyedIs, FullIs, BadIs, HasRoom, keyed_cost}
 use Rattle.rpm_tool.specs.Limits.{LimitsBy, LogBy, FaultIs}
 use Rattle.rpm_tool.specs.PackageFiles.{passing, query_files}
 use Rattle.rpm_tool.specs.Queries.{picked, argument_part, query_of, AreOfEach, AreQuestions}
@@ -49,8 +50,7 @@ pub record Run {D S : Type 0} (d : disk.Ghosts D) (s : shelf.Ghosts S) : Type 0 
   pub before : Outputs
 
 -- what one call of run did, as one record
-abbrev pub ran : {D S : Type 0} (d : disk.Ghosts D) (s : shelf.Ghosts S)
-    → List (List ℕ) → ℕ → Why → ℕ → D × S → Outputs → D × S → Run d s
+abbrev pub ran : {D S : Type 0} (d : disk.Ghosts D) (s : shelf.Ghosts S) → List (List ℕ) → ℕ → Why → ℕ → D × S → Outputs → D × S → Run d s
 ran d s words now why changes old before new =
     record { words = words; moment = now; why = why; changes = changes; found = old.0; left = new.0; shelf_found = old.1; shelf_left = new.1; before = before }
 
@@ -66,8 +66,7 @@ module _ {D S : Type 0} {d : disk.Ghosts D} {s : shelf.Ghosts S} where
   pub record AnswersPlain (r : Run d s) (a : AskParts) (tree : Tree) (mid : Outputs) : Type 0 where
     pub went : Queried tree r.words a (d.files r.found) r.why r.before mid
         (pkg_read d r.found) (pkg_read d r.left)
-    pub reads : pkg_read d r.left
-        ≤ pkg_read d r.found + query_cost r.words a (reopened (d.files r.found)).pkg
+    pub reads : pkg_read d r.left ≤ pkg_read d r.found + query_cost r.words a (reopened (d.files r.found)).pkg
 
   -- 3. PACKAGE FILES are queried with no call on the disk.
   pub record AnswersOfFiles (r : Run d s) (a : AskParts) (tree : Tree) (mid : Outputs) : Type 0 where
@@ -91,9 +90,8 @@ module _ {D S : Type 0} {d : disk.Ghosts D} {s : shelf.Ghosts S} where
     pub stops : AreLawfulGroups (images d r.found)
         → LeavesIn d r.found r.left (StandsStill (images d r.found))
 
-  -- 5. CHANGES of a command are one group: all are made and counted, or none; each ending leaves `ChangesWith`.
-  pub record AnswersChange (r : Run d s) (a : AskParts) (course : State → Course)
-      (mid : Outputs) : Type 0 where
+  -- 5. CHANGES of a command are one group: all made and counted, or none; each ending leaves `ChangesWith`.
+  pub record AnswersChange (r : Run d s) (a : AskParts) (course : State → Course) (mid : Outputs) : Type 0 where
     pub did : DidOn course (d.files r.found) r.why r.before mid
     pub changed : ChangesWith d (is_anew (asked_task r.words a)) (changes_index (asked_task r.words a)) course
         r.why r.changes r.found r.left

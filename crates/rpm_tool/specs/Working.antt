@@ -27,9 +27,9 @@ use Rattle.rpm_exercise.specs.declared.running.ExerciseFault.TheVariants.{NotEmp
 use Rattle.rpm_tool.specs.declared.answer.Why.{Why}
 use Rattle.rpm_tool.specs.declared.answer.Why.TheVariants as why
 use Rattle.rpm_tool.specs.Answers.{Refused, why_of_halt}
-use Rattle.rpm_tool.specs.Changing.{Did, BadBy, MayBegin, HasCurrent, IsMade, is_done_or_fault}
+use Rattle.rpm_tool.specs.Changing.{Did, BadBy, MayBegin, HasCurrent, IsMade}
+use Rattle.rpm_tool.specs.Classes.{is_done, is_done_or_fault, IsUncommitted}
 use Rattle.rpm_tool.specs.Limits.{ReachesBy}
-use Rattle.rpm_tool.specs.Keyed.{is_done}
 
 -- ---- opening
 
@@ -74,28 +74,7 @@ abbrev pub exercise_ended : Result Tally ExerciseFault → Result Tally Why
 exercise_ended (Ok tally) = Ok tally
 exercise_ended (Err fault) = Err (why_of_exercise fault)
 
--- a fault of the disk, or want of memory
-abbrev pub IsOutside : Why → Type 0
-IsOutside why.DiskFault = Unit {0}
-IsOutside why.NoMemory = Unit {0}
-IsOutside others = ⊥
-
--- why a database isn't opened to be changed
-abbrev pub IsOfOpening : Why → Type 0
-IsOfOpening (why.Damaged damage) = Unit {0}
-IsOfOpening (why.IndexFull needed) = Unit {0}
-IsOfOpening given = IsOutside given
-
 -- ---- from the opening to the last change
-
--- an ending that comes before a commit
-abbrev pub is_halt : Why → Bool
-is_halt why.Done = false
-is_halt (why.Failed n) = false
-is_halt (why.Usage fault) = false
-is_halt (why.BadFormat fault) = false
-is_halt (why.LogFull units) = false
-is_halt others = true
 
 -- stopped before its end; nothing was committed yet
 abbrev pub Stopped : Course → Why → Outputs → Outputs → Type 0
@@ -133,20 +112,6 @@ pub record WorkedWith (anew changing : Bool) (course : State → Course) (old ne
   pub reached : IfOk ended (λ tally. ReachesBy anew (IsLawful old.pkg old.idx) course old new)
 
 -- ---- how the group ends
-
--- a commit that wasn't made: the disk or a write failed, or the log has no room
-abbrev pub IsUncommitted : Why → Type 0
-IsUncommitted why.DiskFault = Unit {0}
-IsUncommitted why.NoMemory = Unit {0}
-IsUncommitted (why.LogFull units) = Unit {0}
-IsUncommitted others = ⊥
-
--- a fault of the shelf or of a sink
-abbrev pub is_of_streams : Why → Bool
-is_of_streams why.ShelfFault = true
-is_of_streams why.OutFault = true
-is_of_streams why.ErrFault = true
-is_of_streams others = false
 
 -- the changes count where they are committed; a fault of the disk is want of memory where a write found none
 abbrev pub EndsAs : Result Tally Why → Why → ℕ → Type 0

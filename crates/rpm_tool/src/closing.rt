@@ -1,7 +1,7 @@
 //! The line that closes a command on standard error.
 
 ghost use Rattle.std.specs.Prelude.{◌≡◌};
-ghost use Rattle.rpm_tool.specs.Prelude.{closing, damage_line, fault_text, fixed_line, format_line, inner, number_line, Puts, reason_text, rule_text, text_at, usage_line, word_told};
+ghost use Rattle.rpm_tool.specs.Prelude.{closing, damage_line, fault_text, fixed_line, format_line, inner, number_line, reason_text, rule_text, text_at, usage_line, word_told, Writes};
 
 use crate::answer::Why;
 use crate::pieces::put_pieces;
@@ -29,7 +29,7 @@ fn reason_text(reason: Reason) -> &'static [u8]
 
 /// Writes the line of a text and a number.
 fn put_number<E: Sink>(err: &mut E, text: &[u8], number: u128) -> Result<(), Failed>
-    ensures { Puts E.Sink err.old err.new (number_line text.now number) result }
+    ensures { Writes E.Sink err.old err.new (number_line text.now number) result }
 {
     let mut digits = Buffer::new();
     put_pieces(err, &[text, digits.format(number).as_bytes(), b"\n"])
@@ -37,7 +37,7 @@ fn put_number<E: Sink>(err: &mut E, text: &[u8], number: u128) -> Result<(), Fai
 
 /// Writes where `Packages.db` is damaged, and how.
 fn put_damage<E: Sink>(err: &mut E, damage: Damage) -> Result<(), Failed>
-    ensures { Puts E.Sink err.old err.new (damage_line damage) result }
+    ensures { Writes E.Sink err.old err.new (damage_line damage) result }
 {
     let mut digits = Buffer::new();
     let offset = digits.format(damage.offset).as_bytes();
@@ -85,7 +85,7 @@ fn word_told(words: &Words, fault: WordsFault) -> &[u8]
 /// Writes which rule the words break, and the word that breaks it.
 #[tactic(auto, unfolding(crate::specs::Closing::usage_line))]
 fn put_usage<'a, E: Sink>(err: &mut E, words: &'a Words, fault: WordsFault) -> Result<(), Failed>
-    ensures { Puts E.Sink err.old err.new (usage_line words.now fault) result }
+    ensures { Writes E.Sink err.old err.new (usage_line words.now fault) result }
 {
     // One lifetime for both, as the elements of an array have it.
     let rule: &'a [u8] = rule_text(fault.kind);
@@ -120,7 +120,7 @@ fn fault_text(kind: FormatKind) -> &'static [u8]
 
 /// Writes what is wrong with the format, and at which byte of it.
 fn put_fault<E: Sink>(err: &mut E, fault: FormatFault) -> Result<(), Failed>
-    ensures { Puts E.Sink err.old err.new (format_line fault) result }
+    ensures { Writes E.Sink err.old err.new (format_line fault) result }
 {
     let mut digits = Buffer::new();
     let at = digits.format(fault.at).as_bytes();
@@ -153,7 +153,7 @@ fn fixed_line(why: Why) -> &'static [u8]
 /// Writes the line that closes an ending, or nothing where it has none. It takes no memory.
 #[tactic(auto, unfolding(crate::specs::Closing::closing))]
 fn put_line<E: Sink>(err: &mut E, words: &Words, why: Why) -> Result<(), Failed>
-    ensures { Puts E.Sink err.old err.new (closing words.now why) result }
+    ensures { Writes E.Sink err.old err.new (closing words.now why) result }
 {
     match why {
         Why::Usage(fault) => put_usage(err, words, fault),
@@ -195,7 +195,7 @@ pub fn put_closing<E: Sink + Drop>(
     words: &Words,
     why: Why,
 ) -> Result<(), Failed>
-    ensures { Puts E.Sink (inner err.old) (inner err.new) (closing words.now why) result }
+    ensures { Writes E.Sink (inner err.old) (inner err.new) (closing words.now why) result }
 {
     err.clear();
     put_line(err, words, why)?;

@@ -1,7 +1,7 @@
 //! The packages that a question picks, printed one after the other.
 
-ghost use Rattle.std.specs.Prelude.{◌≡◌, ◌≢◌, ℕ, ◌+◌, ◌-◌, ◌≤◌, ◌||◌, [], false, IsTrue, Err, IfOk, IfErr};
-ghost use Rattle.rpm_tool.specs.Prelude.{above, cost_all, cost_to, DiskFault, fails_in, HaltHands, HasRows, holds, is_some_of, IsAskable, IsOfPrint, Looks, packages_in, packages_part, PartIs, picks, Pkg, pkg_read, reach_all, reach_to, ReadsIn, Serves, shown, step_by, halt_of_pick, unasked};
+ghost use Rattle.std.specs.Prelude.{◌≡◌, ◌≢◌, ℕ, ◌+◌, ◌-◌, ◌≤◌, ◌||◌, [], false, true, IsTrue, Err, IfOk, IfErr};
+ghost use Rattle.rpm_tool.specs.Prelude.{above, cost_all, cost_to, DiskFault, fails_in, HaltHands, HasRows, holds, is_some_of, IsAskable, IsOfPrint, Looks, packages_in, packages_part, PartIs, picks, Pkg, pkg_read, prints_packages, reach_all, reach_to, ReadsIn, Serves, shown, step_by, halt_of_pick, unasked};
 ghost use Rattle.rpm_select.specs.Reach.{asks};
 
 use crate::asked::Deed;
@@ -68,6 +68,7 @@ pub fn print_above<D: Disk, O: Sink + Drop, E: Sink + Drop>(
     err: &mut Buffered<E>,
 ) -> Result<PrintedPackages, Halt>
     requires asked { IsAskable D.Disk disk.old db.now }
+    requires prints { prints_packages deed ≡ true }
     ensures same { picker.new ≡ picker.old }
     ensures went { IsTrue D.tells → Serves picker.old (packages_in D.Disk disk.old db.now) selection.now → (j : ℕ)
         → PartIs (packages_part (step_by deed format.now j) after (picks (packages_in D.Disk disk.old db.now) selection.now))

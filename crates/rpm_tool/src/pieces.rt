@@ -1,14 +1,13 @@
 //! Text that is written in pieces.
 
 ghost use Rattle.std.specs.Prelude.{map};
-ghost use Rattle.rpm_qfeval.specs.Frame.{Puts};
-ghost use Rattle.rpm_tool.specs.Prelude.{concat, inner};
+ghost use Rattle.rpm_tool.specs.Prelude.{concat, inner, Writes};
 
 use rpm_outside::{Buffered, Failed, Sink, put_all};
 
 /// Writes these pieces, one after the other. It takes no memory.
 pub fn put_pieces<S: Sink>(sink: &mut S, pieces: &[&[u8]]) -> Result<(), Failed>
-    ensures { Puts S.Sink sink.old sink.new (concat (map (λ piece. piece.now) pieces.now)) result }
+    ensures { Writes S.Sink sink.old sink.new (concat (map (λ piece. piece.now) pieces.now)) result }
 {
     for piece in pieces {
         put_all(sink, piece)?;
@@ -18,7 +17,7 @@ pub fn put_pieces<S: Sink>(sink: &mut S, pieces: &[&[u8]]) -> Result<(), Failed>
 
 /// Writes these pieces to the sink behind a buffer, one after the other. What the buffer held is let go.
 pub fn put_line<S: Sink + Drop>(sink: &mut Buffered<S>, pieces: &[&[u8]]) -> Result<(), Failed>
-    ensures writes { Puts S.Sink (inner sink.old) (inner sink.new) (concat (map (λ piece. piece.now) pieces.now))
+    ensures writes { Writes S.Sink (inner sink.old) (inner sink.new) (concat (map (λ piece. piece.now) pieces.now))
         result }
 {
     sink.clear();

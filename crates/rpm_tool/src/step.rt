@@ -1,7 +1,7 @@
 //! What is printed of one package.
 
-ghost use Rattle.std.specs.Prelude.{◌≡◌, ◌≢◌, ℕ, ◌++◌, Err, IfOk, IfErr};
-ghost use Rattle.rpm_tool.specs.Prelude.{bad_line, Bearer, bearer, entry_in, ErrTakes, Good, HaltHands, IsOfPrint, magic, meaning, OutTakes, printed, PutsErr, PutsOut, shown, step_by, StepIs, ToErr, ToOut};
+ghost use Rattle.std.specs.Prelude.{◌≡◌, ◌≢◌, ℕ, ◌++◌, true, Err, IfOk, IfErr};
+ghost use Rattle.rpm_tool.specs.Prelude.{bad_line, Bearer, bearer, entry_in, ErrTakes, Good, HaltHands, IsOfPrint, magic, meaning, OutTakes, printed, prints_packages, PutsErr, PutsOut, shown, step_by, StepIs, ToErr, ToOut};
 
 use crate::asked::Deed;
 use itoa::Buffer;
@@ -130,6 +130,7 @@ pub fn print_picked<O: Sink + Drop, E: Sink + Drop>(
     out: &mut Buffered<O>,
     err: &mut Buffered<E>,
 ) -> Result<bool, Halt>
+    requires { prints_packages deed ≡ true }
     ensures step { (j : ℕ) → StepIs (step_by deed format.now j (entry_in picked.now)) result
         (shown O.Sink E.Sink out.old err.old) (shown O.Sink E.Sink out.new err.new) }
     ensures no_read { result ≢ Err Halt.DiskFault }

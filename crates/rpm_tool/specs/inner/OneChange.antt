@@ -21,12 +21,11 @@ use Rattle.rpm_change.specs.Steps.{Course}
 use Rattle.rpm_tool.specs.declared.answer.Why.{Why}
 use Rattle.rpm_tool.specs.declared.answer.Why.TheVariants as why
 use Rattle.rpm_tool.specs.declared.changing.CommandEnding.{CommandEnding}
-use Rattle.rpm_tool.specs.Answers.{is_of_words}
 use Rattle.rpm_tool.specs.Changing.{EmptyBy, IsBroken}
+use Rattle.rpm_tool.specs.Classes.{is_done, is_halt, is_of_words}
 use Rattle.rpm_tool.specs.Frame.{DiskFault, ShelfFault, Hands, IsIndexed, Runs, state_in}
-use Rattle.rpm_tool.specs.Keyed.{is_done}
 use Rattle.rpm_tool.specs.Limits.{LimitsBy, begun}
-use Rattle.rpm_tool.specs.Working.{OpensWithin, WorkedWith, is_halt, why_of}
+use Rattle.rpm_tool.specs.Working.{OpensWithin, WorkedWith, why_of}
 
 -- the store that a database is opened with: begun, where it is blank; and no file is longer than opening makes it
 pub record FoundAs (old new : Files) (db : Database) : Type 0 where

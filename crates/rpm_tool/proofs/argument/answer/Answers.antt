@@ -1,6 +1,7 @@
 use Rattle.rpm_tool.proofs.Vocabulary.{Halt, IsOfChain, missing_part, packages_in, picks, Selection, shown, whole}
 use Rattle.std.proofs.Common.{◌≡◌, Option, Some, Err, refl, sym, ◌∙◌, subst, arith}
 use Rattle.std.proofs.lemmas.Result.{err_from_is_err_and}
+use Rattle.rpm_change.specs.inner.Joins.{hand_then}
 use Rattle.rpm_tool.proofs.Answering.{answered_done, answered_halt, answered_missed, answered_stop, part_reads}
 use Rattle.rpm_tool.proofs.Looked.{both_read}
 use Rattle.rpm_tool.proofs.Nexts.{any_here}
@@ -118,3 +119,14 @@ pub returns-clause-looks : goal.returns-clause-looks
 returns-clause-looks g c =
     picking_peeks_both g.D.Disk g.met.D.Disk.follows_trans c.args.db.now c.in-Some.selection c.in-Ok.ensures.asks.looks
     c.in-Ok.ensures.unread c.in_ok-printed.ensures.looks c.in_ok-any.ensures.looks
+
+pub returns-clause-hands : goal.returns-clause-hands
+returns-clause-hands g c =
+    let first = c.in_ok-printed.ensures.hands in
+    let last = c.put_missing_part-2.ensures.hands in
+    record {
+      out = hand_then g.O.Sink g.met.O.Sink.follows_trans c.args.out.now c.print_above.new.out c.put_missing_part-2.new.out
+          first.out.cause.later first.out.goes_on (λ is. is) last.out;
+      err = hand_then g.E.Sink g.met.E.Sink.follows_trans c.args.err.now c.print_above.new.err c.put_missing_part-2.new.err
+          first.err.cause.later first.err.goes_on (λ is. is) last.err;
+    }

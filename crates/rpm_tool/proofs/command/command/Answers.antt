@@ -1,10 +1,8 @@
-use Rattle.std.proofs.Common.{◌≡◌, true, false, not, refl, sym, ◌∙◌, arith}
-use Rattle.rpm_tool.proofs.Vocabulary.{inner, needs_no_index}
-use Rattle.rpm_tool.proofs.Begun.{unforeign}
-use Rattle.rpm_tool.proofs.Deeds.{plain_deed}
-use Rattle.rpm_tool.proofs.Page.{answered, asked_streams, does_plain, does_files, does_keyed, does_change, does_nothing}
+use Rattle.std.proofs.Common.{◌≡◌, true, false, refl, sym, ◌∙◌}
+use Rattle.rpm_tool.proofs.Vocabulary.{inner}
+use Rattle.rpm_tool.proofs.Page.{answered, does_plain, does_files, does_keyed, does_change, does_nothing}
 use Rattle.rpm_tool.proofs.Peeking.{leaves_none}
-use Rattle.rpm_tool.proofs.Undone.{asked_some, done_words, starved, undone_words}
+use Rattle.rpm_tool.proofs.Undone.{asked_some, starved, undone_words}
 use Rattle.rpm_tool.proofs.command.command.Goals as goal
 
 -- ---- a change

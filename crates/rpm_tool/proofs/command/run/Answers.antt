@@ -15,9 +15,11 @@ pub returns-clause-answers : goal.returns-clause-answers
 returns-clause-answers g c =
     let out = ap (λ (lent : _). lent.now) c.new-out.ensures.inner in
     let err = ap (λ (lent : _). lent.now) c.new-err.ensures.inner in
-    ended g.O.Sink.tells g.E.Sink.tells g.O.Sink.taken g.E.Sink.taken g.E.Sink.faults (λ lent. lent.now) (closing c.args.words.now c.command-disk.result.0.why)
-    c.put_closing.result (inner c.command-disk.new.out).now _ (inner c.new-err.result) (inner c.command-disk.new.err) (inner c.put_closing.new.err)
-    c.args.err.now _ err c.command-disk.ensures.streams.hands.err.cause.later c.put_closing.ensures (search rules) (search rules) _
+    let line = c.put_closing.ensures in
+    ended g.O.Sink g.E.Sink (closing c.args.words.now c.command-disk.result.0.why) c.put_closing.result (inner c.command-disk.new.out).now _
+    (inner c.new-err.result).now (inner c.command-disk.new.err).now (inner c.put_closing.new.err).now c.args.err.now _ err
+    c.command-disk.ensures.streams.hands.err.cause.later
+    (record { ok = line.ok; err = line.err; cause = line.cause; goes_on = line.goes_on.1 }) (search rules) (search rules) _
     (rw (out, err) at c.command-disk.ensures.answers)
 
 pub returns-clause-causes : goal.returns-clause-causes
@@ -26,9 +28,9 @@ returns-clause-causes g c =
     record {
       disk = c.command-disk.ensures.disk;
       shelf = c.command-disk.ensures.streams.shelf;
-      out = counted_fault g.O.Sink.faults (inner c.command-disk.new.out).now (ap (λ (lent : _). lent.now) c.new-out.ensures.inner) hands.out.cause
+      out = counted_fault g.O.Sink (inner c.command-disk.new.out).now (ap (λ (lent : _). lent.now) c.new-out.ensures.inner) hands.out.cause
           (omega arith) (search rules);
-      err = counted_fault g.E.Sink.faults (inner c.put_closing.new.err).now (ap (λ (lent : _). lent.now) c.new-err.ensures.inner) hands.err.cause
+      err = counted_fault g.E.Sink (inner c.put_closing.new.err).now (ap (λ (lent : _). lent.now) c.new-err.ensures.inner) hands.err.cause
           c.put_closing.ensures.cause.later (search rules);
     }
 

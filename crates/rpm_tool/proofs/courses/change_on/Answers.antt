@@ -1,7 +1,7 @@
 use Rattle.std.proofs.Common.{◌≡◌, [], map, true, false, Some, None, Err, refl, sym, ap, subst}
 use Rattle.std.specs.Prelude.{IsTrue, codes}
 use Rattle.std.proofs.lemmas.Result.{err_from_is_err_and}
-use Rattle.rpm_tool.proofs.Vocabulary.{add_files, bytes_at, changes_index, ended_as, erase, exercise_ended, Halt, Halted, import_list, inner, is_anew}
+use Rattle.rpm_tool.proofs.Vocabulary.{add_files, bytes_at, changes_index, ended_as, erase, exercise_ended, Halted, import_list, inner, is_anew}
 use Rattle.rpm_tool.proofs.Vocabulary.{IsOfErasing, IsOfImporting, IsOfPutting, IsOfRebuilding, IsStop, max_headers, needs_none, Outputs, reads_shelf}
 use Rattle.rpm_tool.proofs.Vocabulary.{rebuild, replace, runs_none, SameLog, shown, task_course, task_parts, Through}
 use Rattle.rpm_change.specs.declared.tally.Halt.TheVariants as halt

@@ -1,6 +1,5 @@
 use Rattle.rpm_tool.proofs.Vocabulary.{packages, Remade, room, rows, runs_none, runs_then, SameLog, units_needed}
 use Rattle.std.proofs.Common.{length, refl, ap, ◌∙◌, arith}
-use Rattle.std.proofs.lemmas.Result.{err_from_is_err_and}
 use Rattle.rpm_tool.proofs.Brokens.{open_broken}
 use Rattle.rpm_tool.proofs.FileReach.{least_units}
 use Rattle.rpm_tool.proofs.opening.open_to_change.Goals as goal

@@ -1,5 +1,5 @@
 use Rattle.rpm_tool.proofs.Vocabulary.{concat, cycle_line, inner, label_step, packages_in, ToOut, whole}
-use Rattle.std.proofs.Common.{◌≡◌, ℕ, Bool, true, List, [], ◌∷◌, map, length, ap, ◌∙◌}
+use Rattle.std.proofs.Common.{◌≡◌, ℕ, Bool, List, [], ◌∷◌, map, length, ap, ◌∙◌}
 use Rattle.std.proofs.lemmas.Result.{err_from_is_err_and}
 use Rattle.std.specs.Prelude.{codes, decimal}
 use Rattle.rpm_tool.proofs.Behind.{first_stops, head_reached}

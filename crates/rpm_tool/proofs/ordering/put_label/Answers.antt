@@ -2,7 +2,6 @@ use Rattle.std.proofs.Common.{◌≡◌, ℕ, Bool, List, [], ◌∷◌, Ok, ref
 use Rattle.std.proofs.lemmas.Result.{err_from_is_err_and}
 use Rattle.std.specs.Prelude.{codes}
 use Rattle.rpm_tool.proofs.Vocabulary.{Anywhere, bearer, concat, header, header_label, inner, label_text, outputs, read_text}
-use Rattle.std.specs.FinMap as finite
 use Rattle.rpm_tool.proofs.Labels.{header_label_is}
 use Rattle.rpm_tool.proofs.Reaching.{through_none}
 use Rattle.rpm_tool.proofs.Stopping.{reached_unsunk}

@@ -1,8 +1,7 @@
-use Rattle.std.proofs.Common.{◌≡◌, Err, refl, sym, ap, ◌∙◌, subst, arith}
+use Rattle.std.proofs.Common.{refl, ◌∙◌, arith}
 use Rattle.rpm_tool.proofs.Vocabulary.{inner}
-use Rattle.rpm_tool.proofs.Halts.{of_disk}
-use Rattle.rpm_tool.proofs.Filed.{ends_of_files, file_here}
-use Rattle.rpm_tool.proofs.Turns.{few_more, turned_none, turned_more, turned_stop, turned_done, turned_failed}
+use Rattle.rpm_tool.proofs.Filed.{file_here}
+use Rattle.rpm_tool.proofs.Turns.{few_more, turned_none, turned_more, turned_stop}
 use Rattle.rpm_tool.proofs.package_files.print_files.Goals as goal
 
 pub loop-k-init : goal.loop-k-init

@@ -1,8 +1,8 @@
-use Rattle.std.proofs.Common.{◌≡◌, Bool, Some, Result, Err, sym, ap, ◌∙◌, subst}
+use Rattle.std.proofs.Common.{◌≡◌, Some, Result, Err, sym, ap, ◌∙◌, subst}
 use Rattle.rpm_tool.proofs.Vocabulary.{Anywhere, FileFault, Headed, inner, left, outputs, package_header, PartIs, read_part}
 use Rattle.rpm_change.specs.declared.tally.Halt.TheVariants as halt
 use Rattle.rpm_tool.proofs.Reaching.{through_none}
-use Rattle.rpm_tool.proofs.Filed.{never_disk, read_stop, own_fault, unread}
+use Rattle.rpm_tool.proofs.Filed.{read_stop, own_fault, unread}
 use Rattle.rpm_tool.proofs.package_files.print_opened.Goals as goal
 
 pub returns-in-Ok-clause-went : goal.returns-in-Ok-clause-went

@@ -1,4 +1,4 @@
-use Rattle.std.proofs.Common.{◌≡◌, Bool, [], Ok, Err, sym, subst}
+use Rattle.std.proofs.Common.{◌≡◌, Bool, [], Ok, Err, subst}
 use Rattle.std.proofs.lemmas.Result.{err_from_is_err_and}
 use Rattle.rpm_tool.proofs.Vocabulary.{Anywhere, bearer, Header, inner, meaning, outputs, printed, StepIs}
 use Rattle.rpm_tool.proofs.Stopping.{reached_first}

@@ -1,14 +1,13 @@
-use Rattle.rpm_tool.proofs.Vocabulary.{Bearer, entry_in, Halt, inner, next_picked, number_in, packages_in, picks, pkg_read, PrintedPackages, Reach, reach_some}
+use Rattle.rpm_tool.proofs.Vocabulary.{Bearer, entry_in, Halt, inner, next_picked, number_in, packages_in, pkg_read, PrintedPackages, Reach, reach_some}
 use Rattle.rpm_tool.proofs.Vocabulary.{reach_to, ReadsIn, shown, step_by}
 use Rattle.std.proofs.Common.{◌≡◌, ◌+◌, ◌-◌, ◌<◌, ◌≤◌, Bool, Result, Ok, Err, Some, None, refl, sym, ap, ◌∙◌, subst, arith, rules}
 use Rattle.std.proofs.lemmas.Result.{err_from_is_err_and}
 use Rattle.rpm_change.specs.declared.tally.Halt.TheVariants as halt
-use Rattle.rpm_tool.proofs.Askable.{asked_still}
 use Rattle.rpm_tool.proofs.Looked.{looks_next, looks_rest, looks_within, rest_read}
-use Rattle.rpm_tool.proofs.Nexts.{next_here, printed_none, printed_next, printed_last, some_last, printed_halts, printed_stops}
+use Rattle.rpm_tool.proofs.Nexts.{next_here, printed_none, printed_next, printed_last, some_last, printed_stops}
 use Rattle.rpm_tool.proofs.Printed.{bearer-step_by, number-entry}
 use Rattle.rpm_tool.proofs.Reached.{entry_reach, reach_then}
-use Rattle.rpm_tool.proofs.Unbroken.{step_unbroken, stop_unsunk}
+use Rattle.rpm_tool.proofs.Unbroken.{step_unbroken}
 use Rattle.rpm_tool.proofs.picked.print_above.Goals as goal
 
 pub loop-picked-init : goal.loop-picked-init

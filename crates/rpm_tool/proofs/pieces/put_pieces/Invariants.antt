@@ -4,5 +4,5 @@ use Rattle.rpm_tool.proofs.pieces.put_pieces.Given as goal
 
 abbrev pub invariant-loop-piece : goal.invariant-loop-piece
 invariant-loop-piece g l =
-    Upto g.S.Sink.tells g.S.Sink.taken g.S.Sink.faults g.S.Sink.follows (concat (map (λ piece. piece.now) l.pieces))
+    Upto g.S.Sink (concat (map (λ piece. piece.now) l.pieces))
     (concat (map (λ piece. piece.now) (drop l.piece-index l.pieces))) l.initial.sink l.sink

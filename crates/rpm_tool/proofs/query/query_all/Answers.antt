@@ -1,10 +1,11 @@
 use Rattle.rpm_tool.proofs.Vocabulary.{Bearer, before, Everything, Files, idle, inner, outputs, packages, packages_part, PartIs, picks, Pkg, Portion, Reach}
 use Rattle.rpm_tool.proofs.Vocabulary.{Reached, reached_by, ReadsIn, room, Step, step_by, Went, Why}
-use Rattle.std.proofs.Common.{◌≡◌, ◌+◌, ◌≤◌, Bool, List, [], ◌∷◌, Err, sym, ap, ◌∙◌, subst}
+use Rattle.std.proofs.Common.{◌≡◌, ◌+◌, ◌-◌, ◌≤◌, Bool, List, [], ◌∷◌, Err, sym, subst, arith}
 use Rattle.std.proofs.lemmas.List.{append-nil}
+use Rattle.rpm_db.specs.Database.{cost_all, cost_to}
+use Rattle.rpm_outside.specs.inner.Looking.{looks_then}
 use Rattle.rpm_select.specs.declared.selection.Selection.TheVariants as question
 use Rattle.rpm_tool.proofs.Sums.{reads_one}
-use Rattle.rpm_tool.proofs.Unbroken.{why_unbroken}
 use Rattle.rpm_tool.proofs.Stopping.{reached_reads}
 use Rattle.rpm_tool.proofs.Answering.{went_stop}
 use Rattle.rpm_tool.proofs.Askable.{asked_still}
@@ -14,6 +15,7 @@ pub print_above-requires : goal.print_above-requires
 print_above-requires g c = record {
   asked = asked_still g.D.Disk c.args.disk.now c.begin_unasked-picker.new.disk c.args.db.now
       c.begin_unasked-picker.ensures.looks.untouched c.requires.asked;
+  prints = c.requires.prints;
 }
 
 pub returns-clause-went : goal.returns-clause-went
@@ -41,3 +43,10 @@ returns-clause-went g c = λ told rows.
     (subst (λ (ss : List Step). Reached {T = Bool} ss (Err what) old new reads) (sym (append-nil part.steps))
     (reached_reads {T = Bool} part.steps (Err what) old new (ReadsIn 0 c.args.after Everything db between now) reads
     (λ b r. reads_one Everything db c.args.after start between now b c.begin_unasked-picker.ensures.looks.reads.pkg r) done.steps)))
+
+pub returns-clause-looks : goal.returns-clause-looks
+returns-clause-looks g c =
+    let db = c.args.db.now in
+    let first = c.begin_unasked-picker in
+    looks_then g.D.Disk Pkg g.met.D.Disk.follows_trans 0 (cost_all db - cost_to c.args.after db) (cost_all db) c.args.disk.now first.new.disk
+    c.print_above.new.disk (omega arith) first.ensures.looks c.in-Err.ensures.looks

@@ -1,9 +1,10 @@
 use Rattle.rpm_tool.proofs.Vocabulary.{argument_reach, Files, inner, is_indexed, IsOfChain, lent, packages_in, question_of, text_at}
-use Rattle.std.proofs.Common.{map, sym, subst, arith}
-use Rattle.rpm_tool.proofs.Askable.{asked_still}
+use Rattle.std.proofs.Common.{map, sym, ap, ◌∙◌, subst, Err, arith}
+use Rattle.rpm_change.specs.inner.Joins.{hand_then}
+use Rattle.rpm_tool.proofs.Halts.{of_out, of_err}
 use Rattle.rpm_tool.proofs.Peeking.{peeks_none, peeks_then}
 use Rattle.rpm_tool.proofs.Sums.{before_some, get_map}
-use Rattle.rpm_tool.proofs.Turns.{few_more, turned_none, turned_more, turned_stop, turned_done, turned_failed, part_here, reads_here, read_more, read_sum, read_by}
+use Rattle.rpm_tool.proofs.Turns.{few_more, turned_none, turned_more, turned_stop, part_here, reads_here, read_more, read_sum, read_by}
 use Rattle.rpm_tool.proofs.Unbroken.{chains_of}
 use Rattle.rpm_tool.proofs.query.query_each.Goals as goal
 
@@ -47,6 +48,20 @@ returns-in-Err-clause-went g c = λ told rows.
     rw c.from.ensures (turned_stop (inv.turned told rows) c.argument.ensures _ (read_by _ _ _ _ _ _ _ c.argument.ensures (inv.reads told rows))
     (part_here _ _ _ _ _ (inv.looks.untouched told).same _ _ _
     (λ there. rw (c.chosen.ensures, c.after.ensures, c.text_at-text.ensures) at (c.in-Err.ensures.went told there c.loop-k.k)) rows))
+
+pub returns-in-Err-clause-looks : goal.returns-in-Err-clause-looks
+returns-in-Err-clause-looks g c = peeks_then g.D.Disk g.met.D.Disk.follows_trans c.loop-k.invariant.looks c.in-Err.ensures.looks
+
+pub returns-in-Err-clause-hands : goal.returns-in-Err-clause-hands
+returns-in-Err-clause-hands g c =
+    let inv = c.loop-k.invariant in
+    let last = c.in-Err.ensures.hands in
+    record {
+      out = hand_then g.O.Sink g.met.O.Sink.follows_trans c.args.out.now c.loop-k.out c.answer.new.out inv.out inv.out_rest
+          (λ is. ap Err (of_out c.in-Err.halt (sym c.from.ensures ∙ is))) last.out;
+      err = hand_then g.E.Sink g.met.E.Sink.follows_trans c.args.err.now c.loop-k.err c.answer.new.err inv.err inv.err_rest
+          (λ is. ap Err (of_err c.in-Err.halt (sym c.from.ensures ∙ is))) last.err;
+    }
 
 pub returns-in-Err-clause-reads : goal.returns-in-Err-clause-reads
 returns-in-Err-clause-reads g c = λ told rows.
