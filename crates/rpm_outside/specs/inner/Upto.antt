@@ -29,7 +29,8 @@ module _ {S : Type 0} {s : sink.Ghosts S} where
   }
 
   -- the first of two pieces fails
-  pub first_stops : {T U E F : Type 0} {all x : List ℕ} {old new : S} {e : E} (y : List ℕ) (r : Result U F) → IsErr r → x ++ y ≡ all → Writes s {T = T} {E = E} old new x (Err e) → Writes s old new all r
+  pub first_stops : {T U E F : Type 0} {all x : List ℕ} {old new : S} {e : E} (y : List ℕ) (r : Result U F) → IsErr r → x ++ y ≡ all
+      → Writes s {T = T} {E = E} old new x (Err e) → Writes s old new all r
   first_stops y (Ok t) fails eq w = absurd cc
   first_stops {x = x} {old = old} {new = new} y (Err f) fails eq w = record {
     ok = tt;
@@ -57,7 +58,8 @@ module _ {S : Type 0} {s : sink.Ghosts S} where
     upto_stop {x = x} {old = old} {mid = mid} {new = new} rest (Err f) fails eq u w = record {
       ok = tt;
       err = subst (GainedPart s.tells (s.taken old) (s.taken new)) (sym (ap (λ (y : List ℕ). u.front ++ y) eq) ∙ u.whole)
-          (then_part s.tells (s.taken old) (s.taken mid) (s.taken new) u.front (x ++ rest) u.gained (part_then s.tells (s.taken mid) (s.taken new) x rest w.err));
+          (then_part s.tells (s.taken old) (s.taken mid) (s.taken new) u.front (x ++ rest) u.gained
+          (part_then s.tells (s.taken mid) (s.taken new) x rest w.err));
       cause = record { later = omega (arith, u.later, w.cause.later); failed = omega (arith, u.later, w.cause.later, w.cause.failed) };
       goes_on = then old mid new u.goes_on w.goes_on;
     }

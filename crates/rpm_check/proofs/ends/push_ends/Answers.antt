@@ -33,4 +33,5 @@ returns-in_err-push_givers-clause-remembered g c =
 
 pub returns-in_err-push_givers-clause-asks : goal.returns-in_err-push_givers-clause-asks
 returns-in_err-push_givers-clause-asks g c =
-    asks_failed g.D.Disk (asks_then g.D.Disk g.met.D.Disk.follows_trans c.loop-needed.invariant.asking c.in_err-push_givers.ensures.asks) c.from_residual.ensures.1
+    asks_failed g.D.Disk (asks_then g.D.Disk g.met.D.Disk.follows_trans c.loop-needed.invariant.asking c.in_err-push_givers.ensures.asks)
+    c.from_residual.ensures.1
