@@ -1,7 +1,8 @@
-use Rattle.std.proofs.Common.{◌≡◌, ℕ, Bool, ◌-◌, ◌+◌, ◌%◌, ◌<◌, ◌∷◌, [], List, Vec, Global, length, drop, refl, sym, ap, ◌∙◌, arith, subst}
+use Rattle.std.proofs.Common.{◌≡◌, ℕ, Bool, ◌-◌, ◌+◌, ◌%◌, ◌<◌, ◌∷◌, [], List, Vec, Global, length, drop, refl, sym, ap, ◌∙◌, arith, rules, subst}
 use Rattle.rpm_hindex.proofs.Vocabulary.{AreStarts, chain, ChainCosts, Change, contains, Extent, Files, get, HasGone, hash_of, HasLess, HasNoFault, Idx}
 use Rattle.rpm_hindex.proofs.Vocabulary.{Index, index_in, is_at, is_kept, IsBadSoFar, IsCut, IsHonest, IsShort, IsWellFormed, kept_in, kept_of, looks_at_none}
 use Rattle.rpm_hindex.proofs.Vocabulary.{looks_at_then, lookup, nat_cmp, Row, row_nth, StandWithin, Start, times, unit_at, units_at}
+use Rattle.rpm_hindex.proofs.Vocabulary.{IsOpen}
 use Rattle.rpm_hindex.proofs.Takes.{rows_from}
 use Rattle.rpm_hindex.proofs.Costing.{chain_more, chains_drop}
 use Rattle.rpm_hindex.proofs.Keeping.{less_start, less_before}
@@ -192,3 +193,17 @@ returns-clause-dropped g c = λ told.
       honest = l.invariant.honest told;
       gone = λ none. subst (λ (rs : List Row). HasGone rs first l.change x) all (l.invariant.gone told none);
     }
+
+pub drop_row-requires-clause-open : goal.drop_row-requires-clause-open
+drop_row-requires-clause-open g c = λ told.
+    let l = c.loop-left in
+    subst (λ (e : Extent). IsOpen e (g.D.Disk.files l.disk).idx) (sym l.invariant.extent)
+    (subst (λ (f : Files). IsOpen c.args.change.now.extent f.idx) (sym ((l.invariant.looks.untouched told).same)) (c.requires.open told))
+
+pub returns-in_err-drop_row-clause-reads : goal.returns-in_err-drop_row-clause-reads
+returns-in_err-drop_row-clause-reads g c = record {
+  looks =
+      looks_at_then _ Idx g.met.D.Disk.follows_trans c.args.disk.now c.loop-left.disk c.drop_row.new.disk c.loop-left.invariant.looks
+      c.drop_row.ensures.reads.looks;
+  cause = search rules;
+}
