@@ -1,11 +1,11 @@
 -- The words of clauses, from one place.
 pub use Rattle.rpm_db.specs.Changed.{IsReady}
-pub use Rattle.rpm_db.specs.Changes.{Add, Erase, Put, apply}
+pub use Rattle.rpm_db.specs.Changes.{Erase}
 pub use Rattle.rpm_db.specs.Database.{holds, is_indexed}
 pub use Rattle.rpm_db.specs.Frame.{Runs, state_in}
 pub use Rattle.rpm_db.specs.Gathering.{IsGathering}
 pub use Rattle.rpm_db.specs.Room.{RoomBecomes}
-pub use Rattle.rpm_db.specs.State.{Bad, Package, State}
+pub use Rattle.rpm_db.specs.State.{Bad, Package}
 pub use Rattle.rpm_db.specs.Runs.{SameLog}
 pub use Rattle.rpm_file.specs.List.{list_head}
 pub use Rattle.rpm_file.specs.Package.{package_header, read_again}
@@ -17,13 +17,13 @@ pub use Rattle.rpm_outside.specs.Frame.{DiskFault}
 pub use Rattle.rpm_outside.specs.Shelves.{bytes_at}
 pub use Rattle.rpm_change.specs.declared.tally.Halt.TheVariants.{NoMemory}
 pub use Rattle.rpm_change.specs.Adding.{GivesInstalled, IsOfPutting, add_files, as_installed, change_at}
-pub use Rattle.rpm_change.specs.Adding.{put_file, put_read, replace, stop_in}
+pub use Rattle.rpm_change.specs.Adding.{put_file, replace, stop_in}
 pub use Rattle.rpm_change.specs.Endings.{IsOfErasing, halt_of}
 pub use Rattle.rpm_change.specs.Erasing.{erase, erase_one, missing_line}
 pub use Rattle.rpm_change.specs.Exercise.{file_items, generated, identity_items, numbered, provided_items}
 pub use Rattle.rpm_change.specs.Exercise.{required_items, version}
 pub use Rattle.rpm_change.specs.Hands.{Hand, KeepsShelf}
-pub use Rattle.rpm_change.specs.Importing.{import_list, import_listed, imported, listed, max_headers}
+pub use Rattle.rpm_change.specs.Importing.{import_list, import_listed, listed, max_headers}
 pub use Rattle.rpm_change.specs.Installs.{Installs, install_items, installed}
 pub use Rattle.rpm_change.specs.Limits.{StopsAt, first_limit, next_stores}
 pub use Rattle.rpm_change.specs.Lines.{Fails}
@@ -35,4 +35,4 @@ pub use Rattle.rpm_change.specs.Texts.{absent_line, at_entry, file_text, header_
 pub use Rattle.rpm_change.specs.Texts.{refused_line}
 pub use Rattle.rpm_change.specs.Turns.{IsOfHeaders, IsOfImporting, Leaves, StopIs, tally_of}
 pub use Rattle.rpm_change.specs.Turns.{turn, turn_found}
-pub use Rattle.rpm_change.specs.Went.{EndedOnErr, EndedOnOut, EndedQuietly, IsCurrent, Went, WentOwing}
+pub use Rattle.rpm_change.specs.Went.{EndedOnErr, EndedOnOut, IsCurrent, Went, WentOwing}

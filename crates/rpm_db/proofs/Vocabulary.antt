@@ -15,7 +15,7 @@ pub use Rattle.rpm_db.specs.Openings.{IsOpened, IsOpenedOn, must_make, StoreIs, 
 pub use Rattle.rpm_db.specs.Own.{header-own}
 pub use Rattle.rpm_db.specs.PackageLaws.{get-packages, is_there}
 pub use Rattle.rpm_db.specs.Reaches.{added, ReachesMade}
-pub use Rattle.rpm_db.specs.Refusals.{AddIs, BadCause, BadIndexIs, EraseCause, FullCause, FullIndexIs, is_stopping, IsOfIndex, IsOfReading, IsOfRoom}
+pub use Rattle.rpm_db.specs.Refusals.{AddIs, BadCause, BadIndexIs, EraseCause, FullCause, FullIndexIs, is_stopping, IsOfIndex, IsOfReading}
 pub use Rattle.rpm_db.specs.Refusals.{IsRefusal, LaterCause, LaterIs, WholeCause}
 pub use Rattle.rpm_db.specs.Room.{next_store, raised, RoomCause}
 pub use Rattle.rpm_db.specs.RowLaws.{of_at, rows-insert, rows-remove, times-append, times-rows, times_none, times_one}
@@ -28,10 +28,10 @@ unfoldable pub use Rattle.rpm_db.specs.State.{packages}
 pub use Rattle.rpm_db.specs.StateLaws.{next-state, next_is_free, package-own, packages-blobs, packages-insert, packages-remove, state-blobs}
 pub use Rattle.rpm_db.specs.Verdicts.{verdict, verdict_of}
 pub use Rattle.rpm_db.specs.declared.change_fault.ChangeFault.{ChangeFault}
-pub use Rattle.rpm_db.specs.declared.change_fault.ChangeFault.TheVariants.{BadHeader, BadIndex, DiskFault, GenerationSpent, IndexFull, NoMemory, NoSuch}
+pub use Rattle.rpm_db.specs.declared.change_fault.ChangeFault.TheVariants.{BadHeader, BadIndex, DiskFault, IndexFull, NoMemory, NoSuch}
 pub use Rattle.rpm_db.specs.declared.change_fault.ChangeFault.TheVariants.{NumbersSpent, Stopped, StoreFull}
-pub use Rattle.rpm_db.specs.inner.Both.{AreRead, CanChange, CanTake, IsApplied, IsDone, IsRefused, IsStored, LeadsTo}
-pub use Rattle.rpm_db.specs.inner.Edits.{CanEdit, edit_cost, edited, EditReaches, EditsTo, field_edited, HasEdit, IsEdited, Suits, with_edit}
+pub use Rattle.rpm_db.specs.inner.Both.{AreRead, CanChange, IsApplied, IsDone, IsRefused, IsStored}
+pub use Rattle.rpm_db.specs.inner.Edits.{CanEdit, edit_cost, edited, EditReaches, EditsTo, field_edited, HasEdit, IsEdited}
 pub use Rattle.rpm_db.specs.declared.writing.Edit.{Edit}
 pub use Rattle.rpm_db.specs.inner.Faults.{store_fault}
 pub use Rattle.rpm_db.specs.inner.Filling.{AreOfRows, IsPutAside, TakesRows}
@@ -47,7 +47,7 @@ pub use Rattle.rpm_hindex.specs.Images.{IsSealed, SealedOrSame, VoidOrSame, Void
 pub use Rattle.rpm_hindex.specs.Index.{chain, index_in, records}
 pub use Rattle.rpm_hindex.specs.Plans.{after, buckets_after, HasChanged, ReachesFor}
 unfoldable pub use Rattle.rpm_hindex.specs.Plans.{IsPlanFor}
-pub use Rattle.rpm_hindex.specs.Refusals.{HasRoomFor, IsBad}
+pub use Rattle.rpm_hindex.specs.Refusals.{IsBad}
 pub use Rattle.rpm_hindex.specs.Rows.{hash_of, no_row, Row, row_nth, same_row, SameRows}
 unfoldable pub use Rattle.rpm_hindex.specs.Rows.{times}
 pub use Rattle.rpm_hindex.specs.Sizes.{record_units, units_for}
@@ -65,7 +65,6 @@ pub use Rattle.rpm_outside.specs.Crash.{bytes_for}
 pub use Rattle.rpm_outside.specs.Leaves.{LeavesOnly}
 pub use Rattle.rpm_outside.specs.Files.{blank, Files, put, unit_at, Units}
 pub use Rattle.rpm_outside.specs.Frame.{Changes, images, LeavesIn, Looks}
-pub use Rattle.rpm_outside.specs.Looks.{ReadAtMost}
 pub use Rattle.rpm_outside.specs.declared.disk.File.{File}
 pub use Rattle.rpm_outside.specs.declared.disk.File.TheVariants.{Idx, Log, Pkg}
 pub use Rattle.rpm_outside.specs.inner.Changing.{changes_between, changes_then, changes_weaker, stops_then, stops_weaker}
@@ -79,23 +78,20 @@ pub use Rattle.rpm_pkgdb.specs.Checksums.{checksum_holds, checksums_hold}
 pub use Rattle.rpm_pkgdb.specs.Costs.{cost, cost_all, cost_to, cost_to-cost_all, cost_to_more}
 pub use Rattle.rpm_pkgdb.specs.Damages.{table, table_fault}
 unfoldable pub use Rattle.rpm_pkgdb.specs.Damages.{head_reason}
-pub use Rattle.rpm_pkgdb.specs.Growing.{moving_cost, NeedsPage, pages_after}
+pub use Rattle.rpm_pkgdb.specs.Growing.{moving_cost, NeedsPage}
 pub use Rattle.rpm_pkgdb.specs.Placing.{placed, placed_generation, Placement, placement_of, put_in, with_placed}
-pub use Rattle.rpm_pkgdb.specs.Planned.{HoldsPage, IsFor, IsFull, IsPlan, moves_of}
-pub use Rattle.rpm_pkgdb.specs.Puts.{AfterPut, IsPut}
+pub use Rattle.rpm_pkgdb.specs.Planned.{IsFor, IsFull, IsPlan, moves_of}
 pub use Rattle.rpm_pkgdb.specs.Quiet.{Anything, BlobMap, IsQuiet, StandsAs, StandsFor}
 pub use Rattle.rpm_pkgdb.specs.Reaches.{ReachesTo}
-pub use Rattle.rpm_pkgdb.specs.Rewritten.{IsErased}
 pub use Rattle.rpm_pkgdb.specs.Slots.{free, is_used, slot_with}
 pub use Rattle.rpm_pkgdb.specs.Stays.{SameOutside}
-pub use Rattle.rpm_pkgdb.specs.Store.{blank_store, in_file, is_blank, Keeps, made_or_damaged, made_store, next_number, Store, store_of, unless}
+pub use Rattle.rpm_pkgdb.specs.Store.{blank_store, in_file, is_blank, Keeps, made_or_damaged, made_store, next_number, Store, unless}
 unfoldable pub use Rattle.rpm_pkgdb.specs.Store.{store}
 pub use Rattle.rpm_pkgdb.specs.Words.{begins, word}
-pub use Rattle.rpm_pkgdb.specs.Written.{erased, ErasesTo, field_after, made_new, MakesTo, next_field, PutsTo, RaisesTo, stopped, with_generation, with_plan}
+pub use Rattle.rpm_pkgdb.specs.Written.{erased, field_after, made_new, MakesTo, next_field, RaisesTo, with_generation, with_plan}
 pub use Rattle.rpm_pkgdb.specs.Written.{with_spare}
 pub use Rattle.rpm_pkgdb.specs.declared.added_page.Move.{Move}
 pub use Rattle.rpm_pkgdb.specs.declared.blob.GetFault.{GetFault}
-pub use Rattle.rpm_pkgdb.specs.declared.page_plan.Page.{Page}
 pub use Rattle.rpm_pkgdb.specs.declared.plan.Plan.{Plan}
 pub use Rattle.rpm_pkgdb.specs.declared.plan.Target.{Target}
 pub use Rattle.rpm_pkgdb.specs.declared.slot.Damage.{Damage}
@@ -108,5 +104,4 @@ pub use Rattle.rpm_tags.specs.declared.kind.Kind.{Kind}
 pub use Rattle.std.specs.List.{filter, flat_map, sum_by}
 pub use Rattle.std.specs.Option.{option_map}
 pub use Rattle.std.specs.Ordering.{nat_cmp}
-pub use Rattle.std.specs.Str.{bytes_eq}
 pub use Rattle.std.specs.declared.alloc.Global.{Global}

@@ -5,49 +5,46 @@ pub use Rattle.rpm_header.specs.Digest.{immutable_digest}
 pub use Rattle.rpm_header.specs.Header.{Header, header}
 pub use Rattle.rpm_header.specs.declared.form.HeaderFault.{HeaderFault}
 pub use Rattle.rpm_hindex.specs.Answers.{AreHits, ChainCosts}
-pub use Rattle.rpm_hindex.specs.Index.{records, units_at}
-pub use Rattle.rpm_hindex.specs.Plans.{CanWrite, HasChanged, LeavesOrder, units_after}
+pub use Rattle.rpm_hindex.specs.Index.{units_at}
+pub use Rattle.rpm_hindex.specs.Plans.{HasChanged}
 pub use Rattle.rpm_hindex.specs.Rewrites.{IsRefused}
-pub use Rattle.rpm_hindex.specs.Rows.{Row, SameRows, row_nth, same_row}
+pub use Rattle.rpm_hindex.specs.Rows.{row_nth, same_row}
 pub use Rattle.rpm_hindex.specs.Sizes.{live_of, units_for}
-pub use Rattle.rpm_hindex.specs.Whole.{IsWellFormed}
 pub use Rattle.rpm_outside.specs.Changes.{Stops}
-pub use Rattle.rpm_outside.specs.Files.{Files, Units, blank, unit_at}
+pub use Rattle.rpm_outside.specs.Files.{Files, Units, unit_at}
 pub use Rattle.rpm_outside.specs.Frame.{DiskCause, DiskFault, IsSettled, LeavesIn, Looks, LooksAt, Writes, images}
 pub use Rattle.rpm_outside.specs.Looks.{ReadAtMost}
 pub use Rattle.rpm_outside.specs.declared.disk.File.TheVariants.{Idx, Pkg}
 pub use Rattle.rpm_pkgdb.specs.Blobs.{blobs}
 pub use Rattle.rpm_pkgdb.specs.Costs.{cost_all, opening_cost}
-pub use Rattle.rpm_pkgdb.specs.Growing.{moving_cost}
-pub use Rattle.rpm_pkgdb.specs.Placing.{placed, placement_of, put_in}
-pub use Rattle.rpm_pkgdb.specs.Planned.{IsFor, IsFull, IsPlan, moves_of}
-pub use Rattle.rpm_pkgdb.specs.Quiet.{Anything, IsQuiet, StandsFor}
+pub use Rattle.rpm_pkgdb.specs.Planned.{IsFull}
+pub use Rattle.rpm_pkgdb.specs.Quiet.{Anything, IsQuiet}
 pub use Rattle.rpm_pkgdb.specs.Reaches.{ReachesTo}
 pub use Rattle.rpm_pkgdb.specs.Slots.{slot_with}
 pub use Rattle.rpm_pkgdb.specs.Store.{Keeps, store}
-pub use Rattle.rpm_pkgdb.specs.Written.{erased, field_after, made_new, next_field, with_generation, with_plan}
+pub use Rattle.rpm_pkgdb.specs.Written.{made_new}
 pub use Rattle.rpm_pkgdb.specs.Written.{with_spare}
 pub use Rattle.rpm_pkgdb.specs.declared.slot.Damage.{Damage}
 pub use Rattle.rpm_tags.specs.Kinds.{code_of}
 pub use Rattle.rpm_tags.specs.Value.{first_text}
 pub use Rattle.rpm_db.specs.Answers.{CutIs, FoundIs, GetIs, ReadIs, VerifyIs, key_chain}
 pub use Rattle.rpm_db.specs.Changed.{IsLeft, IsReady, Makes}
-pub use Rattle.rpm_db.specs.Changes.{Add, Erase, IsChangedStill, IsServing, Put, ReadsAtMost, apply, next, with_room}
-pub use Rattle.rpm_db.specs.Database.{IsIndexed, IsNext, KeepsIndex, KeepsUnits, OpenIs, cost, generation_of, has_failed, holds}
+pub use Rattle.rpm_db.specs.Changes.{Add, Erase, IsChangedStill, IsServing, Put, ReadsAtMost, next, with_room}
+pub use Rattle.rpm_db.specs.Database.{IsNext, KeepsIndex, KeepsUnits, OpenIs, cost, generation_of, has_failed, holds}
 pub use Rattle.rpm_db.specs.Database.{is_blank, is_indexed, next_number, room}
 pub use Rattle.rpm_db.specs.Frame.{Runs, RunsOr, state_in}
 pub use Rattle.rpm_db.specs.Gathering.{Gathers, IsGathering, IsLeftSuspended, IsOrdered, IsSettledUp, OwesOn, resumed}
 pub use Rattle.rpm_db.specs.Gathering.{sealed_in, suspended}
 pub use Rattle.rpm_db.specs.Inits.{IsEmptyStill, IsInit, IsInitFault, IsThere, StopsAs}
-pub use Rattle.rpm_db.specs.Lawful.{AreLawful, HasRows, IsIndexOf, IsLawful, IsOfRows, IsUnsealed, IsWholeIndex}
+pub use Rattle.rpm_db.specs.Lawful.{AreLawful, HasRows, IsOfRows, IsUnsealed, IsWholeIndex}
 pub use Rattle.rpm_db.specs.Lawful.{IsLawfulStill, Remade, StaysLawful, is_current_at}
 pub use Rattle.rpm_db.specs.Openings.{FullIs, FullOpenIs, IsOpened, IsOpenedOn, IsOutside, OpeningReads, StoreIs}
-pub use Rattle.rpm_db.specs.Openings.{WritesNothing, units_needed}
+pub use Rattle.rpm_db.specs.Openings.{WritesNothing}
 pub use Rattle.rpm_db.specs.Reaches.{ReachesMade}
 pub use Rattle.rpm_db.specs.Rebuilds.{IsRebuilt, IsRenewed, IsStill, RebuildIs}
 pub use Rattle.rpm_db.specs.Refusals.{AddIs, BadIndexIs, EraseIs, FullCause, FullIndexIs, IsOfIndex, IsOfReading}
 pub use Rattle.rpm_db.specs.Refusals.{IsOfRoom, IsRefusal, LaterIs, PutIs, StaysWhole, WholeCause, is_stopping}
-pub use Rattle.rpm_db.specs.Room.{RoomCause, RoomIs, next_store, raised}
+pub use Rattle.rpm_db.specs.Room.{raised}
 pub use Rattle.rpm_db.specs.Rows.{header_rows, kind_rows, rows, rows_at, rows_read}
 pub use Rattle.rpm_db.specs.State.{Package, package_of, packages, state}
 pub use Rattle.rpm_db.specs.Verdicts.{differs, header_verdict, is_digest_wrong, verdict}
@@ -56,12 +53,11 @@ pub use Rattle.rpm_db.specs.declared.open_fault.DbOpenFault.TheVariants.{Damaged
 pub use Rattle.rpm_db.specs.inner.Both.{AreRead, CanApply, CanChange, CanTake, IndexIs, IsApplied}
 pub use Rattle.rpm_db.specs.inner.Both.{FindsRoom, IsDone, IsPlaced, IsStored, LeadsTo}
 pub use Rattle.rpm_db.specs.inner.Edits.{CanEdit, EditReaches, EditsTo, HasEdit, IsEdited, Suits, edit_cost, edited, field_edited}
-pub use Rattle.rpm_db.specs.inner.Edits.{with_edit}
 pub use Rattle.rpm_db.specs.inner.Faults.{store_fault}
 pub use Rattle.rpm_db.specs.inner.Filling.{AreOfRows, CanFill, CanPutAside, IsFilled, IsPutAside, TakesRows}
 pub use Rattle.rpm_db.specs.inner.Making.{CanIndex, CanMake, IsEmptyIndex, IsIndexFor, IsMadeEmpty, IsRemade, IsSealedHere}
 pub use Rattle.rpm_db.specs.inner.Places.{AreByPlace, AreParted, StandsBefore, StandsNotBehind}
 pub use Rattle.rpm_db.specs.Runs.{SameFiles, SameLog}
-pub use Rattle.rpm_db.specs.inner.Writes.{BlobsTo, IndexTo, WritesRows, WritesWhole, change_for}
+pub use Rattle.rpm_db.specs.inner.Writes.{BlobsTo, IndexTo, WritesWhole, change_for}
 pub use Rattle.rpm_db.specs.inner.Writes.{cost_before, field_for, number_for, old_rows, packages_of, put_map}
 pub use Rattle.rpm_db.specs.inner.Writes.{state_of}

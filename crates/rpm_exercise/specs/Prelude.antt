@@ -1,5 +1,4 @@
 -- The words of clauses, from one place.
-pub use Rattle.std.specs.List.{flat_map}
 pub use Rattle.std.specs.Result.{result_err}
 pub use Rattle.std.specs.String.{string_bytes}
 pub use Rattle.rpm_change.specs.Adding.{change_at}
@@ -23,7 +22,6 @@ pub use Rattle.rpm_select.specs.Frame.{HasRows}
 pub use Rattle.rpm_select.specs.Picks.{entry_in}
 pub use Rattle.rpm_version.specs.Capability.{capability}
 pub use Rattle.sha2.specs.Hashers.{Holds256}
-pub use Rattle.sha2.specs.Sha256.{sha256}
 pub use Rattle.rpm_exercise.specs.Endings.{IsOfReading, IsRefused, OnceBegun}
 pub use Rattle.rpm_exercise.specs.Endings.{Renewed, pick_halt}
 pub use Rattle.rpm_exercise.specs.Exercised.{capability_line, capability_lines, capability_named, count_line}

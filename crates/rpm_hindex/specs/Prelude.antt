@@ -1,12 +1,12 @@
 -- The words of clauses, from one place.
 pub use Rattle.std.specs.BTreeMap.{get, keys}
 pub use Rattle.std.specs.BTreeSet.{contains}
-pub use Rattle.std.specs.List.{filter, flat_map, sum_by}
+pub use Rattle.std.specs.List.{filter, flat_map}
 pub use Rattle.std.specs.List.Sorted.{IsStrictlySortedBy}
 pub use Rattle.std.specs.Ordering.{nat_cmp}
 pub use Rattle.rpm_outside.specs.Changes.{IsSame}
 pub use Rattle.rpm_outside.specs.Crash.{Torn}
-pub use Rattle.rpm_outside.specs.Files.{Files, Units, blank, bytes_of, put, unit_at, units_of}
+pub use Rattle.rpm_outside.specs.Files.{Units, blank, bytes_of, put, unit_at, units_of}
 pub use Rattle.rpm_outside.specs.Frame.{IsSettled, Reads, ReadsAtOr, ReadsOr, Writes, WritesOr}
 pub use Rattle.rpm_outside.specs.Words.{bytes_of_word, unit_of_words, word}
 pub use Rattle.rpm_outside.specs.declared.disk.File.{File}
@@ -16,11 +16,10 @@ pub use Rattle.rpm_hindex.specs.Answers.{IsRising, has_key, hit_at, is_wanted, t
 pub use Rattle.rpm_hindex.specs.Costs.{StaysInPlace, StaysWithin, chains_bytes}
 pub use Rattle.rpm_hindex.specs.Images.{IsSealed, Leaves, SameSeal, SealedOrSame, VoidOrSame, VoidOrSameSeal}
 pub use Rattle.rpm_hindex.specs.Index.{Index, bucket_unit, chain, follow, index_in, is_link, is_placed, is_sound}
-pub use Rattle.rpm_hindex.specs.Index.{length_at, next_at, records, row_at, run, units_at}
+pub use Rattle.rpm_hindex.specs.Index.{length_at, records, row_at, run, units_at}
 pub use Rattle.rpm_hindex.specs.Padding.{AddsPadded, ArePadded}
 pub use Rattle.rpm_hindex.specs.Plans.{ArePatches, CanWrite, IsAfter, IsChanged, IsPaddedPlan, IsPlanFor, LeavesOrder}
 pub use Rattle.rpm_hindex.specs.Plans.{WritesPadded, after, after_tail, after_units, buckets_after, patch_at}
-pub use Rattle.rpm_hindex.specs.Plans.{second_after}
 pub use Rattle.rpm_hindex.specs.Prepared.{IsPrepared, IsUnprepared}
 pub use Rattle.rpm_hindex.specs.Refusals.{HasRoomFor, IsBad, IsBadFor, IsFaulty}
 pub use Rattle.rpm_hindex.specs.Rewrites.{IsFull, IsRefused, IsRewritten}
@@ -31,16 +30,15 @@ pub use Rattle.rpm_hindex.specs.State.{Keeps, State, buckets_of, is_current, is_
 pub use Rattle.rpm_hindex.specs.State.{seal_unit, state_of}
 pub use Rattle.rpm_hindex.specs.Whole.{IsWellFormed}
 pub use Rattle.rpm_hindex.specs.inner.Changes.{Begins, CanBegin, CanGo, Drops, HasFault, HasNoFault, HasWord, IsChainFault, IsFresh}
-pub use Rattle.rpm_hindex.specs.inner.Changes.{IsHonest, IsOther, IsScratchOf, IsStarted, IsTooLarge, IsWithout}
-pub use Rattle.rpm_hindex.specs.inner.Changes.{IsWorkOf, Puts, PutsOne, PutsWithin, SetsBucket, SetsNext, Unlinks}
+pub use Rattle.rpm_hindex.specs.inner.Changes.{IsHonest, IsOther, IsScratchOf, IsStarted, IsTooLarge}
+pub use Rattle.rpm_hindex.specs.inner.Changes.{IsWorkOf, Puts, PutsWithin, SetsNext, Unlinks}
 pub use Rattle.rpm_hindex.specs.inner.Changes.{is_kept, kept_in, kept_of, patch_of, unit_after}
 pub use Rattle.rpm_hindex.specs.inner.Drafts.{IsDraft, IsImage}
 pub use Rattle.rpm_hindex.specs.inner.Finds.{FindsFrom, FindsRow}
 pub use Rattle.rpm_hindex.specs.inner.Making.{padding, record_of}
 pub use Rattle.rpm_hindex.specs.inner.Ongoing.{CanStart, DropsRows, GoesOn, Grows, HasAdded, IsDropFault, LeavesWhole}
 pub use Rattle.rpm_hindex.specs.inner.Ongoing.{index_of, one_row, row_with}
-pub use Rattle.rpm_hindex.specs.inner.Packed.{row_in}
 pub use Rattle.rpm_hindex.specs.inner.Records.{CanRead, IsOpen, ReadsChain, ReadsPath, index_at}
-pub use Rattle.rpm_hindex.specs.inner.Spots.{FallsTo, IsAhead, IsFound, IsFoundFrom, IsHead, IsHeadWithin, IsLinked}
-pub use Rattle.rpm_hindex.specs.inner.Spots.{IsMet, IsNext, IsPath, IsSoundSpot, IsWithin, OnWay, PathCosts, SkipsTo}
+pub use Rattle.rpm_hindex.specs.inner.Spots.{FallsTo, IsAhead, IsHead, IsHeadWithin}
+pub use Rattle.rpm_hindex.specs.inner.Spots.{IsMet, IsNext, IsPath, OnWay, PathCosts, SkipsTo}
 pub use Rattle.rpm_hindex.specs.inner.Starts.{IsStart, StandWithin, StandsWithin}

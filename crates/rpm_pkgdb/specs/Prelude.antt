@@ -34,7 +34,7 @@ pub use Rattle.rpm_pkgdb.specs.Words.{is_nonzero, word}
 pub use Rattle.rpm_pkgdb.specs.Written.{MakesTo, RaisesTo, erased, field_after, made_new, next_field, stopped}
 pub use Rattle.rpm_pkgdb.specs.Written.{with_blob, with_generation, with_plan, with_spare}
 pub use Rattle.rpm_pkgdb.specs.declared.slot.Slot.{Slot}
-pub use Rattle.rpm_pkgdb.specs.inner.Grows.{HasFreePage, with_page}
+pub use Rattle.rpm_pkgdb.specs.inner.Grows.{with_page}
 pub use Rattle.rpm_pkgdb.specs.inner.Keeping.{AreUsedTo}
 pub use Rattle.rpm_pkgdb.specs.inner.Keys.{AllApart, ArePairs, AreRising, AreRisingTo, BlocksApart, key_end, key_of}
 pub use Rattle.rpm_pkgdb.specs.inner.Maps.{Adds, CanKeep, HasPlaces, IsKnown, IsLast}
