@@ -19,7 +19,7 @@ HEAD = """# The definitions
 What each contract rests on, by crate and file, with the beginning of the comment that each definition has there. `bench/definitions.py --write` makes this
 page; the merge gate checks that it is current. Definitions without a comment are only named. Files of `specs/inner/` hold laws that no reader has to believe.
 
-The definitions are computed, without the code, on small inputs: by `Fixtures.antt`, `Asking.antt` and `Defaults.antt` in `crates/rpm_tool/proofs/`, and by
+The definitions are computed, without the code, on small inputs: by `Fixtures.antt`, `Asking.antt` and `Defaults.antt` in `crates/rpm_print/proofs/`, and by
 `Fixtures.antt` in the `proofs/` of `rpm_qfparse`, `rpm_file` and `rpm_qfeval`.
 """
 

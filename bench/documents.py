@@ -15,6 +15,7 @@ letter, so neither bars of tables nor figures count. With --check it prints what
 """
 import re
 import sys
+from functools import cache
 
 sys.dont_write_bytecode = True
 from definitions import TOP, crates
@@ -24,7 +25,7 @@ EVIDENCE = [TOP / "docs" / name for name in ("REAL.md", "CRASHES.md", "HARD_CASE
 MOST_COLUMNS, MOST_IN_PARAGRAPH, MOST_WORDS, MOST_EVIDENCE = 160, 120, 17_000, 6_000
 REPLACED = re.compile(r"\b(?:behind|anew|tells|told|(?<!\.)stops? (?:leaves|at)|a stop|power cut)\b", re.I)
 
-FILE = re.compile(r"`(?:[\w/]*/)?(\w+\.(?:rt|antt|rows))`")
+FILE = re.compile(r"`(?:(rpm_\w+)/)?(?:[\w/]*/)?(\w+\.(?:rt|antt|rows))`")
 NAME = re.compile(r"\w+")
 FIELD = re.compile(r"^ +pub (\w+) :", re.M)
 
@@ -78,6 +79,13 @@ def faults_of_form(path, text):
                 yield number, f"`{found.group(0)}` isn't the word of the glossary"
 
 
+@cache
+def files_of(crate):
+    """The names of a crate's files, and of all rows."""
+    folder = TOP / "crates"
+    return {path.name for path in (folder / crate).rglob("*.*")} | {path.name for path in folder.glob("*/data/*.rows")}
+
+
 def faults_of_crates(texts):
     """Crates without a page or a row, and files that a page names and its crate doesn't have."""
     for crate in crates():
@@ -88,9 +96,8 @@ def faults_of_crates(texts):
         for where in (TOP / "README.md", TOP / "docs" / "MAP.md"):
             if f"`{crate}`" not in texts[where]:
                 yield where, 1, f"`{crate}` has no row"
-        names = {path.name for path in page.parent.rglob("*.*")} | {path.name for path in (TOP / "crates").glob("*/data/*.rows")}
         for number, line in enumerate(texts[page].splitlines(), 1):
-            yield from ((page, number, f"there is no {name}") for name in FILE.findall(line) if name not in names)
+            yield from ((page, number, f"there is no {name}") for other, name in FILE.findall(line) if name not in files_of(other or crate))
         known = named(NAME, page.parent / "src", "*.rt") | named(NAME, page.parent / "specs", "*.antt")
         proved = texts[page].partition("## Proved\n")[2].partition("\n## ")[0]
         for name in sorted(set(NAME.findall(" ".join(re.findall(r"`([\w: ]+)`", proved)))) - known):

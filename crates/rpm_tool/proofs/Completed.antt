@@ -3,7 +3,7 @@ use Rattle.std.proofs.Common.{◌≡◌, ℕ, ◌+◌, ◌^◌, ◌≤◌, Bool,
 use Rattle.rpm_tool.proofs.Vocabulary.{AskParts, blank_store, Damage, deed_of, Deeds, DidByKey, Files, FullByUnits, FullIs, HasRoom, is_done_or_outside}
 use Rattle.rpm_tool.proofs.Vocabulary.{is_foreign, IsLawful, IsLawfulGroup, IsSound, keyed_to, KeyedIs, Loaded, log_state, LogState, Malformed, OnLawful}
 use Rattle.rpm_tool.proofs.Vocabulary.{Opened, Outputs, reopened, Store, store, Tree, Units, WentBy, Why}
-use Rattle.rpm_tool.specs.declared.answer.Why.TheVariants as why
+use Rattle.rpm_print.specs.declared.answer.Why.TheVariants as why
 use Rattle.rpm_tool.proofs.Deeds.{does_outside}
 
 -- a lawful database has a store

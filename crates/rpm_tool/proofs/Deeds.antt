@@ -1,13 +1,14 @@
 -- What a command does with the database that it opens: where nothing was done, and how it ends.
-use Rattle.std.proofs.Common.{◌≡◌, ℕ, Bool, true, false, List, [], refl, arith}
+use Rattle.std.proofs.Common.{◌≡◌, ℕ, Bool, true, false, List, [], refl}
 use Rattle.rpm_tool.proofs.Vocabulary.{always_keyed, Anywhere, AskParts, Bearer, check_files, Course, Deed, deed_of, DoesBy, export, graph_of}
-use Rattle.rpm_tool.proofs.Vocabulary.{is_done_or_outside, is_foreign, is_query, IsListed, IsOrder, Mode, Network, opens_index, ordering, Outputs, packages}
-use Rattle.rpm_tool.proofs.Vocabulary.{query, Store, Through, Tree, Units, unless_starved, unsatisfied, verify, Went, Why}
+use Rattle.rpm_tool.proofs.Vocabulary.{is_done_or_outside, is_foreign, is_query, Mode, opens_index, ordering, Outputs, packages, query, Store, Through, Tree}
+use Rattle.rpm_tool.proofs.Vocabulary.{Units, unless_starved, unsatisfied, verify, Went, Why}
 use Rattle.rpm_words.specs.declared.ask.Mode.TheVariants as mode
-use Rattle.rpm_tool.specs.declared.answer.Why.TheVariants as why
-use Rattle.rpm_tool.specs.declared.asked.Deed.TheVariants as deed
-use Rattle.rpm_tool.proofs.ByEnding.{by_starved}
+use Rattle.rpm_print.specs.declared.answer.Why.TheVariants as why
+use Rattle.rpm_print.specs.declared.asked.Deed.TheVariants as deed
+use Rattle.rpm_commit.specs.inner.ByEnding.{by_starved}
 use Rattle.rpm_tool.proofs.Loading.{went_reads}
+use Rattle.rpm_report.specs.inner.Reporting.{none_listed}
 
 -- a command that opens the database without its index is no report on requirements
 pub plain_deed : (m : Mode) (asked : Bool) → opens_index m asked ≡ false → always_keyed (deed_of m) ≡ false
@@ -18,14 +19,6 @@ plain_deed others asked is = is
 pub query_deed : (m : Mode) → is_query m ≡ true → always_keyed (deed_of m) ≡ false
 query_deed mode.Query is = refl
 query_deed others is = absurd cc
-
--- no class was told
-pub none_listed : (g : Network) → IsListed g false []
-none_listed g = record { each = λ k lt. absurd (omega (arith, lt)); all = λ is. absurd cc }
-
--- all of an order is told, or some of it
-pub order_listed : (g : Network) (told : Bool) (classes : List (List ℕ)) → IsOrder g classes → IsListed g told classes
-order_listed g told classes order = record { each = order.each; all = λ is. order.all }
 
 went_outside : (c : Course) (w : Why) (old new : Outputs) (reads_to : Bearer → Type 0) → is_foreign w ≡ false → Went c w old new reads_to
     → is_done_or_outside w ≡ true

@@ -6,9 +6,9 @@ use Rattle.rpm_tool.proofs.Vocabulary.{picks, query_of, question_of, RisesFrom, 
 use Rattle.std.specs.FinMap as finite
 use Rattle.rpm_words.specs.declared.switch.Chosen.TheVariants as by
 use Rattle.rpm_select.specs.declared.selection.Selection.TheVariants as question
-use Rattle.rpm_tool.specs.Steps.{numbers}
-use Rattle.rpm_tool.proofs.Printed.{bearer-step_of}
-use Rattle.rpm_tool.proofs.Rising.{rises_above}
+use Rattle.rpm_print.specs.Steps.{numbers}
+use Rattle.rpm_print.specs.inner.Printed.{bearer-step_of}
+use Rattle.rpm_query.specs.inner.Rising.{rises_above}
 
 told_numbers : (tree : Tree) (j : ℕ) (es : List (ℕ × Package)) → numbers (map (step_of tree j) es) ≡ map (λ e. e.0) es
 told_numbers tree j [] = refl

@@ -4,26 +4,22 @@ use Rattle.std.specs.Prelude.{IsTrue}
 use Rattle.rpm_outside.specs.declared.disk.Disk as disk
 use Rattle.rpm_outside.specs.declared.shelf.Shelf as shelf
 use Rattle.rpm_outside.specs.declared.sink.Sink as sink
-use Rattle.rpm_tool.proofs.Vocabulary.{Answers, AnswersByKey, AnswersChange, AnswersKeyed, AnswersOfFiles, AnswersPlain, Course, State, asked_course, ask, asked_task, AskParts, asks_change, asks_format, Buffered, by_key}
-use Rattle.rpm_tool.proofs.Vocabulary.{changes_in, Does, EmptyBy, is_changing, is_done, is_foreign, Leaves, needs_none, of_files, OneChange, Outputs, outputs, Pkg, query_files, ran}
-use Rattle.rpm_tool.proofs.Vocabulary.{reads_shelf, reopened, Run, Streams, task_course, Tree, Why}
-use Rattle.rpm_tool.specs.Frame.{EndHands}
-use Rattle.rpm_tool.specs.declared.answer.Why.TheVariants as why
+use Rattle.rpm_tool.proofs.Vocabulary.{Answers, AnswersByKey, AnswersChange, AnswersKeyed, AnswersOfFiles, AnswersPlain, asked_course, ask, asked_task}
+use Rattle.rpm_tool.proofs.Vocabulary.{AskParts, asks_change, asks_format, Buffered, by_key, changes_in, Does, EmptyBy, is_changing, is_done, is_foreign}
+use Rattle.rpm_tool.proofs.Vocabulary.{Leaves, needs_none, of_files, OneChange, Outputs, outputs, Pkg, query_files, ran, reads_shelf, reopened, Run, Streams}
+use Rattle.rpm_tool.proofs.Vocabulary.{task_course, Tree, Why}
+use Rattle.rpm_print.specs.Frame.{EndHands}
+use Rattle.rpm_print.specs.declared.answer.Why.TheVariants as why
 use Rattle.rpm_tool.proofs.Begun.{files_unchanging, files_unkeyed, keyed_unchanging, not_begun}
-use Rattle.rpm_tool.proofs.Emptied.{memory_empty}
-use Rattle.rpm_tool.proofs.Peeking.{leaves_none}
-use Rattle.rpm_tool.proofs.Reaching.{through_none}
+use Rattle.rpm_commit.specs.inner.Emptied.{memory_empty}
+use Rattle.rpm_print.specs.inner.Peeking.{leaves_none}
+use Rattle.rpm_print.specs.inner.Reaching.{through_none}
 use Rattle.rpm_tool.proofs.Recovered.{unbegun}
 use Rattle.rpm_tool.proofs.Undone.{asked_is, asked_some, same_asked}
-use Rattle.rpm_tool.proofs.Unmade.{idle_run, unmade_one}
+use Rattle.rpm_commit.specs.inner.Unmade.{idle_run, unmade_one}
 
 clash : {P : Type 0} {b : _} → b ≡ true → b ≡ false → P
 clash is not = let both : true ≡ false = sym is ∙ not in absurd cc
-
--- what a run says of a command that changes packages
-pub change_one : {D S : Type 0} {d : disk.Ghosts D} {s : shelf.Ghosts S} {r : Run d s} {a : AskParts} {course : State → Course} {mid : Outputs}
-    → AnswersChange r a course mid → OneChange d (asked_task r.words a) course r.why r.changes r.found r.left r.before mid
-change_one c = record { did = c.did; changed = c.changed; limits = c.limits; fault = c.fault; log = c.log }
 
 module _ {D S : Type 0} {d : disk.Ghosts D} {s : shelf.Ghosts S} {r : Run d s} {a : AskParts} {mid : Outputs} where
   change_of : OneChange d (asked_task r.words a) (task_course (s.paths r.shelf_found) r.moment (asked_task r.words a)) r.why r.changes r.found r.left

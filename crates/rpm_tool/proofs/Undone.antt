@@ -6,7 +6,7 @@ use Rattle.rpm_tool.proofs.Vocabulary.{WordsFault}
 use Rattle.rpm_tool.specs.Theorem.{AnswersWords}
 use Rattle.rpm_words.specs.declared.fault.WordsKind.TheVariants as kind
 use Rattle.rpm_qfparse.specs.declared.fault.FormatKind.TheVariants as wrong
-use Rattle.rpm_tool.specs.declared.answer.Why.TheVariants as why
+use Rattle.rpm_print.specs.declared.answer.Why.TheVariants as why
 
 none_some : (p : AskParts × Tree) (o : Option (AskParts × Tree)) → o ≡ None → o ≡ Some p → ⊥
 none_some p o none some = cc

@@ -3,7 +3,7 @@ use Rattle.std.proofs.Common.{◌≡◌, ℕ, Bool, true, false, List, [], Resul
 use Rattle.rpm_tool.proofs.Vocabulary.{AskParts, BadIs, Damage, Deeds, Files, FullIs, is_done, is_done_or_outside, is_foreign, IsSound, Loaded, LogState}
 use Rattle.rpm_tool.proofs.Vocabulary.{Opened, Outputs, RecoverFault, RecoverSays, Store, Through, Why, why_of_recover}
 use Rattle.rpm_group.specs.declared.recovery.RecoverFault.TheVariants as recover
-use Rattle.rpm_tool.specs.declared.answer.Why.TheVariants as why
+use Rattle.rpm_print.specs.declared.answer.Why.TheVariants as why
 use Rattle.rpm_tool.proofs.Loading.{loaded_fault}
 
 module _ (Do : Deeds) (s : Result Store Damage) where

@@ -2,9 +2,9 @@
 use Rattle.std.specs.Prelude.{IsTrue, ◌↔◌}
 use Rattle.rpm_tool.proofs.Vocabulary.{Damage, Refused, Rose, unless_starved, Why}
 use Rattle.std.proofs.Common.{◌≡◌, ℕ, zero, suc, ◌+◌, ◌<◌, ◌≤◌, Bool, true, false, refl, arith}
-use Rattle.rpm_tool.specs.declared.answer.Why.TheVariants as why
-use Rattle.rpm_tool.proofs.ByEnding.{by_starved}
-use Rattle.rpm_tool.proofs.Starved.{starved_fault}
+use Rattle.rpm_print.specs.declared.answer.Why.TheVariants as why
+use Rattle.rpm_commit.specs.inner.ByEnding.{by_starved}
+use Rattle.rpm_commit.specs.inner.Starved.{starved_fault}
 
 -- want of memory in place of a fault of the disk
 pub refused_starved : (starved : Bool) (w : Why) (d : Damage) → Refused d w → Refused d (unless_starved starved w)

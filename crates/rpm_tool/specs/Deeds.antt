@@ -15,19 +15,21 @@ use Rattle.rpm_words.specs.Words.{text_at}
 use Rattle.rpm_words.specs.Ask.{AskParts}
 use Rattle.rpm_qfparse.specs.Tree.{Tree}
 use Rattle.rpm_select.specs.Reach.{Reach, Everything}
-use Rattle.rpm_tool.specs.declared.answer.Why.{Why}
-use Rattle.rpm_tool.specs.declared.asked.Deed.{Deed}
-use Rattle.rpm_tool.specs.declared.asked.Deed.TheVariants as deed
-use Rattle.rpm_tool.specs.Asked.{deed_of}
+use Rattle.rpm_print.specs.declared.answer.Why.{Why}
+use Rattle.rpm_print.specs.declared.asked.Deed.{Deed}
+use Rattle.rpm_print.specs.declared.asked.Deed.TheVariants as deed
+use Rattle.rpm_print.specs.Asked.{deed_of}
 use Rattle.rpm_change.specs.Endings.{Outputs, Through}
 use Rattle.rpm_change.specs.Steps.{Bearer}
-use Rattle.rpm_tool.specs.Answers.{Went, Misread, Refused, Anywhere}
-use Rattle.rpm_tool.specs.Classes.{is_done}
-use Rattle.rpm_tool.specs.FileReport.{check_files}
-use Rattle.rpm_tool.specs.Queries.{query}
-use Rattle.rpm_tool.specs.Reads.{argument_reach, reaches_by, reach_sum, reached_by}
-use Rattle.rpm_tool.specs.Reports.{export, verify}
-use Rattle.rpm_tool.specs.Requirements.{unsatisfied, ordering, IsListed}
+use Rattle.rpm_print.specs.Answers.{Went, Misread, Refused, Anywhere}
+use Rattle.rpm_print.specs.Classes.{is_done}
+use Rattle.rpm_report.specs.FileReport.{check_files}
+use Rattle.rpm_query.specs.Queries.{query}
+use Rattle.rpm_print.specs.Reads.{reach_sum, reached_by}
+use Rattle.rpm_query.specs.Reach.{argument_reach, reaches_by}
+use Rattle.rpm_report.specs.Reports.{verify}
+use Rattle.rpm_query.specs.Queries.{export}
+use Rattle.rpm_report.specs.Requirements.{unsatisfied, ordering, IsListed}
 
 -- ---- what is read
 

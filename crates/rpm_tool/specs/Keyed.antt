@@ -1,55 +1,38 @@
 -- Questions by key and the reports on requirements, which open the database with its index and change no package: what they answer and leave.
--- On it rests `keyed` of the page (Theorem.antt), and what all of it calls lawful.
-use Rattle.std.specs.Prelude.{◌≡◌, ◌⊎◌, ℕ, ◌+◌, ◌^◌, ◌<◌, ◌≤◌, List, [], map, Bool, true, false, not, ◌==◌, ◌||◌, Result, Ok, Err, IsTrue}
+-- On it rests `keyed` of the page (Theorem.antt).
+use Rattle.std.specs.Prelude.{◌≡◌, ◌⊎◌, ℕ, ◌+◌, ◌^◌, ◌<◌, ◌≤◌, List, [], map, Bool, true, false, not, ◌==◌, ◌||◌, Ok, IsTrue}
 use Rattle.rpm_outside.specs.Frame.{LeavesIn, images}
 use Rattle.rpm_outside.specs.declared.disk.Disk as disk
 use Rattle.rpm_outside.specs.declared.disk.File.TheVariants.{Pkg}
 use Rattle.rpm_outside.specs.Files.{Units, Files}
 use Rattle.rpm_outside.specs.Logs.{Closed, log_state, reopened}
-use Rattle.rpm_group.specs.declared.recovery.RecoverFault.{RecoverFault}
-use Rattle.rpm_group.specs.declared.recovery.RecoverFault.TheVariants as recover
-use Rattle.rpm_group.specs.Loads.{IsSound}
 use Rattle.rpm_pkgdb.specs.Store.{Store, store}
 use Rattle.rpm_pkgdb.specs.Costs.{opening_cost}
 use Rattle.rpm_db.specs.Database.{Database, is_indexed, unindexed}
 use Rattle.rpm_db.specs.Frame.{room}
-use Rattle.rpm_db.specs.State.{Package, packages}
+use Rattle.rpm_db.specs.State.{packages}
 use Rattle.rpm_db.specs.Lawful.{IsLawful, HasRows, is_current_at}
 use Rattle.rpm_db.specs.Openings.{must_make, units_needed, making_cost}
 use Rattle.rpm_words.specs.declared.switch.Chosen.{Chosen}
 use Rattle.rpm_words.specs.Words.{text_at}
 use Rattle.rpm_words.specs.Ask.{AskParts}
 use Rattle.rpm_qfparse.specs.Tree.{Tree}
-use Rattle.rpm_tool.specs.declared.answer.Why.{Why}
-use Rattle.rpm_tool.specs.declared.answer.Why.TheVariants as why
-use Rattle.rpm_tool.specs.declared.asked.Deed.{Deed}
-use Rattle.rpm_tool.specs.declared.asked.Deed.TheVariants as deed
-use Rattle.rpm_tool.specs.Asked.{always_keyed, is_query, deed_of}
+use Rattle.rpm_print.specs.declared.answer.Why.{Why}
+use Rattle.rpm_print.specs.declared.answer.Why.TheVariants as why
+use Rattle.rpm_print.specs.declared.asked.Deed.{Deed}
+use Rattle.rpm_print.specs.declared.asked.Deed.TheVariants as deed
+use Rattle.rpm_print.specs.Asked.{always_keyed, is_query, deed_of}
 use Rattle.rpm_change.specs.Steps.{Bearer}
-use Rattle.rpm_tool.specs.Requirements.{IsOfSome}
-use Rattle.rpm_tool.specs.Frame.{HasRows as HasIndexRows, packages_in, Peeks, pkg_read}
-use Rattle.rpm_tool.specs.Reads.{reach_sum, reached_by, IsOfChains}
+use Rattle.rpm_report.specs.Requirements.{IsOfSome}
+use Rattle.rpm_print.specs.Frame.{HasRows as HasIndexRows, packages_in, Peeks, pkg_read}
+use Rattle.rpm_print.specs.Reads.{reach_sum, reached_by}
+use Rattle.rpm_query.specs.Reach.{IsOfChains}
 use Rattle.rpm_change.specs.Endings.{Outputs, Through}
-use Rattle.rpm_tool.specs.Classes.{is_done, is_done_or_outside, is_foreign, is_refusal}
+use Rattle.rpm_print.specs.Classes.{is_done, is_done_or_outside, is_foreign, is_refusal}
 use Rattle.rpm_tool.specs.Deeds.{Deeds, Loaded, DoesBy, reaches_of, asked_reaches, blocks_cost}
+use Rattle.rpm_commit.specs.Lawful.{AreLawfulGroups, IsLawfulGroup, StandsStill}
 
--- ---- lawful disks
-
--- files that stand for a lawful database: their log is closed, or a group that makes it of them
-pub record IsLawfulGroup (files : Files) : Type 0 where
-  pub sound : IsSound (log_state files.log)
-  pub lawful : IsLawful (reopened files).pkg (reopened files).idx
-
--- each of these images is
-abbrev pub AreLawfulGroups : (Files → Type 0) → Type 0
-AreLawfulGroups images = (image : Files) → images image → IsLawfulGroup image
-
--- a lawful image, that stands for the packages that one of these stands for
-pub record StandsStill (images : Files → Type 0) (image : Files) : Type 0 where
-  pub from : Files
-  pub was : images from
-  pub pkg : (reopened image).pkg ≡ (reopened from).pkg
-  pub lawful : IsLawfulGroup image
+-- ---- an index that is ready
 
 -- the index is current, and holds the rows of the packages; a database that is blank needs none
 pub record HasIndex (pkg idx : Units) : Type 0 where
@@ -156,10 +139,3 @@ pub record AnswersByKey {D : Type 0} (d : disk.Ghosts D) (tree : Tree) (words : 
   pub index : IsLawfulGroup (d.files old) → is_done given ≡ true → IsReady (d.files new)
   pub packages : (reopened (d.files new)).pkg ≡ (reopened (d.files old)).pkg
   pub stops : AreLawfulGroups (images d old) → LeavesIn d old new (StandsStill (images d old))
-
--- ---- recovering
-
--- the answer of a command for each fault of recovery
-abbrev pub why_of_recover : RecoverFault → Why
-why_of_recover (recover.BadLog unit) = why.BadLog unit
-why_of_recover recover.DiskFault = why.DiskFault

@@ -23,19 +23,20 @@ use Rattle.rpm_qfparse.specs.declared.fault.FormatKind.TheVariants as wrong
 use Rattle.rpm_qfparse.specs.Tree.{Tree}
 use Rattle.rpm_change.specs.Endings.{Outputs}
 use Rattle.rpm_change.specs.Steps.{Course}
-use Rattle.rpm_tool.specs.declared.answer.Why.{Why}
-use Rattle.rpm_tool.specs.declared.answer.Why.TheVariants as why
-use Rattle.rpm_tool.specs.Answers.{ComesWhere, Anywhere, Went}
-use Rattle.rpm_tool.specs.Asked.{is_query, of_files, by_key, is_changing, asks_change, asks_format, asks}
-use Rattle.rpm_tool.specs.Changing.{DidOn, ChangesWith, EmptyBy}
-use Rattle.rpm_tool.specs.Classes.{is_done, is_done_or_outside, is_foreign}
+use Rattle.rpm_print.specs.declared.answer.Why.{Why}
+use Rattle.rpm_print.specs.declared.answer.Why.TheVariants as why
+use Rattle.rpm_print.specs.Answers.{ComesWhere, Anywhere, Went}
+use Rattle.rpm_print.specs.Asked.{is_query, of_files, by_key, is_changing, asks_change, asks_format, asks}
+use Rattle.rpm_commit.specs.Changing.{DidOn, ChangesWith, EmptyBy}
+use Rattle.rpm_print.specs.Classes.{is_done, is_done_or_outside, is_foreign}
 use Rattle.rpm_tool.specs.Deeds.{Queried, query_cost}
-use Rattle.rpm_tool.specs.Frame.{images, pkg_read, Leaves, LeavesIn}
-use Rattle.rpm_tool.specs.Keyed.{AreLawfulGroups, IsLawfulGroup, StandsStill, IsReady, KeyedIs, FullIs, BadIs, HasRoom, keyed_cost}
-use Rattle.rpm_tool.specs.Limits.{LimitsBy, LogBy, FaultIs}
-use Rattle.rpm_tool.specs.PackageFiles.{passing, query_files}
-use Rattle.rpm_tool.specs.Queries.{picked, argument_part, query_of, AreOfEach, AreQuestions}
-use Rattle.rpm_tool.specs.Tasks.{asked_task, asked_course, reads_shelf, is_anew, changes_index, needs_none}
+use Rattle.rpm_print.specs.Frame.{images, pkg_read, Leaves, LeavesIn}
+use Rattle.rpm_tool.specs.Keyed.{IsReady, KeyedIs, FullIs, BadIs, HasRoom, keyed_cost}
+use Rattle.rpm_commit.specs.Lawful.{AreLawfulGroups, IsLawfulGroup, StandsStill}
+use Rattle.rpm_commit.specs.Limits.{LimitsBy, LogBy, FaultIs}
+use Rattle.rpm_query.specs.PackageFiles.{passing, query_files}
+use Rattle.rpm_query.specs.Queries.{picked, argument_part, query_of, AreOfEach, AreQuestions}
+use Rattle.rpm_commit.specs.Tasks.{asked_task, asked_course, reads_shelf, is_anew, changes_index, needs_none}
 
 -- One run: its words and its moment, how it ended, what it found and left, what out and err had taken before.
 pub record Run {D S : Type 0} (d : disk.Ghosts D) (s : shelf.Ghosts S) : Type 0 where

@@ -1,17 +1,14 @@
 //! The top call: a command line does what its command's steps say.
 
 ghost use Rattle.std.specs.Prelude.{◌≡◌, true, false, None};
-ghost use Rattle.rpm_tool.specs.Prelude.{Answers, AnswersWords, asks, Causes, closing, DiskFault, Does, Ends, is_changing, IsSound, Keeps, Laws, outs, ran, shown, status_of, Streams};
+ghost use Rattle.rpm_tool.specs.Prelude.{Answers, AnswersWords, asks, Causes, closing, DiskFault, Ends, is_changing, Laws, outs, ran, shown, status_of, Streams};
 
-use crate::answer::{Outcome, Why, status_of};
-use crate::asked::{by_key, of_files, read_command};
-use crate::changing::{CommandEnding, change_asked};
-use crate::closing::put_closing;
 use crate::keyed::answer_keyed;
 use crate::loaded::answer_loaded;
-use crate::package_files::print_files;
-use crate::task::is_changing;
+use rpm_commit::{CommandEnding, change_asked, is_changing};
 use rpm_outside::{Buffered, Disk, File, Shelf, Sink};
+use rpm_print::{Outcome, Why, by_key, of_files, put_closing, read_command, status_of};
+use rpm_query::print_files;
 use rpm_words::Words;
 use std::alloc::Global;
 

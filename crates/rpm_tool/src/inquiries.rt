@@ -3,22 +3,18 @@
 ghost use Rattle.std.specs.Prelude.{◌≡◌, [], false, Err, IfErr};
 ghost use Rattle.rpm_tool.specs.Prelude.{deed_of, DiskFault, DoesOn, EndHands, is_foreign, is_of_opening, IsAskable, IsOfPrint, shown, why_of_report};
 
-use crate::answer::Why;
-use crate::asked::{Deed, deed_of};
-use crate::file_report::check_files;
-use crate::ordering::report_order;
-use crate::query::{query_all, query_each};
-use crate::unsatisfied::report_unmet;
-use crate::verdicts::report;
 use rpm_change::Halt;
 use rpm_db::Db;
 use rpm_outside::{Buffered, Disk, File, Sink};
+use rpm_print::{Deed, Why, deed_of};
 use rpm_qfparse::Format;
+use rpm_query::{query_all, query_each};
+use rpm_report::{check_files, report, report_order, report_unmet};
 use rpm_words::{Ask, Words};
 use std::alloc::Global;
 
 /// The ending of a report, of whether its one argument failed.
-#[tactic(auto, using(crate::proofs::Halts::of_report))]
+#[tactic(auto, using(rpm_print::specs::inner::Halts::of_report))]
 fn why_of_report(told: Result<bool, Halt>) -> Why
     requires class { IfErr told IsOfPrint }
     ensures value { result ≡ why_of_report told }

@@ -1,27 +1,17 @@
 //! Questions by key and reports on requirements: commands that open the database with its index, and change no package.
 
 ghost use Rattle.std.specs.Prelude.{◌≡◌, false, IsTrue};
-ghost use Rattle.rpm_tool.specs.Prelude.{AnswersByKey, DiskFault, EndHands, is_foreign, shown, why_of_recover};
+ghost use Rattle.rpm_tool.specs.Prelude.{AnswersByKey, DiskFault, EndHands, is_foreign, shown};
 
-use crate::answer::Why;
 use crate::inquiries::answer_opened;
-use crate::opening::why_of_open;
+use rpm_commit::{why_of_open, why_of_recover};
 use rpm_db::Db;
-use rpm_group::{RecoverFault, recover};
+use rpm_group::recover;
 use rpm_outside::{Buffered, Disk, File, Sink};
+use rpm_print::Why;
 use rpm_qfparse::Format;
 use rpm_words::{Ask, Words};
 use std::alloc::Global;
-
-/// The ending of a command whose database isn't recovered.
-pub fn why_of_recover(fault: RecoverFault) -> Why
-    ensures { result ≡ why_of_recover fault }
-{
-    match fault {
-        RecoverFault::BadLog { unit } => Why::BadLog { unit },
-        RecoverFault::DiskFault => Why::DiskFault,
-    }
-}
 
 /// Finishes what a crash left of a change, opens the database with its index, which is made from the packages where
 /// it isn't current, and answers. Of `Packages.db` it reads the slot pages, the blocks of all packages where the

@@ -1,36 +1,16 @@
 //! Commands on a database as it reads when an open log is gone through.
 
 ghost use Rattle.std.specs.Prelude.{◌≡◌, ◌+◌, ◌≤◌, [], false, IsTrue};
-ghost use Rattle.rpm_tool.specs.Prelude.{always_keyed, deed_of, DiskFault, EndHands, is_foreign, Leaves, pkg_read, Queried, query_cost, reopened, shown, unless_starved, why_of_load};
+ghost use Rattle.rpm_tool.specs.Prelude.{always_keyed, deed_of, DiskFault, EndHands, is_foreign, Leaves, pkg_read, Queried, query_cost, reopened, shown};
 
-use crate::answer::Why;
 use crate::unindexed::answer_unindexed;
-use rpm_group::{LoadFault, Overlay};
+use rpm_commit::{unless_starved, why_of_load};
+use rpm_group::Overlay;
 use rpm_outside::{Buffered, Disk, File, Sink};
+use rpm_print::Why;
 use rpm_qfparse::Format;
 use rpm_words::{Ask, Words};
 use std::alloc::Global;
-
-/// The ending of a command whose database isn't loaded.
-pub fn why_of_load(fault: LoadFault) -> Why
-    ensures { result ≡ why_of_load fault }
-{
-    match fault {
-        LoadFault::BadLog { unit } => Why::BadLog { unit },
-        LoadFault::DiskFault => Why::DiskFault,
-        LoadFault::NoMemory => Why::NoMemory,
-    }
-}
-
-/// The ending of a command on an overlay: only the disk below counts.
-pub fn unless_starved(is_starved: bool, why: Why) -> Why
-    ensures { result ≡ unless_starved is_starved why }
-{
-    match why {
-        Why::DiskFault if is_starved => Why::NoMemory,
-        other => other,
-    }
-}
 
 /// Does what the words ask for on the files that the disk's files stand for, and hands the disk back as it was.
 pub fn answer_loaded<D: Disk, O: Sink + Drop, E: Sink + Drop>(

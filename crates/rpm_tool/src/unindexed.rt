@@ -3,10 +3,10 @@
 ghost use Rattle.std.specs.Prelude.{◌≡◌, ◌+◌, ◌≤◌, ℕ, [], false, IsTrue};
 ghost use Rattle.rpm_tool.specs.Prelude.{always_keyed, deed_of, DidPlain, DiskFault, EndHands, is_foreign, Looks, Opened, Pkg, pkg_read, query_cost, shown, store};
 
-use crate::answer::Why;
 use crate::inquiries::answer_opened;
 use rpm_db::{Db, DbOpenFault};
 use rpm_outside::{Buffered, Disk, File, Sink};
+use rpm_print::Why;
 use rpm_qfparse::Format;
 use rpm_words::{Ask, Words};
 use std::alloc::Global;

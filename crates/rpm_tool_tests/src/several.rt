@@ -2,8 +2,9 @@
 
 use crate::fixtures::{database, package};
 use crate::runs::{outcome, run_on, words_of};
+use rpm_history::{Line, run_each};
 use rpm_outside::{MemDisk, MemShelf, MemSink};
-use rpm_tool::{Line, Outcome, Why, WordsFault, WordsKind, run_each};
+use rpm_tool::{Outcome, Why, WordsFault, WordsKind};
 use rpm_words::Words;
 use std::alloc::{AllocError, Global};
 use std::test::Fail;

@@ -1,7 +1,7 @@
 use Rattle.std.proofs.Common.{◌≡◌, true, false, refl, sym, ◌∙◌}
 use Rattle.rpm_tool.proofs.Vocabulary.{inner}
 use Rattle.rpm_tool.proofs.Page.{answered, does_plain, does_files, does_keyed, does_change, does_nothing}
-use Rattle.rpm_tool.proofs.Peeking.{leaves_none}
+use Rattle.rpm_print.specs.inner.Peeking.{leaves_none}
 use Rattle.rpm_tool.proofs.Undone.{asked_some, starved, undone_words}
 use Rattle.rpm_tool.proofs.command.command.Goals as goal
 

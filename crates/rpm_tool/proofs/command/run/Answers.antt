@@ -3,7 +3,7 @@ use Rattle.rpm_tool.proofs.Vocabulary.{closing, inner}
 use Rattle.rpm_tool.proofs.Arguments.{questions}
 use Rattle.rpm_tool.proofs.Closed.{ended, handed, counted_fault}
 use Rattle.rpm_tool.proofs.Numbered.{argument_numbers, picked_rises, whole_numbers, all_rise}
-use Rattle.rpm_tool.proofs.Printing.{inner_same}
+use Rattle.rpm_print.specs.inner.Printing.{inner_same}
 use Rattle.rpm_tool.proofs.command.run.Goals as goal
 
 pub returns-clause-unread : goal.returns-clause-unread

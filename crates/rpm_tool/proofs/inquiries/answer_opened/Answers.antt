@@ -1,10 +1,13 @@
-use Rattle.rpm_tool.proofs.Vocabulary.{Anywhere, argument_reach, check_files, inner, is_indexed, order_part, packages_in, room, shown, text_at, unsatisfied_part}
+use Rattle.rpm_tool.proofs.Vocabulary.{Anywhere, argument_reach, check_files, inner, is_indexed, order_part, packages_in, room, shown, text_at}
+use Rattle.rpm_tool.proofs.Vocabulary.{unsatisfied_part}
 use Rattle.rpm_tool.proofs.Vocabulary.{verify}
 use Rattle.std.proofs.Common.{◌≡◌, length, map, sym, ◌∙◌, arith}
-use Rattle.rpm_tool.proofs.Answering.{query_none, query_some, reaches_none, reaches_some, went_report}
-use Rattle.rpm_tool.proofs.Checked.{report_some, report_done}
-use Rattle.rpm_tool.proofs.Peeking.{peeks_packages}
-use Rattle.rpm_tool.proofs.Unbroken.{chains_none, some_none, some_went}
+use Rattle.rpm_query.specs.inner.Answering.{query_none, query_some, reaches_none, reaches_some}
+use Rattle.rpm_report.specs.inner.Reporting.{went_report}
+use Rattle.rpm_report.specs.inner.Checked.{report_some, report_done}
+use Rattle.rpm_print.specs.inner.Peeking.{peeks_packages}
+use Rattle.rpm_query.specs.inner.Unbroken.{chains_none}
+use Rattle.rpm_report.specs.inner.Reporting.{some_none, some_went}
 use Rattle.rpm_tool.proofs.inquiries.answer_opened.Goals as goal
 
 -- ---- a query, without arguments and with some

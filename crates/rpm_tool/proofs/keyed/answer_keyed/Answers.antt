@@ -1,9 +1,9 @@
 use Rattle.std.proofs.Common.{[], ap, arith}
 use Rattle.rpm_tool.proofs.Vocabulary.{Files, inner, log_state, pkg_read, reopened, shown, store, Through}
 use Rattle.rpm_tool.proofs.OpeningLaws.{leaves_peeks, runs_peeks}
-use Rattle.rpm_tool.proofs.Reaching.{through_none}
+use Rattle.rpm_print.specs.inner.Reaching.{through_none}
 use Rattle.rpm_tool.proofs.Recovered.{deeds, did_opened, did_unopened, recovered, undone_fault}
-use Rattle.rpm_tool.proofs.Regrouped.{recovering_still}
+use Rattle.rpm_commit.specs.inner.Regrouped.{recovering_still}
 use Rattle.rpm_tool.proofs.Unrecovered.{unrecovered, unrecovered_kind, unrecovered_full, unrecovered_bad, unrecovered_complete, unrecovered_undone}
 use Rattle.rpm_tool.proofs.keyed.answer_keyed.Goals as goal
 

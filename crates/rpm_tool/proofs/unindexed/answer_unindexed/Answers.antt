@@ -1,10 +1,10 @@
 use Rattle.rpm_tool.proofs.Vocabulary.{always_keyed, asked_reaches, Bearer, blocks_cost, Damage, deed_of, DidPlain, DoesBy, Files, is_indexed, looks_then}
 use Rattle.rpm_tool.proofs.Vocabulary.{no_index_rows, Opened, Pkg, pkg_read, reach_sum, reached_by, read_to, room, shown, Store, Units}
 use Rattle.std.proofs.Common.{◌≡◌, ◌+◌, ◌-◌, ◌^◌, ◌≤◌, ◌||◌, false, Result, sym, ap, ◌∙◌, subst, arith}
-use Rattle.rpm_tool.proofs.Askable.{keeps_none}
+use Rattle.rpm_print.specs.inner.Askable.{keeps_none}
 use Rattle.rpm_tool.proofs.Deeds.{does_reads}
-use Rattle.rpm_tool.proofs.Peeking.{looks_unindexed}
-use Rattle.rpm_tool.proofs.Sums.{store_by, store_sum}
+use Rattle.rpm_print.specs.inner.Peeking.{looks_unindexed}
+use Rattle.rpm_query.specs.inner.Sums.{store_by, store_sum}
 use Rattle.rpm_tool.proofs.unindexed.answer_unindexed.Goals as goal
 
 pub answer_opened-requires : goal.answer_opened-requires

@@ -1,0 +1,6 @@
+mod Coursed
+mod Ends
+mod FileReach
+mod Grouped
+mod Halting
+pub mod Vocabulary

@@ -1,0 +1,76 @@
+-- The words of proofs, from one place.
+pub use Rattle.rpm_change.specs.Adding.{add_files, IsOfPutting, replace}
+pub use Rattle.rpm_change.specs.Endings.{Done, Ended, IsOfErasing, Outputs, Through}
+pub use Rattle.rpm_change.specs.Erasing.{erase}
+pub use Rattle.rpm_change.specs.Hands.{Hand}
+pub use Rattle.rpm_change.specs.Importing.{import_list, max_headers}
+pub use Rattle.rpm_change.specs.Limits.{first_limit, first_refusal, is_large, is_spent, LimitsTurn, needed, next_stores, refusal, StopsAt}
+pub use Rattle.rpm_change.specs.Reaches.{idx_reach, pkg_reach, ReachedAnew}
+pub use Rattle.rpm_change.specs.Rebuilding.{IsOfRebuilding, rebuild}
+pub use Rattle.rpm_change.specs.Steps.{apply_all, Course, idle}
+pub use Rattle.rpm_change.specs.Turns.{IsOfImporting}
+pub use Rattle.rpm_change.specs.Went.{IsCurrent}
+pub use Rattle.rpm_change.specs.declared.tally.Halt.{Halt}
+pub use Rattle.rpm_change.specs.declared.tally.Tally.{Tally}
+pub use Rattle.rpm_change.specs.inner.Courses.{none_gone}
+pub use Rattle.rpm_change.specs.inner.LimitLaws.{makes_small, never_bad_made}
+pub use Rattle.rpm_change.specs.inner.ReachLaws.{idx_more, pkg_more, reached_anew, reached_none}
+pub use Rattle.rpm_change.specs.inner.Stores.{stores_paged}
+pub use Rattle.rpm_commit.specs.Changing.{after, AllFit, BadBy, Did, DidLoaded, DidOn, DidOpened, EmptyBy, HasCurrent, HasState, IsMade, makes}
+pub use Rattle.rpm_commit.specs.Changing.{MayBegin, RowsFit, StandsStillOr}
+pub use Rattle.rpm_commit.specs.Endings.{unless_starved, why_of_load, why_of_recover}
+pub use Rattle.rpm_commit.specs.Lawful.{AreLawfulGroups, IsLawfulGroup}
+pub use Rattle.rpm_commit.specs.Limits.{begun, command_limit, LimitsBy, LogIs, LogOn, MeetsFirst, OneChange, ReachedOn, ReachesBy, ReachesOn}
+pub use Rattle.rpm_commit.specs.Tasks.{asked_task, changes_index, is_anew, needs_none, reads_shelf, task_course, task_parts, TaskParts}
+pub use Rattle.rpm_commit.specs.Working.{done_why, ended_as, EndsGroup, exercise_ended, IsShut, OpensBy, OpensIn, Stopped, why_of, WorkedBy, WorkedOn}
+pub use Rattle.rpm_commit.specs.Working.{WorkedWith}
+pub use Rattle.rpm_commit.specs.inner.OneChange.{FoundAs, OpensOn, Streams, WorksOn}
+pub use Rattle.rpm_db.specs.Changes.{apply, Change, Says}
+pub use Rattle.rpm_db.specs.Database.{Database, holds, IsIndexed, IsNext, IsPaged, Keeps}
+pub use Rattle.rpm_db.specs.Frame.{room}
+pub use Rattle.rpm_db.specs.Lawful.{HasRows, IsLawful, Remade}
+pub use Rattle.rpm_db.specs.Openings.{must_make, units_needed}
+pub use Rattle.rpm_db.specs.PackageLaws.{is_there}
+pub use Rattle.rpm_db.specs.Room.{next_store, RoomBecomes}
+pub use Rattle.rpm_db.specs.RoomLaws.{made_paged}
+pub use Rattle.rpm_db.specs.Rows.{rows_in}
+unfoldable pub use Rattle.rpm_db.specs.Rows.{rows}
+pub use Rattle.rpm_db.specs.Running.{runs_none, runs_then}
+pub use Rattle.rpm_db.specs.Runs.{SameLog}
+pub use Rattle.rpm_db.specs.State.{Package, State, state}
+unfoldable pub use Rattle.rpm_db.specs.State.{packages}
+pub use Rattle.rpm_exercise.specs.Endings.{IsRefused, OnceBegun, Renewed}
+pub use Rattle.rpm_exercise.specs.Exercised.{exercise}
+pub use Rattle.rpm_exercise.specs.Ready.{IsStop}
+pub use Rattle.rpm_exercise.specs.declared.running.ExerciseFault.{ExerciseFault}
+pub use Rattle.rpm_exercise.specs.declared.running.ExerciseFault.TheVariants.{Halted, NotEmpty}
+pub use Rattle.rpm_group.specs.Below.{KeepsBelow}
+pub use Rattle.rpm_group.specs.Groups.{BeforeOrAfter}
+pub use Rattle.rpm_group.specs.Layers.{laid_files}
+pub use Rattle.rpm_group.specs.Loads.{IsSound}
+pub use Rattle.rpm_group.specs.Overlay.{overlay_below, overlay_held, overlay_read, overlay_starved}
+pub use Rattle.rpm_group.specs.Settled.{RecoverSays, ReopensAs, ReopensAsOneOf}
+pub use Rattle.rpm_hindex.specs.Rows.{Row}
+pub use Rattle.rpm_hindex.specs.Sizes.{doubled, units_for}
+pub use Rattle.rpm_outside.specs.Buffered.{inner}
+pub use Rattle.rpm_outside.specs.Causes.{HasCauseAt, Rose}
+pub use Rattle.rpm_outside.specs.Files.{Files, Units, with_file}
+pub use Rattle.rpm_outside.specs.Frame.{images, LeavesIn, LooksAt}
+pub use Rattle.rpm_outside.specs.Logs.{log_state, LogState, reopened, unlogged}
+pub use Rattle.rpm_outside.specs.Shelves.{bytes_at}
+pub use Rattle.rpm_outside.specs.declared.buffered.Buffered.{Buffered}
+pub use Rattle.rpm_outside.specs.declared.disk.File.{File}
+pub use Rattle.rpm_outside.specs.declared.disk.File.TheVariants.{Log}
+pub use Rattle.rpm_outside.specs.inner.Moments.{leaves_then, leaves_weaker, started}
+pub use Rattle.rpm_pkgdb.specs.Reaches.{store_end}
+pub use Rattle.rpm_pkgdb.specs.Store.{in_file, Store, store}
+pub use Rattle.rpm_pkgdb.specs.declared.slot.Damage.{Damage}
+pub use Rattle.rpm_print.specs.Answers.{why_of_halt}
+pub use Rattle.rpm_print.specs.Classes.{is_done, is_done_or_fault, is_halt, is_held, is_of_lawful, is_of_streams, IsOfOpening, IsUncommitted}
+pub use Rattle.rpm_print.specs.Frame.{DiskFault, Runs, shown, state_in}
+pub use Rattle.rpm_print.specs.declared.answer.Why.{Why}
+pub use Rattle.rpm_words.specs.Number.{number}
+pub use Rattle.rpm_words.specs.Words.{text_at}
+pub use Rattle.std.specs.List.{filter_map}
+pub use Rattle.std.specs.Option.{option_or}
+pub use Rattle.std.specs.Ordering.{nat_cmp}

@@ -1,0 +1,170 @@
+-- Commands that change packages: what each answers and leaves. A command is the course that it takes from the state that it finds. On it rest
+-- `did` and `changed` of `changes`, and `empty`, on the page (`rpm_tool`, Theorem.antt).
+use Rattle.std.specs.Prelude.{◌≡◌, ◌⊎◌, ℕ, ◌^◌, ◌<◌, ◌≤◌, [], length, Bool, true, false, Some, None, is_some, Result, Ok, Err, IfOk}
+use Rattle.std.specs.Ordering.{nat_cmp}
+use Rattle.std.specs.FinMap as finite
+use Rattle.std.specs.FinMap.{FinMap}
+use Rattle.rpm_outside.specs.declared.disk.Disk as disk
+use Rattle.rpm_outside.specs.Changes.{AreSettled}
+use Rattle.rpm_outside.specs.Files.{Units, Files}
+use Rattle.rpm_outside.specs.Frame.{images, LeavesIn}
+use Rattle.rpm_outside.specs.Logs.{LogState, Closed, Malformed, Open, log_state, reopened}
+use Rattle.rpm_pkgdb.specs.declared.slot.Damage.{Damage}
+use Rattle.rpm_pkgdb.specs.Store.{Store, store}
+use Rattle.rpm_db.specs.Changes.{Says}
+use Rattle.rpm_db.specs.Lawful.{HasRows, IsWholeIndex, is_current_at}
+use Rattle.rpm_db.specs.Openings.{must_make, units_needed}
+use Rattle.rpm_db.specs.Database.{IsNext}
+use Rattle.rpm_db.specs.State.{State, Package, state, packages}
+use Rattle.rpm_change.specs.Steps.{Course, apply_all}
+use Rattle.rpm_change.specs.Endings.{Outputs, Through, ThroughSome, StoppedWithin}
+use Rattle.rpm_print.specs.declared.answer.Why.{Why}
+use Rattle.rpm_print.specs.declared.answer.Why.TheVariants as why
+use Rattle.rpm_print.specs.Answers.{Misread, Refused}
+use Rattle.rpm_print.specs.Classes.{is_done, is_done_or_fault, is_held, is_of_lawful}
+use Rattle.rpm_commit.specs.Lawful.{IsLawfulGroup, AreLawfulGroups, StandsStill}
+
+-- ---- what a command answers
+
+-- of a database that can be read: all steps were gone through, or some, or it stopped within one
+abbrev pub Did : Course → Why → Outputs → Outputs → Type 0
+Did course why.Done old new = Through course.steps old new × (course.failed ≡ 0)
+Did course (why.Failed n) old new = Through course.steps old new × (course.failed ≡ n) × (0 < n)
+Did course (why.Usage fault) old new = ⊥
+Did course (why.BadFormat fault) old new = ⊥
+Did course (why.BadLog unit) old new = ⊥
+Did course (why.Damaged damage) old new = ⊥
+Did course (why.NotEmpty held) old new = Through [] old new
+Did course why.OutFault old new = StoppedWithin course.steps true old new
+Did course why.ErrFault old new = StoppedWithin course.steps false old new
+Did course others old new = ThroughSome course.steps old new
+
+-- of one that is damaged, that alone
+abbrev pub DidOpened : (Store → Course) → Result Store Damage → Why → Outputs → Outputs → Type 0
+DidOpened course (Ok s) given old new = Did (course s) given old new
+DidOpened course (Err damage) given old new = Refused damage given × Through [] old new
+
+-- the log is read first
+abbrev pub DidLoaded : (Store → Course) → Result Store Damage → LogState → Why → Outputs → Outputs → Type 0
+DidLoaded course s Closed given old new = DidOpened course s given old new
+DidLoaded course s (Malformed unit) given old new = Misread unit given × Through [] old new
+DidLoaded course s (Open entries) given old new = DidOpened course s given old new
+
+-- by what the files stand for
+abbrev pub DidOn : (State → Course) → Files → Why → Outputs → Outputs → Type 0
+DidOn course files given old new =
+    let r = reopened files in
+    DidLoaded (λ s. course (state r.pkg s)) (store r.pkg) (log_state files.log) given old new
+
+-- ---- what it leaves
+
+-- the files stand for this state
+abbrev pub HasState : State → Files → Type 0
+HasState s files = Says (λ t. t ≡ s) (reopened files).pkg
+
+-- the state after all changes of a course, which are one group
+abbrev pub after : (State → Course) → State → State
+after course s = apply_all (course s).changes s
+
+-- done, the group is made and counted; a fault of the disk may come before it or after it; else nothing changed
+abbrev pub LeavesState : (State → Course) → State → Why → ℕ → Files → Type 0
+LeavesState course s why.Done changes files = (changes ≡ length (course s).changes) × HasState (after course s) files
+LeavesState course s (why.Failed n) changes files = (changes ≡ length (course s).changes) × HasState (after course s) files
+LeavesState course s why.DiskFault changes files = (changes ≡ 0) × (HasState s files ⊎ HasState (after course s) files)
+LeavesState course s others changes files = (changes ≡ 0) × HasState s files
+
+-- the index is current, and holds the rows of the packages, each as often
+pub record HasCurrent (pkg idx : Units) : Type 0 where
+  pub value : Store
+  pub undamaged : store pkg ≡ Ok value
+  pub current : is_current_at value.generation idx ≡ true
+  pub rows_are : HasRows (packages pkg value) idx
+
+-- a database was made: its Packages.db isn't damaged, and has a slot page, which a blank one hasn't
+pub record IsMade (pkg : Units) : Type 0 where
+  pub value : Store
+  pub undamaged : store pkg ≡ Ok value
+  pub paged : 1 ≤ value.pages
+
+-- and nothing is left of a change
+pub record IsSealed (files : Files) : Type 0 where
+  pub closed : log_state files.log ≡ Closed
+  pub indexed : HasCurrent files.pkg files.idx
+
+-- ---- what a crash leaves
+
+-- a lawful image, which stands for the packages that one of these stands for, or for this state
+abbrev pub StandsStillOr : (Files → Type 0) → State → Files → Type 0
+StandsStillOr images s image = StandsStill images image ⊎ (IsLawfulGroup image × HasState s image)
+
+-- the rows of the packages that files stand for fit into an index
+abbrev pub RowsFit : Files → Type 0
+RowsFit files = units_needed (reopened files).pkg (store (reopened files).pkg) ≤ 2 ^ 28
+
+-- and so do those of each image
+abbrev pub AllFit : (Files → Type 0) → Type 0
+AllFit images = (image : Files) → images image → RowsFit image
+
+-- ---- limits
+
+-- the index is made where it isn't current; anew, whatever it is
+abbrev pub makes : Bool → Units → Store → Bool
+makes true idx value = true
+makes false idx value = must_make idx (Ok value)
+
+-- a command that asks for no packages finds none, or is refused with the least number; what stops it before it looks comes either way
+abbrev pub EmptyIs : FinMap nat_cmp Package → Why → Type 0
+EmptyIs packages (why.NotEmpty held) = IsNext (λ n. is_some (finite.get packages n)) 0 (Some held)
+EmptyIs packages (why.BadLog unit) = Unit {0}
+EmptyIs packages (why.Damaged damage) = Unit {0}
+EmptyIs packages (why.IndexFull needed) = Unit {0}
+EmptyIs packages why.DiskFault = Unit {0}
+EmptyIs packages why.NoMemory = Unit {0}
+EmptyIs packages others = IsNext (λ n. is_some (finite.get packages n)) 0 None
+
+-- of files whose Packages.db isn't damaged
+abbrev pub EmptyOn : Files → Why → Type 0
+EmptyOn files given = IfOk (store files.pkg) (λ value. EmptyIs (packages files.pkg value) given)
+
+-- of a command that asks for none; another is never refused so
+abbrev pub EmptyBy : Bool → Files → Why → Type 0
+EmptyBy true files given = EmptyOn files given
+EmptyBy false files given = is_held given ≡ false
+
+-- an index that is current, and isn't well formed as a whole
+pub record IsBroken (pkg idx : Units) : Type 0 where
+  pub value : Store
+  pub undamaged : store pkg ≡ Ok value
+  pub current : is_current_at value.generation idx ≡ true
+  pub broken : ¬ IsWholeIndex idx
+
+-- only a command that changes the index that it finds ever finds it bad, and only where it is broken
+abbrev pub BadBy : Bool → Units → Units → Why → Type 0
+BadBy changing pkg idx given = (unit : ℕ) → given ≡ why.BadIndex unit → (changing ≡ true) × IsBroken pkg idx
+
+-- ---- a command that changes packages
+
+-- a command that makes the index anew may begin with any index; another asks for a lawful database
+abbrev pub MayBegin : Bool → Type 0 → Type 0
+MayBegin true Lawful = Unit {0}
+MayBegin false Lawful = Lawful
+
+module _ {D : Type 0} (d : disk.Ghosts D) where
+  -- all that is said, beside what it answers, on a disk that tells its contents
+  pub record ChangesWith (anew changing : Bool) (course : State → Course) (given : Why) (changes : ℕ) (old new : D) : Type 0 where
+    pub counted : is_done given ≡ false → changes ≡ 0
+    pub leaves : IfOk (store (reopened (d.files old)).pkg)
+        (λ s. LeavesState course (state (reopened (d.files old)).pkg s) given changes (d.files new))
+    pub refused : is_done_or_fault given ≡ false → reopened (d.files new) ≡ reopened (d.files old)
+    pub made : is_done given ≡ true → IsMade (reopened (d.files new)).pkg
+    pub index : MayBegin anew (IsLawfulGroup (d.files old)) → is_done given ≡ true → IsSealed (d.files new)
+    pub settled : is_done given ≡ true → AreSettled (d.files new) (images d new)
+    pub lawful : MayBegin anew (IsLawfulGroup (d.files old)) → is_done given ≡ true → AreLawfulGroups (images d new)
+    pub bad : BadBy changing (reopened (d.files old)).pkg (reopened (d.files old)).idx given
+    pub complete : IsLawfulGroup (d.files old) → is_of_lawful given ≡ true
+    pub stops : AreLawfulGroups (images d old) → IfOk (store (reopened (d.files old)).pkg)
+        (λ s. LeavesIn d old new (StandsStillOr (images d old) (after course (state (reopened (d.files old)).pkg s))))
+    pub unmade : is_done_or_fault given ≡ false → AreLawfulGroups (images d old) → LeavesIn d old new (StandsStill (images d old))
+    pub fits : AreLawfulGroups (images d old) → AllFit (images d old) → LeavesIn d old new RowsFit
+    pub held : is_done given ≡ true → IfOk (store (reopened (d.files old)).pkg)
+        (λ s. (image : Files) → images d new image → HasState (after course (state (reopened (d.files old)).pkg s)) image)

@@ -1,0 +1,23 @@
+-- Files and images that stand for a lawful database: what the page (`rpm_tool`, Theorem.antt) calls lawful.
+use Rattle.std.specs.Prelude.{◌≡◌}
+use Rattle.rpm_outside.specs.Frame.{images}
+use Rattle.rpm_outside.specs.Files.{Files}
+use Rattle.rpm_outside.specs.Logs.{log_state, reopened}
+use Rattle.rpm_group.specs.Loads.{IsSound}
+use Rattle.rpm_db.specs.Lawful.{IsLawful}
+
+-- files that stand for a lawful database: their log is closed, or a group that makes it of them
+pub record IsLawfulGroup (files : Files) : Type 0 where
+  pub sound : IsSound (log_state files.log)
+  pub lawful : IsLawful (reopened files).pkg (reopened files).idx
+
+-- each of these images is
+abbrev pub AreLawfulGroups : (Files → Type 0) → Type 0
+AreLawfulGroups images = (image : Files) → images image → IsLawfulGroup image
+
+-- a lawful image, that stands for the packages that one of these stands for
+pub record StandsStill (images : Files → Type 0) (image : Files) : Type 0 where
+  pub from : Files
+  pub was : images from
+  pub pkg : (reopened image).pkg ≡ (reopened from).pkg
+  pub lawful : IsLawfulGroup image

@@ -1,0 +1,121 @@
+-- The limits of a command that changes packages: the first that it meets is the one that it is answered; and when the disk failed. On it rest
+-- `limits`, `log` and `fault` of `changes` on the page (`rpm_tool`, Theorem.antt).
+use Rattle.std.specs.Prelude.{◌≡◌, ◌⊎◌, ℕ, ◌^◌, ◌<◌, ◌≤◌, ◌==◌, if◌then◌else◌, max, List, length, Bool, true, false, Option, Some, None, IfOk}
+use Rattle.rpm_outside.specs.declared.disk.Disk as disk
+use Rattle.rpm_outside.specs.Files.{Units, Files}
+use Rattle.rpm_outside.specs.Frame.{images, LeavesIn}
+use Rattle.rpm_outside.specs.Logs.{reopened}
+use Rattle.rpm_hindex.specs.Sizes.{units_for}
+use Rattle.rpm_pkgdb.specs.Reaches.{store_end}
+use Rattle.rpm_pkgdb.specs.Store.{Store, store}
+use Rattle.rpm_pkgdb.specs.Written.{made_new}
+use Rattle.rpm_group.specs.Groups.{longest_log}
+use Rattle.rpm_db.specs.Changes.{Change, Says}
+use Rattle.rpm_db.specs.Rows.{rows}
+use Rattle.rpm_db.specs.State.{State, state}
+use Rattle.rpm_change.specs.declared.tally.Halt.{Halt}
+use Rattle.rpm_change.specs.declared.tally.Halt.TheVariants as halt
+use Rattle.rpm_change.specs.Endings.{Outputs, Through}
+use Rattle.rpm_change.specs.Limits.{first_refusal, first_limit}
+use Rattle.rpm_change.specs.Reaches.{pkg_reach, idx_reach}
+use Rattle.rpm_change.specs.Steps.{Course}
+use Rattle.rpm_print.specs.declared.answer.Why.{Why}
+use Rattle.rpm_print.specs.declared.answer.Why.TheVariants as why
+use Rattle.rpm_commit.specs.Lawful.{IsLawfulGroup, AreLawfulGroups, StandsStill}
+use Rattle.rpm_commit.specs.Changing.{DidOn, ChangesWith, MayBegin, makes, after}
+use Rattle.rpm_commit.specs.Tasks.{TaskParts, is_anew, changes_index}
+
+-- the store that the first change finds: where there is no database, one is made
+abbrev pub begun : Store → Store
+begun value = if value.pages == 0 then made_new value else value
+
+-- what a command is refused for first: an index that has no room, where one is made before the changes, and then what refuses the first change
+-- that is refused; where the index isn't asked, only what comes before it in a change
+abbrev pub command_limit : Bool → Bool → State → Store → List Change → Option Halt
+command_limit true made s value changes = first_limit made s value changes
+command_limit false made s value changes = first_refusal false s value changes
+
+-- a command that was done met no limit, nor one whose log is too long; one that a limit stopped met that one first, and its index isn't bad
+abbrev pub MeetsFirst : Bool → Option Halt → Why → Type 0
+MeetsFirst indexed first why.Done = first ≡ None
+MeetsFirst indexed first (why.Failed n) = first ≡ None
+MeetsFirst indexed first (why.LogFull units) = first ≡ None
+MeetsFirst indexed first why.NumbersSpent = first ≡ Some halt.NumbersSpent
+MeetsFirst indexed first why.GenerationSpent = first ≡ Some halt.GenerationSpent
+MeetsFirst indexed first why.StoreFull = first ≡ Some halt.StoreFull
+MeetsFirst indexed first (why.IndexFull told) = indexed ≡ true → first ≡ Some (halt.IndexFull told)
+MeetsFirst indexed first (why.BadIndex unit) = indexed ≡ false
+MeetsFirst indexed first others = Unit {0}
+
+-- of a course, on files whose Packages.db isn't damaged, and of a command that makes the index anew or doesn't
+abbrev pub LimitsOn : Bool → Bool → (State → Course) → Files → Why → Type 0
+LimitsOn indexed anew course files given = IfOk (store files.pkg) (λ value. MeetsFirst indexed
+    (command_limit indexed (makes anew files.idx value) (state files.pkg value) (begun value) (course (state files.pkg value)).changes) given)
+
+-- the index is asked where it is rebuilt, and where the database is lawful
+abbrev pub LimitsBy : Bool → Type 0 → (State → Course) → Files → Why → Type 0
+LimitsBy anew Lawful course files given = (indexed : Bool) → (indexed ≡ true → MayBegin anew Lawful) → LimitsOn indexed anew course files given
+
+-- ---- how far a group reaches
+
+-- no file is longer than these changes make what was found: a blank Packages.db gets its first page before them, and Hindex.db may be made
+pub record ReachedOn (indexed : Bool) (pkg idx : Units) (value : Store) (s : State) (changes : List Change) (made : Files) : Type 0 where
+  pub pkg_is : length made.pkg ≤ pkg_reach (max (length pkg) (store_end (begun value))) (begun value) changes
+  pub idx_is : indexed ≡ true → length made.idx ≤ idx_reach (max (length idx) (units_for (rows s.packages))) s changes
+
+-- of a course, on files whose Packages.db isn't damaged
+abbrev pub ReachesOn : Bool → (State → Course) → Files → Files → Type 0
+ReachesOn indexed course files made =
+    IfOk (store files.pkg) (λ value. ReachedOn indexed files.pkg files.idx value (state files.pkg value) (course (state files.pkg value)).changes made)
+
+-- the index is asked as above
+abbrev pub ReachesBy : Bool → Type 0 → (State → Course) → Files → Files → Type 0
+ReachesBy anew Lawful course files made = (indexed : Bool) → (indexed ≡ true → MayBegin anew Lawful) → ReachesOn indexed course files made
+
+-- ---- the log
+
+-- a log of so many units is refused, which no log of a group that leaves these files is longer than
+abbrev pub LogIs : Files → Why → Type 0
+LogIs made (why.LogFull needed) = (2 ^ 28 < needed) × (needed ≤ longest_log made)
+LogIs made others = Unit {0}
+
+-- of a group that leaves this state, and files that reach no further
+abbrev pub IsTooLong : ℕ → State → (Files → Type 0) → Type 0
+IsTooLong needed s Reached = (made : Files) × Says (λ t. t ≡ s) made.pkg × Reached made × (2 ^ 28 < needed) × (needed ≤ longest_log made)
+
+-- of a course, on files whose Packages.db isn't damaged
+abbrev pub LogOn : Bool → (State → Course) → Files → Why → Type 0
+LogOn indexed course files (why.LogFull needed) = IfOk (store files.pkg) (λ value. IsTooLong needed (after course (state files.pkg value))
+    (ReachedOn indexed files.pkg files.idx value (state files.pkg value) (course (state files.pkg value)).changes))
+LogOn indexed course files others = Unit {0}
+
+-- the index is asked as above
+abbrev pub LogBy : Bool → Type 0 → (State → Course) → Files → Why → Type 0
+LogBy anew Lawful course files given = (indexed : Bool) → (indexed ≡ true → MayBegin anew Lawful) → LogOn indexed course files given
+
+-- ---- a fault of the disk
+
+-- it came with the commit, or after it: all lines were told, and no change was refused
+pub record ToldAll (anew : Bool) (Lawful : Type 0) (course : State → Course) (files : Files) (before now : Outputs) : Type 0 where
+  pub told : Says (λ s. Through (course s).steps before now) files.pkg
+  pub limits : LimitsBy anew Lawful course files why.Done
+
+module _ {D : Type 0} (d : disk.Ghosts D) where
+  -- it came before the commit: nothing changed, whatever a crash leaves
+  pub record StoodStill (old new : D) : Type 0 where
+    pub same : reopened (d.files new) ≡ reopened (d.files old)
+    pub stops : AreLawfulGroups (images d old) → LeavesIn d old new (StandsStill (images d old))
+
+  -- with a fault of the disk nothing changed, or all lines were printed and no limit was met
+  abbrev pub FaultIs : Bool → (State → Course) → Why → D → D → Outputs → Outputs → Type 0
+  FaultIs anew course given old new before now = given ≡ why.DiskFault
+      → StoodStill old new ⊎ ToldAll anew (IsLawfulGroup (d.files old)) course (reopened (d.files old)) before now
+
+  -- all of a command that changes packages, as the page says it of a run: what it answers, what it leaves, which limit it is answered, when the
+  -- disk failed, and how long its log is where that is refused
+  pub record OneChange (task : TaskParts) (course : State → Course) (given : Why) (changes : ℕ) (old new : D) (before behind : Outputs) : Type 0 where
+    pub did : DidOn course (d.files old) given before behind
+    pub changed : ChangesWith d (is_anew task) (changes_index task) course given changes old new
+    pub limits : LimitsBy (is_anew task) (IsLawfulGroup (d.files old)) course (reopened (d.files old)) given
+    pub fault : FaultIs (is_anew task) course given old new before behind
+    pub log : LogBy (is_anew task) (IsLawfulGroup (d.files old)) course (reopened (d.files old)) given

@@ -1,0 +1,129 @@
+-- What a changing command does on the disk over which its changes are held, and how the group ends. No field of the page (`rpm_tool`, Theorem.antt) rests on
+-- it: so the functions below `run` say to each other what becomes `changes` there.
+use Rattle.rpm_db.specs.Frame.{room}
+use Rattle.std.specs.Prelude.{◌≡◌, ◌⊎◌, ℕ, ◌^◌, ◌<◌, ◌≤◌, ◌==◌, if◌then◌else◌, max, [], length, Bool, true, false, Result, Ok, Err, IfOk}
+use Rattle.rpm_outside.specs.declared.disk.Disk as disk
+use Rattle.rpm_outside.specs.Changes.{AreSettled}
+use Rattle.rpm_outside.specs.Files.{Units, Files}
+use Rattle.rpm_outside.specs.Frame.{images, LeavesIn}
+use Rattle.rpm_outside.specs.Logs.{Closed, log_state, unlogged}
+use Rattle.rpm_group.specs.Groups.{BeforeOrAfter}
+use Rattle.rpm_group.specs.Settled.{ReopensAs}
+use Rattle.rpm_pkgdb.specs.declared.slot.Damage.{Damage}
+use Rattle.rpm_pkgdb.specs.Reaches.{store_end}
+use Rattle.rpm_pkgdb.specs.Store.{Store, store}
+use Rattle.rpm_db.specs.Database.{Database}
+use Rattle.rpm_db.specs.Lawful.{IsLawful}
+use Rattle.rpm_db.specs.Openings.{must_make, units_needed}
+use Rattle.rpm_db.specs.State.{State, state}
+use Rattle.rpm_change.specs.declared.tally.Halt.{Halt}
+use Rattle.rpm_change.specs.declared.tally.Tally.{Tally}
+use Rattle.rpm_change.specs.Steps.{Course}
+use Rattle.rpm_change.specs.Endings.{Outputs, Through, Done}
+use Rattle.rpm_exercise.specs.declared.running.ExerciseFault.{ExerciseFault}
+use Rattle.rpm_exercise.specs.declared.running.ExerciseFault.TheVariants.{NotEmpty, Halted}
+use Rattle.rpm_print.specs.declared.answer.Why.{Why}
+use Rattle.rpm_print.specs.declared.answer.Why.TheVariants as why
+use Rattle.rpm_print.specs.Answers.{Refused, why_of_halt}
+use Rattle.rpm_commit.specs.Changing.{Did, BadBy, MayBegin, HasCurrent, IsMade}
+use Rattle.rpm_print.specs.Classes.{is_done, is_done_or_fault, IsUncommitted}
+use Rattle.rpm_commit.specs.Limits.{ReachesBy}
+
+-- ---- opening
+
+-- the state that is found, with room for an index that must be made; or why it isn't opened
+abbrev pub OpensIn : Bool → ℕ → State → Files → Result Database Why → Type 0
+OpensIn making needed s new (Ok db) = (state new.pkg (room db) ≡ s) × (making ≡ true → needed ≤ 2 ^ 28)
+OpensIn making needed s new (Err (why.IndexFull told)) = (making ≡ true) × (2 ^ 28 < needed) × (told ≡ needed)
+OpensIn making needed s new (Err why.DiskFault) = Unit {0}
+OpensIn making needed s new (Err why.NoMemory) = Unit {0}
+OpensIn making needed s new (Err others) = ⊥
+
+-- of these files, whose store is this
+abbrev pub OpensBy : Files → Result Store Damage → Files → Result Database Why → Type 0
+OpensBy old (Ok s) new result = OpensIn (must_make old.idx (Ok s)) (units_needed old.pkg (Ok s)) (state old.pkg s) new result
+OpensBy old (Err damage) new (Ok db) = ⊥
+OpensBy old (Err damage) new (Err given) = Refused damage given
+
+-- no file is longer than what is found of this store, the store that is opened, or the index that may be made
+pub record OpensWithin (old : Files) (value : Store) (db : Database) (new : Files) : Type 0 where
+  pub pkg : length new.pkg ≤ max (length old.pkg) (store_end (room db))
+  pub idx : length new.idx ≤ max (length old.idx) (units_needed old.pkg (Ok value))
+
+-- the answer of a command for each fault of the exercise
+abbrev pub why_of_exercise : ExerciseFault → Why
+why_of_exercise (NotEmpty held) = why.NotEmpty held
+why_of_exercise (Halted halt) = why_of_halt halt
+
+-- how a command ended whose course did so
+abbrev pub ended_as : Result Tally Halt → Result Tally Why
+ended_as (Ok tally) = Ok tally
+ended_as (Err halt) = Err (why_of_halt halt)
+
+-- and one whose exercise did
+abbrev pub exercise_ended : Result Tally ExerciseFault → Result Tally Why
+exercise_ended (Ok tally) = Ok tally
+exercise_ended (Err fault) = Err (why_of_exercise fault)
+
+-- ---- from the opening to the last change
+
+-- stopped before its end; nothing was committed yet
+abbrev pub Stopped : Course → Why → Outputs → Outputs → Type 0
+Stopped course why.Done old new = ⊥
+Stopped course (why.Failed n) old new = ⊥
+Stopped course (why.LogFull units) old new = ⊥
+Stopped course given old new = Did course given old new
+
+-- all was done, and these files have the state after it; or it was stopped
+abbrev pub WorkedOn : Course → State → Files → Result Tally Why → Outputs → Outputs → Type 0
+WorkedOn course s new (Ok tally) before now = (value : Store) × (store new.pkg ≡ Ok value) × Done course s (state new.pkg value) tally before now
+WorkedOn course s new (Err given) before now = Stopped course given before now
+
+-- a damaged store is reported, on any other the course was worked as far as it was
+abbrev pub WorkedBy : (State → Course) → Units → Result Store Damage → Files → Result Tally Why → Outputs → Outputs → Type 0
+WorkedBy course pkg (Ok s) new ended before now = WorkedOn (course (state pkg s)) (state pkg s) new ended before now
+WorkedBy course pkg (Err damage) new (Ok tally) before now = ⊥
+WorkedBy course pkg (Err damage) new (Err given) before now = Refused damage given × Through [] before now
+
+-- done, of which so many arguments failed
+abbrev pub done_why : ℕ → Why
+done_why n = if n == 0 then why.Done else why.Failed n
+
+-- the answer of a command that changes, from how its work ended
+abbrev pub why_of : Result Tally Why → Why
+why_of (Ok tally) = done_why tally.failed
+why_of (Err given) = given
+
+-- from these files to those, of a command that makes the index anew or doesn't, and that changes the one that it finds or doesn't
+pub record WorkedWith (anew changing : Bool) (course : State → Course) (old new : Files) (ended : Result Tally Why) (before now : Outputs) : Type 0 where
+  pub went : WorkedBy course old.pkg (store old.pkg) new ended before now
+  pub bad : BadBy changing old.pkg old.idx (why_of ended)
+  pub made : IfOk ended (λ tally. IsMade new.pkg)
+  pub index : MayBegin anew (IsLawful old.pkg old.idx) → IfOk ended (λ tally. HasCurrent new.pkg new.idx)
+  pub reached : IfOk ended (λ tally. ReachesBy anew (IsLawful old.pkg old.idx) course old new)
+
+-- ---- how the group ends
+
+-- the changes count where they are committed; a fault of the disk is want of memory where a write found none
+abbrev pub EndsAs : Result Tally Why → Why → ℕ → Type 0
+EndsAs (Ok tally) given changes = ((given ≡ done_why tally.failed) × (changes ≡ tally.changes)) ⊎ ((changes ≡ 0) × IsUncommitted given)
+EndsAs (Err was) given changes = (changes ≡ 0) × ((given ≡ was) ⊎ ((was ≡ why.DiskFault) × (given ≡ why.NoMemory)))
+
+-- what a crash leaves meanwhile: the files before, or those after a group whose changes were all made
+abbrev pub GroupLeaves : Result Tally Why → Files → Files → Files → Type 0
+GroupLeaves (Ok tally) before after = BeforeOrAfter before after
+GroupLeaves (Err given) before after = ReopensAs before
+
+module _ {D : Type 0} (d : disk.Ghosts D) where
+  -- its log is closed, and no stop from now on leaves other files
+  pub record IsShut (it : D) : Type 0 where
+    pub closed : log_state (d.files it).log ≡ Closed
+    pub settled : AreSettled (d.files it) (images d it)
+
+  -- the group that makes these files of the disk's
+  pub record EndsGroup (ended : Result Tally Why) (given : Why) (changes : ℕ) (after : Files) (old new : D) : Type 0 where
+    pub says : EndsAs ended given changes
+    pub done : is_done given ≡ true → unlogged (d.files new) ≡ after
+    pub shut : is_done given ≡ true → IsShut new
+    pub leaves : LeavesIn d old new (GroupLeaves ended (unlogged (d.files old)) after)
+    pub unmade : is_done_or_fault given ≡ false → LeavesIn d old new (ReopensAs (unlogged (d.files old)))

@@ -1,0 +1,55 @@
+-- What a crash leaves meanwhile of a disk that stands for what it stood for.
+use Rattle.std.proofs.Common.{◌≡◌, ℕ, ◌^◌, ◌≤◌, sym, ap, subst, inl, arith}
+use Rattle.rpm_outside.specs.declared.disk.Disk as disk
+use Rattle.rpm_db.specs.Lawful.{IsLawful}
+use Rattle.rpm_group.specs.Settled.{ReopensAsOneOf}
+use Rattle.rpm_outside.specs.Files.{Files, Units}
+use Rattle.rpm_outside.specs.Frame.{images, LeavesIn}
+use Rattle.rpm_outside.specs.inner.Moments.{leaves_weaker}
+use Rattle.rpm_commit.specs.Changing.{AllFit, RowsFit, StandsStillOr}
+use Rattle.rpm_commit.specs.Lawful.{AreLawfulGroups, StandsStill}
+use Rattle.rpm_db.specs.Openings.{units_needed}
+use Rattle.rpm_db.specs.State.{State}
+use Rattle.rpm_pkgdb.specs.Store.{store}
+
+-- an image stands still that stands for what one of these stands for
+pub recovered_still : (images : Files → Type 0) → AreLawfulGroups images → (image : Files) → ReopensAsOneOf images image → StandsStill images image
+recovered_still images lawful image (from, was, stands) = record {
+  from = from;
+  was = was;
+  pkg = ap (λ (f : Files). f.pkg) stands.same;
+  lawful = record {
+    sound = stands.sound (lawful from was).sound;
+    lawful = subst (λ (f : Files). IsLawful f.pkg f.idx) (sym stands.same) (lawful from was).lawful;
+  };
+}
+
+-- the rows of one that stands still fit where those of each do
+pub still_fits : (images : Files → Type 0) → AllFit images → (image : Files) → StandsStill images image → RowsFit image
+still_fits images fit image still = subst (λ (pkg : Units). units_needed pkg (store pkg) ≤ 2 ^ 28) (sym still.pkg) (fit still.from still.was)
+
+pub recovered_fits : (images : Files → Type 0) → AllFit images → (image : Files) → ReopensAsOneOf images image → RowsFit image
+recovered_fits images fit image (from, was, stands) =
+    subst (λ (f : Files). units_needed f.pkg (store f.pkg) ≤ 2 ^ 28) (sym stands.same) (fit from was)
+
+module _ {D : Type 0} (d : disk.Ghosts D) (old mid : D) where
+  -- calls that leave no image more
+  pub leaves_on : (last : D) (P : Files → Type 0) → d.moment last ≡ d.moment mid
+      → ((t : ℕ) (image : Files) → d.left_since last t image → d.left_since mid t image) → LeavesIn d old mid P → LeavesIn d old last P
+  leaves_on last P stays back run = record {
+    later = omega (arith, run.later, stays);
+    each = λ image left. run.each image (back (d.moment old) image left);
+    before = λ t image le left. run.before t image le (back t image left);
+  }
+
+  module _ (run : LeavesIn d old mid (ReopensAsOneOf (images d old))) where
+    pub recovering_still : AreLawfulGroups (images d old) → LeavesIn d old mid (StandsStill (images d old))
+    recovering_still lawful = leaves_weaker d old mid (ReopensAsOneOf (images d old)) (StandsStill (images d old))
+        (recovered_still (images d old) lawful) run
+
+    pub recovering : AreLawfulGroups (images d old) → (s : State) → LeavesIn d old mid (StandsStillOr (images d old) s)
+    recovering lawful s = leaves_weaker d old mid (StandsStill (images d old)) (StandsStillOr (images d old) s)
+        (λ image still. inl still) (recovering_still lawful)
+
+    pub recovering_fits : AllFit (images d old) → LeavesIn d old mid RowsFit
+    recovering_fits fit = leaves_weaker d old mid (ReopensAsOneOf (images d old)) RowsFit (recovered_fits (images d old) fit) run

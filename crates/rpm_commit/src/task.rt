@@ -1,0 +1,108 @@
+//! What a command changes, by its words.
+
+ghost use Rattle.std.specs.Prelude.{◌≡◌, ℕ, ◌+◌, ◌<◌, ◌≤◌, ◌^◌, [], ◌∷◌, ◌++◌, length, map, IfOk, OnOk};
+ghost use Rattle.rpm_commit.specs.Prelude.{asked_task, filter_map, is_changing, IsCountable, IsSound, number, numbers_asked, replacing, task_parts, text_at};
+
+use rpm_words::{Ask, Mode, Words, number_of};
+use std::alloc::{AllocError, Global};
+
+/// What a command changes, with what it is asked.
+#[derive(Debug, Drop)]
+pub enum Task<'a> {
+    /// It makes a database where there is none.
+    Make,
+    /// It adds the package files under these paths.
+    Add(Vec<&'a str>),
+    /// It puts the package file under a path in place of a number's package.
+    Replace { number: u32, path: &'a str },
+    /// It erases the packages of these numbers.
+    Erase(Vec<u32>),
+    /// It adds the headers of the list on the standard input.
+    Import,
+    /// It makes the index anew, and drops the packages that can't be read.
+    Rebuild,
+    /// It makes the exercise of so many headers, where there are no packages.
+    Exercise(u32),
+}
+
+/// Whether a command changes packages, or makes the database.
+pub fn is_changing(ask: &Ask) -> bool
+    ensures { result ≡ is_changing ask.now }
+{
+    match ask.mode() {
+        Mode::Addpkg | Mode::Replacepkg | Mode::Erasepkg => true,
+        Mode::Initdb | Mode::Rebuilddb | Mode::Importdb | Mode::Exercise(_) => true,
+        _ => false,
+    }
+}
+
+/// Puts the number after the others that a text is, where it is one.
+fn push_number(numbers: &mut Vec<u32>, text: &str) -> Result<(), AllocError>
+    ensures items { OnOk result (numbers.new.items ≡ numbers.old.items ++ filter_map number (text.now ∷ [])) }
+    ensures few { OnOk result (length numbers.new.items ≤ length numbers.old.items + 1) }
+{
+    match number_of(text) {
+        Some(number) => {
+            numbers.push(number)?;
+            Ok(())
+        }
+        None => Ok(()),
+    }
+}
+
+/// The arguments that are numbers: all, where the words break no rule.
+fn numbers_of(alloc: Global, words: &Words, ask: &Ask) -> Result<Vec<u32>, AllocError>
+    ensures numbers { IfOk result (λ v. v.items ≡ numbers_asked words.now ask.now) }
+    ensures few { IfOk result (λ v. length v.items < 2 ^ 32) }
+{
+    let mut numbers = Vec::new(alloc);
+    for k in 0..ask.arguments() {
+        push_number(&mut numbers, words.text_at(ask.argument(k)))?;
+    }
+    Ok(numbers)
+}
+
+/// The texts of the arguments.
+fn texts_of<'a>(alloc: Global, words: &'a Words, ask: &Ask) -> Result<Vec<&'a str>, AllocError>
+    ensures texts { IfOk result (λ v. map (λ text. text.now) v.items ≡ map (text_at words.now) ask.now.arguments) }
+    ensures few { IfOk result (λ v. length v.items < 2 ^ 32) }
+{
+    let mut texts = Vec::new(alloc);
+    for k in 0..ask.arguments() {
+        texts.push(words.text_at(ask.argument(k)))?;
+    }
+    Ok(texts)
+}
+
+/// Puts the package file that the second argument names in place of the package of the first, a number, where the
+/// words break no rule.
+fn replacing_of<'a>(words: &'a Words, ask: &Ask) -> Task<'a>
+    ensures asked { task_parts result ≡ replacing words.now ask.now.arguments }
+    ensures countable { IsCountable (task_parts result) }
+{
+    if ask.arguments() != 2 {
+        return Task::Make;
+    }
+    let number = number_of(words.text_at(ask.argument(0))).unwrap_or(0);
+    Task::Replace {
+        number,
+        path: words.text_at(ask.argument(1)),
+    }
+}
+
+/// What a command changes that changes anything.
+pub fn task_of<'a>(alloc: Global, words: &'a Words, ask: &Ask) -> Result<Task<'a>, AllocError>
+    requires sound { IsSound words.now ask.now }
+    ensures asked { IfOk result (λ task. task_parts task ≡ asked_task words.now ask.now) }
+    ensures countable { IfOk result (λ task. IsCountable (task_parts task)) }
+{
+    match ask.mode() {
+        Mode::Addpkg => Ok(Task::Add(texts_of(alloc, words, ask)?)),
+        Mode::Replacepkg => Ok(replacing_of(words, ask)),
+        Mode::Erasepkg => Ok(Task::Erase(numbers_of(alloc, words, ask)?)),
+        Mode::Importdb => Ok(Task::Import),
+        Mode::Rebuilddb => Ok(Task::Rebuild),
+        Mode::Exercise(headers) => Ok(Task::Exercise(headers)),
+        _ => Ok(Task::Make),
+    }
+}

@@ -1,0 +1,177 @@
+-- Command lines one after the other, each as `run` does it: the states to which they lead, and the numbers that they give.
+use Rattle.std.proofs.Common.{◌≡◌, ℕ, ◌≤◌, Bool, true, List, [], ◌∷◌, ◌++◌, refl, sym, ap, ◌∙◌, subst, inl, inr, ⊎_elim, arith}
+use Rattle.std.specs.Prelude.{IsTrue}
+use Rattle.std.proofs.lemmas.List.{append-nil}
+use Rattle.rpm_history.proofs.Vocabulary.{after, AllFit, AllStand, AreLawfulGroups, asks, Between, ChangesWith, Course, course_of, Cuts, Files, FromOneOf}
+use Rattle.rpm_history.proofs.Vocabulary.{given_on, HasState, images, InTurn, is_done, Leads, leaves_then, leaves_weaker, LeavesIn, LeavesState, LineIs, Moves}
+use Rattle.rpm_history.proofs.Vocabulary.{Paths, reopened, RowsFit, RunCall, Says, StandsIn, started, State, state, store, TellsCalls, Units, Why}
+use Rattle.rpm_commit.specs.inner.Brokens.{by_bool}
+use Rattle.rpm_history.proofs.Fitting.{course_fits}
+use Rattle.rpm_history.proofs.Histories.{Cut, cut_stands, line_fits, LineDoes, Next, next_all, stands_weaker, moves_nothing}
+use Rattle.rpm_history.proofs.Lined.{from_itself, from_one, line_does}
+use Rattle.rpm_history.proofs.Numbering.{Numbered, numbered_made, numbered_moved, given_nothing, given_undone, given_done}
+use Rattle.rpm_commit.specs.inner.Standing.{if_ok_at}
+use Rattle.rpm_outside.specs.declared.disk.Disk as disk
+use Rattle.rpm_print.specs.declared.answer.Why.TheVariants as why
+
+-- one more
+pub in_turn_more : {X : Type 0} (Each : RunCall → X → X → Type 0) (calls : List RunCall) (call : RunCall) (old mid new : X) → InTurn Each calls old mid
+    → Each call mid new → InTurn Each (calls ++ call ∷ []) old new
+in_turn_more Each [] call old mid new same last = (new, subst (λ x. Each call x new) same last, refl)
+in_turn_more Each (c ∷ calls) call old mid new (x, first, rest) last = (x, first, in_turn_more Each calls call x mid new rest last)
+
+module _ {D : Type 0} (d : disk.Ghosts D) (told : IsTrue d.tells) (shelf : Bool) (paths : Paths)
+    (as_read : (it : D) → d.left_since it (d.moment it) (d.files it))
+    (earlier : (it : D) (s t : ℕ) (image : Files) → s ≤ t → t ≤ d.moment it → d.left_since it t image → d.left_since it s image) where
+  abbrev Lines : List RunCall → Between D → Between D → Type 0
+  Lines = InTurn (LineIs d shelf paths)
+
+  abbrev course_in : RunCall → State → Course
+  course_in call = course_of paths call.moment call.words (asks call.words)
+
+  -- ---- the states
+
+  abbrev LeadsFrom : (State → Type 0) → List RunCall → State → Type 0
+  LeadsFrom P calls t = (s : State) × P s × Leads paths calls s t
+
+  abbrev CutsFrom : (State → Type 0) → List RunCall → State → Type 0
+  CutsFrom P calls t = (s : State) × P s × Cuts paths calls s t
+
+  -- after them, within them, and that the rows fit meanwhile
+  abbrev Led : (State → Type 0) → List RunCall → D → D → Type 0
+  Led P calls old new = AllStand (LeadsFrom P calls) (images d new) × LeavesIn d old new (StandsIn (CutsFrom P calls))
+      × (AllFit (images d old) → LeavesIn d old new RowsFit)
+
+  lines_led : (calls : List RunCall) (old new : Between D) → TellsCalls shelf calls → Lines calls old new → (P : State → Type 0)
+      → AllStand P (images d old.disk) → Led P calls old.disk new.disk
+  lines_led [] old new tells same P all =
+      let itself : (image : Files) → images d old.disk image → StandsIn (λ t. (s : State) × P s × (t ≡ s)) image =
+      λ image left. stands_weaker P (λ t. (s : State) × P s × (t ≡ s)) image (λ t p. (t, p, refl)) (all image left) in
+      subst (λ (b : Between D). Led P [] old.disk b.disk) (sym same) (
+        itself,
+        started d old.disk (StandsIn (CutsFrom P [])) itself,
+        started d old.disk RowsFit,
+      )
+  lines_led (call ∷ calls) old new tells (mid, line, rest) P all =
+      let does = line_does d told shelf paths call old mid tells.0 line in
+      let given = call.outcome.why in
+      let n = call.outcome.changes in
+      let P1 : State → Type 0 = Next (course_in call) given P in
+      let Q : Files → Type 0 = StandsIn (CutsFrom P (call ∷ calls)) in
+      let here = as_read old.disk in
+      let later = lines_led calls mid new tells.1 rest P1
+      (next_all d (course_in call) given n old.disk mid.disk P all here (earlier mid.disk) does) in (
+        λ image left. stands_weaker (LeadsFrom P1 calls) (LeadsFrom P (call ∷ calls)) image
+            (λ t how. (how.1.0, how.1.1, (how.0, how.1.2, how.2))) (later.0 image left),
+        leaves_then d old.disk mid.disk new.disk Q
+            (leaves_weaker d old.disk mid.disk (StandsIn (Cut (course_in call) P)) Q
+            (λ image. stands_weaker (Cut (course_in call) P) (CutsFrom P (call ∷ calls)) image
+            (λ t how. (how.0, how.1, ⊎_elim (λ same. inl same) (λ made. inr (inl made)) how.2)))
+            (cut_stands d (course_in call) given n old.disk mid.disk P all here does))
+            (leaves_weaker d mid.disk new.disk (StandsIn (CutsFrom P1 calls)) Q
+            (λ image. stands_weaker (CutsFrom P1 calls) (CutsFrom P (call ∷ calls)) image
+            (λ t how. (how.1.0, how.1.1, inr (inr (how.0, how.1.2, how.2))))) later.1),
+        λ fit.
+            let so_far = line_fits d (course_in call) given n old.disk mid.disk P all here does fit in
+            leaves_then d old.disk mid.disk new.disk RowsFit so_far (later.2 (λ image left. so_far.each image
+            (earlier mid.disk (d.moment old.disk) (d.moment mid.disk) image so_far.later (omega arith) left))),
+      )
+
+  -- from the images at first
+  pub lines_stand : (calls : List RunCall) (old new : Between D) → TellsCalls shelf calls → Lines calls old new → AreLawfulGroups (images d old.disk)
+      → AllStand (FromOneOf (images d old.disk) (Leads paths calls)) (images d new.disk)
+      × LeavesIn d old.disk new.disk (StandsIn (FromOneOf (images d old.disk) (Cuts paths calls)))
+      × (AllFit (images d old.disk) → LeavesIn d old.disk new.disk RowsFit)
+  lines_stand calls old new tells lines lawful =
+      let at = images d old.disk in
+      let P : State → Type 0 = FromOneOf at (λ s t. t ≡ s) in
+      let led = lines_led calls old new tells lines P (λ image left. from_itself at (λ s t. t ≡ s) (λ s. refl) image left (lawful image left)) in (
+        λ image left. stands_weaker (LeadsFrom P calls) (FromOneOf at (Leads paths calls)) image (from_one at (Leads paths calls)) (led.0 image left),
+        leaves_weaker d old.disk new.disk (StandsIn (CutsFrom P calls)) (StandsIn (FromOneOf at (Cuts paths calls)))
+            (λ image. stands_weaker (CutsFrom P calls) (FromOneOf at (Cuts paths calls)) image (from_one at (Cuts paths calls))) led.1,
+        led.2,
+      )
+
+  -- ---- the numbers
+
+  module _ (call : RunCall) (old new : Between D) (line : LineIs d shelf paths call old new) (from : ℕ)
+      (all : AllStand (Numbered from old.given) (images d old.disk)) where
+    abbrev course : State → Course
+    course = course_in call
+
+    abbrev Rise : List ℕ → Type 0
+    Rise ns = AllStand (Numbered from ns) (images d new.disk)
+
+    -- where it gave none
+    kept : AllStand (Next course call.outcome.why (Numbered from old.given)) (images d new.disk)
+        → given_on course (d.files old.disk) call.outcome.why ≡ [] → Rise new.given
+    kept next none = subst Rise
+        (sym (line.gives ∙ ap (λ (ns : List ℕ). old.given ++ ns) none ∙ append-nil old.given))
+        (λ image left. stands_weaker (Next course call.outcome.why (Numbered from old.given)) (Numbered from old.given) image
+        (λ t how. numbered_moved course (course_fits paths call.moment call.words (asks call.words)) from old.given call.outcome.why how.0 t how.1 how.2)
+        (next image left))
+
+    -- where it was done, and changed packages
+    made : AllStand (Next course call.outcome.why (Numbered from old.given)) (images d new.disk) → {anew changing : Bool}
+        → ChangesWith d anew changing course call.outcome.why call.outcome.changes old.disk new.disk → is_done call.outcome.why ≡ true → Rise new.given
+    made next did done image left =
+        let first : Says (Numbered from old.given) (reopened (d.files old.disk)).pkg = (all (d.files old.disk) (as_read old.disk)).says in
+        let s0 = state (reopened (d.files old.disk)).pkg first.value in
+        let has : HasState (after course s0) image =
+        if_ok_at _ (store (reopened (d.files old.disk)).pkg) first.value first.undamaged (did.held done) image left in
+        record {
+          lawful = (next image left).lawful;
+          says = record {
+            value = has.value;
+            undamaged = has.undamaged;
+            is = subst (λ (s : State). Numbered from new.given s) (sym has.is)
+                (subst (λ (ns : List ℕ). Numbered from ns (after course s0)) (sym (line.gives ∙ ap (λ (ns : List ℕ). old.given ++ ns)
+                (given_done course (d.files old.disk) call.outcome.why first.value first.undamaged done)))
+                (numbered_made course (course_fits paths call.moment call.words (asks call.words)) from old.given s0 first.is));
+          };
+        }
+
+    line_rises : LineDoes d course call.outcome.why call.outcome.changes old.disk new.disk → Rise new.given
+    line_rises does = rises does
+        (next_all d course call.outcome.why call.outcome.changes old.disk new.disk (Numbered from old.given) all (as_read old.disk) (earlier new.disk) does)
+      where
+        rises : LineDoes d course call.outcome.why call.outcome.changes old.disk new.disk
+            → AllStand (Next course call.outcome.why (Numbered from old.given)) (images d new.disk) → Rise new.given
+        rises (inl stood) next = kept next (given_nothing course stood.nothing (d.files old.disk) call.outcome.why)
+        rises (inr (anew, changing, did)) next = by_bool (is_done call.outcome.why) (made next did)
+            (λ undone. kept next (given_undone course (d.files old.disk) call.outcome.why undone))
+
+  pub lines_rise : (calls : List RunCall) (old new : Between D) (from : ℕ) → TellsCalls shelf calls → Lines calls old new
+      → AllStand (Numbered from old.given) (images d old.disk) → AllStand (Numbered from new.given) (images d new.disk)
+  lines_rise [] old new from tells same all = subst (λ (b : Between D). AllStand (Numbered from b.given) (images d b.disk)) (sym same) all
+  lines_rise (call ∷ calls) old new from tells (mid, line, rest) all = lines_rise calls mid new from tells.1 rest
+      (line_rises call old mid line from all (line_does d told shelf paths call old mid tells.0 line))
+
+-- the files stand for a state to which the line moves
+abbrev Stands : Why → State → State → Files → Type 0
+Stands w made s files = (t : State) × HasState t files × Moves w made s t
+
+module _ (course : State → Course) (s : State) (n : ℕ) (files : Files) where
+  left_moves : (w : Why) → LeavesState course s w n files → Stands w (after course s) s files
+  left_moves why.Done left = (after course s, left.1, refl)
+  left_moves (why.Failed k) left = (after course s, left.1, refl)
+  left_moves why.DiskFault left = ⊎_elim (λ was. (s, was, inl refl)) (λ made. (after course s, made, inr refl)) left.1
+  left_moves others left = (s, left.1, refl)
+
+module _ {D : Type 0} (d : disk.Ghosts D) where
+  line_moves : (course : State → Course) (given : Why) (n : ℕ) (old new : D) (s : State) → HasState s (d.files old) → LineDoes d course given n old new
+      → Stands given (after course s) s (d.files new)
+  line_moves course given n old new s has (inl stood) =
+      (s, subst (λ (pkg : Units). Says (λ t. t ≡ s) pkg) (sym stood.pkg) has, moves_nothing course stood.nothing given s)
+  line_moves course given n old new s has (inr (anew, changing, did)) = left_moves course s n (d.files new) given
+      (subst (λ (t : State). LeavesState course t given n (d.files new)) has.is
+      (if_ok_at _ (store (reopened (d.files old)).pkg) has.value has.undamaged did.leaves))
+
+  pub lines_lead : (told : IsTrue d.tells) (shelf : Bool) (paths : Paths) (calls : List RunCall) (old new : Between D) → TellsCalls shelf calls
+      → InTurn (LineIs d shelf paths) calls old new → (s : State) → HasState s (d.files old.disk)
+      → (t : State) × HasState t (d.files new.disk) × Leads paths calls s t
+  lines_lead told shelf paths [] old new tells same s has = (s, subst (λ (b : Between D). HasState s (d.files b.disk)) (sym same) has, refl)
+  lines_lead told shelf paths (call ∷ calls) old new tells (mid, line, rest) s has =
+      let first = line_moves _ _ _ old.disk mid.disk s has (line_does d told shelf paths call old mid tells.0 line) in
+      let later = lines_lead told shelf paths calls mid new tells.1 rest first.0 first.1 in
+      (later.0, later.1, (first.0, first.2, later.2))

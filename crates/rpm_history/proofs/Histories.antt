@@ -1,0 +1,139 @@
+-- One command line more: what the database stands for after it, given what it stood for before.
+use Rattle.std.proofs.Common.{◌≡◌, ◌⊎◌, ℕ, ◌≤◌, Bool, false, refl, sym, ap, subst, inl, inr, ⊎_elim, arith, true}
+use Rattle.rpm_history.proofs.Vocabulary.{after, AllFit, AllStand, apply_all, AreLawfulGroups, ChangesWith, Course, Files, HasState, idle, images, is_done}
+use Rattle.rpm_history.proofs.Vocabulary.{is_done_or_fault, leaves_weaker, LeavesIn, Moves, reopened, RowsFit, Says, StandsIn, StandsStill, StandsStillOr}
+use Rattle.rpm_history.proofs.Vocabulary.{State}
+use Rattle.rpm_history.proofs.Vocabulary.{state, store, Units, Why}
+use Rattle.rpm_commit.specs.inner.Brokens.{by_bool}
+use Rattle.rpm_commit.specs.inner.Regrouped.{still_fits}
+use Rattle.rpm_commit.specs.inner.Standing.{if_ok_at}
+use Rattle.rpm_outside.specs.declared.disk.Disk as disk
+use Rattle.rpm_print.specs.declared.answer.Why.TheVariants as why
+
+-- made, or made where the disk failed; left as it was, unless it was done; and nothing else
+pub moves_are : (w : Why) (s made : State) → (is_done w ≡ true → Moves w made s made) × (is_done_or_fault w ≡ true → Moves w made s made)
+    × (is_done w ≡ false → Moves w made s s) × ((t : State) → Moves w made s t → (t ≡ s) ⊎ (t ≡ made))
+moves_are why.Done s made = (λ is. refl, λ is. refl, λ is. absurd cc, λ t is. inr is)
+moves_are (why.Failed n) s made = (λ is. refl, λ is. refl, λ is. absurd cc, λ t is. inr is)
+moves_are why.DiskFault s made = (λ is. absurd cc, λ is. inr refl, λ is. inl refl, λ t is. is)
+moves_are others s made = (λ is. absurd cc, λ is. absurd cc, λ is. refl, λ t is. inl is)
+
+-- nothing to make
+pub moves_idle : (w : Why) (s : State) → Moves w s s s
+moves_idle w s = by_bool (is_done w) (moves_are w s s).0 (moves_are w s s).2
+
+-- ---- what images stand for
+
+pub says_weaker : (P Q : State → Type 0) (pkg : Units) → ((s : State) → P s → Q s) → Says P pkg → Says Q pkg
+says_weaker P Q pkg weaker says = record { value = says.value; undamaged = says.undamaged; is = weaker (state pkg says.value) says.is }
+
+pub stands_weaker : (P Q : State → Type 0) (image : Files) → ((s : State) → P s → Q s) → StandsIn P image → StandsIn Q image
+stands_weaker P Q image weaker stands = record { lawful = stands.lawful; says = says_weaker P Q (reopened image).pkg weaker stands.says }
+
+-- an image that stands still stands for a state of before
+still_stands : (P : State → Type 0) (images : Files → Type 0) (image : Files) → AllStand P images → StandsStill images image → StandsIn P image
+still_stands P images image all still = record {
+  lawful = still.lawful;
+  says = subst (λ (pkg : Units). Says P pkg) (sym still.pkg) (all still.from still.was).says;
+}
+
+-- ---- what a line did
+
+-- nothing: the packages stay, whatever stops it
+pub record Stood {D : Type 0} (d : disk.Ghosts D) (course : State → Course) (old new : D) : Type 0 where
+  pub nothing : (s : State) → course s ≡ idle
+  pub pkg : (reopened (d.files new)).pkg ≡ (reopened (d.files old)).pkg
+  pub stops : AreLawfulGroups (images d old) → LeavesIn d old new (StandsStill (images d old))
+
+-- or its course changed them
+abbrev pub LineDoes : {D : Type 0} (d : disk.Ghosts D) → (State → Course) → Why → ℕ → D → D → Type 0
+LineDoes d course given n old new = Stood d course old new ⊎ ((anew changing : Bool) × ChangesWith d anew changing course given n old new)
+
+pub moves_nothing : (course : State → Course) → ((s : State) → course s ≡ idle) → (given : Why) (s : State) → Moves given (after course s) s s
+moves_nothing course nothing given s =
+    subst (λ (u : State). Moves given u s s) (sym (ap (λ (c : Course). apply_all c.changes s) (nothing s))) (moves_idle given s)
+
+-- the states after it, from one of these
+abbrev pub Next : (State → Course) → Why → (State → Type 0) → State → Type 0
+Next course given P t = (m : State) × P m × Moves given (after course m) m t
+
+-- and those that a crash within it leaves
+abbrev pub Cut : (State → Course) → (State → Type 0) → State → Type 0
+Cut course P t = (m : State) × P m × ((t ≡ m) ⊎ (t ≡ after course m))
+
+module _ {D : Type 0} (d : disk.Ghosts D) (course : State → Course) (given : Why) (n : ℕ) (old new : D) (P : State → Type 0)
+    (all : AllStand P (images d old)) (here : images d old (d.files old)) where
+  abbrev past : Files → Type 0
+  past = images d old
+
+  abbrev Behind : Files → Type 0
+  Behind = StandsIn (Next course given P)
+
+  lawful : AreLawfulGroups past
+  lawful image is = (all image is).lawful
+
+  same_next : ((t : State) → Moves given (after course t) t t) → (image : Files) → StandsStill past image → Behind image
+  same_next moves image still = stands_weaker P (Next course given P) image (λ t p. (t, p, moves t)) (still_stands P past image all still)
+
+  same_cut : (image : Files) → StandsStill past image → StandsIn (Cut course P) image
+  same_cut image still = stands_weaker P (Cut course P) image (λ t p. (t, p, inl refl)) (still_stands P past image all still)
+
+  -- ---- a command that changes packages
+
+  module _ (anew changing : Bool) (did : ChangesWith d anew changing course given n old new) where
+    first : Says P (reopened (d.files old)).pkg
+    first = (all (d.files old) here).says
+
+    abbrev s0 : State
+    s0 = state (reopened (d.files old)).pkg first.value
+
+    stops : LeavesIn d old new (StandsStillOr past (after course s0))
+    stops = if_ok_at _ (store (reopened (d.files old)).pkg) first.value first.undamaged (did.stops lawful)
+
+    made_next : (image : Files) → HasState (after course s0) image → Moves given (after course s0) s0 (after course s0)
+        → Says (Next course given P) (reopened image).pkg
+    made_next image has moves = record {
+      value = has.value;
+      undamaged = has.undamaged;
+      is = (s0, first.is, subst (λ (t : State). Moves given (after course s0) s0 t) (sym has.is) moves);
+    }
+
+    changed_next : (image : Files) → d.left_since new (d.moment old) image → images d new image → Behind image
+    changed_next image since left = by_bool (is_done given)
+        (λ done. record {
+          lawful = ⊎_elim (λ still. still.lawful) (λ both. both.0) (stops.each image since);
+          says = made_next image (if_ok_at _ (store (reopened (d.files old)).pkg) first.value first.undamaged (did.held done) image left)
+              ((moves_are given s0 (after course s0)).0 done);
+        })
+        (λ undone. by_bool (is_done_or_fault given)
+        (λ may. ⊎_elim (same_next (λ t. (moves_are given t (after course t)).2 undone) image)
+        (λ both. record { lawful = both.0; says = made_next image both.1 ((moves_are given s0 (after course s0)).1 may) })
+        (stops.each image since))
+        (λ refused. same_next (λ t. (moves_are given t (after course t)).2 undone) image ((did.unmade refused lawful).each image since)))
+
+    changed_cut : (image : Files) → StandsStillOr past (after course s0) image → StandsIn (Cut course P) image
+    changed_cut image = ⊎_elim (same_cut image) (λ both. record {
+      lawful = both.0;
+      says = record { value = both.1.value; undamaged = both.1.undamaged; is = (s0, first.is, inr both.1.is) };
+    })
+
+  -- ---- any
+
+  pub cut_stands : LineDoes d course given n old new → LeavesIn d old new (StandsIn (Cut course P))
+  cut_stands (inl stood) = leaves_weaker d old new (StandsStill past) (StandsIn (Cut course P)) same_cut (stood.stops lawful)
+  cut_stands (inr (anew, changing, did)) = leaves_weaker d old new (StandsStillOr past (after course (s0 anew changing did)))
+      (StandsIn (Cut course P)) (changed_cut anew changing did) (stops anew changing did)
+
+  next_stands : LineDoes d course given n old new → (image : Files) → d.left_since new (d.moment old) image → images d new image → Behind image
+  next_stands (inl stood) image since left = same_next (moves_nothing course stood.nothing given) image ((stood.stops lawful).each image since)
+  next_stands (inr (anew, changing, did)) image since left = changed_next anew changing did image since left
+
+  pub next_all : ((s t : ℕ) (image : Files) → s ≤ t → t ≤ d.moment new → d.left_since new t image → d.left_since new s image)
+      → LineDoes d course given n old new → AllStand (Next course given P) (images d new)
+  next_all earlier does image left =
+      next_stands does image (earlier (d.moment old) (d.moment new) image (cut_stands does).later (omega arith) left) left
+
+  -- the rows fit after it, whatever stops it
+  pub line_fits : LineDoes d course given n old new → AllFit past → LeavesIn d old new RowsFit
+  line_fits (inl stood) fit = leaves_weaker d old new (StandsStill past) RowsFit (still_fits past fit) (stood.stops lawful)
+  line_fits (inr (anew, changing, did)) fit = did.fits lawful fit

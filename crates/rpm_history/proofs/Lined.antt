@@ -1,0 +1,132 @@
+-- A command line more, by what `run` says of it.
+use Rattle.std.proofs.Common.{◌≡◌, ℕ, Bool, true, false, List, [], ◌∷◌, ◌++◌, length, ◌<◌, get_or, refl, sym, ap, subst, inl, inr, arith, ◌∙◌, Some}
+use Rattle.std.specs.Prelude.{Option, Some, None, IsTrue, if◌then◌else◌}
+use Rattle.rpm_history.proofs.Vocabulary.{Adding, asked_course, asked_task, AskParts, asks, Between, by_key, calls_of, changes_index, Course, course_of, Files}
+use Rattle.rpm_history.proofs.Vocabulary.{FromOneOf, idle, Importing, is_anew, is_changing, IsLawfulGroup, Leaves, Line, LineIs, of_files, Outcome, Paths}
+use Rattle.rpm_history.proofs.Vocabulary.{reads_shelf, reopened, Replacing, RunCall, StandsIn, StandsStill, State, state, task_course, TaskParts, TellsCalls}
+use Rattle.rpm_history.proofs.Vocabulary.{AnswersChange, OneChange, Outputs, Run, TellsLines, Tree, uses_in, uses_shelf}
+use Rattle.rpm_print.specs.Frame.{images, LeavesIn}
+use Rattle.rpm_commit.specs.inner.Brokens.{by_bool}
+use Rattle.rpm_history.proofs.Histories.{LineDoes, Stood}
+use Rattle.std.proofs.lemmas.Bool.{or_right}
+use Rattle.rpm_commit.specs.inner.Standing.{lawful_store}
+use Rattle.rpm_outside.specs.declared.disk.Disk as disk
+use Rattle.rpm_outside.specs.declared.shelf.Shelf as shelf
+use Rattle.rpm_print.specs.declared.answer.Why.TheVariants as why
+
+-- ---- from one of these images
+
+pub from_one : (images : Files → Type 0) (Way : State → State → Type 0) (t : State)
+    → (s : State) × FromOneOf images (λ from to. to ≡ from) s × Way s t → FromOneOf images Way t
+from_one images Way t (s, (from, was, says), way) =
+    (from, was, record { value = says.value; undamaged = says.undamaged; is = subst (λ (u : State). Way u t) says.is way })
+
+-- a lawful image stands for its own state
+pub from_itself : (images : Files → Type 0) (Way : State → State → Type 0) → ((s : State) → Way s s) → (image : Files) → images image
+    → IsLawfulGroup image → StandsIn (FromOneOf images Way) image
+from_itself images Way still image left lawful =
+    let is = lawful_store (reopened image).pkg (reopened image).idx lawful.lawful in
+    record {
+      lawful = lawful;
+      says = record {
+        value = is.0;
+        undamaged = is.1;
+        is = (image, left, record { value = is.0; undamaged = is.1; is = still (state (reopened image).pkg is.0) });
+      };
+    }
+
+-- ---- the shelf
+
+pub tells_calls : (shelf : Bool) (lines : List Line) (outcomes : List Outcome) → TellsLines shelf lines → TellsCalls shelf (calls_of lines outcomes)
+tells_calls shelf lines [] all = tt
+tells_calls shelf [] (o ∷ os) all = tt
+tells_calls shelf (l ∷ ls) (o ∷ os) all = (all.0, tells_calls shelf ls os all.1)
+
+-- a command that changes packages and reads package files uses it
+pub uses_reads : (words : List (List ℕ)) (a : AskParts) (tree : Tree) → asks words ≡ Some (a, tree) → reads_shelf (asked_task words a) ≡ true
+    → uses_shelf words ≡ true
+uses_reads words a tree asked reads =
+    ap (uses_in words) asked ∙ or_right (of_files a) (reads_shelf (asked_task words a)) reads
+
+-- one that reads none goes the same course, whatever there is
+pub unread_course : (P : (State → Course) → Type 0) (p q : Paths) (now : ℕ) (t : TaskParts) → reads_shelf t ≡ false → P (task_course p now t)
+    → P (task_course q now t)
+unread_course P p q now (Adding files) unread x = absurd cc
+unread_course P p q now (Replacing n path) unread x = absurd cc
+unread_course P p q now Importing unread x = absurd cc
+unread_course P p q now others unread x = x
+
+-- a line with its moment, and how it ended
+abbrev pub call_of : Line → Outcome → RunCall
+call_of line outcome = record { words = line.words.now; moment = line.moment; outcome = outcome }
+
+pub calls_more : (lines : List Line) (outcomes : List Outcome) (outcome : Outcome) (d : Line) → length outcomes < length lines
+    → calls_of lines (outcomes ++ outcome ∷ []) ≡ calls_of lines outcomes ++ call_of (get_or lines (length outcomes) d) outcome ∷ []
+calls_more [] [] outcome d less = absurd (omega (arith, less))
+calls_more [] (o ∷ os) outcome d less = absurd (omega (arith, less))
+calls_more (line ∷ lines) [] outcome d less = refl
+calls_more (line ∷ lines) (o ∷ os) outcome d less =
+    ap (λ (calls : List RunCall). call_of line o ∷ calls) (calls_more lines os outcome d (omega (arith, less)))
+
+by_asked : {X : Type 0} (read : Option (AskParts × Tree)) → (read ≡ None → X) → ((a : AskParts) (tree : Tree) → read ≡ Some (a, tree) → X) → X
+by_asked None nothing command = nothing refl
+by_asked (Some asked) nothing command = command asked.0 asked.1 refl
+
+module _ {D : Type 0} (d : disk.Ghosts D) (told : IsTrue d.tells) (shelf : Bool) (paths : Paths) (call : RunCall) (old new : Between D)
+    (tells : uses_shelf call.words ≡ true → IsTrue shelf) (line : LineIs d shelf paths call old new) where
+  abbrev words : List (List ℕ)
+  words = call.words
+
+  abbrev past : Files → Type 0
+  past = images d old.disk
+
+  abbrev Does : (State → Course) → Type 0
+  Does course = LineDoes d course call.outcome.why call.outcome.changes old.disk new.disk
+
+  -- by whether the command changes packages
+  abbrev course_if : AskParts → Bool → State → Course
+  course_if a b s = if b then asked_course paths call.moment words a s else idle
+
+  unread : new.disk ≡ old.disk → Stood d (λ s. idle) old.disk new.disk
+  unread same = record {
+    nothing = λ s. refl;
+    pkg = ap (λ (it : D). (reopened (d.files it)).pkg) same;
+    stops = λ lawful. subst (λ (it : D). LeavesIn d old.disk it (StandsStill past)) (sym same) (record {
+      later = omega arith;
+      each = λ image left. record { from = image; was = left; pkg = refl; lawful = lawful image left };
+      before = λ t image le left. inl left;
+    });
+  }
+
+  looked : Leaves d old.disk new.disk → Stood d (λ s. idle) old.disk new.disk
+  looked leaves = record {
+    nothing = λ s. refl;
+    pkg = ap (λ (f : Files). (reopened f).pkg) (leaves.untouched told).same;
+    stops = λ lawful. record {
+      later = omega (arith, leaves.moment_stays);
+      each = λ image left. (let was = (leaves.untouched told).images (d.moment old.disk) image left in
+          record { from = image; was = was; pkg = refl; lawful = lawful image was });
+      before = λ t image le left. inl ((leaves.untouched told).images t image left);
+    };
+  }
+
+  asked_does : (a : AskParts) (tree : Tree) → asks words ≡ Some (a, tree) → Does (course_if a (is_changing a))
+  asked_does a tree asked = by_bool (is_changing a)
+      (λ any. subst (λ (b : Bool). Does (course_if a b)) (sym any) (inr (
+        is_anew (asked_task words a),
+        changes_index (asked_task words a),
+        (line.change a tree asked any (λ reads. tells (uses_reads words a tree asked reads))).did.changed,
+      )))
+      (λ none. subst (λ (b : Bool). Does (course_if a b)) (sym none) (inl (by_bool (by_key a)
+      (λ keyed. record { nothing = λ s. refl; pkg = line.packages a tree asked keyed; stops = line.stops a tree asked keyed })
+      (λ unkeyed. looked (line.looks a tree asked unkeyed none)))))
+
+  pub line_does : Does (course_of paths call.moment words (asks words))
+  line_does = by_asked (asks words)
+      (λ none. subst (λ (read : Option (AskParts × Tree)). Does (course_of paths call.moment words read)) (sym none) (inl (unread (line.unread none))))
+      (λ a tree asked. subst (λ (read : Option (AskParts × Tree)). Does (course_of paths call.moment words read)) (sym asked) (asked_does a tree asked))
+
+-- what a run says of a command that changes packages
+pub change_one : {D S : Type 0} {d : disk.Ghosts D} {s : shelf.Ghosts S} {r : Run d s} {a : AskParts} {course : State → Course} {mid : Outputs}
+    → AnswersChange r a course mid → OneChange d (asked_task r.words a) course r.why r.changes r.found r.left r.before mid
+change_one c = record { did = c.did; changed = c.changed; limits = c.limits; fault = c.fault; log = c.log }

@@ -1,0 +1,98 @@
+-- Several command lines on one disk, one after the other: what the database stands for after them, and after a crash. On it rest `leads`,
+-- `cuts` and `states` of `run_each`.
+use Rattle.std.specs.Prelude.{◌≡◌, ◌⊎◌, ℕ, List, [], ◌∷◌, Bool, true, false, ◌||◌, IsTrue, Option, Some, None, if◌then◌else◌}
+use Rattle.std.specs.List.{AllByRecursion}
+use Rattle.rpm_outside.specs.Files.{Files}
+use Rattle.rpm_outside.specs.Logs.{reopened}
+use Rattle.rpm_outside.specs.Shelves.{Paths}
+use Rattle.rpm_db.specs.Changes.{Says}
+use Rattle.rpm_db.specs.State.{State}
+use Rattle.rpm_words.specs.Ask.{AskParts}
+use Rattle.rpm_qfparse.specs.Tree.{Tree}
+use Rattle.rpm_change.specs.Steps.{Course, idle}
+use Rattle.rpm_print.specs.declared.answer.Outcome.{Outcome}
+use Rattle.rpm_print.specs.declared.answer.Why.{Why}
+use Rattle.rpm_print.specs.declared.answer.Why.TheVariants as why
+use Rattle.rpm_history.specs.declared.several.Line.{Line}
+use Rattle.rpm_print.specs.Asked.{of_files, is_changing, asks}
+use Rattle.rpm_commit.specs.Tasks.{asked_task, asked_course, reads_shelf}
+use Rattle.rpm_commit.specs.Lawful.{IsLawfulGroup}
+use Rattle.rpm_commit.specs.Changing.{after}
+
+-- ---- one command line
+
+-- what it changes: nothing, unless its command changes packages
+abbrev pub course_of : Paths → ℕ → List (List ℕ) → Option (AskParts × Tree) → State → Course
+course_of paths now words None s = idle
+course_of paths now words (Some asked) s = if is_changing asked.0 then asked_course paths now words asked.0 s else idle
+
+-- the state after a command line whose changes were all made
+abbrev pub made_by : Paths → ℕ → List (List ℕ) → State → State
+made_by paths now words s = after (course_of paths now words (asks words)) s
+
+-- from this state: done, its changes are all made; after a fault of the disk all are or none; else none
+abbrev pub Moves : Why → State → State → State → Type 0
+Moves why.Done made s t = t ≡ made
+Moves (why.Failed n) made s t = t ≡ made
+Moves why.DiskFault made s t = (t ≡ s) ⊎ (t ≡ made)
+Moves others made s t = t ≡ s
+
+-- ---- several
+
+-- a command line with its moment, and how it ended
+pub record RunCall : Type 0 where
+  pub words : List (List ℕ)
+  pub moment : ℕ
+  pub outcome : Outcome
+
+-- the calls of run for a list of lines, each with its outcome
+abbrev pub calls_of : List Line → List Outcome → List RunCall
+calls_of lines [] = []
+calls_of [] (outcome ∷ outcomes) = []
+calls_of (line ∷ lines) (outcome ∷ outcomes) = record { words = line.words.now; moment = line.moment; outcome = outcome } ∷ calls_of lines outcomes
+
+-- from state s to t: all changes of each line that was done, of none that was refused
+abbrev pub Leads : Paths → List RunCall → State → State → Type 0
+Leads paths [] s t = t ≡ s
+Leads paths (call ∷ calls) s t =
+    (mid : State) × Moves call.outcome.why (made_by paths call.moment call.words s) s mid × Leads paths calls mid t
+
+-- a crash within them or after them: those before it, and of the line that it stops all changes or none
+abbrev pub Cuts : Paths → List RunCall → State → State → Type 0
+Cuts paths [] s t = t ≡ s
+Cuts paths (call ∷ calls) s t = (t ≡ s) ⊎ ((t ≡ made_by paths call.moment call.words s)
+    ⊎ ((mid : State) × Moves call.outcome.why (made_by paths call.moment call.words s) s mid × Cuts paths calls mid t))
+
+-- ---- the shelf
+
+-- a command that reads package files
+abbrev pub uses_in : List (List ℕ) → Option (AskParts × Tree) → Bool
+uses_in words None = false
+uses_in words (Some asked) = of_files asked.0 || reads_shelf (asked_task words asked.0)
+
+-- whether a command line reads from the shelf
+abbrev pub uses_shelf : List (List ℕ) → Bool
+uses_shelf words = uses_in words (asks words)
+
+-- a shelf tells what it holds, where a line reads package files
+abbrev pub TellsLines : Bool → List Line → Type 0
+TellsLines tells lines = AllByRecursion (λ line. uses_shelf line.words.now ≡ true → IsTrue tells) lines
+
+-- the shelf tells its contents wherever a line reads from it
+abbrev pub TellsCalls : Bool → List RunCall → Type 0
+TellsCalls tells calls = AllByRecursion (λ call. uses_shelf call.words ≡ true → IsTrue tells) calls
+
+-- ---- images
+
+-- a lawful image that stands for such a state
+pub record StandsIn (P : State → Type 0) (image : Files) : Type 0 where
+  pub lawful : IsLawfulGroup image
+  pub says : Says P (reopened image).pkg
+
+-- a state to which there is such a way from that of one of these images
+abbrev pub FromOneOf : (Files → Type 0) → (State → State → Type 0) → State → Type 0
+FromOneOf images Way t = (from : Files) × images from × Says (λ s. Way s t) (reopened from).pkg
+
+-- each of these images does
+abbrev pub AllStand : (State → Type 0) → (Files → Type 0) → Type 0
+AllStand P images = (image : Files) → images image → StandsIn P image

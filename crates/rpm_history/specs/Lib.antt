@@ -1,0 +1,4 @@
+pub mod Given
+pub mod History
+pub mod Lines
+pub mod Prelude

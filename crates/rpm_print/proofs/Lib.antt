@@ -1,0 +1,5 @@
+mod Asking
+mod Defaults
+mod Fixtures
+mod Joins
+pub mod Vocabulary

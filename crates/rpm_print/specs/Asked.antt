@@ -1,0 +1,130 @@
+-- What command lines ask for, and by which format they print: by it `asked` of the page (`rpm_tool`, Theorem.antt) tells commands apart.
+use Rattle.std.specs.Prelude.{ℕ, List, Option, Some, None, Result, Ok, Err, Bool, true, false, not, ◌&&◌, if◌then◌else◌, codes}
+use Rattle.rpm_words.specs.declared.ask.Mode.{Mode}
+use Rattle.rpm_words.specs.declared.ask.Mode.TheVariants.{Query, Addpkg, Replacepkg, Erasepkg, Verify, Initdb, Rebuilddb, Verifydb, Exportdb, Importdb}
+use Rattle.rpm_words.specs.declared.ask.Mode.TheVariants.{Exercise, Order, Checkfiles}
+use Rattle.rpm_words.specs.declared.switch.Chosen.{Chosen}
+use Rattle.rpm_words.specs.declared.switch.Chosen.TheVariants.{All, Number, Package}
+use Rattle.rpm_words.specs.declared.words.Span.{Span}
+use Rattle.rpm_words.specs.declared.fault.WordsFault.{WordsFault}
+use Rattle.rpm_words.specs.Words.{bytes_from}
+use Rattle.rpm_words.specs.Ask.{AskParts, ask}
+use Rattle.rpm_qfparse.specs.declared.fault.FormatFault.{FormatFault}
+use Rattle.rpm_qfparse.specs.Tree.{Tree}
+use Rattle.rpm_qfparse.specs.Format.{format}
+use Rattle.rpm_print.specs.declared.asked.Deed.{Deed}
+use Rattle.rpm_print.specs.declared.asked.Deed.TheVariants as deed
+
+-- what a command does with the database that it opens
+abbrev pub deed_of : Mode → Deed
+deed_of Exportdb = deed.Export
+deed_of Verifydb = deed.Verify
+deed_of Checkfiles = deed.CheckFiles
+deed_of Verify = deed.Unmet
+deed_of Order = deed.Order
+deed_of others = deed.Print
+
+-- those that print packages, by the format or as they are
+abbrev pub prints_packages : Deed → Bool
+prints_packages deed.Print = true
+prints_packages deed.Export = true
+prints_packages others = false
+
+-- the reports on requirements open the database with its index, whatever the words say
+abbrev pub always_keyed : Deed → Bool
+always_keyed deed.Unmet = true
+always_keyed deed.Order = true
+always_keyed others = false
+
+-- a query that asks no index: of package files, of all packages, of patterns and of numbers always, else where the words say so
+abbrev pub needs_no_index : Chosen → Bool → Bool
+needs_no_index All noindex = true
+needs_no_index Number noindex = true
+needs_no_index Package noindex = true
+needs_no_index others noindex = noindex
+
+-- the modes that change packages, or make the database
+abbrev pub is_changing_in : Mode → Bool
+is_changing_in Addpkg = true
+is_changing_in Replacepkg = true
+is_changing_in Erasepkg = true
+is_changing_in Initdb = true
+is_changing_in Rebuilddb = true
+is_changing_in Importdb = true
+is_changing_in (Exercise n) = true
+is_changing_in others = false
+
+-- whether a mode is the one that prints packages
+abbrev pub is_query : Mode → Bool
+is_query Query = true
+is_query others = false
+
+-- a query opens the database with its index where it asks for it, and the reports on requirements always do
+abbrev pub opens_index : Mode → Bool → Bool
+opens_index Query asked = asked
+opens_index Verify asked = true
+opens_index Order asked = true
+opens_index others asked = false
+
+-- the command is a question by key or a report on requirements: it opens the database with its index, and changes no package
+abbrev pub by_key : AskParts → Bool
+by_key a = opens_index a.mode (not (needs_no_index a.chosen a.noindex))
+
+-- the command changes packages, or makes the database
+abbrev pub is_changing : AskParts → Bool
+is_changing a = is_changing_in a.mode
+
+-- the words break no rule, and ask for such a command
+abbrev pub changes_in : Result AskParts WordsFault → Bool
+changes_in (Ok a) = is_changing a
+changes_in (Err f) = false
+
+-- whether a command line asks for a change of the database
+unfoldable pub asks_change : List (List ℕ) → Bool
+asks_change words = changes_in (ask words)
+
+-- whether arguments name packages
+abbrev pub is_package : Chosen → Bool
+is_package Package = true
+is_package others = false
+
+-- a query of package files, which opens no database
+abbrev pub of_files : AskParts → Bool
+of_files a = is_query a.mode && is_package a.chosen
+
+-- ---- the format
+
+-- where none is given: the label
+unfoldable pub label_format : List ℕ
+label_format = codes "%{NVRA}\\n"
+
+-- of `-l`: the files, a line each, or that there are none
+unfoldable pub list_format : List ℕ
+list_format = codes "%|FILENAMES?{[%{FILENAMES}\\n]}:{(contains no files)\\n}|"
+
+-- the word that gives a format, from where it begins
+abbrev pub given_format : List (List ℕ) → Option Span → List ℕ
+given_format words None = label_format
+given_format words (Some span) = bytes_from words span
+
+-- of `-l` and the options that give a format the last one counts, and so a command never has both
+abbrev pub format_text : List (List ℕ) → AskParts → List ℕ
+format_text words a = if a.lists then list_format else given_format words a.format
+
+-- what the format of a command that was read is read as
+abbrev pub format_in : List (List ℕ) → Result AskParts WordsFault → Option (Result Tree FormatFault)
+format_in words (Ok a) = Some (format (format_text words a))
+format_in words (Err f) = None
+
+-- the words break no rule, and their format is this tree or has this fault
+unfoldable pub asks_format : List (List ℕ) → Option (Result Tree FormatFault)
+asks_format words = format_in words (ask words)
+
+-- the command and its format, where both could be read
+abbrev pub command_in : Result AskParts WordsFault → Option (Result Tree FormatFault) → Option (AskParts × Tree)
+command_in (Ok a) (Some (Ok tree)) = Some (a, tree)
+command_in asked read = None
+
+-- the words ask for this command, by this format
+unfoldable pub asks : List (List ℕ) → Option (AskParts × Tree)
+asks words = command_in (ask words) (asks_format words)

@@ -1,0 +1,126 @@
+-- The status of an ending, and the line that closes it: `status` of `run`, and the line of its `answers`.
+use Rattle.std.specs.Prelude.{ℕ, ◌*◌, min, List, [], ◌∷◌, codes, decimal}
+use Rattle.std.specs.List.{concat}
+use Rattle.rpm_words.specs.declared.fault.WordsKind.{WordsKind}
+use Rattle.rpm_words.specs.declared.fault.WordsKind.TheVariants as kind
+use Rattle.rpm_words.specs.declared.fault.WordsFault.{WordsFault}
+use Rattle.rpm_words.specs.Words.{text_at}
+use Rattle.rpm_qfparse.specs.declared.fault.FormatKind.{FormatKind}
+use Rattle.rpm_qfparse.specs.declared.fault.FormatKind.TheVariants as wrong
+use Rattle.rpm_qfparse.specs.declared.fault.FormatFault.{FormatFault}
+use Rattle.rpm_pkgdb.specs.declared.slot.Damage.{Damage}
+use Rattle.rpm_pkgdb.specs.declared.slot.Reason.{Reason}
+use Rattle.rpm_pkgdb.specs.declared.slot.Reason.TheVariants.{BadMagic, BadVersion, BadPages, BadSlot, BadNumber, BadRange, SameNumber, Overlap}
+use Rattle.rpm_print.specs.declared.answer.Why.{Why}
+use Rattle.rpm_print.specs.declared.answer.Why.TheVariants as why
+
+-- the exit status of each answer
+abbrev pub status_of : Why → ℕ
+status_of why.Done = 0
+status_of (why.Failed n) = min n 250
+status_of (why.Usage fault) = 251
+status_of (why.BadFormat fault) = 251
+status_of (why.BadLog unit) = 252
+status_of (why.Damaged damage) = 252
+status_of why.NumbersSpent = 252
+status_of why.GenerationSpent = 252
+status_of why.StoreFull = 252
+status_of (why.NotEmpty held) = 252
+status_of (why.BadIndex unit) = 252
+status_of (why.IndexFull needed) = 252
+status_of (why.LogFull needed) = 252
+status_of why.DiskFault = 252
+status_of why.ShelfFault = 253
+status_of why.OutFault = 253
+status_of why.ErrFault = 253
+status_of why.NoMemory = 254
+
+-- the words of each reason for which a store is damaged
+unfoldable pub reason_text : Reason → List ℕ
+reason_text BadMagic = codes "file magic"
+reason_text BadVersion = codes "version"
+reason_text BadPages = codes "slot pages"
+reason_text BadSlot = codes "slot magic"
+reason_text BadNumber = codes "package number"
+reason_text BadRange = codes "block range"
+reason_text SameNumber = codes "number used twice"
+reason_text Overlap = codes "blocks overlap"
+
+-- the line that reports a damaged Packages.db
+unfoldable pub damage_line : Damage → List ℕ
+damage_line damage =
+    concat (codes "rpm: Packages.db is damaged at byte " ∷ decimal damage.offset ∷ codes ": " ∷ reason_text damage.reason ∷ codes "\n" ∷ [])
+
+-- a text and a number, as a line
+abbrev pub number_line : List ℕ → ℕ → List ℕ
+number_line text n = concat (text ∷ decimal n ∷ codes "\n" ∷ [])
+
+-- what is told of the rule that the words break
+unfoldable pub rule_text : WordsKind → List ℕ
+rule_text kind.UnknownOption = codes "rpm: unknown option: "
+rule_text kind.TwoModes = codes "rpm: more than one command: "
+rule_text kind.NoMode = codes "rpm: no command given"
+rule_text kind.MissingArgument = codes "rpm: argument missing"
+rule_text kind.ExtraArgument = codes "rpm: unexpected argument: "
+rule_text kind.Misplaced = codes "rpm: option not valid here: "
+rule_text kind.BadNumber = codes "rpm: not a number: "
+rule_text kind.BadCapability = codes "rpm: not a capability: "
+rule_text kind.NoMemory = codes "rpm: out of memory"
+
+-- the word that is told: the one that breaks the rule, and none where something is missing
+abbrev pub word_told : WordsKind → List ℕ → List ℕ
+word_told kind.NoMode word = []
+word_told kind.MissingArgument word = []
+word_told kind.NoMemory word = []
+word_told others word = word
+
+-- the rule, and the word of that place
+unfoldable pub usage_line : List (List ℕ) → WordsFault → List ℕ
+usage_line words fault = concat (rule_text fault.kind ∷ word_told fault.kind (text_at words fault.word) ∷ codes "\n" ∷ [])
+
+-- what is told of a fault of a format
+unfoldable pub fault_text : FormatKind → List ℕ
+fault_text wrong.TooLong = codes "format too long"
+fault_text wrong.MissingOpen = codes "{ expected after %"
+fault_text wrong.MissingClose = codes "} expected"
+fault_text wrong.EmptyTag = codes "empty tag name"
+fault_text wrong.UnknownTag = codes "unknown tag"
+fault_text wrong.UnknownFormatter = codes "unknown formatter"
+fault_text wrong.WidthTooLarge = codes "width too large"
+fault_text wrong.BracketExpected = codes "] expected"
+fault_text wrong.UnexpectedBracket = codes "unexpected ]"
+fault_text wrong.UnexpectedBrace = codes "unexpected }"
+fault_text wrong.NestedBracket = codes "nested ["
+fault_text wrong.QuestionExpected = codes "? expected"
+fault_text wrong.BraceExpected = codes "{ expected"
+fault_text wrong.BarExpected = codes "| expected"
+fault_text wrong.TooDeep = codes "conditions too deep"
+fault_text wrong.NoMemory = codes "out of memory"
+
+-- the fault, and the byte of the format that it stands at
+unfoldable pub format_line : FormatFault → List ℕ
+format_line fault =
+    concat (codes "error: incorrect format: " ∷ fault_text fault.kind ∷ codes " at byte " ∷ decimal fault.at ∷ codes "\n" ∷ [])
+
+-- the line of an ending of which there is one text alone; done, failed arguments and a fault of err itself have none
+unfoldable pub fixed_line : Why → List ℕ
+fixed_line why.NumbersSpent = codes "rpm: no package number is left\n"
+fixed_line why.GenerationSpent = codes "rpm: no generation is left\n"
+fixed_line why.StoreFull = codes "rpm: Packages.db is full\n"
+fixed_line (why.IndexFull needed) = codes "rpm: Hindex.db is full\n"
+fixed_line (why.LogFull needed) = codes "rpm: Hlog.db is full\n"
+fixed_line why.DiskFault = codes "rpm: the database could not be read or written\n"
+fixed_line why.ShelfFault = codes "rpm: input could not be read\n"
+fixed_line why.OutFault = codes "rpm: output could not be written\n"
+fixed_line why.NoMemory = codes "rpm: out of memory\n"
+fixed_line others = []
+
+-- the line that closes an ending of these words. Of a damaged log or index it names the byte at which the unit of its fault begins
+unfoldable pub closing : List (List ℕ) → Why → List ℕ
+closing words (why.Usage fault) = usage_line words fault
+closing words (why.BadFormat fault) = format_line fault
+closing words (why.BadLog unit) = number_line (codes "rpm: Hlog.db is damaged at byte ") (16 * unit)
+closing words (why.Damaged damage) = damage_line damage
+closing words (why.NotEmpty held) = number_line (codes "rpm: the database is not empty: package ") held
+closing words (why.BadIndex unit) = number_line (codes "rpm: Hindex.db is damaged at byte ") (16 * unit)
+closing words others = fixed_line others

@@ -1,0 +1,53 @@
+-- What is printed of a package. On it rest the steps of all courses under `plain`, `files` and `keyed` of the page (`rpm_tool`, Theorem.antt).
+use Rattle.std.specs.Prelude.{ℕ, List, ◌++◌, map, codes, decimal, Result, Ok, Err}
+use Rattle.rpm_header.specs.declared.form.HeaderFault.{HeaderFault}
+use Rattle.rpm_header.specs.Header.{Header, header}
+use Rattle.rpm_qfparse.specs.Tree.{Tree}
+use Rattle.rpm_qfeval.specs.Meaning.{meaning}
+use Rattle.rpm_db.specs.State.{Package, Good, Bad, above, packages}
+use Rattle.rpm_change.specs.Steps.{Bearer, bearer, Step, ToOut, ToErr}
+use Rattle.rpm_print.specs.Steps.{Portion, told}
+use Rattle.rpm_header.specs.Digest.{magic}
+use Rattle.rpm_print.specs.declared.asked.Deed.{Deed}
+use Rattle.rpm_print.specs.declared.asked.Deed.TheVariants as deed
+
+-- the line of a number whose package can't be read
+unfoldable pub bad_line : ℕ → List ℕ
+bad_line n = codes "error: package " ++ decimal n ++ codes ": header cannot be read\n"
+
+-- the line of a header for which a bracket's tags have different numbers of elements
+unfoldable pub sizes_line : List ℕ
+sizes_line = codes "error: incorrect format: array iterator used with different sized arrays\n"
+
+-- the line that reports a package whose header is bad
+abbrev pub bad_step : ℕ → ℕ → Step
+bad_step j n = ToErr (bearer j n) (bad_line n)
+
+-- what a format means is printed whole, or not at all
+abbrev pub printed : Bearer → Result (List ℕ) (ℕ × ℕ) → Step
+printed for (Ok bytes) = ToOut for bytes
+printed for (Err counts) = ToErr for sizes_line
+
+-- a header in the format that was asked, or the line that reports it
+abbrev pub header_step : Tree → ℕ → ℕ → Result Header HeaderFault → Step
+header_step tree j n (Ok h) = printed (bearer j n) (meaning h n tree)
+header_step tree j n (Err fault) = bad_step j n
+
+-- of a number, by a format
+abbrev pub step_of : Tree → ℕ → ℕ × Package → Step
+step_of tree j (n, Good bytes) = header_step tree j n (header bytes)
+step_of tree j (n, Bad) = bad_step j n
+
+-- of the numbers above `after`, one after the other
+abbrev pub packages_part : (ℕ × Package → Step) → ℕ → List (ℕ × Package) → Portion
+packages_part step after packages = told (map step (above after packages))
+
+-- a header goes out after the magic
+abbrev pub exported : ℕ → ℕ × Package → Step
+exported j (n, Good bytes) = ToOut (bearer j n) (magic ++ bytes)
+exported j (n, Bad) = bad_step j n
+
+-- of a package: an export writes it out, all else prints it by a format
+abbrev pub step_by : Deed → Tree → ℕ → ℕ × Package → Step
+step_by deed.Export tree j e = exported j e
+step_by others tree j e = step_of tree j e

@@ -1,0 +1,42 @@
+-- What is read of packages up to a step: the fields `reads` of `plain` and `keyed` on the page (`rpm_tool`, Theorem.antt), and the bounds within `went`.
+use Rattle.std.specs.Prelude.{◌≡◌, ℕ, zero, suc, ◌+◌, ◌≤◌, List, [], ◌∷◌, slice_get, Option, Some, None}
+use Rattle.rpm_db.specs.Database.{Database}
+use Rattle.rpm_select.specs.Reach.{Reach, reach_to, reach_all}
+use Rattle.rpm_change.specs.Steps.{Bearer}
+
+-- ---- one argument
+
+-- the blocks of the numbers that are gone over: of those up to this one, or of all
+abbrev pub reached : Reach → Database → Option ℕ → ℕ
+reached r db None = reach_all r db
+reached r db (Some n) = reach_to n r db
+
+-- read while those above n are gone through: up to the package that a step is for
+abbrev pub ReadsIn : ℕ → ℕ → Reach → Database → ℕ → ℕ → Bearer → Type 0
+ReadsIn j n r db before now for = (for.argument ≡ j) × (now + reach_to n r db ≤ before + reached r db for.number)
+
+-- the same of a whole argument
+abbrev pub ReadsOf : ℕ → Reach → Database → ℕ → ℕ → Bearer → Type 0
+ReadsOf j r db before now for = (for.argument ≡ j) × (now ≤ before + reached r db for.number)
+
+-- ---- several
+
+-- the blocks of all of them, those of a number once for each argument that goes over it
+abbrev pub reach_sum : List Reach → Database → ℕ
+reach_sum [] db = 0
+reach_sum (r ∷ rs) db = reach_all r db + reach_sum rs db
+
+-- of those before the argument j
+abbrev pub reach_before : List Reach → Database → ℕ → ℕ
+reach_before [] db j = 0
+reach_before (r ∷ rs) db zero = 0
+reach_before (r ∷ rs) db (suc j) = reach_all r db + reach_before rs db j
+
+-- the bytes that are read up to a package, none where nothing is reached
+abbrev pub reached_in : Option Reach → Database → Option ℕ → ℕ
+reached_in None db number = 0
+reached_in (Some r) db number = reached r db number
+
+-- up to a step: those of each argument before, and of its own those up to its number
+abbrev pub reached_by : List Reach → Database → Bearer → ℕ
+reached_by rs db for = reach_before rs db for.argument + reached_in (slice_get rs for.argument) db for.number

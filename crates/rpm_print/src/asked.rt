@@ -1,0 +1,111 @@
+//! The command that the words ask for, and its format.
+
+ghost use Rattle.std.specs.Prelude.{◌≡◌, true, Some, Ok, IfOk, IfErr};
+ghost use Rattle.rpm_print.specs.Prelude.{ask, asks_format, by_key, deed_of, format_text, IsSound, needs_no_index, of_files, Undone};
+
+use crate::answer::Why;
+use rpm_qfparse::{Format, FormatKind, parse};
+use rpm_words::{Ask, Chosen, Mode, Words, WordsKind, read};
+use std::alloc::Global;
+
+/// Whether packages that are picked so are asked for without the index.
+fn needs_no_index(chosen: Chosen, noindex: bool) -> bool
+    ensures { result ≡ needs_no_index chosen noindex }
+{
+    match chosen {
+        Chosen::All | Chosen::Number | Chosen::Package => true,
+        _ => noindex,
+    }
+}
+
+/// What a command does with the database that it opens.
+#[derive(Clone, Copy, Debug, PartialEq, Eq)]
+pub enum Deed {
+    /// It prints what its arguments pick.
+    Print,
+    /// It writes all headers out.
+    Export,
+    /// It tells the verdicts of all packages.
+    Verify,
+    /// It tells the paths that several packages own and that differ.
+    CheckFiles,
+    /// It tells which requirements no package meets.
+    Unmet,
+    /// It tells in which order the packages could be installed.
+    Order,
+}
+
+/// What a command of this mode does.
+pub fn deed_of(mode: Mode) -> Deed
+    ensures { result ≡ deed_of mode }
+{
+    match mode {
+        Mode::Exportdb => Deed::Export,
+        Mode::Verifydb => Deed::Verify,
+        Mode::Checkfiles => Deed::CheckFiles,
+        Mode::Verify => Deed::Unmet,
+        Mode::Order => Deed::Order,
+        _ => Deed::Print,
+    }
+}
+
+/// Whether a command is a question by key or a report on requirements: it opens the database with its index, and
+/// changes no package.
+pub fn by_key(ask: &Ask) -> bool
+    ensures { result ≡ by_key ask.now }
+{
+    match ask.mode() {
+        Mode::Query => !needs_no_index(ask.chosen(), ask.noindex()),
+        Mode::Verify | Mode::Order => true,
+        _ => false,
+    }
+}
+
+/// Whether a command is a query of package files.
+pub fn of_files(ask: &Ask) -> bool
+    ensures { result ≡ of_files ask.now }
+{
+    matches!(ask.mode(), Mode::Query) && matches!(ask.chosen(), Chosen::Package)
+}
+
+/// The text of the format: the one that is given, that of the list, or else that of labels.
+#[tactic(auto, unfolding(crate::specs::Asked::label_format, crate::specs::Asked::list_format))]
+fn format_text<'a>(words: &'a Words, ask: &Ask) -> &'a [u8]
+    ensures { result.now ≡ format_text words.now ask.now }
+{
+    if ask.lists() {
+        return b"%|FILENAMES?{[%{FILENAMES}\\n]}:{(contains no files)\\n}|";
+    }
+    match ask.format() {
+        Some(span) => words.bytes_from(span),
+        None => b"%{NVRA}\\n",
+    }
+}
+
+/// Reads the words: their command, or else how they end. Goes over them once.
+fn read_words(alloc: Global, words: &Words) -> Result<Ask, Why>
+    ensures ok { IfOk result (λ a. ask words.now ≡ Ok a) }
+    ensures sound { IfOk result (λ a. IsSound words.now a) }
+    ensures undone { IfErr result (λ why. Undone (ask words.now) (asks_format words.now) why) }
+{
+    match read(alloc, words) {
+        Ok(ask) => Ok(ask),
+        Err(fault) if fault.kind == WordsKind::NoMemory => Err(Why::NoMemory),
+        Err(fault) => Err(Why::Usage(fault)),
+    }
+}
+
+/// Reads the words, and then the format by which they ask for packages; or else how they end. Goes over both once.
+#[tactic(auto, unfolding(crate::specs::Asked::asks_format))]
+pub fn read_command(alloc: Global, words: &Words) -> Result<(Ask, Format), Why>
+    ensures ok { IfOk result (λ c. (ask words.now ≡ Ok c.0) × (asks_format words.now ≡ Some (Ok c.1))) }
+    ensures sound { IfOk result (λ c. IsSound words.now c.0) }
+    ensures undone { IfErr result (λ why. Undone (ask words.now) (asks_format words.now) why) }
+{
+    let ask = read_words(alloc, words)?;
+    match parse(alloc, format_text(words, &ask)) {
+        Ok(format) => Ok((ask, format)),
+        Err(fault) if fault.kind == FormatKind::NoMemory => Err(Why::NoMemory),
+        Err(fault) => Err(Why::BadFormat(fault)),
+    }
+}

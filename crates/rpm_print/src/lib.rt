@@ -1,0 +1,15 @@
+//! What a command prints: how it ends, the command and the format that the words ask for, what is printed of a
+//! package, and the line that closes the command.
+#![tactic(auto)]
+
+mod answer;
+mod asked;
+mod closing;
+mod pieces;
+mod step;
+
+pub use answer::{Outcome, Why, status_of};
+pub use asked::{Deed, by_key, deed_of, of_files, read_command};
+pub use closing::put_closing;
+pub use pieces::{put_line, put_out};
+pub use step::{print_header, print_picked, put_bad, put_text};

@@ -1,0 +1,7 @@
+mod Filed
+mod Looked
+mod Nexts
+mod Picking
+mod Questions
+mod Turns
+pub mod Vocabulary

@@ -1,0 +1,5 @@
+pub mod PackageFiles
+pub mod Queries
+pub mod Reach
+pub mod inner
+pub mod Prelude

@@ -1,0 +1,35 @@
+-- What a query of package files does: `files` of the page (`rpm_tool`, Theorem.antt), and its law `files_after`.
+use Rattle.std.specs.Prelude.{ℕ, List, [], ◌∷◌, map, Option, Some, None, Result, Ok, Err}
+use Rattle.rpm_outside.specs.Shelves.{Paths, bytes_at}
+use Rattle.rpm_file.specs.declared.fault.FileFault.{FileFault}
+use Rattle.rpm_file.specs.Package.{Headed, package_header}
+use Rattle.rpm_words.specs.Words.{text_at}
+use Rattle.rpm_words.specs.Ask.{AskParts}
+use Rattle.rpm_qfparse.specs.Tree.{Tree}
+use Rattle.rpm_qfeval.specs.Meaning.{meaning}
+use Rattle.rpm_change.specs.Texts.{refused_line, absent_line}
+use Rattle.rpm_change.specs.Steps.{bearer, whole, ToErr, Course}
+use Rattle.rpm_print.specs.Steps.{Portion, fails, told, in_turn}
+use Rattle.rpm_print.specs.Printed.{printed}
+
+-- its header is printed with the number 0, or it has a line, for which the argument fails
+abbrev pub read_part : Tree → ℕ → List ℕ → Result Headed FileFault → Portion
+read_part tree j path (Ok found) = told (printed (bearer j 0) (meaning found.header 0 tree) ∷ [])
+read_part tree j path (Err fault) = fails (ToErr (whole j) (refused_line path fault))
+
+-- what is printed of a package file, a line where it isn't there
+abbrev pub found_part : Tree → ℕ → List ℕ → Option (List ℕ) → Portion
+found_part tree j path None = fails (ToErr (whole j) (absent_line path))
+found_part tree j path (Some bytes) = read_part tree j path (package_header bytes)
+
+-- the file under a path
+abbrev pub file_part : Tree → Paths → ℕ → List ℕ → Portion
+file_part tree paths j path = found_part tree j path (bytes_at paths path)
+
+-- each argument is a path, and `-` the standard input; no number is passed over
+abbrev pub query_files : Tree → Paths → List (List ℕ) → AskParts → Course
+query_files tree paths words a = in_turn (file_part tree paths) 0 (map (text_at words) a.arguments)
+
+-- words with another number after `--after`
+abbrev pub passing : ℕ → AskParts → AskParts
+passing n a = record a { after = n }

@@ -1,0 +1,24 @@
+-- The words of clauses, from one place.
+pub use Rattle.rpm_change.specs.Steps.{ToErr, bearer, idle, whole}
+pub use Rattle.rpm_change.specs.Texts.{absent_line, refused_line}
+pub use Rattle.rpm_db.specs.Database.{cost_all, cost_to, is_indexed}
+pub use Rattle.rpm_db.specs.State.{above}
+pub use Rattle.rpm_file.specs.Package.{package_header}
+pub use Rattle.rpm_outside.specs.Browses.{left}
+pub use Rattle.rpm_outside.specs.declared.disk.File.TheVariants.{Pkg}
+pub use Rattle.rpm_qfeval.specs.Meaning.{meaning}
+pub use Rattle.rpm_select.specs.Reach.{Everything, Serves, reach_all, reach_to, unasked}
+pub use Rattle.rpm_select.specs.Selections.{picks}
+pub use Rattle.rpm_words.specs.Words.{text_at}
+pub use Rattle.std.specs.List.{concat}
+pub use Rattle.rpm_print.specs.Answers.{Anywhere, PartIs, Went, is_some_of}
+pub use Rattle.rpm_print.specs.Asked.{prints_packages}
+pub use Rattle.rpm_print.specs.Classes.{IsOfPrint, IsOfRead, is_foreign, is_of_opening, is_of_words}
+pub use Rattle.rpm_print.specs.Frame.{DiskFault, EndHands, ErrTakes, HaltHands, HasRows, IsAskable, Looks, OutTakes, Peeks, PutsErr}
+pub use Rattle.rpm_print.specs.Frame.{PutsOut, ShelfFault, packages_in, pkg_read, shown}
+pub use Rattle.rpm_print.specs.Printed.{packages_part, printed, step_by}
+pub use Rattle.rpm_print.specs.Reads.{ReadsIn, ReadsOf, reach_sum, reached_by}
+pub use Rattle.rpm_print.specs.Steps.{before, fails, in_turn, nothing, told}
+pub use Rattle.rpm_query.specs.PackageFiles.{file_part, query_files, read_part}
+pub use Rattle.rpm_query.specs.Queries.{argument_part, fails_in, halt_of_pick, lent, missing, missing_part, missing_record, question_of}
+pub use Rattle.rpm_query.specs.Reach.{IsOfChain, IsOfChains, argument_reach}

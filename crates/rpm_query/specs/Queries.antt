@@ -1,0 +1,140 @@
+-- What a query does: what is printed of each package that it picks. On it rest the courses under `plain` and `keyed` of the page (`rpm_tool`, Theorem.antt),
+-- and its laws `numbers` and `questions`.
+use Rattle.std.specs.Prelude.{◌≡◌, ℕ, List, [], ◌∷◌, map, codes, Bool, true, Option, Some, None, is_some, Result, Ok, Err}
+use Rattle.std.specs.Borrow.{Bor}
+use Rattle.std.specs.Option.{option_map}
+use Rattle.std.specs.List.{concat, AllByRecursion}
+use Rattle.std.specs.Ordering.{nat_cmp}
+use Rattle.std.specs.FinMap.{FinMap}
+use Rattle.rpm_version.specs.declared.capability.BadCapability.{BadCapability}
+use Rattle.rpm_version.specs.Capability.{CapabilityParts, capability}
+use Rattle.rpm_words.specs.declared.switch.Chosen.{Chosen}
+use Rattle.rpm_words.specs.declared.switch.Chosen.TheVariants as by
+use Rattle.rpm_words.specs.Number.{number}
+use Rattle.rpm_words.specs.Words.{text_at}
+use Rattle.rpm_words.specs.Ask.{AskParts}
+use Rattle.rpm_qfparse.specs.Tree.{Tree}
+use Rattle.rpm_db.specs.State.{Package, above, packages}
+use Rattle.rpm_select.specs.declared.selection.Selection.{Selection}
+use Rattle.rpm_select.specs.declared.selection.Selection.TheVariants as question
+use Rattle.rpm_select.specs.Selections.{picks}
+use Rattle.rpm_change.specs.Steps.{whole, Step, ToOut, ToErr, Course, idle}
+use Rattle.rpm_print.specs.Steps.{Portion, nothing, fails, before, in_turn, numbers, RisesFrom}
+use Rattle.rpm_print.specs.Printed.{packages_part, step_of, exported}
+use Rattle.rpm_select.specs.declared.picked.PickFault.{PickFault}
+use Rattle.rpm_select.specs.declared.picked.PickFault.TheVariants as pick
+use Rattle.rpm_change.specs.declared.tally.Halt.{Halt}
+use Rattle.rpm_change.specs.declared.tally.Halt.TheVariants as halt
+use Rattle.rpm_query.specs.declared.picked.PrintedPackages.{PrintedPackages}
+
+-- ---- an argument
+
+-- a text that lies nowhere
+abbrev pub lent : List ℕ → Bor (List ℕ)
+lent text = record { ref_ptr = (0, 0); now = text }
+
+-- the selection by a capability, where the argument is one
+abbrev pub capability_in : (CapabilityParts → Selection) → Result CapabilityParts BadCapability → Option Selection
+capability_in of (Ok c) = Some (of c)
+capability_in of (Err bad) = None
+
+-- the question that an argument is. Of words that break no rule each number and each capability is one.
+abbrev pub question_of : Chosen → Bor (List ℕ) → Option Selection
+question_of by.Label x = Some (question.Label x)
+question_of by.All x = Some (question.Pattern x)
+question_of by.Path x = Some (question.Path x)
+question_of by.Group x = Some (question.Group x)
+question_of by.Package x = None
+question_of by.Provides x = capability_in question.Provides (capability x.now)
+question_of by.Requires x = capability_in question.Requires (capability x.now)
+question_of by.Conflicts x = capability_in question.Conflicts (capability x.now)
+question_of by.Obsoletes x = capability_in question.Obsoletes (capability x.now)
+question_of by.Trigger x = Some (question.Trigger x)
+question_of by.Number x = option_map question.Number (number x.now)
+question_of by.Directory x = Some (question.Directory x)
+question_of by.Tid x = option_map question.Tid (number x.now)
+question_of by.Recommends x = capability_in question.Recommends (capability x.now)
+
+-- an argument is a question
+abbrev pub is_question : Chosen → List ℕ → Bool
+is_question chosen text = is_some (question_of chosen (lent text))
+
+-- each argument is one
+abbrev pub AreQuestions : List (List ℕ) → AskParts → Type 0
+AreQuestions words a = AllByRecursion (λ w. is_question a.chosen (text_at words w) ≡ true) a.arguments
+
+-- the packages that a selection picks, none where there is no selection
+abbrev pub picked_by : FinMap nat_cmp Package → Option Selection → List (ℕ × Package)
+picked_by packages None = []
+picked_by packages (Some sel) = picks packages sel
+
+-- the packages that an argument picks, by rising number
+unfoldable pub picked : FinMap nat_cmp Package → Chosen → List ℕ → List (ℕ × Package)
+picked packages chosen text = picked_by packages (question_of chosen (lent text))
+
+-- an argument that picks nothing, as a line on standard output
+abbrev pub missing : ℕ → List ℕ → List ℕ → List ℕ → Portion
+missing j front text back = fails (ToOut (whole j) (concat (front ∷ text ∷ back ∷ [])))
+
+-- a record that isn't there, as a line on standard error
+abbrev pub missing_record : ℕ → List ℕ → Portion
+missing_record j text = fails (ToErr (whole j) (concat (codes "error: record " ∷ text ∷ codes " could not be read\n" ∷ [])))
+
+-- the line of an argument that picks nothing, whatever was passed over; all packages and patterns have none
+unfoldable pub missing_part : Chosen → ℕ → List ℕ → Portion
+missing_part by.Label j x = missing j (codes "package ") x (codes " is not installed\n")
+missing_part by.All j x = nothing
+missing_part by.Path j x = missing j (codes "file ") x (codes " is not owned by any package\n")
+missing_part by.Group j x = missing j (codes "group ") x (codes " does not contain any packages\n")
+missing_part by.Package j x = nothing
+missing_part by.Provides j x = missing j (codes "no package provides ") x (codes "\n")
+missing_part by.Requires j x = missing j (codes "no package requires ") x (codes "\n")
+missing_part by.Conflicts j x = missing j (codes "no package conflicts ") x (codes "\n")
+missing_part by.Obsoletes j x = missing j (codes "no package obsoletes ") x (codes "\n")
+missing_part by.Trigger j x = missing j (codes "no package triggers ") x (codes "\n")
+missing_part by.Number j x = missing_record j x
+missing_part by.Directory j x = missing j (codes "no package has files in ") x (codes "\n")
+missing_part by.Tid j x = missing j (codes "no package has transaction ") x (codes "\n")
+missing_part by.Recommends j x = missing j (codes "no package recommends ") x (codes "\n")
+
+-- given what it picks
+abbrev pub answered : Tree → Chosen → ℕ → ℕ → List ℕ → List (ℕ × Package) → Portion
+answered tree chosen after j text [] = missing_part chosen j text
+answered tree chosen after j text (e ∷ es) = packages_part (step_of tree j) after (e ∷ es)
+
+-- what is printed for one argument of a question
+abbrev pub argument_part : Tree → FinMap nat_cmp Package → Chosen → ℕ → ℕ → List ℕ → Portion
+argument_part tree packages chosen after j text = answered tree chosen after j text (picked packages chosen text)
+
+-- whether the argument fails, of what was printed of its packages
+abbrev pub fails_in : Result PrintedPackages Halt → Result Bool Halt
+fails_in (Ok p) = Ok p.fails
+fails_in (Err stop) = Err stop
+
+-- a fault of a picker
+abbrev pub halt_of_pick : PickFault → Halt
+halt_of_pick (pick.BadIndex unit) = halt.BadIndex unit
+halt_of_pick pick.DiskFault = halt.DiskFault
+halt_of_pick pick.NoMemory = halt.NoMemory
+
+-- ---- a query of the database
+
+-- a query without arguments is of all packages, and counts as one
+abbrev pub query_of : Tree → FinMap nat_cmp Package → Chosen → ℕ → List (List ℕ) → Course
+query_of tree packages chosen after [] = before (packages_part (step_of tree 0) after (picks packages question.All)) idle
+query_of tree packages chosen after (x ∷ xs) = in_turn (argument_part tree packages chosen after) 0 (x ∷ xs)
+
+-- by the words
+abbrev pub query : Tree → FinMap nat_cmp Package → List (List ℕ) → AskParts → Course
+query tree packages words a = query_of tree packages a.chosen a.after (map (text_at words) a.arguments)
+
+-- an export: all packages, by rising number
+abbrev pub export : FinMap nat_cmp Package → Course
+export packages = before (packages_part (exported 0) 0 (picks packages question.All)) idle
+
+-- ---- whom steps are for
+
+-- these packages above a number, each once and rising
+abbrev pub AreOfEach : ℕ → List (ℕ × Package) → List Step → Type 0
+AreOfEach after packages steps =
+    (numbers steps ≡ map (λ e. e.0) (above after packages)) × RisesFrom after (map (λ e. e.0) (above after packages))

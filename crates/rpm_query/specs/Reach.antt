@@ -1,0 +1,48 @@
+-- What the arguments of a question go over, and the malformed chains that they may meet: the courses and bounds under `plain` and `keyed` of the page
+-- (`rpm_tool`, Theorem.antt).
+use Rattle.std.specs.Prelude.{◌≡◌, ℕ, List, [], ◌∷◌, map, slice_get, Bool, ◌&&◌, Option, Some, None}
+use Rattle.std.specs.Ordering.{nat_cmp}
+use Rattle.std.specs.FinMap.{FinMap}
+use Rattle.rpm_outside.specs.Files.{Units}
+use Rattle.rpm_db.specs.State.{Package}
+use Rattle.rpm_words.specs.declared.switch.Chosen.{Chosen}
+use Rattle.rpm_select.specs.declared.selection.Selection.{Selection}
+use Rattle.rpm_select.specs.Candidates.{has_keys, keys_asked}
+use Rattle.rpm_select.specs.Reach.{Reach, Everything, These, reach, IsFaultOfOne}
+use Rattle.rpm_change.specs.declared.tally.Halt.{Halt}
+use Rattle.rpm_change.specs.declared.tally.Halt.TheVariants as halt
+use Rattle.rpm_print.specs.declared.answer.Why.{Why}
+use Rattle.rpm_print.specs.declared.answer.Why.TheVariants as why
+use Rattle.rpm_query.specs.Queries.{lent, question_of}
+
+-- what a question goes over, with an index or without; an argument that is none goes over nothing
+abbrev pub reach_of : Bool → FinMap nat_cmp Package → Option Selection → Reach
+reach_of indexed packages None = These []
+reach_of indexed packages (Some sel) = reach (has_keys sel && indexed) sel packages
+
+-- what of the database an argument makes a question read
+unfoldable pub argument_reach : Bool → FinMap nat_cmp Package → Chosen → List ℕ → Reach
+argument_reach indexed packages chosen text = reach_of indexed packages (question_of chosen (lent text))
+
+-- of each argument; without any, all packages
+abbrev pub reaches_by : (List ℕ → Reach) → List (List ℕ) → List Reach
+reaches_by each [] = Everything ∷ []
+reaches_by each (x ∷ xs) = map each (x ∷ xs)
+
+-- ---- a malformed index
+
+-- this is the fault of the chain of a key that a question asks
+abbrev pub IsFaultOf : Option Selection → Units → ℕ → Type 0
+IsFaultOf None idx unit = ⊥
+IsFaultOf (Some sel) idx unit = IsFaultOfOne (keys_asked sel) idx unit
+
+-- a malformed index is told only with such a fault
+abbrev pub IsOfChain : Option Selection → Units → Halt → Type 0
+IsOfChain asked idx (halt.BadIndex unit) = IsFaultOf asked idx unit
+IsOfChain asked idx others = Unit {0}
+
+-- of a command: a key that one of its arguments asks
+abbrev pub IsOfChains : Chosen → List (List ℕ) → Units → Why → Type 0
+IsOfChains chosen texts idx (why.BadIndex unit) =
+    (j : ℕ) × (text : List ℕ) × (slice_get texts j ≡ Some text) × IsFaultOf (question_of chosen (lent text)) idx unit
+IsOfChains chosen texts idx others = Unit {0}

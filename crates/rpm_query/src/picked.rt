@@ -1,0 +1,104 @@
+//! The packages that a question picks, printed one after the other.
+
+ghost use Rattle.std.specs.Prelude.{◌≡◌, ◌≢◌, ℕ, ◌+◌, ◌-◌, ◌≤◌, ◌||◌, [], false, true, IsTrue, Err, IfOk, IfErr};
+ghost use Rattle.rpm_query.specs.Prelude.{above, cost_all, cost_to, DiskFault, fails_in, HaltHands, HasRows, is_some_of, IsAskable, IsOfPrint, Looks, packages_in, packages_part, PartIs, picks, Pkg, pkg_read, prints_packages, reach_all, reach_to, ReadsIn, Serves, shown, step_by, halt_of_pick, unasked};
+ghost use Rattle.rpm_select.specs.Reach.{asks};
+
+use rpm_change::Halt;
+use rpm_db::Db;
+use rpm_outside::{Buffered, Disk, File, Sink};
+use rpm_print::{Deed, print_picked};
+use rpm_qfparse::Format;
+use rpm_select::{PickFault, Picker, Selection};
+use std::alloc::Global;
+
+/// What became of the packages of an argument: whether there were some, and whether the argument fails for them.
+#[derive(Clone, Copy)]
+pub struct PrintedPackages {
+    pub some: bool,
+    pub fails: bool,
+}
+
+/// What halts a command where a picker fails.
+pub fn halt_of_pick(fault: PickFault) -> Halt
+    ensures value { result ≡ halt_of_pick fault }
+    ensures class { IsOfPrint result }
+{
+    match fault {
+        PickFault::BadIndex { unit } => Halt::BadIndex { unit },
+        PickFault::DiskFault => Halt::DiskFault,
+        PickFault::NoMemory => Halt::NoMemory,
+    }
+}
+
+/// Begins to go through what a selection picks that asks no index: that reads nothing, and doesn't fail.
+pub fn begin_unasked<D: Disk>(
+    alloc: Global,
+    db: &Db,
+    disk: &mut D,
+    selection: &Selection<'_>,
+) -> Picker
+    requires asked { IsAskable D.Disk disk.old db.now }
+    requires unasked { asks db.now selection.now ≡ false }
+    ensures reach { IsTrue D.tells → HasRows D.Disk disk.old db.now → result ≡ unasked selection.now }
+    ensures serves { IsTrue D.tells → HasRows D.Disk disk.old db.now
+        → Serves result (packages_in D.Disk disk.new db.now) selection.now }
+    ensures looks { Looks D.Disk Pkg 0 disk.old disk.new }
+    ensures faults { D.faults disk.old ≤ D.faults disk.new }
+{
+    match Picker::new(alloc, db, disk, selection) {
+        Ok(picker) => picker,
+        Err(_) => unreachable!(),
+    }
+}
+
+/// Prints each package above a number that a selection picks, by rising number: writes it out for an
+/// export, or else what the format says of it.
+pub fn print_above<D: Disk, O: Sink + Drop, E: Sink + Drop>(
+    alloc: Global,
+    picker: &mut Picker,
+    db: &Db,
+    disk: &mut D,
+    selection: &Selection<'_>,
+    after: u32,
+    deed: Deed,
+    format: &Format,
+    out: &mut Buffered<O>,
+    err: &mut Buffered<E>,
+) -> Result<PrintedPackages, Halt>
+    requires asked { IsAskable D.Disk disk.old db.now }
+    requires prints { prints_packages deed ≡ true }
+    ensures same { picker.new ≡ picker.old }
+    ensures went { IsTrue D.tells → Serves picker.old (packages_in D.Disk disk.old db.now) selection.now → (j : ℕ)
+        → PartIs (packages_part (step_by deed format.now j) after (picks (packages_in D.Disk disk.old db.now) selection.now))
+        (fails_in result) (shown O.Sink E.Sink out.old err.old) (shown O.Sink E.Sink out.new err.new)
+        (ReadsIn j after picker.old db.now (pkg_read D.Disk disk.old) (pkg_read D.Disk disk.new)) }
+    ensures some { IsTrue D.tells → Serves picker.old (packages_in D.Disk disk.old db.now) selection.now
+        → IfOk result (λ p. p.some ≡ is_some_of (above after (picks (packages_in D.Disk disk.old db.now)
+        selection.now))) }
+    ensures reads { pkg_read D.Disk disk.new + reach_to after picker.old db.now ≤ pkg_read D.Disk disk.old + reach_all
+        picker.old db.now }
+    ensures looks { Looks D.Disk Pkg (cost_all db.now - cost_to after db.now) disk.old disk.new }
+    ensures disk { DiskFault D.Disk (result ≡ Err Halt.DiskFault) disk.old disk.new }
+    ensures unbroken { (unit : ℕ) → result ≢ Err (Halt.BadIndex unit) }
+    ensures class { IfErr result IsOfPrint }
+    ensures hands { HaltHands O.Sink E.Sink result out.old err.old out.new err.new }
+{
+    let mut number = after;
+    let mut some = false;
+    let mut fails = false;
+    loop {
+        match picker.next_after(alloc, db, disk, selection, number) {
+            Ok(Some(picked)) => {
+                let printed = print_picked(alloc, deed, format, &picked, out, err);
+                number = picked.number();
+                picker.take_back(picked);
+                let to_out = printed?;
+                some = true;
+                fails |= !to_out;
+            }
+            Ok(None) => return Ok(PrintedPackages { some, fails }),
+            Err(fault) => return Err(halt_of_pick(fault)),
+        }
+    }
+}

@@ -1,0 +1,121 @@
+//! The queries of an opened database.
+
+ghost use Rattle.std.specs.Prelude.{◌≡◌, ◌≢◌, ◌+◌, ◌<◌, ◌≤◌, ℕ, [], ◌∷◌, if◌then◌else◌, false, true, map, IsTrue};
+ghost use Rattle.rpm_query.specs.Prelude.{argument_part, argument_reach, before, cost_all, DiskFault, EndHands, Everything, HasRows, idle, in_turn, is_foreign, is_indexed, is_of_opening, IsAskable, IsOfChains, Looks, packages_in, packages_part, Peeks, picks, Pkg, pkg_read, prints_packages, reach_sum, reached_by, shown, step_by, text_at, Went};
+ghost use Rattle.rpm_select.specs.declared.selection.Selection.TheVariants as question;
+
+use crate::argument::answer;
+use crate::picked::{begin_unasked, print_above};
+use rpm_db::Db;
+use rpm_outside::{Buffered, Disk, File, Sink};
+use rpm_print::{Deed, Why};
+use rpm_qfparse::Format;
+use rpm_select::Selection;
+use rpm_words::{Ask, Words};
+use std::alloc::Global;
+
+/// Writes each package above a number out for an export, or else prints what the format says of it.
+pub fn query_all<D: Disk, O: Sink + Drop, E: Sink + Drop>(
+    alloc: Global,
+    db: &Db,
+    disk: &mut D,
+    after: u32,
+    deed: Deed,
+    format: &Format,
+    out: &mut Buffered<O>,
+    err: &mut Buffered<E>,
+) -> Why
+    requires asked { IsAskable D.Disk disk.old db.now }
+    requires prints { prints_packages deed ≡ true }
+    ensures went { IsTrue D.tells → HasRows D.Disk disk.old db.now
+        → Went (before (packages_part (step_by deed format.now 0) after (picks (packages_in D.Disk disk.old db.now)
+        question.All)) idle) result (shown O.Sink E.Sink out.old err.old) (shown O.Sink E.Sink out.new err.new)
+        (λ for. pkg_read D.Disk disk.new ≤ pkg_read D.Disk disk.old + reached_by (Everything ∷ []) db.now for) }
+    ensures done { is_foreign result ≡ false }
+    ensures opened { is_of_opening result ≡ false }
+    ensures looks { Looks D.Disk Pkg (cost_all db.now) disk.old disk.new }
+    ensures disk { DiskFault D.Disk (result ≡ Why.DiskFault) disk.old disk.new }
+    ensures unbroken { (unit : ℕ) → result ≢ Why.BadIndex unit }
+    ensures hands { EndHands O.Sink E.Sink result out.old err.old out.new err.new }
+{
+    let mut picker = begin_unasked(alloc, db, disk, &Selection::All);
+    match print_above(
+        alloc,
+        &mut picker,
+        db,
+        disk,
+        &Selection::All,
+        after,
+        deed,
+        format,
+        out,
+        err,
+    ) {
+        Ok(printed) if printed.fails => Why::Failed(1),
+        Ok(_) => Why::Done,
+        Err(halt) => Why::from(halt),
+    }
+}
+
+/// How many arguments failed, with one more.
+pub fn count(failed: u32, fails: bool) -> u32
+    requires { failed < 4294967295 }
+    ensures { result ≡ failed + (if fails then 1 else 0) }
+{
+    if fails { failed + 1 } else { failed }
+}
+
+/// Prints what each argument picks, one after the other.
+pub fn query_each<D: Disk, O: Sink + Drop, E: Sink + Drop>(
+    alloc: Global,
+    db: &Db,
+    disk: &mut D,
+    words: &Words,
+    ask: &Ask,
+    format: &Format,
+    out: &mut Buffered<O>,
+    err: &mut Buffered<E>,
+) -> Why
+    requires asked { IsAskable D.Disk disk.old db.now }
+    ensures went { IsTrue D.tells → HasRows D.Disk disk.old db.now
+        → Went (in_turn (argument_part format.now (packages_in D.Disk disk.old db.now) ask.now.chosen ask.now.after) 0
+        (map (text_at words.now) ask.now.arguments)) result (shown O.Sink E.Sink out.old err.old)
+        (shown O.Sink E.Sink out.new err.new) (λ for. pkg_read D.Disk disk.new ≤ pkg_read D.Disk disk.old + reached_by
+        (map (argument_reach (is_indexed db.now) (packages_in D.Disk disk.old db.now) ask.now.chosen)
+        (map (text_at words.now) ask.now.arguments)) db.now for) }
+    ensures done { is_foreign result ≡ false }
+    ensures opened { is_of_opening result ≡ false }
+    ensures reads { IsTrue D.tells → HasRows D.Disk disk.old db.now
+        → pkg_read D.Disk disk.new ≤ pkg_read D.Disk disk.old + reach_sum
+        (map (argument_reach (is_indexed db.now) (packages_in D.Disk disk.old db.now) ask.now.chosen)
+        (map (text_at words.now) ask.now.arguments)) db.now }
+    ensures bad_index { IsTrue D.tells → IsOfChains ask.now.chosen (map (text_at words.now) ask.now.arguments)
+        (D.files disk.old).idx result }
+    ensures looks { Peeks D.Disk (is_indexed db.now) disk.old disk.new }
+    ensures disk { DiskFault D.Disk (result ≡ Why.DiskFault) disk.old disk.new }
+    ensures hands { EndHands O.Sink E.Sink result out.old err.old out.new err.new }
+{
+    let mut failed = 0u32;
+    for k in 0..ask.arguments() {
+        let text = words.text_at(ask.argument(k));
+        match answer(
+            alloc,
+            db,
+            disk,
+            ask.chosen(),
+            text,
+            ask.after(),
+            format,
+            out,
+            err,
+        ) {
+            Ok(fails) => failed = count(failed, fails),
+            Err(halt) => return Why::from(halt),
+        }
+    }
+    if failed == 0 {
+        Why::Done
+    } else {
+        Why::Failed(failed)
+    }
+}

@@ -1,0 +1,51 @@
+-- What is told of the paths that several packages own and that differ: for `--checkfiles` the course of `plain` on the page (`rpm_tool`, Theorem.antt).
+use Rattle.std.specs.Prelude.{ℕ, List, [], ◌∷◌, ◌++◌, map, codes, Bool, true, false, unwrap_or}
+use Rattle.std.specs.List.{concat}
+use Rattle.std.specs.Ordering.{nat_cmp}
+use Rattle.std.specs.FinMap.{FinMap}
+use Rattle.rpm_db.specs.State.{Package}
+use Rattle.rpm_filecheck.specs.Owners.{Conflict}
+use Rattle.rpm_filecheck.specs.Conflicts.{Report, conflicts, bad, told_label}
+use Rattle.rpm_change.specs.Steps.{whole, Step, ToOut, ToErr, Course, idle}
+use Rattle.rpm_print.specs.Steps.{fails, together, before}
+use Rattle.rpm_print.specs.Printed.{bad_line}
+use Rattle.rpm_report.specs.Labels.{label}
+
+-- ---- its lines
+
+-- a word where two files differ, else nothing
+abbrev pub if_differs : Bool → List ℕ → List ℕ
+if_differs true word = word
+if_differs false word = []
+
+-- the path, the labels of its two packages, and the parts that differ
+unfoldable pub conflict_line : List ℕ → List ℕ → Conflict → List ℕ
+conflict_line first second c =
+    concat (c.path ∷ codes ": " ∷ first ∷ codes " " ∷ second ∷ codes ":" ∷ if_differs c.digest (codes " digest")
+    ∷ if_differs c.mode (codes " mode") ∷ if_differs c.link (codes " link") ∷ codes "\n" ∷ [])
+
+-- a line comes once all packages were read, and so it is the whole argument's
+abbrev pub unread_step : ℕ → Step
+unread_step n = ToErr (whole 0) (bad_line n)
+
+-- a conflict of two files, as a line with the labels of both packages
+abbrev pub conflict_step : (ℕ → List ℕ) → Conflict → Step
+conflict_step labels c = ToOut (whole 0) (conflict_line (labels c.first) (labels c.second) c)
+
+-- first the packages that can't be read, by rising number, and then the conflicts
+abbrev pub report_steps : (ℕ → List ℕ) → List ℕ → List Conflict → List Step
+report_steps labels numbers found = map unread_step numbers ++ map (conflict_step labels) found
+
+-- for each line the one argument fails
+abbrev pub check_files : FinMap nat_cmp Package → Course
+check_files packages = before (together (map fails (report_steps (label packages) (bad packages) (conflicts packages)))) idle
+
+-- ---- the same of a report
+
+-- the label that a report has for a package, empty where it has none
+abbrev pub label_told : Report → ℕ → List ℕ
+label_told r n = unwrap_or (told_label r n) []
+
+-- the lines of a report of files, from what it was told
+abbrev pub told_steps : Report → List Step
+told_steps r = report_steps (label_told r) r.bad r.conflicts

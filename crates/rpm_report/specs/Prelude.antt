@@ -1,0 +1,24 @@
+-- The words of clauses, from one place.
+pub use Rattle.rpm_change.specs.Hands.{Hand}
+pub use Rattle.rpm_change.specs.Steps.{bearer, whole}
+pub use Rattle.rpm_check.specs.Unmet.{required}
+pub use Rattle.rpm_db.specs.Database.{cost, cost_all}
+pub use Rattle.rpm_db.specs.Frame.{room}
+pub use Rattle.rpm_db.specs.Verdicts.{verdict}
+pub use Rattle.rpm_header.specs.Header.{header}
+pub use Rattle.rpm_outside.specs.Buffered.{holds}
+pub use Rattle.rpm_outside.specs.declared.disk.File.TheVariants.{Pkg}
+pub use Rattle.rpm_qfeval.specs.Numbers.{has}
+pub use Rattle.rpm_select.specs.Reach.{Everything}
+pub use Rattle.rpm_version.specs.Range.{is_open}
+pub use Rattle.std.specs.List.{flat_map}
+pub use Rattle.rpm_print.specs.Answers.{Anywhere, PartIs, Reached, Went}
+pub use Rattle.rpm_print.specs.Classes.{IsOfPrint, is_foreign, is_of_opening}
+pub use Rattle.rpm_print.specs.Frame.{DiskFault, EndHands, ErrTakes, HaltHands, HasRows, IsAskable, Looks, OutTakes, Peeks, PutsOut}
+pub use Rattle.rpm_print.specs.Frame.{ReadsBy, TellsErr, TellsOut, packages_in, pkg_read, shown}
+pub use Rattle.rpm_print.specs.Reads.{reached_by}
+pub use Rattle.rpm_print.specs.Steps.{fails, together}
+pub use Rattle.rpm_report.specs.FileReport.{check_files, conflict_step, if_differs, label_told, told_steps}
+pub use Rattle.rpm_report.specs.Reports.{unsound, verdict_part, verify}
+pub use Rattle.rpm_report.specs.Requirements.{HaltsOfSome, IsRead, OrderPartIs, bad_at, bad_parts, class_steps, halt_of_check, label_step}
+pub use Rattle.rpm_report.specs.Requirements.{line_of, range_text, read_text, unmet_lines, unmet_step, unsatisfied_part}

@@ -1,0 +1,3 @@
+-- Laws on the definitions, for the crates above.
+pub mod Checked
+pub mod Reporting

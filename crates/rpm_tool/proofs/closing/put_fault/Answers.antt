@@ -1,9 +1,0 @@
-use Rattle.std.proofs.Common.{◌∙◌}
-use Rattle.rpm_tool.proofs.Vocabulary.{format_line}
-use Rattle.rpm_tool.proofs.closing.put_fault.Goals as goal
-
-pub returns : goal.returns
-unfolding format_line
-returns g c =
-    let at = c.as_bytes-at.ensures.value ∙ c.format.ensures.text in
-    rw (← at, ← c.fault_text-text.ensures) c.put_pieces.ensures

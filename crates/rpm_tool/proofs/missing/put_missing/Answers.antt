@@ -1,5 +1,0 @@
-use Rattle.rpm_tool.proofs.Vocabulary.{whole}
-use Rattle.rpm_tool.proofs.missing.put_missing.Goals as goal
-
-pub returns-clause-part : goal.returns-clause-part
-returns-clause-part g c = λ j. c.put_out.ensures.part (whole j)

@@ -1,9 +1,0 @@
-use Rattle.std.proofs.Common.{◌≡◌, ◌≤◌, ◌++◌, map, length, drop}
-use Rattle.rpm_tool.proofs.Vocabulary.{text_at}
-use Rattle.rpm_tool.proofs.task.texts_of.Given as goal
-
-abbrev pub invariant-loop-k : goal.invariant-loop-k
-invariant-loop-k l = record {
-  texts : map (λ text. text.now) l.texts.items ++ map (text_at l.words) (drop l.k l.ask.arguments) ≡ map (text_at l.words) l.ask.arguments;
-  few : length l.texts.items ≤ l.k;
-}

@@ -1,5 +1,0 @@
-use Rattle.rpm_tool.proofs.Stopping.{out_cut}
-use Rattle.rpm_tool.proofs.unreadable.put_out.Goals as goal
-
-pub returns-in-Err-clause-part : goal.returns-in-Err-clause-part
-returns-in-Err-clause-part g c = λ for et e. record { steps = out_cut _ _ _ _ _ _ _ c.in-Err.ensures.writes.err; fails = tt }

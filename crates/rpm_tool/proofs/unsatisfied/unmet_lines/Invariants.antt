@@ -1,6 +1,0 @@
-use Rattle.std.proofs.Common.{◌≡◌, take}
-use Rattle.rpm_tool.proofs.Vocabulary.{unmet_lines}
-use Rattle.rpm_tool.proofs.unsatisfied.unmet_lines.Given as goal
-
-abbrev pub invariant-loop-unmet : goal.invariant-loop-unmet
-invariant-loop-unmet l = record { so_far : l.lines.items ≡ unmet_lines (take l.unmet-index l.row) l.number l.view }

@@ -1,2 +1,0 @@
--- What the functions below `run` say alike.
-pub mod OneChange
