@@ -165,8 +165,7 @@ fn put_part(runs: &mut Vec<Range>, at: usize, part: Range)
     requires room { vec_len runs.old < vec_capacity runs.old }
     ensures apart { AreApart 1 runs.new.items }
     ensures same { HaveSameBlocks (part ∷ runs.old.items) runs.new.items }
-    ensures gap { (r : Range) → IsGap 1 1 runs.old.items r at → end_of r + 1 ≤ part.start
-        → IsGap 1 1 runs.new.items r at }
+    ensures gap { (r : Range) → IsGap 1 1 runs.old.items r at → end_of r + 1 ≤ part.start → IsGap 1 1 runs.new.items r at }
     ensures len { vec_len runs.new ≤ vec_len runs.old + 1 }
     ensures capacity { vec_capacity runs.new ≡ vec_capacity runs.old }
 {

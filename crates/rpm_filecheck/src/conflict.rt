@@ -147,8 +147,7 @@ fn push_all(
     first: &Owner,
     others: &[Owner],
 ) -> Result<(), AllocError>
-    ensures { OnOk result (conflicts.new.items ≡ conflicts.old.items ++ conflicts_on path.now
-        (first.now ∷ others.now)) }
+    ensures { OnOk result (conflicts.new.items ≡ conflicts.old.items ++ conflicts_on path.now (first.now ∷ others.now)) }
 {
     if agrees_with_all(first, others) {
         return Ok(());

@@ -25,8 +25,7 @@ fn add_package<D: Disk>(
     requires keeps { Kept D.Disk disk.old db.now }
     requires runs { db.now.stopped ≡ false }
     requires there { database.holds number db.now ≡ true }
-    ensures found { OnOk result (IsTrue D.tells
-        → found.new ≡ with_some number (finite.get (packages_in D.Disk disk.old db.now) number) found.old) }
+    ensures found { OnOk result (IsTrue D.tells → found.new ≡ with_some number (finite.get (packages_in D.Disk disk.old db.now) number) found.old) }
     ensures asks { Asks D.Disk (cost number db.now) disk.old disk.new db.now result }
 {
     match db.read_in(disk, number, replace(room, Vec::new(alloc))) {
@@ -46,8 +45,7 @@ fn add_package<D: Disk>(
 pub fn gather<D: Disk>(alloc: Global, db: &Db, disk: &mut D) -> Result<Found, FileCheckFault>
     requires keeps { Kept D.Disk disk.old db.now }
     requires runs { db.now.stopped ≡ false }
-    ensures found { IfOk result (λ found. IsTrue D.tells
-        → found ≡ with_packages (finite.entries (packages_in D.Disk disk.old db.now)) nothing) }
+    ensures found { IfOk result (λ found. IsTrue D.tells → found ≡ with_packages (finite.entries (packages_in D.Disk disk.old db.now)) nothing) }
     ensures asks { Asks D.Disk (cost_all db.now) disk.old disk.new db.now result }
 {
     let mut found = Found::new(alloc);

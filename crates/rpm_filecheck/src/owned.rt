@@ -31,8 +31,7 @@ fn join_in(
     path: Vec<u8>,
     owner: Owner,
 ) -> Result<(), AllocError>
-    ensures { OnOk result (paths.new.entries ≡ insert_entry key_order paths.old.entries path
-        (joined_to (get key_order paths.old path) owner)) }
+    ensures { OnOk result (paths.new.entries ≡ insert_entry key_order paths.old.entries path (joined_to (get key_order paths.old path) owner)) }
 {
     match paths.entry(path) {
         Ok(Entry::Occupied(entry)) => return entry.into_mut().join(owner),

@@ -43,8 +43,7 @@ pub fn put_ends(
 ) -> Result<(), AllocError>
     requires inside { class < length targets.old }
     requires ends { (i : ℕ) → i < length row.now → slice_index row.now i < length classes.now }
-    ensures { OnOk result (GainEnds classes.now class row.now (length row.now) (rows_of targets.old)
-        (rows_of targets.new)) }
+    ensures { OnOk result (GainEnds classes.now class row.now (length row.now) (rows_of targets.old) (rows_of targets.new)) }
 {
     for to in row {
         if classes[*to] != class {
@@ -71,8 +70,7 @@ pub fn members(alloc: Global, numbers: &[u32], split: &Split) -> Result<Vec<Vec<
     requires sized { length split.now.classes.items ≡ length numbers.now }
     requires bounded { (v : ℕ) → v < length numbers.now → slice_index split.now.classes.items v < split.now.count }
     ensures sized { IfOk result (λ members. length (rows_of members.items) ≡ split.now.count) }
-    ensures members { IfOk result (λ members. HaveMembers numbers.now split.now.classes.items (length numbers.now)
-        (rows_of members.items)) }
+    ensures members { IfOk result (λ members. HaveMembers numbers.now split.now.classes.items (length numbers.now) (rows_of members.items)) }
 {
     let mut members = empty_lists(alloc, split.count)?;
     put_numbers(&mut members, numbers, &split.classes)?;
@@ -88,8 +86,7 @@ pub fn class_rows(
     requires within { AreWithin (rows_of rows.now) }
     requires split { IsSplit (rows_of rows.now) split.now.classes.items split.now.count }
     ensures sized { IfOk result (λ ends. length ends.items ≡ split.now.count) }
-    ensures ends { IfOk result (λ ends. HaveEnds (rows_of rows.now) split.now.classes.items (length rows.now)
-        (rows_of ends.items)) }
+    ensures ends { IfOk result (λ ends. HaveEnds (rows_of rows.now) split.now.classes.items (length rows.now) (rows_of ends.items)) }
 {
     let mut ends = empty_rows(alloc, split.count)?;
     for place in 0..rows.len() {

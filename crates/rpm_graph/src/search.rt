@@ -50,8 +50,7 @@ impl Search {
     // Takes the last level off the path, as a class.
     pub fn close(&mut self, root: usize)
         requires rooted { root < length self.old.path.items }
-        requires within { (i : ℕ) → i < length self.old.path.items
-            → slice_index self.old.path.items i < length self.old.ranks.items }
+        requires within { (i : ℕ) → i < length self.old.path.items → slice_index self.old.path.items i < length self.old.ranks.items }
         requires room { length self.old.ranks.items + self.old.closed + 1 < 2 ^ 64 }
         ensures { IsClosed root self.old self.new }
     {
@@ -115,10 +114,8 @@ impl Search {
 // Takes off the last edge that waits, where it begins on the last level.
 fn take_waiting(pending: &mut Vec<Link>, ranks: &[usize], root: usize) -> Option<Link>
     requires { (i : ℕ) → i < length pending.old.items → (link_at pending.old.items i).from < length ranks.now }
-    ensures none { IfNone result (NoneWaits ranks.now pending.old.items root
-        × (pending.new.items ≡ pending.old.items)) }
-    ensures some { IfSome result (λ l. (pending.old.items ≡ pending.new.items ++ l ∷ [])
-        × (root < slice_index ranks.now l.from)) }
+    ensures none { IfNone result (NoneWaits ranks.now pending.old.items root × (pending.new.items ≡ pending.old.items)) }
+    ensures some { IfSome result (λ l. (pending.old.items ≡ pending.new.items ++ l ∷ []) × (root < slice_index ranks.now l.from)) }
 {
     let waiting = pending.len();
     if waiting == 0 {

@@ -19,8 +19,7 @@ fn log_held<D: Disk>(disk: &mut D, held: &Layers, buffer: &mut Buffer) -> Result
     ensures at { IfOk result (λ tail. tail.at ≡ needed held.now) }
     ensures logged { IfOk result (λ tail. IsTrue D.tells
         → (entries : List Entry) × IsGroup entries held.now × IsTail entries tail (D.files disk.new).log) }
-    ensures changed { OnOk result (IsTrue D.tells → ChangedIn File.Log 1 (2 ^ 28) (D.files disk.old)
-        (D.files disk.new)) }
+    ensures changed { OnOk result (IsTrue D.tells → ChangedIn File.Log 1 (2 ^ 28) (D.files disk.old) (D.files disk.new)) }
     ensures settled { OnOk result (IsTrue D.tells → AreSettled (D.files disk.new) (images D.Disk disk.new)) }
     ensures images { IsTrue D.tells → LeavesChanged D.Disk File.Log 1 (2 ^ 28) disk.old disk.new }
     ensures reads { ReadsNothing D.Disk result disk.old disk.new }
@@ -79,8 +78,7 @@ fn write_group<D: Disk>(disk: &mut D, held: &Layers) -> Result<(), Failed>
     requires some { 1 < needed held.now }
     requires settled { IsTrue D.tells → AreSettled (D.files disk.old) (images D.Disk disk.old) }
     requires closed { IsTrue D.tells → log_state (D.files disk.old).log ≡ Closed }
-    ensures files { OnOk result (IsTrue D.tells → unlogged (D.files disk.new)
-        ≡ unlogged (with_held held.now (D.files disk.old))) }
+    ensures files { OnOk result (IsTrue D.tells → unlogged (D.files disk.new) ≡ unlogged (with_held held.now (D.files disk.old))) }
     ensures closed { OnOk result (IsTrue D.tells → log_state (D.files disk.new).log ≡ Closed) }
     ensures logged { OnOk result (IsTrue D.tells → IsLogged held.now (D.files disk.new).log) }
     ensures settled { OnOk result (IsTrue D.tells → AreSettled (D.files disk.new) (images D.Disk disk.new)) }
@@ -111,8 +109,7 @@ const MOST: u64 = 268_435_456;
 fn write_held<D: Disk>(disk: &mut D, held: &Layers) -> Result<(), CommitFault>
     requires settled { IsTrue D.tells → AreSettled (D.files disk.old) (images D.Disk disk.old) }
     requires closed { IsTrue D.tells → log_state (D.files disk.old).log ≡ Closed }
-    ensures files { OnOk result (IsTrue D.tells → unlogged (D.files disk.new)
-        ≡ unlogged (with_held held.now (D.files disk.old))) }
+    ensures files { OnOk result (IsTrue D.tells → unlogged (D.files disk.new) ≡ unlogged (with_held held.now (D.files disk.old))) }
     ensures closed { OnOk result (IsTrue D.tells → log_state (D.files disk.new).log ≡ Closed) }
     ensures logged { OnOk result (IsTrue D.tells → IsLogged held.now (D.files disk.new).log) }
     ensures settled { OnOk result (IsTrue D.tells → AreSettled (D.files disk.new) (images D.Disk disk.new)) }
@@ -153,8 +150,7 @@ impl<D: Disk> Overlay<D> {
     /// that a crash since the start may leave, and none of them has a malformed log.
     pub fn commit(self) -> (D, Result<(), CommitFault>)
         requires starved { overlay_starved self ≡ 0 }
-        requires settled { IsTrue D.tells → AreSettled (D.files (overlay_below self))
-            (images D.Disk (overlay_below self)) }
+        requires settled { IsTrue D.tells → AreSettled (D.files (overlay_below self)) (images D.Disk (overlay_below self)) }
         requires closed { IsTrue D.tells → log_state (D.files (overlay_below self)).log ≡ Closed }
         ensures { IsCommit D.Disk (overlay_held self) result.1 (overlay_below self) result.0 }
     {

@@ -27,14 +27,12 @@ pub fn log_runs<D: Disk>(
     requires room { tail.at + log_units pages.now.table.items pages.now.end ≤ 2 ^ 28 }
     requires few { tail.entries ≤ tail.at }
     ensures at { IfOk result (λ next. next.at ≡ tail.at + log_units pages.now.table.items pages.now.end) }
-    ensures entries { IfOk result (λ next. next.entries
-        ≡ tail.entries + count_below (begins_run pages.now.table.items) pages.now.end) }
+    ensures entries { IfOk result (λ next. next.entries ≡ tail.entries + count_below (begins_run pages.now.table.items) pages.now.end) }
     ensures logged { IfOk result (λ next. IsTrue D.tells
         → (entries : List Entry) × Logged entries file pages.now.table.items pages.now.end
         × EntriesIn entries tail.at next.at (D.files disk.new).log
         × HeadsEndInZeros entries tail.at (D.files disk.new).log) }
-    ensures changed { OnOk result (IsTrue D.tells → ChangedIn File.Log tail.at (2 ^ 28) (D.files disk.old)
-        (D.files disk.new)) }
+    ensures changed { OnOk result (IsTrue D.tells → ChangedIn File.Log tail.at (2 ^ 28) (D.files disk.old) (D.files disk.new)) }
     ensures images { IsTrue D.tells → LeavesChanged D.Disk File.Log tail.at (2 ^ 28) disk.old disk.new }
     ensures reads { ReadsNothing D.Disk result disk.old disk.new }
 {

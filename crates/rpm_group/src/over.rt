@@ -12,12 +12,9 @@ use rpm_outside::{Disk, Failed, File};
 /// Reads units, or none.
 fn read_some<D: Disk>(below: &mut D, file: File, unit: u64, into: &mut [u8]) -> Result<(), Failed>
     requires whole { length into.old % 16 ≡ 0 }
-    requires within { IsTrue D.tells → 0 < length into.old
-        → unit + length into.old / 16 ≤ length (file_of file (D.files below.old)) }
-    ensures units { OnOk result (IsTrue D.tells → units_of into.new
-        ≡ take (length into.old / 16) (drop unit (file_of file (D.files below.old)))) }
-    ensures counts { (f : File) → RoseBy (D.bytes_read below.old f) (bytes_for file f (length into.old))
-        (D.bytes_read below.new f) }
+    requires within { IsTrue D.tells → 0 < length into.old → unit + length into.old / 16 ≤ length (file_of file (D.files below.old)) }
+    ensures units { OnOk result (IsTrue D.tells → units_of into.new ≡ take (length into.old / 16) (drop unit (file_of file (D.files below.old)))) }
+    ensures counts { (f : File) → RoseBy (D.bytes_read below.old f) (bytes_for file f (length into.old)) (D.bytes_read below.new f) }
     ensures reads { Reads D.Disk file (length into.old) result below.old below.new }
 {
     if into.is_empty() {
@@ -60,8 +57,7 @@ fn read_partly<D: Disk>(
     into: &mut [u8],
 ) -> Result<(), Failed>
     requires whole { length into.old % 16 ≡ 0 }
-    requires within { IsTrue D.tells → unit + length into.old / 16 ≤ length
-        (file_of file (laid_files layers.now (D.files below.old))) }
+    requires within { IsTrue D.tells → unit + length into.old / 16 ≤ length (file_of file (laid_files layers.now (D.files below.old))) }
     ensures units { OnOk result (IsTrue D.tells → units_of into.new
         ≡ take (length into.old / 16) (drop unit (file_of file (laid_files layers.now (D.files below.old))))) }
     ensures counts { CountsRead D.Disk file (length into.old) below.old below.new spared.old spared.new }
@@ -98,8 +94,7 @@ fn read_units<D: Disk>(
     into: &mut [u8],
 ) -> Result<(), Failed>
     requires whole { length into.old % 16 ≡ 0 }
-    requires within { IsTrue D.tells → unit + length into.old / 16 ≤ length
-        (file_of file (laid_files layers.now (D.files below.old))) }
+    requires within { IsTrue D.tells → unit + length into.old / 16 ≤ length (file_of file (laid_files layers.now (D.files below.old))) }
     ensures { ReadsOver D.Disk layers.now file unit (length into.old) into.new result below.old below.new spared.old spared.new }
 {
     let pages = layers.file(file);
@@ -121,8 +116,7 @@ pub fn read_over<D: Disk>(
     into: &mut [u8],
 ) -> Result<(), Failed>
     requires whole { length into.old % 16 ≡ 0 }
-    requires within { IsTrue D.tells → unit + length into.old / 16 ≤ length
-        (file_of file (laid_files layers.now (D.files below.old))) }
+    requires within { IsTrue D.tells → unit + length into.old / 16 ≤ length (file_of file (laid_files layers.now (D.files below.old))) }
     ensures { ReadsOver D.Disk layers.now file unit (length into.old) into.new result below.old below.new spared.old spared.new }
 {
     if layers.file(file).copy_held(unit, into) {

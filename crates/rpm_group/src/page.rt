@@ -28,8 +28,7 @@ fn mark(marks: &mut [bool], from: usize, end: usize)
     requires ordered { from ≤ end }
     requires within { end ≤ length marks.old }
     ensures inside { (k : ℕ) → from ≤ k → k < end → slice_index_or marks.new k false ≡ true }
-    ensures outside { (k : ℕ) → (k < from) ⊎ (end ≤ k)
-        → slice_index_or marks.new k false ≡ slice_index_or marks.old k false }
+    ensures outside { (k : ℕ) → (k < from) ⊎ (end ≤ k) → slice_index_or marks.new k false ≡ slice_index_or marks.old k false }
 {
     for k in from..end {
         marks[k] = true;
@@ -76,8 +75,7 @@ impl Page {
         requires whole { length into.old % 16 ≡ 0 }
         requires at { at < 256 }
         ensures within { IsTrue result → at + length into.old / 16 ≤ 256 }
-        ensures units { IsTrue result → (k : ℕ) → k < length into.old / 16
-            → in_page self.now (at + k) ≡ Some (unit_in into.new k) }
+        ensures units { IsTrue result → (k : ℕ) → k < length into.old / 16 → in_page self.now (at + k) ≡ Some (unit_in into.new k) }
     {
         if into.len() != 16 || !self.marks[at] {
             return false;
@@ -90,8 +88,7 @@ impl Page {
     pub fn lay(&self, at: usize, into: &mut [u8])
         requires whole { length into.old % 16 ≡ 0 }
         requires within { at + length into.old / 16 ≤ 256 }
-        ensures { (k : ℕ) → k < length into.old / 16
-            → unit_in into.new k ≡ unwrap_or (in_page self.now (at + k)) (unit_in into.old k) }
+        ensures { (k : ℕ) → k < length into.old / 16 → unit_in into.new k ≡ unwrap_or (in_page self.now (at + k)) (unit_in into.old k) }
     {
         let end = at + into.len() / 16;
         if into.len() <= FEW_BYTES || self.marks[at..end].contains(&false) {
@@ -105,8 +102,7 @@ impl Page {
     fn lay_some(&self, at: usize, into: &mut [u8])
         requires whole { length into.old % 16 ≡ 0 }
         requires within { at + length into.old / 16 ≤ 256 }
-        ensures { (k : ℕ) → k < length into.old / 16
-            → unit_in into.new k ≡ unwrap_or (in_page self.now (at + k)) (unit_in into.old k) }
+        ensures { (k : ℕ) → k < length into.old / 16 → unit_in into.new k ≡ unwrap_or (in_page self.now (at + k)) (unit_in into.old k) }
     {
         for k in 0..into.len() / 16 {
             let from = 16 * (at + k);

@@ -40,8 +40,7 @@ impl Pages {
         requires { FitsAt unit bytes.now }
         ensures ok { OnOk result ((file : Units) → laid self.new.table.items self.new.end file
             ≡ put unit (units_of bytes.now) (laid self.old.table.items self.old.end file)) }
-        ensures err { OnErr result ((file : Units)
-            → laid self.new.table.items self.new.end file ≡ laid self.old.table.items self.old.end file) }
+        ensures err { OnErr result ((file : Units) → laid self.new.table.items self.new.end file ≡ laid self.old.table.items self.old.end file) }
     {
         let end = unit + bytes.len() as u64 / 16;
         hold_all(alloc, &mut self.table, unit as usize, bytes)?;

@@ -146,8 +146,7 @@ impl Builder {
     fn lay_out(&self, alloc: Global, region: bool, lengths: Lengths) -> Result<Vec<u8>, AllocError>
         requires { Ok lengths ≡ lengths_of (length (with_region region self.now)) (length (data_of region self.now)) }
         ensures laid { IfOk result (λ blob. blob.items ≡ laid region self.now) }
-        ensures again { IfOk result (λ blob. header blob.items ≡ Ok
-            (record { blob = blob.items; entries = with_region region self.now })) }
+        ensures again { IfOk result (λ blob. header blob.items ≡ Ok (record { blob = blob.items; entries = with_region region self.now })) }
     {
         let mut blob = begin(alloc, lengths)?;
         append_region_entry(&mut blob, region, lengths)?;
@@ -174,10 +173,8 @@ impl Builder {
     /// the trailer. Else `NoMemory` where no memory is found.
     pub fn finish(&self, alloc: Global, region: bool) -> Result<Vec<u8>, BuildFault>
         ensures laid { IfOk result (λ blob. blob.items ≡ laid region self.now) }
-        ensures again { IfOk result (λ blob. header blob.items ≡ Ok
-            (record { blob = blob.items; entries = with_region region self.now })) }
-        ensures too_many { (result ≡ Err BuildFault.TooManyEntries) ↔
-            (max_entries < length (with_region region self.now)) }
+        ensures again { IfOk result (λ blob. header blob.items ≡ Ok (record { blob = blob.items; entries = with_region region self.now })) }
+        ensures too_many { (result ≡ Err BuildFault.TooManyEntries) ↔ (max_entries < length (with_region region self.now)) }
         ensures too_much { (result ≡ Err BuildFault.TooMuchData)
             ↔ ((length (with_region region self.now) ≤ max_entries) × (max_data < length (data_of region self.now))) }
     {

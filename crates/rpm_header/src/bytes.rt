@@ -63,9 +63,7 @@ fn end_of(bytes: &[u8]) -> Option<usize>
 /// The first text without its zero byte, and what stands after that byte. None where there is no
 /// zero byte.
 fn split_text(bytes: &[u8]) -> Option<(&[u8], &[u8])>
-    ensures { MatchOption result
-        (is_some (position is_zero bytes.now) ≡ false)
-        (λ s. Splits bytes.now s.0.now s.1.now) }
+    ensures { MatchOption result (is_some (position is_zero bytes.now) ≡ false) (λ s. Splits bytes.now s.0.now s.1.now) }
 {
     let end = end_of(bytes)?;
     Some((&bytes[..end], &bytes[end + 1..]))

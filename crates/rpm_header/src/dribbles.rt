@@ -10,8 +10,7 @@ use crate::view::View;
 use std::alloc::{AllocError, Global};
 
 fn dribbled_lengths(view: &View<'_>, extra: &Builder) -> Result<Lengths, BuildFault>
-    ensures { result ≡ lengths_of (length view.now.entries + length extra.now)
-        (length (dribbled_data view.now extra.now)) }
+    ensures { result ≡ lengths_of (length view.now.entries + length extra.now) (length (dribbled_data view.now extra.now)) }
 {
     let (_, section) = parts_of(view);
     lengths_of(view.entries() as usize, section.len(), extra.entries(), 0)
@@ -23,13 +22,10 @@ fn lay_out(
     extra: &Builder,
     lengths: Lengths,
 ) -> Result<Vec<u8>, AllocError>
-    requires { Ok lengths ≡ lengths_of (length view.now.entries + length extra.now)
-        (length (dribbled_data view.now extra.now)) }
+    requires { Ok lengths ≡ lengths_of (length view.now.entries + length extra.now) (length (dribbled_data view.now extra.now)) }
     ensures laid { IfOk result (λ blob. blob.items ≡ dribbled view.now extra.now) }
-    ensures again { IfOk result (λ blob. header blob.items ≡ Ok
-        (record { blob = blob.items; entries = view.now.entries ++ extra.now })) }
-    ensures digest { IfOk result (λ blob. (read : Header) → header blob.items ≡ Ok read
-        → immutable_digest read ≡ immutable_digest view.now) }
+    ensures again { IfOk result (λ blob. header blob.items ≡ Ok (record { blob = blob.items; entries = view.now.entries ++ extra.now })) }
+    ensures digest { IfOk result (λ blob. (read : Header) → header blob.items ≡ Ok read → immutable_digest read ≡ immutable_digest view.now) }
 {
     let (index, section) = parts_of(view);
     let mut out = begin(alloc, lengths)?;
@@ -56,12 +52,9 @@ fn lay_out(
 /// is found.
 pub fn with_dribbles(alloc: Global, view: &View<'_>, extra: &Builder) -> Result<Vec<u8>, BuildFault>
     ensures laid { IfOk result (λ blob. blob.items ≡ dribbled view.now extra.now) }
-    ensures again { IfOk result (λ blob. header blob.items ≡ Ok
-        (record { blob = blob.items; entries = view.now.entries ++ extra.now })) }
-    ensures digest { IfOk result (λ blob. (read : Header) → header blob.items ≡ Ok read
-        → immutable_digest read ≡ immutable_digest view.now) }
-    ensures too_many { (result ≡ Err BuildFault.TooManyEntries) ↔
-        (max_entries < length view.now.entries + length extra.now) }
+    ensures again { IfOk result (λ blob. header blob.items ≡ Ok (record { blob = blob.items; entries = view.now.entries ++ extra.now })) }
+    ensures digest { IfOk result (λ blob. (read : Header) → header blob.items ≡ Ok read → immutable_digest read ≡ immutable_digest view.now) }
+    ensures too_many { (result ≡ Err BuildFault.TooManyEntries) ↔ (max_entries < length view.now.entries + length extra.now) }
     ensures too_much { (result ≡ Err BuildFault.TooMuchData) ↔
         ((length view.now.entries + length extra.now ≤ max_entries)
         × (max_data < length (dribbled_data view.now extra.now))) }

@@ -192,8 +192,7 @@ fn elements_of<'a>(form: Form, i: u32, entry: IndexEntry, section: &'a [u8]) -> 
     requires { form_fault (Some form) i entry section.now ≡ None }
     ensures room { HasRoom form entry.count result.now }
     ensures few { length result.now ≤ length section.now }
-    ensures elements { values form entry.count result.now
-        ≡ values form entry.count (drop entry.offset section.now) }
+    ensures elements { values form entry.count result.now ≡ values form entry.count (drop entry.offset section.now) }
 {
     if form == Form::Null {
         section

@@ -59,8 +59,7 @@ fn offset_from(at: usize, form: Form) -> usize
 /// the limit.
 fn data_end(entries: &[PackedEntry], start: usize) -> Option<usize>
     requires { start ≤ max_data }
-    ensures { let end = start + length (data_from start entries.now) in
-        result ≡ (if nat_lt max_data end then None else Some end) }
+    ensures { let end = start + length (data_from start entries.now) in result ≡ (if nat_lt max_data end then None else Some end) }
 {
     let mut end = start;
     for entry in entries {
@@ -84,8 +83,7 @@ pub fn lengths_of(
     requires others { others ≤ max_entries }
     requires front { front ≤ max_data }
     requires behind { behind ≤ 16 }
-    ensures { result ≡ lengths_of (others + length entries.now)
-        (front + length (data_from front entries.now) + behind) }
+    ensures { result ≡ lengths_of (others + length entries.now) (front + length (data_from front entries.now) + behind) }
 {
     let count = others + entries.len();
     if count > MAX_ENTRIES as usize {

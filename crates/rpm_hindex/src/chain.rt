@@ -38,8 +38,7 @@ pub fn is_link(extent: Extent, at: u32) -> bool
 pub fn is_placed(extent: Extent, at: u32, head: &[u8]) -> bool
     requires whole { length head.now ≡ 16 }
     requires few { extent.buckets ≤ 2 ^ 28 }
-    ensures { (x : Index) → x.buckets ≡ extent.buckets → x.used ≡ extent.used → head.now ≡ x.unit at
-        → result ≡ is_placed x at }
+    ensures { (x : Index) → x.buckets ≡ extent.buckets → x.used ≡ extent.used → head.now ≡ x.unit at → result ≡ is_placed x at }
 {
     let next = word(head, 0);
     let units = record_units(word(head, 1) % 268_435_456);
@@ -54,8 +53,7 @@ pub fn read_bucket<D: Disk>(disk: &mut D, extent: Extent, bucket: u32) -> Result
     ensures word { IfOk result (λ b. IsTrue D.tells → (b.at ≡ (index_at D.Disk disk.old extent).head bucket)
         × (is_link (index_at D.Disk disk.old extent) b.at ≡ true)) }
     ensures linked { IfOk result (λ b. IsNext extent.buckets extent.used b.at) }
-    ensures fault { IfErr result (λ e. IsTrue D.tells
-        → IsFaultOf (chain (index_at D.Disk disk.old extent) bucket) e) }
+    ensures fault { IfErr result (λ e. IsTrue D.tells → IsFaultOf (chain (index_at D.Disk disk.old extent) bucket) e) }
     ensures reads { ReadsOr D.Disk Idx 16 (result ≡ Err FindFault.DiskFault) disk.old disk.new }
 {
     let unit = 2 + bucket as u64 / 4;

@@ -103,8 +103,7 @@ impl Change {
             (one_row row.entry.kind row.entry.key.now row.entry.number row.entry.place) self.old self.new) }
         ensures refused { IfErr result (λ e. IsTrue D.tells → IsDropFault (D.files disk.old).idx
             (one_row row.entry.kind row.entry.key.now row.entry.number row.entry.place) self.old e) }
-        ensures cost { ReadsChain D.Disk self.old.extent
-            (hash_of row.entry.kind row.entry.key.now % self.old.extent.buckets) disk.old disk.new }
+        ensures cost { ReadsChain D.Disk self.old.extent (hash_of row.entry.kind row.entry.key.now % self.old.extent.buckets) disk.old disk.new }
         ensures reads { ReadsAtOr D.Disk Idx (result ≡ Err PrepareFault.DiskFault) disk.old disk.new }
     {
         let bucket = bucket_of(row.kind, row.key, self.extent.buckets);
@@ -140,8 +139,7 @@ impl Change {
         requires go { CanGo self.old }
         requires kind { row.kind < 16 }
         requires short { length row.key.now < 2 ^ 28 }
-        requires room { self.old.extent.used + length self.old.tail.items / 16 + record_units (length row.key.now) ≤ 2
-            ^ 28 }
+        requires room { self.old.extent.used + length self.old.tail.items / 16 + record_units (length row.key.now) ≤ 2 ^ 28 }
         requires count { self.old.records < 2 * self.old.extent.buckets }
         requires open { IsTrue D.tells → IsOpen self.old.extent (D.files disk.old).idx }
         ensures grows { OnOk result (Grows self.old self.new 1 (record_units (length row.entry.key.now))) }

@@ -42,8 +42,7 @@ pub fn read_head<D: Disk>(disk: &mut D, extent: Extent, at: u32) -> Result<Ahead
     ensures here { IfOk result (λ a. a.head.at ≡ at) }
     ensures next { IfOk result (λ a. FallsTo extent.buckets extent.used at a.next) }
     ensures ahead { IfOk result (λ a. IsTrue D.tells → IsAhead (index_at D.Disk disk.old extent) at a) }
-    ensures fault { IfErr result (λ e. IsTrue D.tells → (b : ℕ)
-        → IsFaultOf (follow (index_at D.Disk disk.old extent) b at at) e) }
+    ensures fault { IfErr result (λ e. IsTrue D.tells → (b : ℕ) → IsFaultOf (follow (index_at D.Disk disk.old extent) b at at) e) }
     ensures reads { ReadsOr D.Disk Idx 16 (result ≡ Err FindFault.DiskFault) disk.old disk.new }
 {
     let Ok(unit) = read_unit(disk, at as u64) else {
@@ -83,8 +82,7 @@ fn is_of_bucket(
 
 /// Whether two kinds and two keys are the same.
 fn is_key(kind: u8, key: &[u8], other_kind: u8, other: &[u8]) -> bool
-    ensures { (number place : ℕ) → result ≡ has_key kind key.now
-        (record { kind = other_kind; key = other.now; number = number; place = place }) }
+    ensures { (number place : ℕ) → result ≡ has_key kind key.now (record { kind = other_kind; key = other.now; number = number; place = place }) }
 {
     kind == other_kind && key == other
 }
@@ -107,16 +105,12 @@ pub fn meets_key<D: Disk>(
     requires placed { IsTrue D.tells → is_placed (index_at D.Disk disk.old extent) head.at ≡ true }
     requires head { IsTrue D.tells → IsHead (unit_at (D.files disk.old).idx) head }
     requires bucket { hash_of kind key.now % extent.buckets ≡ bucket }
-    ensures same { IfOk result (λ is. IsTrue D.tells
-        → is ≡ has_key kind key.now (row_at (unit_at (D.files disk.old).idx) head.at)) }
-    ensures sound { IfOk result (λ is. IsTrue D.tells
-        → is_sound (index_at D.Disk disk.old extent) bucket head.at ≡ true) }
+    ensures same { IfOk result (λ is. IsTrue D.tells → is ≡ has_key kind key.now (row_at (unit_at (D.files disk.old).idx) head.at)) }
+    ensures sound { IfOk result (λ is. IsTrue D.tells → is_sound (index_at D.Disk disk.old extent) bucket head.at ≡ true) }
     ensures long { IfOk result (λ is. IsTrue D.tells → length (row_at (unit_at (D.files disk.old).idx) head.at).key
         ≡ length_at (unit_at (D.files disk.old).idx) head.at) }
-    ensures fault { IfErr result (λ e. IsTrue D.tells
-        → IsFaultOf (follow (index_at D.Disk disk.old extent) bucket head.at head.at) e) }
-    ensures reads { ReadsOr D.Disk Idx (16 * ((head.size % 2 ^ 28 + 15) / 16))
-        (result ≡ Err FindFault.DiskFault) disk.old disk.new }
+    ensures fault { IfErr result (λ e. IsTrue D.tells → IsFaultOf (follow (index_at D.Disk disk.old extent) bucket head.at head.at) e) }
+    ensures reads { ReadsOr D.Disk Idx (16 * ((head.size % 2 ^ 28 + 15) / 16)) (result ≡ Err FindFault.DiskFault) disk.old disk.new }
 {
     let length = head.size % 268_435_456;
     read_key_into(disk, head.at as u64 + 1, length, buffer)?;
@@ -132,10 +126,8 @@ pub fn meets_key<D: Disk>(
 
 /// Whether a record has the number and place that are looked for, where only one is.
 fn may_be(head: Head, only: Option<Hit>) -> bool
-    ensures yes { result ≡ true → (hit : Hit) → only ≡ Some hit → (hit.number ≡ head.number)
-        × (hit.place ≡ head.place) }
-    ensures no { result ≡ false → (hit : Hit) × (only ≡ Some hit)
-        × (hit.number ≡ head.number → hit.place ≡ head.place → ⊥) }
+    ensures yes { result ≡ true → (hit : Hit) → only ≡ Some hit → (hit.number ≡ head.number) × (hit.place ≡ head.place) }
+    ensures no { result ≡ false → (hit : Hit) × (only ≡ Some hit) × (hit.number ≡ head.number → hit.place ≡ head.place → ⊥) }
 {
     match only {
         Some(hit) => hit.number == head.number && hit.place == head.place,
@@ -163,12 +155,10 @@ pub fn meet<D: Disk>(
     requires bucket { hash_of kind key.now % extent.buckets ≡ bucket }
     ensures here { IfOk result (λ m. m.head.at ≡ at) }
     ensures next { IfOk result (λ m. FallsTo extent.buckets extent.used at m.next) }
-    ensures met { IfOk result (λ m. IsTrue D.tells
-        → IsMet (index_at D.Disk disk.old extent) at (is_wanted kind key.now only) m) }
+    ensures met { IfOk result (λ m. IsTrue D.tells → IsMet (index_at D.Disk disk.old extent) at (is_wanted kind key.now only) m) }
     ensures sound { IfOk result (λ m. IsTrue D.tells → (only ≡ None) ⊎ (m.is_wanted ≡ true)
         → is_sound (index_at D.Disk disk.old extent) bucket at ≡ true) }
-    ensures fault { IfErr result (λ e. IsTrue D.tells
-        → IsFaultOf (follow (index_at D.Disk disk.old extent) bucket at at) e) }
+    ensures fault { IfErr result (λ e. IsTrue D.tells → IsFaultOf (follow (index_at D.Disk disk.old extent) bucket at at) e) }
     ensures cost { IsTrue D.tells → is_sound (index_at D.Disk disk.old extent) bucket at ≡ true
         → D.bytes_read disk.new Idx ≤ D.bytes_read disk.old Idx + 16 * units_at (unit_at (D.files disk.old).idx) at }
     ensures reads { ReadsAtOr D.Disk Idx (result ≡ Err FindFault.DiskFault) disk.old disk.new }

@@ -60,8 +60,7 @@ fn add_record(draft: &mut Draft, row: RowRef<'_>) -> Result<(), AllocError>
     requires kind { row.kind < 16 }
     requires key { length row.key.now < 2 ^ 28 }
     ensures heads { OnOk result (length draft.new.heads.items ≡ length draft.old.heads.items) }
-    ensures long { OnOk result (length draft.new.bytes.items ≡ length draft.old.bytes.items + 16 * record_units
-        (length row.entry.key.now)) }
+    ensures long { OnOk result (length draft.new.bytes.items ≡ length draft.old.bytes.items + 16 * record_units (length row.entry.key.now)) }
     ensures rows { OnOk result ((rows : List Row) → IsDraft rows draft.old.heads.items draft.old.bytes.items
         → IsDraft (rows ++ one_row row.entry.kind row.entry.key.now row.entry.number row.entry.place)
         draft.new.heads.items draft.new.bytes.items) }

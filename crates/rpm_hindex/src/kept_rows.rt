@@ -33,10 +33,8 @@ fn push_row<D: Disk>(
         → rows.new ≡ (if is_kept then rows.old ++ row_at (unit_at (D.files disk.old).idx) head.at ∷ [] else
         rows.old)) }
     ensures sound { OnOk result (IsTrue D.tells → is_sound (index_at D.Disk disk.old extent) bucket head.at ≡ true) }
-    ensures fault { IfErr result (λ e. IsTrue D.tells
-        → IsFaultOf (follow (index_at D.Disk disk.old extent) bucket head.at head.at) e) }
-    ensures reads { ReadsOr D.Disk Idx (16 * ((head.size % 2 ^ 28 + 15) / 16))
-        (result ≡ Err FindFault.DiskFault) disk.old disk.new }
+    ensures fault { IfErr result (λ e. IsTrue D.tells → IsFaultOf (follow (index_at D.Disk disk.old extent) bucket head.at head.at) e) }
+    ensures reads { ReadsOr D.Disk Idx (16 * ((head.size % 2 ^ 28 + 15) / 16)) (result ≡ Err FindFault.DiskFault) disk.old disk.new }
 {
     let length = head.size % 268_435_456;
     read_key_into(disk, head.at as u64 + 1, length, buffer)?;
@@ -115,8 +113,7 @@ pub fn check_chain<D: Disk>(
     requires bucket { bucket < extent.buckets }
     requires open { CanRead D.Disk disk.old extent }
     ensures none { OnOk result (IsTrue D.tells → IsOk (chain (index_at D.Disk disk.old extent) bucket)) }
-    ensures fault { IfErr result (λ e. IsTrue D.tells
-        → IsFaultOf (chain (index_at D.Disk disk.old extent) bucket) e) }
+    ensures fault { IfErr result (λ e. IsTrue D.tells → IsFaultOf (chain (index_at D.Disk disk.old extent) bucket) e) }
     ensures reads { ReadsAtOr D.Disk Idx (result ≡ Err FindFault.DiskFault) disk.old disk.new }
 {
     let dropped = BTreeSet::new(alloc);

@@ -53,8 +53,7 @@ pub fn words_of<D: Disk>(
     bucket: u32,
 ) -> Result<[u8; 16], PrepareFault>
     requires { IsTrue D.tells → bucket_unit bucket < length (D.files disk.old).idx }
-    ensures words { IfOk result (λ w. IsTrue D.tells
-        → w ≡ unit_after (λ q. get nat_cmp units.now q) (D.files disk.old).idx (bucket_unit bucket)) }
+    ensures words { IfOk result (λ w. IsTrue D.tells → w ≡ unit_after (λ q. get nat_cmp units.now q) (D.files disk.old).idx (bucket_unit bucket)) }
     ensures fault { IfErr result (λ e. e ≡ PrepareFault.DiskFault) }
     ensures reads { ReadsOr D.Disk Idx 16 (result ≡ Err PrepareFault.DiskFault) disk.old disk.new }
 {

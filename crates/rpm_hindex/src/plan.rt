@@ -74,8 +74,7 @@ pub fn has_room(change: &Change, adds: &Rows, limit: u64) -> bool
         * (change.now.live + live_of adds.now) → result ≡ true }
     ensures count { result ≡ true → change.now.records + length adds.now ≤ 2 * change.now.extent.buckets }
     ensures room { result ≡ true → change.now.extent.used + live_of adds.now ≤ limit }
-    ensures half { result ≡ true → change.now.extent.used ≤ first_record change.now.extent.buckets + 2
-        * change.now.live + live_of adds.now }
+    ensures half { result ≡ true → change.now.extent.used ≤ first_record change.now.extent.buckets + 2 * change.now.live + live_of adds.now }
 {
     let more = adds.live();
     let records = change.records as u64 + adds.len() as u64;

@@ -38,8 +38,7 @@ impl Hindex {
         ensures fits { result.extent.used ≤ self.now.units }
         ensures buckets { result.extent.buckets ≡ buckets_of self.now.first }
         ensures dropped { (p : ℕ) → is_kept (λ q. contains nat_cmp result.dropped q) p ≡ true }
-        ensures whole { (file : Units) → Keeps file self.now → IsWellFormed (buckets_of self.now.first) file
-            → IsStarted result file }
+        ensures whole { (file : Units) → Keeps file self.now → IsWellFormed (buckets_of self.now.first) file → IsStarted result file }
         ensures honest { (file : Units) → Keeps file self.now → IsHonest result file }
         ensures fresh { (file : Units) → Keeps file self.now → IsFresh result file }
         ensures open { (file : Units) → Keeps file self.now → IsOpen result.extent file }

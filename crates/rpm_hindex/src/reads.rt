@@ -11,8 +11,7 @@ use std::alloc::Global;
 fn read_units<D: Disk>(disk: &mut D, unit: u64, into: &mut [u8]) -> Result<(), Failed>
     requires whole { length into.old % 16 ≡ 0 }
     requires within { IsTrue D.tells → unit + length into.old / 16 ≤ length (D.files disk.old).idx }
-    ensures bytes { OnOk result (IsTrue D.tells
-        → into.new ≡ bytes_of (take (length into.old / 16) (drop unit (D.files disk.old).idx))) }
+    ensures bytes { OnOk result (IsTrue D.tells → into.new ≡ bytes_of (take (length into.old / 16) (drop unit (D.files disk.old).idx))) }
     ensures reads { Reads D.Disk Idx (length into.old) result disk.old disk.new }
 {
     disk.read_at(File::Idx, unit, into)?;
@@ -47,8 +46,7 @@ fn read_front<D: Disk>(disk: &mut D, unit: u64, long: usize, into: &mut [u8]) ->
     requires whole { long % 16 ≡ 0 }
     requires room { long ≤ length into.old }
     requires within { IsTrue D.tells → unit + long / 16 ≤ length (D.files disk.old).idx }
-    ensures bytes { OnOk result (IsTrue D.tells
-        → take long into.new ≡ bytes_of (take (long / 16) (drop unit (D.files disk.old).idx))) }
+    ensures bytes { OnOk result (IsTrue D.tells → take long into.new ≡ bytes_of (take (long / 16) (drop unit (D.files disk.old).idx))) }
     ensures reads { Reads D.Disk Idx long result disk.old disk.new }
 {
     read_units(disk, unit, &mut into[..long])

@@ -113,8 +113,7 @@ fn first_fault<D: Disk>(
 ) -> FindFault
     requires bucket { bucket < extent.buckets }
     requires open { CanRead D.Disk disk.old extent }
-    requires bad { IsTrue D.tells → (places : List ℕ) → chain (index_at D.Disk disk.old extent) bucket ≡ Ok places
-        → ⊥ }
+    requires bad { IsTrue D.tells → (places : List ℕ) → chain (index_at D.Disk disk.old extent) bucket ≡ Ok places → ⊥ }
     ensures fault { IsTrue D.tells → IsFaultOf (chain (index_at D.Disk disk.old extent) bucket) result }
     ensures reads { ReadsAtOr D.Disk Idx (result ≡ FindFault.DiskFault) disk.old disk.new }
 {
@@ -136,14 +135,12 @@ pub fn find_row<D: Disk>(
 ) -> Result<Found, FindFault>
     requires bucket { bucket < extent.buckets }
     requires open { CanRead D.Disk disk.old extent }
-    requires starts { CanStart D.Disk disk.old extent (is_kept (λ p. contains nat_cmp dropped.now p))
-        (λ b. get nat_cmp starts.now b) }
+    requires starts { CanStart D.Disk disk.old extent (is_kept (λ p. contains nat_cmp dropped.now p)) (λ b. get nat_cmp starts.now b) }
     requires mine { hash_of row.kind row.key.now % extent.buckets ≡ bucket }
     ensures found { IfOk result (FindsRow D.Disk disk.old extent bucket
         (is_kept (λ p. contains nat_cmp dropped.now p))
         (row_with row.entry.kind row.entry.key.now row.entry.number row.entry.place)) }
-    ensures fault { IfErr result (λ e. IsTrue D.tells
-        → IsFaultOf (chain (index_at D.Disk disk.old extent) bucket) e) }
+    ensures fault { IfErr result (λ e. IsTrue D.tells → IsFaultOf (chain (index_at D.Disk disk.old extent) bucket) e) }
     ensures cost { ReadsChain D.Disk extent bucket disk.old disk.new }
     ensures reads { ReadsAtOr D.Disk Idx (result ≡ Err FindFault.DiskFault) disk.old disk.new }
 {

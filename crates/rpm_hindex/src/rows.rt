@@ -85,8 +85,7 @@ impl Rows {
         requires some { 1 ≤ kind }
         requires kind { kind ≤ 15 }
         requires key { length key.now < 268435456 }
-        ensures ok { OnOk result (self.new ≡ self.old ++ record
-            { kind = kind; key = key.now; number = number; place = place } ∷ []) }
+        ensures ok { OnOk result (self.new ≡ self.old ++ record { kind = kind; key = key.now; number = number; place = place } ∷ []) }
         ensures err { OnErr result (self.new ≡ self.old) }
     {
         self.add(kind, key, number, place)
@@ -96,8 +95,7 @@ impl Rows {
     pub fn add(&mut self, kind: u8, key: &[u8], number: u32, place: u32) -> Result<(), AllocError>
         requires kind { kind ≤ 15 }
         requires key { length key.now < 268435456 }
-        ensures ok { OnOk result (self.new ≡ self.old ++ record
-            { kind = kind; key = key.now; number = number; place = place } ∷ []) }
+        ensures ok { OnOk result (self.new ≡ self.old ++ record { kind = kind; key = key.now; number = number; place = place } ∷ []) }
         ensures err { OnErr result (self.new ≡ self.old) }
     {
         let length = key.len() as u32;
@@ -169,8 +167,7 @@ impl Rows {
 /// Row i of these.
 pub fn row_ref(rows: &Rows, i: usize) -> RowRef<'_>
     requires { i < length rows.now }
-    ensures row { (record { kind = result.kind; key = result.key.now; number = result.number; place = result.place })
-        ≡ row_nth rows.now i }
+    ensures row { (record { kind = result.kind; key = result.key.now; number = result.number; place = result.place }) ≡ row_nth rows.now i }
     ensures kind { result.kind < 16 }
     ensures short { length result.key.now < 2 ^ 28 }
 {

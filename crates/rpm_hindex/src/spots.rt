@@ -36,8 +36,7 @@ fn skip_dropped<D: Disk>(
     ensures skips { IfOk result (λ to. IsTrue D.tells → (b : ℕ) (front : List ℕ)
         → IsPath (index_at D.Disk disk.old extent) b from front end
         → SkipsTo (index_at D.Disk disk.old extent) b end (is_kept (λ p. contains nat_cmp dropped.now p)) from to) }
-    ensures fault { IfErr result (λ e. IsTrue D.tells → (b : ℕ)
-        → OnWay (index_at D.Disk disk.old extent) b from end (IsOutside e)) }
+    ensures fault { IfErr result (λ e. IsTrue D.tells → (b : ℕ) → OnWay (index_at D.Disk disk.old extent) b from end (IsOutside e)) }
     ensures cost { IsTrue D.tells → (b : ℕ)
         → PathCosts (index_at D.Disk disk.old extent) b from end (D.bytes_read disk.old Idx)
         (D.bytes_read disk.new Idx) }
@@ -117,8 +116,7 @@ pub fn find_spot<D: Disk>(
     ensures found { IfOk result (FindsFrom D.Disk disk.old extent bucket from end
         (is_kept (λ p. contains nat_cmp dropped.now p))
         (row_with row.entry.kind row.entry.key.now row.entry.number row.entry.place)) }
-    ensures fault { IfErr result (λ e. IsTrue D.tells
-        → OnWay (index_at D.Disk disk.old extent) bucket from end (IsOutside e)) }
+    ensures fault { IfErr result (λ e. IsTrue D.tells → OnWay (index_at D.Disk disk.old extent) bucket from end (IsOutside e)) }
     ensures cost { ReadsPath D.Disk extent bucket from end disk.old disk.new }
     ensures reads { ReadsAtOr D.Disk Idx (result ≡ Err FindFault.DiskFault) disk.old disk.new }
 {

@@ -17,8 +17,7 @@ fn write_units<D: Disk>(disk: &mut D, unit: u64, bytes: &[u8]) -> Result<(), Ind
     requires some { 0 < length bytes.now }
     requires whole { length bytes.now % 16 ≡ 0 }
     requires room { unit + length bytes.now / 16 ≤ 2 ^ 28 }
-    ensures written { OnOk result (IsTrue D.tells
-        → (D.files disk.new).idx ≡ put unit (units_of bytes.now) (D.files disk.old).idx) }
+    ensures written { OnOk result (IsTrue D.tells → (D.files disk.new).idx ≡ put unit (units_of bytes.now) (D.files disk.old).idx) }
     ensures writes { Writes D.Disk Idx (Torn unit (units_of bytes.now)) 0 result disk.old disk.new }
 {
     disk.write_at(File::Idx, unit, bytes)
@@ -39,8 +38,7 @@ fn write_synced<D: Disk>(disk: &mut D, unit: u64, bytes: &[u8]) -> Result<(), In
     requires some { 0 < length bytes.now }
     requires whole { length bytes.now % 16 ≡ 0 }
     requires room { unit + length bytes.now / 16 ≤ 2 ^ 28 }
-    ensures written { OnOk result (IsTrue D.tells
-        → (D.files disk.new).idx ≡ put unit (units_of bytes.now) (D.files disk.old).idx) }
+    ensures written { OnOk result (IsTrue D.tells → (D.files disk.new).idx ≡ put unit (units_of bytes.now) (D.files disk.old).idx) }
     ensures settled { OnOk result (IsTrue D.tells → IsSettled D.Disk Idx disk.new) }
     ensures writes { Writes D.Disk Idx (Torn unit (units_of bytes.now)) 0 result disk.old disk.new }
 {
@@ -52,8 +50,7 @@ fn write_synced<D: Disk>(disk: &mut D, unit: u64, bytes: &[u8]) -> Result<(), In
 fn write_patch<D: Disk>(disk: &mut D, patch: Patch) -> Result<(), IndexDiskFault>
     requires behind { 1 ≤ patch.unit }
     requires room { patch.unit < 2 ^ 28 }
-    ensures written { OnOk result (IsTrue D.tells
-        → (D.files disk.new).idx ≡ put patch.unit (patch.words ∷ []) (D.files disk.old).idx) }
+    ensures written { OnOk result (IsTrue D.tells → (D.files disk.new).idx ≡ put patch.unit (patch.words ∷ []) (D.files disk.old).idx) }
     ensures writes { Writes D.Disk Idx SameSeal 0 result disk.old disk.new }
 {
     write_units(disk, patch.unit as u64, &patch.words)
@@ -61,10 +58,8 @@ fn write_patch<D: Disk>(disk: &mut D, patch: Patch) -> Result<(), IndexDiskFault
 
 /// Writes the units that change.
 fn write_patches<D: Disk>(disk: &mut D, patches: &[Patch]) -> Result<(), IndexDiskFault>
-    requires { (k : ℕ) → k < length patches.now → (1 ≤ (patch_at patches.now k).unit)
-        × ((patch_at patches.now k).unit < 2 ^ 28) }
-    ensures written { OnOk result (IsTrue D.tells
-        → (D.files disk.new).idx ≡ after_units patches.now (D.files disk.old).idx) }
+    requires { (k : ℕ) → k < length patches.now → (1 ≤ (patch_at patches.now k).unit) × ((patch_at patches.now k).unit < 2 ^ 28) }
+    ensures written { OnOk result (IsTrue D.tells → (D.files disk.new).idx ≡ after_units patches.now (D.files disk.old).idx) }
     ensures writes { Writes D.Disk Idx SameSeal 0 result disk.old disk.new }
 {
     for k in 0..patches.len() {
@@ -78,8 +73,7 @@ fn write_tail<D: Disk>(disk: &mut D, used: u32, tail: &[u8]) -> Result<(), Index
     requires behind { 1 ≤ used }
     requires whole { length tail.now % 16 ≡ 0 }
     requires room { used + length tail.now / 16 ≤ 2 ^ 28 }
-    ensures written { OnOk result (IsTrue D.tells
-        → (D.files disk.new).idx ≡ after_tail used tail.now (D.files disk.old).idx) }
+    ensures written { OnOk result (IsTrue D.tells → (D.files disk.new).idx ≡ after_tail used tail.now (D.files disk.old).idx) }
     ensures writes { Writes D.Disk Idx SameSeal 0 result disk.old disk.new }
 {
     if tail.is_empty() {
@@ -98,8 +92,7 @@ impl Hindex {
     /// file.
     pub fn void<D: Disk>(&mut self, disk: &mut D) -> Result<(), IndexDiskFault>
         requires keeps { IsTrue D.tells → Keeps (D.files disk.old).idx self.old }
-        ensures state { OnOk result (self.new ≡ record
-            { first = blank; second = self.old.second; units = max self.old.units 1; pending = 0 }) }
+        ensures state { OnOk result (self.new ≡ record { first = blank; second = self.old.second; units = max self.old.units 1; pending = 0 }) }
         ensures left { OnOk result (Leaves D.Disk disk.new self.new (put 0 (blank ∷ []) (D.files disk.old).idx)) }
         ensures writes { Writes D.Disk Idx VoidOrSame 0 result disk.old disk.new }
     {
@@ -125,10 +118,8 @@ impl Hindex {
           units = self.old.units;
           pending = 0;
         }) }
-        ensures left { OnOk result (Leaves D.Disk disk.new self.new
-            (put 0 (seal_unit generation self.old.pending ∷ []) (D.files disk.old).idx)) }
-        ensures current { OnOk result (is_ordered self.old.pending self.old.second self.old.units ≡ true
-            → is_current generation self.new ≡ true) }
+        ensures left { OnOk result (Leaves D.Disk disk.new self.new (put 0 (seal_unit generation self.old.pending ∷ []) (D.files disk.old).idx)) }
+        ensures current { OnOk result (is_ordered self.old.pending self.old.second self.old.units ≡ true → is_current generation self.new ≡ true) }
         ensures whole { OnOk result (IsTrue D.tells → IsWellFormed self.old.pending (D.files disk.old).idx
             → IsWellFormed self.old.pending (D.files disk.new).idx) }
         ensures records { OnOk result (IsTrue D.tells → IsWellFormed self.old.pending (D.files disk.old).idx
@@ -138,8 +129,7 @@ impl Hindex {
         ensures whichever { IsTrue D.tells → IsWellFormed self.old.pending (D.files disk.old).idx
             → IsSealed generation self.old.pending (D.files disk.old).idx
             (put 0 (seal_unit generation self.old.pending ∷ []) (D.files disk.old).idx) }
-        ensures writes { Writes D.Disk Idx (SealedOrSame (seal_unit generation self.old.pending)) 0
-            result disk.old disk.new }
+        ensures writes { Writes D.Disk Idx (SealedOrSame (seal_unit generation self.old.pending)) 0 result disk.old disk.new }
     {
         let first = unit_of_words(MAGIC, 2, generation, self.pending);
         write_synced(disk, 0, &first)?;
@@ -172,8 +162,7 @@ impl Hindex {
         ensures ordered { OnOk result (is_ordered self.new.pending self.new.second self.new.units ≡ true) }
         ensures kept { OnOk result (IsTrue D.tells → Keeps (D.files disk.new).idx self.new) }
         ensures whole { OnOk result (IsTrue D.tells → IsWellFormed self.new.pending (D.files disk.new).idx) }
-        ensures rows { OnOk result (IsTrue D.tells
-            → SameRows rows.now (records self.new.pending (D.files disk.new).idx)) }
+        ensures rows { OnOk result (IsTrue D.tells → SameRows rows.now (records self.new.pending (D.files disk.new).idx)) }
         ensures padded { OnOk result (IsTrue D.tells → ArePadded (index_in self.new.pending (D.files disk.new).idx)) }
         ensures settled { OnOk result (IsTrue D.tells → IsSettled D.Disk Idx disk.new) }
         ensures refused { IfErr result (λ e. IsRefused e → (self.new ≡ self.old) × (disk.new ≡ disk.old)) }
@@ -192,8 +181,7 @@ impl Hindex {
         requires keeps { IsTrue D.tells → Keeps (D.files disk.old).idx self.old }
         ensures value { OnOk result (IsAfter self.old self.new (Work.Scratch image.now)) }
         ensures voided { OnOk result (self.new.first ≡ blank) }
-        ensures left { OnOk result (Leaves D.Disk disk.new self.new
-            (after (Work.Scratch image.now) (D.files disk.old).idx)) }
+        ensures left { OnOk result (Leaves D.Disk disk.new self.new (after (Work.Scratch image.now) (D.files disk.old).idx)) }
         ensures writes { Writes D.Disk Idx VoidOrSame 0 result disk.old disk.new }
     {
         self.void(disk)?;
@@ -209,8 +197,7 @@ impl Hindex {
         requires patches { ArePatches self.old.units patches.now }
         requires keeps { IsTrue D.tells → Keeps (D.files disk.old).idx self.old }
         ensures value { OnOk result (IsAfter self.old self.new (Work.InPlace patches.now)) }
-        ensures left { OnOk result (Leaves D.Disk disk.new self.new
-            (after (Work.InPlace patches.now) (D.files disk.old).idx)) }
+        ensures left { OnOk result (Leaves D.Disk disk.new self.new (after (Work.InPlace patches.now) (D.files disk.old).idx)) }
         ensures writes { Writes D.Disk Idx SameSeal 0 result disk.old disk.new }
     {
         write_tail(disk, patches.used, &patches.tail)?;
@@ -236,8 +223,7 @@ impl Hindex {
         requires plan { CanWrite self.old.units plan.work }
         requires keeps { IsTrue D.tells → Keeps (D.files disk.old).idx self.old }
         ensures value { OnOk result (IsAfter self.old self.new plan.work) }
-        ensures ordered { OnOk result (LeavesOrder plan.work
-            → is_ordered self.new.pending self.new.second self.new.units ≡ true) }
+        ensures ordered { OnOk result (LeavesOrder plan.work → is_ordered self.new.pending self.new.second self.new.units ≡ true) }
         ensures left { OnOk result (Leaves D.Disk disk.new self.new (after plan.work (D.files disk.old).idx)) }
         ensures rows { OnOk result (IsTrue D.tells → (drops adds : List Row) (buckets : ℕ)
             → IsPlanFor drops adds buckets (D.files disk.old).idx plan.work

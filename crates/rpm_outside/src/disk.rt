@@ -50,8 +50,7 @@ pub trait Disk {
     /// `Failed` only where the count of faults rose.
     fn len(&mut self, file: File) -> Result<u64, Failed>
         ensures length { IsTrue tells → IfOk result (λ n. n ≡ length (file_of file (files self.old))) }
-        ensures untouched { IsTrue tells → Untouched (files self.old) (files self.new) (left_since self.old)
-            (left_since self.new) }
+        ensures untouched { IsTrue tells → Untouched (files self.old) (files self.new) (left_since self.old) (left_since self.new) }
         ensures moment { moment self.new ≡ moment self.old }
         ensures reads { (f : File) → bytes_read self.new f ≡ bytes_read self.old f }
         ensures cause { HasCause (faults self.old) (faults self.new) result }
@@ -67,13 +66,10 @@ pub trait Disk {
     fn read_at(&mut self, file: File, unit: u64, into: &mut [u8]) -> Result<(), Failed>
         requires whole { length into.old % 16 ≡ 0 }
         requires within { IsTrue tells → unit + length into.old / 16 ≤ length (file_of file (files self.old)) }
-        ensures units { OnOk result (IsTrue tells
-            → units_of into.new ≡ take (length into.old / 16) (drop unit (file_of file (files self.old)))) }
-        ensures untouched { IsTrue tells → Untouched (files self.old) (files self.new) (left_since self.old)
-            (left_since self.new) }
+        ensures units { OnOk result (IsTrue tells → units_of into.new ≡ take (length into.old / 16) (drop unit (file_of file (files self.old)))) }
+        ensures untouched { IsTrue tells → Untouched (files self.old) (files self.new) (left_since self.old) (left_since self.new) }
         ensures moment { moment self.new ≡ moment self.old }
-        ensures reads { (f : File) → RoseBy (bytes_read self.old f) (bytes_for file f (length into.old))
-            (bytes_read self.new f) }
+        ensures reads { (f : File) → RoseBy (bytes_read self.old f) (bytes_for file f (length into.old)) (bytes_read self.new f) }
         ensures cause { HasCause (faults self.old) (faults self.new) result }
         ensures outcome { outcome self.old (Read file unit (length into.old)) (is_err result) self.new }
         ensures follows { follows self.old self.new };
@@ -92,8 +88,7 @@ pub trait Disk {
         ensures torn { IsTrue tells → TornFile file unit (units_of bytes.now) (files self.old) (files self.new) }
         ensures images { IsTrue tells → OnlyAfter (TornFile file unit (units_of bytes.now))
             (left_since self.old (moment self.old)) (left_since self.new (moment self.new)) }
-        ensures time { IsTrue tells → Elapses (moment self.old) (moment self.new) (left_since self.old)
-            (left_since self.new) }
+        ensures time { IsTrue tells → Elapses (moment self.old) (moment self.new) (left_since self.old) (left_since self.new) }
         ensures later { moment self.old ≤ moment self.new }
         ensures rises { OnOk result (Rose (moment self.old) (moment self.new)) }
         ensures stays { OnErr result (IsTrue tells
@@ -115,8 +110,7 @@ pub trait Disk {
             → file_of file image ≡ file_of file (files self.old)) }
         ensures images { IsTrue tells → (image : Files) → left_since self.new (moment self.new) image
             → left_since self.old (moment self.old) image }
-        ensures time { IsTrue tells → Elapses (moment self.old) (moment self.new) (left_since self.old)
-            (left_since self.new) }
+        ensures time { IsTrue tells → Elapses (moment self.old) (moment self.new) (left_since self.old) (left_since self.new) }
         ensures later { moment self.old ≤ moment self.new }
         ensures rises { OnOk result (Rose (moment self.old) (moment self.new)) }
         ensures stays { OnErr result (IsTrue tells

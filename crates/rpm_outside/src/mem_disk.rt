@@ -60,8 +60,7 @@ impl MemDisk {
     ///
     /// `AllocError` where memory is wanting.
     pub fn new(alloc: Global, pkg: &[u8], idx: &[u8], log: &[u8]) -> Result<MemDisk, AllocError>
-        ensures { IfOk result (λ disk. IsNew disk
-            (record { pkg = units_of pkg.now; idx = units_of idx.now; log = units_of log.now })) }
+        ensures { IfOk result (λ disk. IsNew disk (record { pkg = units_of pkg.now; idx = units_of idx.now; log = units_of log.now })) }
     {
         let held = Held::of(alloc, pkg, idx, log)?;
         let first = copy_of(alloc, &held)?;
@@ -78,10 +77,8 @@ impl MemDisk {
     /// `AllocError` where memory is wanting.
     pub fn image(&self, alloc: Global, moment: u64, pick: Pick) -> Result<MemDisk, AllocError>
         requires { moment ≤ length (mem_steps self.now) }
-        ensures image { IfOk result (λ disk. Images (take moment (mem_steps self.now)) (mem_first self.now)
-            (mem_files disk)) }
-        ensures units { IfOk result (λ disk. IsImage (take moment (mem_steps self.now)) (mem_first self.now)
-            (mem_files disk)) }
+        ensures image { IfOk result (λ disk. Images (take moment (mem_steps self.now)) (mem_first self.now) (mem_files disk)) }
+        ensures units { IfOk result (λ disk. IsImage (take moment (mem_steps self.now)) (mem_first self.now) (mem_files disk)) }
         ensures picked { IfOk result (λ disk. mem_files disk ≡ picked_image pick (take moment (mem_steps self.now))
             (mem_first self.now) (mem_first self.now)) }
         ensures settled { IfOk result (λ disk. IsNew disk (mem_files disk)) }

@@ -24,8 +24,7 @@ pub struct Held {
 impl Held {
     /// The whole units of these bytes.
     pub fn of(alloc: Global, pkg: &[u8], idx: &[u8], log: &[u8]) -> Result<Held, AllocError>
-        ensures { IfOk result (λ held. held_files held ≡ record
-            { pkg = units_of pkg.now; idx = units_of idx.now; log = units_of log.now }) }
+        ensures { IfOk result (λ held. held_files held ≡ record { pkg = units_of pkg.now; idx = units_of idx.now; log = units_of log.now }) }
     {
         Ok(Held {
             pkg: cut_up(alloc, pkg)?,
@@ -308,8 +307,7 @@ pub fn go_over(
     pick: Pick,
 ) -> Result<(), AllocError>
     ensures now { OnOk result (held_files now.new ≡ after_step step.now (held_files now.old)) }
-    ensures image { OnOk result (held_files image.new ≡ picked_step pick step.now (held_files now.old)
-        (held_files image.old)) }
+    ensures image { OnOk result (held_files image.new ≡ picked_step pick step.now (held_files now.old) (held_files image.old)) }
 {
     match step {
         Step::Wrote(file, at, units) => {

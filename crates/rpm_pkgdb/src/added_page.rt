@@ -84,8 +84,7 @@ pub fn move_all<D: Disk>(
     requires movable { (i : ℕ) → i < length moves.now → IsMovable slots.now (move_at moves.now i) }
     requires within { IsTrue D.tells → (i : ℕ) → i < length moves.now
         → end_of (slot_at slots.now (move_at moves.now i).place) ≤ length (pkg D.Disk disk.old) }
-    ensures moved { OnOk result (IsTrue D.tells
-        → AreMoved D.Disk disk.old disk.new slots.now moves.now moves.now zeros_from) }
+    ensures moved { OnOk result (IsTrue D.tells → AreMoved D.Disk disk.old disk.new slots.now moves.now moves.now zeros_from) }
     ensures images { IsTrue D.tells → (value : Store) → CanMoveAll slots.now moves.now value
         → Quiet D.Disk disk.old value
         → StopsIn D.Disk disk.old disk.new (StandsStill value (pkg D.Disk disk.old)) }

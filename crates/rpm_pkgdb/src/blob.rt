@@ -132,10 +132,8 @@ impl Blocks {
 fn read_into<D: Disk>(disk: &mut D, at: u64, count: u32, room: Vec<u8>) -> Result<Vec<u8>, GetFault>
     requires { IsTrue D.tells → at + count ≤ length (D.files disk.old).pkg }
     ensures long { IfOk result (λ v. length v.items ≡ 16 * count) }
-    ensures units { IfOk result (λ v. IsTrue D.tells
-        → units_of v.items ≡ take count (drop at (D.files disk.old).pkg)) }
-    ensures bytes { IfOk result (λ v. IsTrue D.tells
-        → v.items ≡ bytes_of (take count (drop at (D.files disk.old).pkg))) }
+    ensures units { IfOk result (λ v. IsTrue D.tells → units_of v.items ≡ take count (drop at (D.files disk.old).pkg)) }
+    ensures bytes { IfOk result (λ v. IsTrue D.tells → v.items ≡ bytes_of (take count (drop at (D.files disk.old).pkg))) }
     ensures outside { IfErr result (λ e. IsOutside e) }
     ensures reads { ReadsOr D.Disk Pkg (16 * count) (result ≡ Err GetFault.DiskFault) disk.old disk.new }
 {

@@ -33,8 +33,7 @@ pub fn write_free_slots<D: Disk>(disk: &mut D, at: u32, count: u32) -> Result<()
     requires some { 1 ≤ count }
     requires few { count ≤ 256 }
     requires room { at + count ≤ 2 ^ 28 }
-    ensures slots { OnOk result (IsTrue D.tells → (i : ℕ) → at ≤ i → i < at + count
-        → IsSlotUnit (unit_at (D.files disk.new).pkg i) free) }
+    ensures slots { OnOk result (IsTrue D.tells → (i : ℕ) → at ≤ i → i < at + count → IsSlotUnit (unit_at (D.files disk.new).pkg i) free) }
     ensures long { OnOk result (IsTrue D.tells → at + count ≤ length (D.files disk.new).pkg) }
     ensures settled { OnOk result (IsTrue D.tells → IsSettled D.Disk Pkg disk.new) }
     ensures writes { Writes D.Disk Pkg (SameOutside at count) 0 result disk.old disk.new }

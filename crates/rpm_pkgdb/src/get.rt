@@ -79,8 +79,7 @@ impl PkgDb {
     ) -> Result<bool, GetFault>
         requires keeps { IsTrue D.tells → Keeps (D.files disk.old).pkg self.now }
         ensures kept { IsTrue D.tells → Keeps (D.files disk.new).pkg self.now }
-        ensures told { IsTrue D.tells → AnswerIs (λ holds. holds) (checksums_hold (D.files disk.old).pkg self.now n)
-            result }
+        ensures told { IsTrue D.tells → AnswerIs (λ holds. holds) (checksums_hold (D.files disk.old).pkg self.now n) result }
         ensures absent { (result ≡ Err GetFault.NoSuch) ↔ (slot_with n self.now.slots ≡ None) }
         ensures reads { ReadsOr D.Disk Pkg (cost n self.now) (result ≡ Err GetFault.DiskFault) disk.old disk.new }
     {
@@ -103,10 +102,8 @@ impl PkgDb {
     ) -> Result<Checked, GetFault>
         requires keeps { IsTrue D.tells → Keeps (D.files disk.old).pkg self.now }
         ensures kept { IsTrue D.tells → Keeps (D.files disk.new).pkg self.now }
-        ensures blob { IsTrue D.tells → AnswerIs given_blob (finite.get (blobs (D.files disk.old).pkg self.now) n)
-            result }
-        ensures holds { IsTrue D.tells → AnswerIs given_check (checksums_hold (D.files disk.old).pkg self.now n)
-            result }
+        ensures blob { IsTrue D.tells → AnswerIs given_blob (finite.get (blobs (D.files disk.old).pkg self.now) n) result }
+        ensures holds { IsTrue D.tells → AnswerIs given_check (checksums_hold (D.files disk.old).pkg self.now n) result }
         ensures absent { (result ≡ Err GetFault.NoSuch) ↔ (slot_with n self.now.slots ≡ None) }
         ensures reads { ReadsOr D.Disk Pkg (cost n self.now) (result ≡ Err GetFault.DiskFault) disk.old disk.new }
     {

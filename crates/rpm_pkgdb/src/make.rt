@@ -24,8 +24,7 @@ fn write_new<D: Disk>(disk: &mut D) -> Result<(), Failed>
     ensures next { OnOk result (IsTrue D.tells → unit_at (pkg D.Disk disk.new) 1 ≡ next_unit 1) }
     ensures keeps { OnOk result (IsTrue D.tells → (value : Store) → Keeps (pkg D.Disk disk.new) (made_new value)) }
     ensures quiet { OnOk result (IsTrue D.tells → (value : Store) → Quiet D.Disk disk.new (made_new value)) }
-    ensures images { IsTrue D.tells → (value : Store) → value.pages ≡ 0 → Quiet D.Disk disk.old value
-        → StopsIn D.Disk disk.old disk.new MakesTo }
+    ensures images { IsTrue D.tells → (value : Store) → value.pages ≡ 0 → Quiet D.Disk disk.old value → StopsIn D.Disk disk.old disk.new MakesTo }
     ensures writes { Writes D.Disk Pkg (SameOutside 0 256) 0 result disk.old disk.new }
 {
     write_first_page(disk)?;

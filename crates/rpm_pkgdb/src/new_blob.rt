@@ -56,8 +56,7 @@ fn write_some<D: Disk>(disk: &mut D, at: u64, bytes: &[u8]) -> Result<(), Failed
     requires whole { length bytes.now % 16 ≡ 0 }
     requires room { at + length bytes.now / 16 ≤ 2 ^ 28 }
     requires inside { IsTrue D.tells → at ≤ length (D.files disk.old).pkg }
-    ensures written { OnOk result (IsTrue D.tells
-        → (D.files disk.new).pkg ≡ put at (units_of bytes.now) (D.files disk.old).pkg) }
+    ensures written { OnOk result (IsTrue D.tells → (D.files disk.new).pkg ≡ put at (units_of bytes.now) (D.files disk.old).pkg) }
     ensures writes { Writes D.Disk Pkg (SameOutside at (length bytes.now / 16)) 0 result disk.old disk.new }
 {
     if bytes.is_empty() {
@@ -114,8 +113,7 @@ fn write_first<D: Disk>(
     ensures written { OnOk result (IsTrue D.tells
         → BlobPut target.now.start (units_of (framed target.now.number generation blob.now)) (next_field target.now)
         (D.files disk.old).pkg (D.files disk.new).pkg) }
-    ensures next { OnOk result (IsTrue D.tells
-        → IfSome (next_field target.now) (λ n. unit_at (D.files disk.new).pkg 1 ≡ next_unit n)) }
+    ensures next { OnOk result (IsTrue D.tells → IfSome (next_field target.now) (λ n. unit_at (D.files disk.new).pkg 1 ≡ next_unit n)) }
     ensures settled { OnOk result (IsTrue D.tells → IsSettled D.Disk Pkg disk.new) }
     ensures writes { Writes D.Disk Pkg (BlobTorn target.now.start (blocks_for (length blob.now))
         (next_field target.now)) 0 result disk.old disk.new }
@@ -134,8 +132,7 @@ pub fn put_blob<D: Disk>(
     blob: &[u8],
 ) -> Result<(), Failed>
     requires { HasRoomFor target.now old (length blob.now) }
-    ensures put { OnOk result (IsTrue D.tells
-        → IsBlobPut D.Disk disk.old disk.new target.now generation old blob.now) }
+    ensures put { OnOk result (IsTrue D.tells → IsBlobPut D.Disk disk.old disk.new target.now generation old blob.now) }
     ensures images { IsTrue D.tells → (value : Store) → CanPut value target.now generation old blob.now
         → Quiet D.Disk disk.old value → StopsIn D.Disk disk.old disk.new
         (WhilePut value target.now generation blob.now (pkg D.Disk disk.old)) }

@@ -67,15 +67,12 @@ impl Page {
     fn add_move(&mut self, place: u32, end: u32) -> Result<(), PlanFault>
         requires ranged { (pages : ℕ) × (256 * pages ≤ end) × IsRanged pages self.old }
         requires first { IsFirstBefore self.old.slots.items end place }
-        ensures ranged { OnOk result ((pages : ℕ) → 256 * pages ≤ end → IsRanged pages self.old
-            → IsRanged pages self.new) }
-        ensures planning { OnOk result ((slots : List Slot) → IsPlanning slots end self.old
-            → IsPlanning slots end self.new) }
+        ensures ranged { OnOk result ((pages : ℕ) → 256 * pages ≤ end → IsRanged pages self.old → IsRanged pages self.new) }
+        ensures planning { OnOk result ((slots : List Slot) → IsPlanning slots end self.old → IsPlanning slots end self.new) }
         ensures moved { OnOk result ((to : ℕ) × (end ≤ to)
             × (self.new.slots.items ≡ slice_set self.old.slots.items place
             (moved (slot_at self.old.slots.items place) to))) }
-        ensures full { result ≡ Err PlanFault.StoreFull
-            → FitsNowhere self.old.slots.items (slot_at self.old.slots.items place).count end }
+        ensures full { result ≡ Err PlanFault.StoreFull → FitsNowhere self.old.slots.items (slot_at self.old.slots.items place).count end }
         ensures kinds { result ≢ Err PlanFault.NumbersSpent }
     {
         let slot = at(&self.slots, place);
@@ -112,8 +109,7 @@ impl Page {
     pub fn fit(&self, count: u32, from: u32) -> Option<u32>
         requires some { 1 ≤ count }
         requires ranged { (pages : ℕ) × IsRanged pages self.now }
-        ensures { MatchOption result (FitsNowhere self.now.slots.items count from)
-            (IsLeast self.now.slots.items count from) }
+        ensures { MatchOption result (FitsNowhere self.now.slots.items count from) (IsLeast self.now.slots.items count from) }
     {
         self.used.first_fit(count, from)
     }
@@ -167,8 +163,7 @@ impl PkgDb {
         requires made { 1 ≤ self.now.pages }
         requires room { 1 ≤ self.now.spare }
         requires all { AreAllUsed self.now.slots }
-        ensures page { IfOk result (λ page. NeedsPage self.now true (Some page.moves.items)
-            × HoldsPage self.now (Some page)) }
+        ensures page { IfOk result (λ page. NeedsPage self.now true (Some page.moves.items) × HoldsPage self.now (Some page)) }
         ensures ranged { IfOk result (IsRanged (self.now.pages + 1)) }
         ensures full { result ≡ Err PlanFault.StoreFull → CantMove self.now.slots (next_end self.now) }
         ensures kinds { result ≢ Err PlanFault.NumbersSpent }

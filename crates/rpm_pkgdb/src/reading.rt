@@ -83,8 +83,7 @@ impl Rising {
         requires awaits { Awaits 0 (length self.old.slots.items + 1) self.old }
         ensures order { IsInOrder self.new }
         ensures slots { self.new.slots.items ≡ self.old.slots.items ++ slot ∷ [] }
-        ensures awaits { (pages n : ℕ) → (is_used slot ≡ true → 256 * pages ≤ slot.offset) → Awaits pages n self.old
-            → Awaits pages n self.new }
+        ensures awaits { (pages n : ℕ) → (is_used slot ≡ true → 256 * pages ≤ slot.offset) → Awaits pages n self.old → Awaits pages n self.new }
     {
         if slot.offset != 0 {
             return self.push_used(slot);
@@ -214,8 +213,7 @@ pub fn read_pieces<D: Disk>(
     requires empty { rising.slots.items ≡ [] }
     requires order { IsInOrder rising }
     requires awaits { Awaits pages (256 * pages - 2) rising }
-    ensures read { IfOk result (λ r. IsRead (IsTrue D.tells) pages units (table pages (D.files disk.old).pkg)
-        (256 * pages - 2) r) }
+    ensures read { IfOk result (λ r. IsRead (IsTrue D.tells) pages units (table pages (D.files disk.old).pkg) (256 * pages - 2) r) }
     ensures order { IfOk result (λ r. IsInOrder r.rising) }
     ensures reads { Reads D.Disk Pkg (16 * (256 * pages - 2)) result disk.old disk.new }
 {

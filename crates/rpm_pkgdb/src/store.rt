@@ -129,8 +129,7 @@ impl PkgDb {
         ensures kept { IfOk result (λ db. IsTrue D.tells → Keeps (D.files disk.new).pkg db) }
         ensures from_one { IfOk result (λ db. slot_with 0 db.slots ≡ None) }
         ensures fresh { IfOk result (λ db. db ≡ in_file db) }
-        ensures cost { IsTrue D.tells → D.bytes_read disk.new File.Pkg ≤ D.bytes_read disk.old File.Pkg + opening_cost
-            (D.files disk.old).pkg }
+        ensures cost { IsTrue D.tells → D.bytes_read disk.new File.Pkg ≤ D.bytes_read disk.old File.Pkg + opening_cost (D.files disk.old).pkg }
         ensures reads { ReadsOr D.Disk Pkg (2 ^ 32) (result ≡ Err OpenFault.DiskFault) disk.old disk.new }
     {
         let units = disk.len(File::Pkg)?;

@@ -13,8 +13,7 @@ use std::collections::BTreeMap;
 
 /// The end of the last range that begins before a block.
 pub fn last_before(ranges: &BTreeMap<u32, u32>, block: u32) -> Option<u32>
-    ensures { MatchOption result ((from : ℕ) → from < block → get nat_cmp ranges.now from ≡ None)
-        (IsLast (λ q. get nat_cmp ranges.now q) block) }
+    ensures { MatchOption result ((from : ℕ) → from < block → get nat_cmp ranges.now from ≡ None) (IsLast (λ q. get nat_cmp ranges.now q) block) }
 {
     match ranges.range(0..block).next_back() {
         Some((_, end)) => Some(*end),
@@ -160,8 +159,7 @@ fn numbers_of(
 ) -> Result<Numbers, OpenFault>
     requires right { AreRight slots.now }
     requires pairs { ArePairs Order.Number slots.now (length slots.now) pairs.items }
-    requires numbers { numbers_rise ≡ true → (end : ℕ)
-        × AreRising Order.Number slots.now pairs.items (length pairs.items) end }
+    requires numbers { numbers_rise ≡ true → (end : ℕ) × AreRising Order.Number slots.now pairs.items (length pairs.items) end }
     requires blocks { blocks_rise ≡ true → (end : ℕ) × AreRisingTo slots.now (length slots.now) end }
     ensures places { IfOk result (λ numbers. HasPlaces (find_in numbers.pairs) slots.now) }
     ensures sound { OnOk result (meeting [] slots.now ≡ None) }
@@ -237,8 +235,7 @@ pub fn read_table<D: Disk>(
     ensures placed { IfOk result (λ t. AreSound pages (2 ^ 28) t.slots.items) }
     ensures slots { IfOk result (λ t. IsTrue D.tells → t.slots.items ≡ slots_in (table pages (D.files disk.old).pkg)) }
     ensures sound { OnOk result (IsTrue D.tells → table_fault pages units (table pages (D.files disk.old).pkg) ≡ None) }
-    ensures says { IfErr result (λ e. IsTrue D.tells
-        → Says e (table_fault pages units (table pages (D.files disk.old).pkg))) }
+    ensures says { IfErr result (λ e. IsTrue D.tells → Says e (table_fault pages units (table pages (D.files disk.old).pkg))) }
     ensures reads { ReadsOr D.Disk Pkg (16 * (256 * pages - 2)) (result ≡ Err OpenFault.DiskFault) disk.old disk.new }
 {
     let rising = Rising::before(alloc, pages)?;

@@ -57,10 +57,8 @@ pub fn blob_tail(sum: u32, size: u32) -> [u8; 12]
 pub fn read_units<D: Disk>(disk: &mut D, unit: u64, into: &mut [u8]) -> Result<(), Failed>
     requires whole { length into.old % 16 ≡ 0 }
     requires within { IsTrue D.tells → unit + length into.old / 16 ≤ length (D.files disk.old).pkg }
-    ensures units { OnOk result (IsTrue D.tells
-        → units_of into.new ≡ take (length into.old / 16) (drop unit (D.files disk.old).pkg)) }
-    ensures bytes { OnOk result (IsTrue D.tells
-        → into.new ≡ bytes_of (take (length into.old / 16) (drop unit (D.files disk.old).pkg))) }
+    ensures units { OnOk result (IsTrue D.tells → units_of into.new ≡ take (length into.old / 16) (drop unit (D.files disk.old).pkg)) }
+    ensures bytes { OnOk result (IsTrue D.tells → into.new ≡ bytes_of (take (length into.old / 16) (drop unit (D.files disk.old).pkg))) }
     ensures reads { Reads D.Disk Pkg (length into.old) result disk.old disk.new }
 {
     disk.read_at(File::Pkg, unit, into)?;
@@ -90,8 +88,7 @@ pub fn read_unit<D: Disk>(disk: &mut D, at: u64) -> Result<[u8; 16], Failed>
 /// Writes units of Packages.db.
 pub fn write_units<D: Disk>(disk: &mut D, at: u64, bytes: &[u8]) -> Result<(), Failed>
     requires { FitsAt at bytes.now }
-    ensures written { OnOk result (IsTrue D.tells
-        → (D.files disk.new).pkg ≡ put at (units_of bytes.now) (D.files disk.old).pkg) }
+    ensures written { OnOk result (IsTrue D.tells → (D.files disk.new).pkg ≡ put at (units_of bytes.now) (D.files disk.old).pkg) }
     ensures writes { Writes D.Disk Pkg (Torn at (units_of bytes.now)) 0 result disk.old disk.new }
 {
     disk.write_at(File::Pkg, at, bytes)
@@ -108,8 +105,7 @@ pub fn settle<D: Disk>(disk: &mut D) -> Result<(), Failed>
 /// Writes one unit and settles the file.
 pub fn write_one<D: Disk>(disk: &mut D, at: u64, unit: &[u8; 16]) -> Result<(), Failed>
     requires room { at < 2 ^ 28 }
-    ensures written { OnOk result (IsTrue D.tells
-        → (D.files disk.new).pkg ≡ put at (unit.now ∷ []) (D.files disk.old).pkg) }
+    ensures written { OnOk result (IsTrue D.tells → (D.files disk.new).pkg ≡ put at (unit.now ∷ []) (D.files disk.old).pkg) }
     ensures settled { OnOk result (IsTrue D.tells → IsSettled D.Disk Pkg disk.new) }
     ensures writes { Writes D.Disk Pkg (Torn at (unit.now ∷ [])) 0 result disk.old disk.new }
 {
@@ -120,8 +116,7 @@ pub fn write_one<D: Disk>(disk: &mut D, at: u64, unit: &[u8; 16]) -> Result<(), 
 /// Makes units zeros, a page in each write.
 pub fn write_zeros<D: Disk>(disk: &mut D, at: u32, count: u32) -> Result<(), Failed>
     requires room { at + count ≤ 2 ^ 28 }
-    ensures zeros { OnOk result (IsTrue D.tells → (i : ℕ) → at ≤ i → i < at + count
-        → unit_at (D.files disk.new).pkg i ≡ blank) }
+    ensures zeros { OnOk result (IsTrue D.tells → (i : ℕ) → at ≤ i → i < at + count → unit_at (D.files disk.new).pkg i ≡ blank) }
     ensures writes { Writes D.Disk Pkg (SameOutside at count) 0 result disk.old disk.new }
 {
     if count == 0 {

@@ -18,8 +18,7 @@ use rpm_outside::{Disk, Failed};
 fn note_number(numbers: &mut Numbers, target: &Target)
     requires room { 1 ≤ numbers.old.room }
     requires above { target.now.is_new ≡ true → (m : ℕ) → IsSome (find_in numbers.old.pairs m) → m < target.now.number }
-    ensures new { target.now.is_new ≡ true → Adds (find_in numbers.old.pairs) (find_in numbers.new.pairs)
-        target.now.number target.now.place }
+    ensures new { target.now.is_new ≡ true → Adds (find_in numbers.old.pairs) (find_in numbers.new.pairs) target.now.number target.now.place }
     ensures held { target.now.is_new ≡ false → numbers.new.pairs ≡ numbers.old.pairs }
     ensures room { numbers.old.room ≤ numbers.new.room + 1 }
 {
@@ -31,8 +30,7 @@ fn note_number(numbers: &mut Numbers, target: &Target)
 impl PkgDb {
     /// The slot that is replaced, and a free one for a new number.
     fn replaced(&self, target: &Target) -> Slot
-        requires { target.now.is_new ≡ false → has_number target.now.number (slot_at self.now.slots target.now.place)
-            ≡ true }
+        requires { target.now.is_new ≡ false → has_number target.now.number (slot_at self.now.slots target.now.place) ≡ true }
         ensures { IsReplaced self.now target.now result }
     {
         let _ = &self.slots;
@@ -78,8 +76,7 @@ impl PkgDb {
         requires old { IsReplaced self.now plan.now.target old }
         ensures put { OnOk result (IsTrue D.tells
             → IsPut D.Disk disk.old disk.new self.now (with_plan plan.now self.now) plan.now.target blob.now) }
-        ensures stops { IsTrue D.tells → Quiet D.Disk disk.old self.now
-            → PutStops D.Disk disk.old disk.new self.now plan.now.target blob.now }
+        ensures stops { IsTrue D.tells → Quiet D.Disk disk.old self.now → PutStops D.Disk disk.old disk.new self.now plan.now.target blob.now }
         ensures writes { Writes D.Disk Pkg Anything (moving_cost self.now.slots (moves_of plan.now.page)) result disk.old disk.new }
     {
         self.grow(disk, &plan.page)?;
@@ -130,10 +127,8 @@ impl PkgDb {
         ensures number { IfOk result (λ n. n ≡ plan.target.number) }
         ensures value { OnOk result (AfterPut plan (length blob.now) self.old self.new) }
         ensures err { OnErr result (self.new ≡ stopped self.old) }
-        ensures put { OnOk result (IsTrue D.tells
-            → IsPut D.Disk disk.old disk.new self.old self.new plan.target blob.now) }
-        ensures stops { IsTrue D.tells → Quiet D.Disk disk.old self.old
-            → PutStops D.Disk disk.old disk.new self.old plan.target blob.now }
+        ensures put { OnOk result (IsTrue D.tells → IsPut D.Disk disk.old disk.new self.old self.new plan.target blob.now) }
+        ensures stops { IsTrue D.tells → Quiet D.Disk disk.old self.old → PutStops D.Disk disk.old disk.new self.old plan.target blob.now }
         ensures writes { Writes D.Disk Pkg Anything (moving_cost self.old.slots (moves_of plan.page)) result disk.old disk.new }
     {
         let old = self.replaced(&plan.target);
@@ -168,8 +163,7 @@ impl PkgDb {
         ensures ok { OnOk result (self.new ≡ erased n self.old) }
         ensures err { OnErr result (self.new ≡ stopped self.old) }
         ensures erased { OnOk result (IsTrue D.tells → IsErased D.Disk disk.old disk.new self.old self.new n) }
-        ensures stops { IsTrue D.tells → Quiet D.Disk disk.old self.old
-            → EraseStops D.Disk disk.old disk.new self.old n }
+        ensures stops { IsTrue D.tells → Quiet D.Disk disk.old self.old → EraseStops D.Disk disk.old disk.new self.old n }
         ensures writes { Writes D.Disk Pkg Anything 0 result disk.old disk.new }
     {
         let (place, slot) = self.slot_place(n);

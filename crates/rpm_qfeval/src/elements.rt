@@ -82,8 +82,7 @@ pub fn put_text<O: Sink>(
     count: u32,
     text: &Joined<'_>,
 ) -> Result<(), Failed>
-    ensures { Writes O.Sink sink.old sink.new
-        (in_width part.now (text_text part.now.show count (concat text.now))) result }
+    ensures { Writes O.Sink sink.old sink.new (in_width part.now (text_text part.now.show count (concat text.now))) result }
 {
     match part.show {
         Show::Plain => put_padded(sink, part.left, part.width, &Shown::Joined(text)),
@@ -101,8 +100,7 @@ pub fn put_stored_text<O: Sink>(
     value: &TagValue<'_>,
     text: &[u8],
 ) -> Result<(), Failed>
-    ensures { Writes O.Sink sink.old sink.new
-        (in_width part.now (text_text part.now.show (count_of value.now) text.now)) result }
+    ensures { Writes O.Sink sink.old sink.new (in_width part.now (text_text part.now.show (count_of value.now) text.now)) result }
 {
     match part.show {
         Show::Plain => put_plain(sink, part, text),
@@ -161,8 +159,7 @@ pub fn put_value<O: Sink>(
     value: &TagValue<'_>,
     round: u32,
 ) -> Result<(), Failed>
-    ensures { Writes O.Sink sink.old sink.new
-        (in_width part.now (value_text part.now.role part.now.show round value.now)) result }
+    ensures { Writes O.Sink sink.old sink.new (in_width part.now (value_text part.now.role part.now.show round value.now)) result }
 {
     match part.role {
         Role::Element => put_element(sink, part, value, round),

@@ -49,8 +49,7 @@ fn quote_at(text: &[u8]) -> Option<usize>
 
 /// The bytes in front of the first quote, and those after it.
 fn cut_at_quote(text: &[u8]) -> Option<(&[u8], &[u8])>
-    ensures cut { IfSome result (λ cut. escaped_text text.now ≡ (cut.0.now ++ codes "'\\''") ++ escaped_text
-        cut.1.now) }
+    ensures cut { IfSome result (λ cut. escaped_text text.now ≡ (cut.0.now ++ codes "'\\''") ++ escaped_text cut.1.now) }
     ensures shorter { IfSome result (λ cut. length cut.1.now < length text.now) }
     ensures whole { IfNone result (escaped_text text.now ≡ text.now) }
 {

@@ -99,8 +99,7 @@ fn read(
 /// open are calls within each other, at most 17 of them.
 #[tactic(auto, using(crate::proofs::Law::format_is, crate::proofs::Law::format_only, crate::proofs::Law::format_whole))]
 pub fn parse(alloc: Global, text: &[u8]) -> Result<Format, FormatFault>
-    ensures format { MatchResult result (λ tree. format text.now ≡ Ok tree)
-        (λ fault. fault.kind ≢ NoMemory → format text.now ≡ Err fault) }
+    ensures format { MatchResult result (λ tree. format text.now ≡ Ok tree) (λ fault. fault.kind ≢ NoMemory → format text.now ≡ Err fault) }
     ensures memory { IfErr result (λ fault. fault.kind ≡ NoMemory → fault.at ≡ 0) }
     ensures proper { IfOk result (IsProper false 0) }
 

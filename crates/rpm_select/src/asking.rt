@@ -46,8 +46,7 @@ fn push_found<D: Disk>(
     ensures broken { IsTrue D.tells → IfErr result (IsBroken (key.now ∷ []) (D.files disk.old).idx) }
     ensures lawful { IsTrue D.tells → HasRows (packages_in D.Disk disk.old db.now) (D.files disk.old).idx
         → IfErr result (λ fault. is_of_index fault ≡ false) }
-    ensures cost { IsTrue D.tells → KeysCost (D.files disk.old).idx (key.now ∷ []) (D.bytes_read disk.old File.Idx)
-        (D.bytes_read disk.new File.Idx) }
+    ensures cost { IsTrue D.tells → KeysCost (D.files disk.old).idx (key.now ∷ []) (D.bytes_read disk.old File.Idx) (D.bytes_read disk.new File.Idx) }
     ensures looks { LooksAt D.Disk Idx disk.old disk.new }
     ensures cause { DiskFault D.Disk (result ≡ Err PickFault.DiskFault) disk.old disk.new }
 {
@@ -74,8 +73,7 @@ fn found<D: Disk>(
     ensures broken { IsTrue D.tells → IfErr result (IsBroken keys.now (D.files disk.old).idx) }
     ensures lawful { IsTrue D.tells → HasRows (packages_in D.Disk disk.old db.now) (D.files disk.old).idx
         → IfErr result (λ fault. is_of_index fault ≡ false) }
-    ensures cost { IsTrue D.tells → KeysCost (D.files disk.old).idx keys.now (D.bytes_read disk.old File.Idx)
-        (D.bytes_read disk.new File.Idx) }
+    ensures cost { IsTrue D.tells → KeysCost (D.files disk.old).idx keys.now (D.bytes_read disk.old File.Idx) (D.bytes_read disk.new File.Idx) }
     ensures looks { LooksAt D.Disk Idx disk.old disk.new }
     ensures cause { DiskFault D.Disk (result ≡ Err PickFault.DiskFault) disk.old disk.new }
 {

@@ -217,12 +217,10 @@ pub fn pick<D: Disk>(
 ) -> Result<Option<Picked>, PickFault>
     requires keeps { Kept D.Disk disk.old db.now }
     requires runs { db.now.stopped ≡ false }
-    ensures told { IsTrue D.tells → OneOf selection.now number (finite.get (packages_in D.Disk disk.old db.now) number)
-        result }
+    ensures told { IsTrue D.tells → OneOf selection.now number (finite.get (packages_in D.Disk disk.old db.now) number) result }
     ensures numbered { IsNumbered number result }
     ensures asks { AsksPackages D.Disk (cost number db.now) disk.old disk.new db.now result }
-    ensures unread { is_elsewhere selection.now number ≡ true
-        → D.bytes_read disk.new File.Pkg ≡ D.bytes_read disk.old File.Pkg }
+    ensures unread { is_elsewhere selection.now number ≡ true → D.bytes_read disk.new File.Pkg ≡ D.bytes_read disk.old File.Pkg }
 {
     if is_elsewhere(selection, number) {
         return Ok(None);

@@ -148,8 +148,7 @@ impl Picker {
         ensures told { IsTrue D.tells → Serves self.old (packages_in D.Disk disk.old db.now) selection.now
             → NextIs (above n (picks (packages_in D.Disk disk.old db.now) selection.now)) result }
         ensures same { self.new ≡ self.old }
-        ensures reads { D.bytes_read disk.new File.Pkg ≤ D.bytes_read disk.old File.Pkg + reach_after n self.old db.now
-            result }
+        ensures reads { D.bytes_read disk.new File.Pkg ≤ D.bytes_read disk.old File.Pkg + reach_after n self.old db.now result }
         ensures rises { IfOk result (λ o. IfSome o (λ picked. n < number_in picked)) }
         ensures asks { AsksPackages D.Disk (cost_after n db.now result) disk.old disk.new db.now result }
         ensures own { ReadsOwn selection.now db.now (D.bytes_read disk.old File.Pkg) (D.bytes_read disk.new File.Pkg) }

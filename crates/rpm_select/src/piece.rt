@@ -195,8 +195,7 @@ fn piece_at(byte: u8, rest: &[u8], unclosed: usize) -> Written<'_>
 #[tactic(auto, using(crate::proofs::Unclosed::unclosed_behind))]
 pub fn next_piece(glob: &[u8], unclosed: usize) -> Option<(Piece<'_>, &[u8])>
     requires { IsUnclosed unclosed glob.now }
-    ensures value { MatchOption result (pieces glob.now ≡ [])
-        (λ cut. pieces glob.now ≡ piece_in cut.0 ∷ pieces cut.1.now) }
+    ensures value { MatchOption result (pieces glob.now ≡ []) (λ cut. pieces glob.now ≡ piece_in cut.0 ∷ pieces cut.1.now) }
     ensures less { MatchOption result (glob.now ≡ []) (λ cut. length cut.1.now < length glob.now) }
     ensures unclosed { IfSome result (λ cut. IsUnclosed unclosed cut.1.now) }
 {

@@ -45,8 +45,7 @@ impl Recent {
         ensures given { IsHeld number self.now → is_some result ≡ true }
         ensures number { IfSome result (λ held. number_in held.now ≡ number) }
         ensures held { IfSome result (λ held. IsHeld number self.now) }
-        ensures same { IfSome result (λ held. (packages : finite.FinMap nat_cmp Package) → Recalls packages self.now
-            → IsOf packages held.now) }
+        ensures same { IfSome result (λ held. (packages : finite.FinMap nat_cmp Package) → Recalls packages self.now → IsOf packages held.now) }
     {
         match &self.last {
             Some(held) => {

@@ -148,9 +148,7 @@ fn highest(numbers: &Numbers<'_>) -> u64
 /// The directories up to the last that a file asks for; None where a file has no index, or an index
 /// no directory. Reads each index once.
 pub fn asked_for<'a>(dirs: Texts<'a>, indexes: &Numbers<'_>, bases: &Texts<'_>) -> Option<Texts<'a>>
-    ensures { MatchOption result
-        (are_matched dirs.entry indexes.now bases.now ≡ false)
-        (λ asked. AreAsked dirs.entry asked indexes.now bases.now) }
+    ensures { MatchOption result (are_matched dirs.entry indexes.now bases.now ≡ false) (λ asked. AreAsked dirs.entry asked indexes.now bases.now) }
 {
     let high = highest(indexes);
     if bases.count() == indexes.count() && high < dirs.count() as u64 {
@@ -163,8 +161,7 @@ pub fn asked_for<'a>(dirs: Texts<'a>, indexes: &Numbers<'_>, bases: &Texts<'_>) 
 /// The paths of a package's files; None where one of the three tags is missing or of another class,
 /// a file has no index, or an index no directory. Reads each index once.
 pub fn files_in<'a>(view: &View<'a>) -> Option<Files<'a>>
-    ensures { result ≡ filenames (texts_in view.now DIRNAMES) (numbers_in view.now DIRINDEXES)
-        (texts_in view.now BASENAMES) }
+    ensures { result ≡ filenames (texts_in view.now DIRNAMES) (numbers_in view.now DIRINDEXES) (texts_in view.now BASENAMES) }
 {
     let dirs = texts_in(view, DIRNAMES)?;
     let indexes = numbers_in(view, DIRINDEXES)?;

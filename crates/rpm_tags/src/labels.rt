@@ -71,8 +71,7 @@ pub fn label<'a>(view: &View<'a>, epoch: Option<u64>, arch: Option<&'a [u8]>) ->
 
 /// `E:V-R`.
 pub fn evr<'a>(view: &View<'a>) -> Option<Joined<'a>>
-    ensures { result ≡ evr (first_number view.now EPOCH) (first_text view.now VERSION)
-        (first_text view.now RELEASE) }
+    ensures { result ≡ evr (first_number view.now EPOCH) (first_text view.now VERSION) (first_text view.now RELEASE) }
 {
     let version = first_text(view, VERSION)?;
     let release = first_text(view, RELEASE)?;

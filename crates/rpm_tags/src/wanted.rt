@@ -36,8 +36,7 @@ fn counts(
 ) -> bool
     requires below { index < length directories.old }
     requires cut { base.now ≡ base_name (front.now ++ base.now) }
-    ensures value { result ≡ counts_for (front.now ++ base.now)
-        (file_name directories.old (index, text.now), text.now) }
+    ensures value { result ≡ counts_for (front.now ++ base.now) (file_name directories.old (index, text.now), text.now) }
     ensures same { directories.new ≡ directories.old }
 {
     text == base && directories.dir(index) == front
@@ -51,8 +50,7 @@ fn is_any_at(
     path: &[u8],
 ) -> bool
     requires { are_matched directories.old indexes.now bases.now ≡ true }
-    ensures { result ≡ list_any (counts_for path.now)
-        (zip (file_names directories.old indexes.now bases.now) bases.now) }
+    ensures { result ≡ list_any (counts_for path.now) (zip (file_names directories.old indexes.now bases.now) bases.now) }
 {
     let (front, base) = split_path(path);
     let _ = indexes.count();
@@ -85,8 +83,7 @@ fn is_any_far(dirs: &Texts<'_>, indexes: &Numbers<'_>, bases: &Texts<'_>, path: 
 }
 
 fn is_any_in(dirs: Texts<'_>, indexes: &Numbers<'_>, bases: &Texts<'_>, path: &[u8]) -> bool
-    ensures { result ≡ any_counts_for path.now (filenames (Some dirs.entry) (Some indexes.now) (Some bases.now))
-        (Some bases.now) }
+    ensures { result ≡ any_counts_for path.now (filenames (Some dirs.entry) (Some indexes.now) (Some bases.now)) (Some bases.now) }
 {
     let dirs = match asked_for(dirs, indexes, bases) {
         None => return false,

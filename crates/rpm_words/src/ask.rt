@@ -183,8 +183,7 @@ const NO_MEMORY: WordsFault = WordsFault {
 /// Reads the words after the name of a program.
 #[tactic(auto, unfolding(crate::specs::Ask::asked_by))]
 fn read_options(alloc: Global, program: Program, words: &Words) -> Result<Ask, WordsFault>
-    ensures fault { MatchResult result (λ a. asked_by program words.now ≡ Ok a)
-        (λ f. f.kind ≢ NoMemory → asked_by program words.now ≡ Err f) }
+    ensures fault { MatchResult result (λ a. asked_by program words.now ≡ Ok a) (λ f. f.kind ≢ NoMemory → asked_by program words.now ≡ Err f) }
     ensures memory { MatchResult result (λ a. Unit {0}) (λ f. f.kind ≡ NoMemory → f.word ≡ 0) }
 {
     let Ok(tokens) = tokens_of(alloc, program, words) else {
