@@ -24,7 +24,6 @@ pub use Rattle.rpm_change.specs.Exercise.{file_items, generated, identity_items,
 pub use Rattle.rpm_change.specs.Exercise.{required_items, version}
 pub use Rattle.rpm_change.specs.Hands.{Hand, KeepsShelf}
 pub use Rattle.rpm_change.specs.Importing.{import_list, import_listed, listed, max_headers}
-pub use Rattle.rpm_change.specs.Installs.{Installs, install_items, installed}
 pub use Rattle.rpm_change.specs.Limits.{StopsAt, first_limit, next_stores}
 pub use Rattle.rpm_change.specs.Lines.{Fails}
 pub use Rattle.rpm_change.specs.Reaches.{ReachedAnew}

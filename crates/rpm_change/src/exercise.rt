@@ -169,8 +169,7 @@ fn lay_out(alloc: Global, builder: &Builder) -> Result<Vec<u8>, AllocError>
 pub fn generated(alloc: Global, i: u32, m: u32) -> Result<Vec<u8>, AllocError>
     requires { i < 4294967295 }
     ensures laid { IfOk result (λ blob. blob.items ≡ laid false (generated i m)) }
-    ensures again { IfOk result (λ blob.
-        header blob.items ≡ Ok (record { blob = blob.items; entries = generated i m })) }
+    ensures again { IfOk result (λ blob. header blob.items ≡ Ok (record { blob = blob.items; entries = generated i m })) }
 {
     let builder = entries(alloc, i, m)?;
     lay_out(alloc, &builder)

@@ -25,7 +25,6 @@ pub use faults::{
     absent_line, push_file_text, push_header_text, put_absent, put_refused, refused_line,
 };
 pub use import::{import_list, import_most};
-pub use install::installed;
 pub use rebuilding::rebuild;
 pub use replace::replace_package;
 pub use single::{put_blob, take_out};

@@ -35,8 +35,7 @@ fn drop_bad<D: Disk, O: Sink + Drop>(
 ) -> Result<Tally, Halt>
     requires held { holds number db.old ≡ true }
     requires ready { IsReady D.Disk disk.old db.old }
-    ensures went { Went D.Disk (IsTrue D.tells) disk.old disk.new db.old db.new result
-        (EndedOnOut O.Sink out.old out.new) (dropped number Bad) }
+    ensures went { Went D.Disk (IsTrue D.tells) disk.old disk.new db.old db.new result (EndedOnOut O.Sink out.old out.new) (dropped number Bad) }
     ensures one { IfOk result (λ tally. tally ≡ record { failed = 0; changes = 1 }) }
     ensures kinds { IfErr result IsOfRebuilding }
     ensures out { Hand O.Sink (result ≡ Err Halt.OutFault) out.old out.new }

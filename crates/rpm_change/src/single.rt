@@ -5,6 +5,7 @@ ghost use Rattle.rpm_change.specs.Prelude.{change_at, Erase, header, holds, IsHe
 
 use crate::tally::{CHANGED, Halt, Tally};
 use rpm_db::Db;
+use rpm_header::View;
 use rpm_outside::Disk;
 use std::alloc::Global;
 
@@ -26,13 +27,14 @@ pub fn put_blob<D: Disk>(
     requires own { header blob.now ≡ Ok (read_again blob.now) }
     ensures { MakesOne D.Disk (change_at number blob.now) disk.old disk.new db.old db.new result }
 {
+    let view = View::of_checked(blob);
     match number {
         None => {
-            db.add(alloc, disk, blob)?;
+            db.add_view(alloc, disk, &view)?;
             Ok(CHANGED)
         }
         Some(n) => {
-            db.put(alloc, disk, n, blob)?;
+            db.put_view(alloc, disk, n, &view)?;
             Ok(CHANGED)
         }
     }

@@ -1,9 +1,9 @@
 -- What a fault says.
-use Rattle.std.proofs.Common.{◌≡◌, ℕ, ◌^◌, ◌≤◌, List, length, true, false, Ok, Err, refl, arith}
+use Rattle.std.proofs.Common.{◌≡◌, ℕ, ◌^◌, ◌≤◌, Bool, List, length, true, false, Ok, Err, refl, sym, ◌∙◌, arith}
 use Rattle.std.specs.Prelude.{Result}
 use Rattle.rpm_db.proofs.Vocabulary.{AddIs, BadHeader, BadIndex, ChangeFault, Database, DiskFault, EraseCause, FullCause, Header}
 use Rattle.rpm_db.proofs.Vocabulary.{header, holds, IndexFull, is_stopping, IsFull, IsOfIndex, IsOfReading, IsRefusal, LaterCause, LaterIs}
-use Rattle.rpm_db.proofs.Vocabulary.{generation_of, NoMemory, NoSuch, NumbersSpent, room, Stopped}
+use Rattle.rpm_db.proofs.Vocabulary.{generation_of, IsRead, NoMemory, NoSuch, NumbersSpent, PutIs, PutsHeader, room, Stopped}
 use Rattle.rpm_db.specs.Database.{next_number}
 
 -- after the generation and the room in the store
@@ -58,3 +58,26 @@ pub add_is : (db : Database) (bytes : List ℕ) (own : Header) (result : Result 
     → (next_number db ≡ 4294967295 → ⊥) → LaterIs (generation_of db) (IsFull (room db) true (length own.blob)) result → AddIs db bytes result
 add_is db bytes own (Ok n) going read left later = (left, record { going = going; own = own; read = read; later = later })
 add_is db bytes own (Err fault) going read left later = add_cause db bytes own fault going read left later
+
+-- ---- bytes that are the same header
+
+module _ (db : Database) (a b : List ℕ) (same : header a ≡ header b) where
+  read_same : IsRead db a → IsRead db b
+  read_same r = record { going = r.going; own = r.own; read = sym same ∙ r.read }
+
+  puts_same : {A : Type 0} (is_new : Bool) (result : Result A ChangeFault) → PutsHeader db is_new a result → PutsHeader db is_new b result
+  puts_same is_new result p = record { going = p.going; own = p.own; read = sym same ∙ p.read; later = p.later }
+
+  -- what adding one answers, adding the other answers
+  pub add_same : {A : Type 0} (result : Result A ChangeFault) → AddIs db a result → AddIs db b result
+  add_same (Err Stopped) is = is
+  add_same (Err (BadHeader f)) is = (is.0, sym same ∙ is.1)
+  add_same (Err NumbersSpent) is = (read_same is.0, is.1)
+  add_same others is = (is.0, puts_same true others is.1)
+
+  -- and so does putting
+  pub put_same : {A : Type 0} (n : ℕ) (result : Result A ChangeFault) → PutIs db n a result → PutIs db n b result
+  put_same n (Err Stopped) is = is
+  put_same n (Err (BadHeader f)) is = (is.0, sym same ∙ is.1)
+  put_same n (Err NoSuch) is = (read_same is.0, is.1)
+  put_same n others is = (is.0, puts_same false others is.1)

@@ -16,7 +16,7 @@ pub use Rattle.rpm_db.specs.Own.{header-own}
 pub use Rattle.rpm_db.specs.PackageLaws.{get-packages, is_there}
 pub use Rattle.rpm_db.specs.Reaches.{added, ReachesMade}
 pub use Rattle.rpm_db.specs.Refusals.{AddIs, BadCause, BadIndexIs, EraseCause, FullCause, FullIndexIs, is_stopping, IsOfIndex, IsOfReading}
-pub use Rattle.rpm_db.specs.Refusals.{IsRefusal, LaterCause, LaterIs, WholeCause}
+pub use Rattle.rpm_db.specs.Refusals.{IsRead, IsRefusal, LaterCause, LaterIs, PutIs, PutsHeader, WholeCause}
 pub use Rattle.rpm_db.specs.Room.{next_store, raised, RoomCause}
 pub use Rattle.rpm_db.specs.RowLaws.{of_at, rows-insert, rows-remove, times-append, times-rows, times_none, times_one}
 pub use Rattle.rpm_db.specs.Rows.{key_row, kind_rows, kinds, package_rows, rows_at, rows_in, rows_read}

@@ -67,15 +67,13 @@ impl Additions {
         requires gathering { IsGathering D.Disk disk.old db.old self.old }
         ensures causes { AddIs (resumed db.old) blob.now result }
         ensures number { IfOk result (λ n. n ≡ next_number db.old) }
-        ensures gathers { (h : Header) → header blob.now ≡ Ok h
-            → Gathers D.Disk disk.old disk.new (Add h.blob) db.old db.new self.old self.new result }
+        ensures gathers { (h : Header) → header blob.now ≡ Ok h → Gathers D.Disk disk.old disk.new (Add h.blob) db.old db.new self.old self.new result }
         ensures whole { IsTrue D.tells → IsWholeIndex (D.files disk.old).idx → IfErr result WholeCause }
         ensures refused { (fault : HeaderFault) → result ≡ Err (ChangeFault.BadHeader fault)
             → (disk.new ≡ disk.old) × (db.new ≡ db.old) × (self.new ≡ self.old) }
         ensures left { IsLeftSuspended D.Disk disk.old disk.new db.new (with_room (room db.new).spare db.old) result }
         ensures index { IsTrue D.tells → (D.files disk.new).idx ≡ (D.files disk.old).idx }
-        ensures end { OnOk result (IsTrue D.tells
-            → ReachesTo (room db.new) (D.files disk.old).pkg (D.files disk.new).pkg) }
+        ensures end { OnOk result (IsTrue D.tells → ReachesTo (room db.new) (D.files disk.old).pkg (D.files disk.new).pkg) }
         ensures runs { Runs D.Disk SameLog disk.old disk.new }
         ensures cause { DiskFault D.Disk (result ≡ Err ChangeFault.DiskFault) disk.old disk.new }
     {
@@ -113,8 +111,7 @@ impl Additions {
         requires gathering { IsGathering D.Disk disk.old db.old self }
         ensures settled { OnOk result (IsSettledUp D.Disk disk.old disk.new db.old db.new self) }
         ensures full { IsTrue D.tells → OwesOn D.Disk disk.old db.old self → IfErr result IsOfReading }
-        ensures whole { IsTrue D.tells → IsWholeIndex (D.files disk.old).idx
-            → StaysWhole (D.files disk.new).idx result }
+        ensures whole { IsTrue D.tells → IsWholeIndex (D.files disk.old).idx → StaysWhole (D.files disk.new).idx result }
         ensures kinds { IfErr result IsOfIndex }
         ensures unwritten { sealed_in db.old.index ≡ generation_of db.old → disk.new ≡ disk.old }
         ensures store { room db.new ≡ room db.old }

@@ -30,29 +30,24 @@ pub fn change_both<D: Disk>(
 ) -> Result<(), ChangeFault>
     requires ready { CanChange D.Disk disk.old store.old index.old }
     requires can { CanEdit edit blob.now store.old }
-    requires order { AreByPlace adds }
-    requires rows { HasChanged (old_rows n (packages (D.files disk.old).pkg store.old)) adds
+    requires rows { AreByPlace adds × HasChanged (old_rows n (packages (D.files disk.old).pkg store.old)) adds
         (rows (packages (D.files disk.old).pkg store.old))
         (rows (packages_of (edited edit blob.now (blobs (D.files disk.old).pkg store.old)))) }
-    ensures made { 1 ≤ store.new.pages }
-    ensures edit { OnOk result (HasEdit edit (raised store.old) store.new) }
+    ensures store { (1 ≤ store.new.pages) × OnOk result (HasEdit edit (raised store.old) store.new) }
     ensures done { OnOk result (IsDone D.Disk disk.old disk.new store.old store.new index.new
         (edited edit blob.now (blobs (D.files disk.old).pkg store.old)) (field_edited edit store.old.field)
         (index.old.units + live_of adds)) }
     ensures index { IndexIs D.Disk disk.old (packages (D.files disk.old).pkg store.old)
         (units_for (rows (packages_of (edited edit blob.now (blobs (D.files disk.old).pkg store.old))))) result }
-    ensures end { OnOk result (IsTrue D.tells
-        → EditReaches edit store.new (D.files disk.old).pkg (D.files disk.new).pkg) }
-    ensures refused { IfErr result (λ e. IsRefusal e
-        → IsRefused D.Disk disk.old disk.new store.old store.new index.old index.new) }
+    ensures end { OnOk result (IsTrue D.tells → EditReaches edit store.new (D.files disk.old).pkg (D.files disk.new).pkg) }
+    ensures refused { IfErr result (λ e. IsRefusal e → IsRefused D.Disk disk.old disk.new store.old store.new index.old index.new) }
     ensures kinds { IfErr result IsOfIndex }
     ensures stops { IsTrue D.tells → AreLawful (images D.Disk disk.old)
         → HasRows (packages (D.files disk.old).pkg store.old) (D.files disk.old).idx
         → LeavesIn D.Disk disk.old disk.new (IsChangedStill (state (D.files disk.old).pkg store.old)
         (state_of (edited edit blob.now (blobs (D.files disk.old).pkg store.old)) (field_edited edit store.old.field))
         (images D.Disk disk.old)) }
-    ensures reads { D.bytes_read disk.new Pkg
-        ≤ D.bytes_read disk.old Pkg + cost_before n store.old + edit_cost edit store.old }
+    ensures reads { D.bytes_read disk.new Pkg ≤ D.bytes_read disk.old Pkg + cost_before n store.old + edit_cost edit store.old }
     ensures runs { RunsOr D.Disk SameLog (result ≡ Err ChangeFault.DiskFault) disk.old disk.new }
 {
     let change = match prepare_change(alloc, disk, store, index, n, adds) {

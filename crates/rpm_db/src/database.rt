@@ -46,8 +46,7 @@ fn open_store<D: Disk>(alloc: Global, disk: &mut D) -> Result<PkgDb, DbOpenFault
     ensures kept { IfOk result (λ value. IsTrue D.tells → pkgdb.Keeps (D.files disk.new).pkg value) }
     ensures from_one { IfOk result (λ value. slot_with 0 value.slots ≡ None) }
     ensures going { IfOk result (λ value. value.is_stopped ≡ false) }
-    ensures reads { IsTrue D.tells → D.bytes_read disk.new File.Pkg ≤ D.bytes_read disk.old File.Pkg + opening_cost
-        (D.files disk.old).pkg }
+    ensures reads { IsTrue D.tells → D.bytes_read disk.new File.Pkg ≤ D.bytes_read disk.old File.Pkg + opening_cost (D.files disk.old).pkg }
     ensures looks { Looks D.Disk Pkg (2 ^ 32) disk.old disk.new }
     ensures cause { DiskFault D.Disk (result ≡ Err DbOpenFault.DiskFault) disk.old disk.new }
 {
@@ -64,8 +63,7 @@ impl Db {
         ensures opened { IsTrue D.tells → IsOpened (D.files disk.old) (D.files disk.new) result }
         ensures served { IfOk result (IsOpenedOn D.Disk disk.old disk.new) }
         ensures stops { IsTrue D.tells → StaysLawful D.Disk disk.old disk.new }
-        ensures reads { IsTrue D.tells → OpeningReads (D.files disk.old) (D.bytes_read disk.old File.Pkg)
-            (D.bytes_read disk.new File.Pkg) }
+        ensures reads { IsTrue D.tells → OpeningReads (D.files disk.old) (D.bytes_read disk.old File.Pkg) (D.bytes_read disk.new File.Pkg) }
         ensures units { D.bytes_read disk.new File.Idx ≤ D.bytes_read disk.old File.Idx + 32 }
         ensures runs { Runs D.Disk Remade disk.old disk.new }
         ensures cause { DiskFault D.Disk (result ≡ Err DbOpenFault.DiskFault) disk.old disk.new }
@@ -98,8 +96,7 @@ impl Db {
         ensures opened { IsTrue D.tells → IsOpened (D.files disk.old) (D.files disk.new) result }
         ensures served { IfOk result (IsOpenedOn D.Disk disk.old disk.new) }
         ensures stops { IsTrue D.tells → StaysLawful D.Disk disk.old disk.new }
-        ensures reads { IsTrue D.tells → OpeningReads (D.files disk.old) (D.bytes_read disk.old File.Pkg)
-            (D.bytes_read disk.new File.Pkg) }
+        ensures reads { IsTrue D.tells → OpeningReads (D.files disk.old) (D.bytes_read disk.old File.Pkg) (D.bytes_read disk.new File.Pkg) }
         ensures units { D.bytes_read disk.new File.Idx ≤ D.bytes_read disk.old File.Idx + 32 }
         ensures runs { Runs D.Disk Remade disk.old disk.new }
         ensures cause { DiskFault D.Disk (result ≡ Err DbOpenFault.DiskFault) disk.old disk.new }
@@ -136,8 +133,7 @@ impl Db {
         ensures from_one { IfOk result (λ db. holds 0 db ≡ false) }
         ensures unindexed { IfOk result (λ db. is_indexed db ≡ false) }
         ensures runs { IfOk result (λ db. db.stopped ≡ false) }
-        ensures reads { IsTrue D.tells → D.bytes_read disk.new File.Pkg ≤ D.bytes_read disk.old File.Pkg + opening_cost
-            (D.files disk.old).pkg }
+        ensures reads { IsTrue D.tells → D.bytes_read disk.new File.Pkg ≤ D.bytes_read disk.old File.Pkg + opening_cost (D.files disk.old).pkg }
         ensures looks { Looks D.Disk Pkg (2 ^ 32) disk.old disk.new }
         ensures cause { DiskFault D.Disk (result ≡ Err DbOpenFault.DiskFault) disk.old disk.new }
     {
@@ -190,8 +186,7 @@ impl Db {
     /// The least number above this one that a package has, Good or Bad; `None` where there is none. Takes log n steps.
     pub fn next_above(&self, n: u32) -> Option<u32>
         ensures next { IsNext (λ m. holds m self.now) n result }
-        ensures told { (file : Units) → IsNext (λ m. is_some (finite.get (state file (room self.now)).packages m)) n
-            result }
+        ensures told { (file : Units) → IsNext (λ m. is_some (finite.get (state file (room self.now)).packages m)) n result }
     {
         self.store.next_above(n)
     }

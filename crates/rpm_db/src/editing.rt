@@ -44,16 +44,12 @@ impl Db {
         blob: &[u8],
     ) -> Result<u32, ChangeFault>
         requires indexed { is_indexed self.old ≡ true }
-        requires serving { self.old.stopped ≡ false → IsTrue D.tells
-            → IsServing (D.files disk.old) (images D.Disk disk.old) self.old }
+        requires serving { self.old.stopped ≡ false → IsTrue D.tells → IsServing (D.files disk.old) (images D.Disk disk.old) self.old }
         ensures causes { AddIs self.old blob.now result }
         ensures number { IfOk result (λ n. n ≡ next_number self.old) }
-        ensures makes { (h : Header) → header blob.now ≡ Ok h
-            → Makes D.Disk disk.old disk.new (Add h.blob) self.old self.new result }
-        ensures left { IsLeft D.Disk disk.old disk.new self.old self.new (with_room (room self.new).spare self.old)
-            result }
-        ensures end { OnOk result (IsTrue D.tells
-            → ReachesTo (room self.new) (D.files disk.old).pkg (D.files disk.new).pkg) }
+        ensures makes { (h : Header) → header blob.now ≡ Ok h → Makes D.Disk disk.old disk.new (Add h.blob) self.old self.new result }
+        ensures left { IsLeft D.Disk disk.old disk.new self.old self.new (with_room (room self.new).spare self.old) result }
+        ensures end { OnOk result (IsTrue D.tells → ReachesTo (room self.new) (D.files disk.old).pkg (D.files disk.new).pkg) }
         ensures bad { IsTrue D.tells → BadIndexIs (D.files disk.old).idx result }
         ensures reads { ReadsAtMost None (room self.old) (D.bytes_read disk.old Pkg) (D.bytes_read disk.new Pkg) }
         ensures runs { Runs D.Disk SameLog disk.old disk.new }
@@ -63,10 +59,7 @@ impl Db {
             return Err(ChangeFault::Stopped);
         }
         let view = View::parse(blob)?;
-        if self.store.next_number() == u32::MAX {
-            return Err(ChangeFault::NumbersSpent);
-        }
-        self.put_view(alloc, disk, None, &view)
+        self.add_view(alloc, disk, &view)
     }
 
     /// Puts a header in place of the package that a number has, Good or Bad. Bytes after the header aren't kept.
@@ -102,15 +95,11 @@ impl Db {
         blob: &[u8],
     ) -> Result<(), ChangeFault>
         requires indexed { is_indexed self.old ≡ true }
-        requires serving { self.old.stopped ≡ false → IsTrue D.tells
-            → IsServing (D.files disk.old) (images D.Disk disk.old) self.old }
+        requires serving { self.old.stopped ≡ false → IsTrue D.tells → IsServing (D.files disk.old) (images D.Disk disk.old) self.old }
         ensures causes { PutIs self.old n blob.now result }
-        ensures makes { (h : Header) → header blob.now ≡ Ok h
-            → Makes D.Disk disk.old disk.new (Put n h.blob) self.old self.new result }
-        ensures left { IsLeft D.Disk disk.old disk.new self.old self.new (with_room (room self.new).spare self.old)
-            result }
-        ensures end { OnOk result (IsTrue D.tells
-            → ReachesTo (room self.new) (D.files disk.old).pkg (D.files disk.new).pkg) }
+        ensures makes { (h : Header) → header blob.now ≡ Ok h → Makes D.Disk disk.old disk.new (Put n h.blob) self.old self.new result }
+        ensures left { IsLeft D.Disk disk.old disk.new self.old self.new (with_room (room self.new).spare self.old) result }
+        ensures end { OnOk result (IsTrue D.tells → ReachesTo (room self.new) (D.files disk.old).pkg (D.files disk.new).pkg) }
         ensures bad { IsTrue D.tells → BadIndexIs (D.files disk.old).idx result }
         ensures reads { D.bytes_read disk.new Pkg ≤ D.bytes_read disk.old Pkg + cost n self.old }
         ensures runs { Runs D.Disk SameLog disk.old disk.new }
@@ -120,13 +109,7 @@ impl Db {
             return Err(ChangeFault::Stopped);
         }
         let view = View::parse(blob)?;
-        if !self.store.holds(n) {
-            return Err(ChangeFault::NoSuch);
-        }
-        match self.put_view(alloc, disk, Some(n), &view) {
-            Ok(_) => Ok(()),
-            Err(fault) => Err(fault),
-        }
+        self.put_view(alloc, disk, n, &view)
     }
 
     /// Takes the package that a number has out, Good or Bad.
@@ -154,8 +137,7 @@ impl Db {
     /// finds no memory.
     pub fn erase<D: Disk>(&mut self, alloc: Global, disk: &mut D, n: u32) -> Result<(), ChangeFault>
         requires indexed { is_indexed self.old ≡ true }
-        requires serving { self.old.stopped ≡ false → IsTrue D.tells
-            → IsServing (D.files disk.old) (images D.Disk disk.old) self.old }
+        requires serving { self.old.stopped ≡ false → IsTrue D.tells → IsServing (D.files disk.old) (images D.Disk disk.old) self.old }
         ensures causes { EraseIs self.old n result }
         ensures makes { Makes D.Disk disk.old disk.new (Erase n) self.old self.new result }
         ensures left { IsLeft D.Disk disk.old disk.new self.old self.new self.old result }

@@ -36,8 +36,7 @@ impl Db {
             → HasRows (packages (D.files disk.old).pkg (room self.now)) (D.files disk.old).idx
             → AreHits (code_of kind) key.now (rows (packages (D.files disk.old).pkg (room self.now))) hits) }
         ensures told { IsTrue D.tells → FoundIs (key_chain (code_of kind) key.now (D.files disk.old).idx) result }
-        ensures lawful { IsTrue D.tells → HasRows (packages (D.files disk.old).pkg (room self.now))
-            (D.files disk.old).idx → IfErr result IsOutside }
+        ensures lawful { IsTrue D.tells → HasRows (packages (D.files disk.old).pkg (room self.now)) (D.files disk.old).idx → IfErr result IsOutside }
         ensures cost { IsTrue D.tells → ChainCosts (key_chain (code_of kind) key.now (D.files disk.old).idx)
             (units_at (unit_at (D.files disk.old).idx)) (D.bytes_read disk.old File.Idx + 16)
             (D.bytes_read disk.new File.Idx) }

@@ -58,8 +58,7 @@ pub fn store_header<D: Disk>(
     ensures done { OnOk result (IsPutAside D.Disk disk.old disk.new store.old store.new owed.old owed.new view.now) }
     ensures rows { TakesRows D.Disk disk.old [] (owed.old ++ header_rows (next_number store.old) view.now) result }
     ensures index { IsTrue D.tells → (D.files disk.new).idx ≡ (D.files disk.old).idx }
-    ensures refused { IfErr result (λ e. IsRefusal e
-        → (store.new ≡ with_spare store.new.spare store.old) × Runs D.Disk SameFiles disk.old disk.new) }
+    ensures refused { IfErr result (λ e. IsRefusal e → (store.new ≡ with_spare store.new.spare store.old) × Runs D.Disk SameFiles disk.old disk.new) }
     ensures stops { IsTrue D.tells → AreLawful (images D.Disk disk.old)
         → LeavesIn D.Disk disk.old disk.new (IsChangedStill (state (D.files disk.old).pkg store.old)
         (state_of (put_map (D.files disk.old).pkg store.old None view.now.blob) (field_for None store.old))
@@ -102,8 +101,7 @@ pub fn fill_index<D: Disk>(
     ensures kinds { IfErr result IsOfIndex }
     ensures unwritten { hindex.sealed index.old.first ≡ generation → disk.new ≡ disk.old }
     ensures store { IsTrue D.tells → (D.files disk.new).pkg ≡ (D.files disk.old).pkg }
-    ensures refused { IfErr result (λ e. IsRefusal e
-        → (index.new ≡ index.old) × Runs D.Disk SameFiles disk.old disk.new) }
+    ensures refused { IfErr result (λ e. IsRefusal e → (index.new ≡ index.old) × Runs D.Disk SameFiles disk.old disk.new) }
     ensures stops { IsTrue D.tells → AreLawful (images D.Disk disk.old) → (before after : finite.FinMap nat_cmp Package)
         → HasRows before (D.files disk.old).idx → HasChanged [] owed.now (rows before) (rows after)
         → AreOfRows generation after (images D.Disk disk.old)

@@ -34,8 +34,7 @@ pub fn seal_index<D: Disk>(
     requires ordered { hindex.is_ordered index.old.pending index.old.second index.old.units ≡ true }
     requires keeps { IsTrue D.tells → hindex.Keeps (D.files disk.old).idx index.old }
     requires settled { IsTrue D.tells → IsSettled D.Disk Idx disk.old }
-    requires here { IsTrue D.tells → IsUnsealed generation index.old.pending (D.files disk.old).pkg
-        (D.files disk.old).idx }
+    requires here { IsTrue D.tells → IsUnsealed generation index.old.pending (D.files disk.old).pkg (D.files disk.old).idx }
     requires each { IsTrue D.tells → (image : Files) → images D.Disk disk.old image
         → IsUnsealed generation index.old.pending image.pkg (D.files disk.old).idx }
     ensures sealed { OnOk result (IsSealedHere D.Disk disk.new generation index.new) }
@@ -87,8 +86,7 @@ pub fn make_index<D: Disk>(
     requires settled { IsTrue D.tells → IsSettled D.Disk Pkg disk.old }
     ensures full { IsTrue D.tells → FullIs (units_for (rows (packages (D.files disk.old).pkg store.now))) result }
     ensures sealed { OnOk result (IsSealedHere D.Disk disk.new store.now.generation index.new) }
-    ensures refused { IfErr result (λ e. IsRefused e → (index.new ≡ index.old)
-        × (IsTrue D.tells → D.files disk.new ≡ D.files disk.old)) }
+    ensures refused { IfErr result (λ e. IsRefused e → (index.new ≡ index.old) × (IsTrue D.tells → D.files disk.new ≡ D.files disk.old)) }
     ensures reach { OnOk result (IsTrue D.tells
         → ReachesMade (units_for (rows (packages (D.files disk.old).pkg store.now))) (D.files disk.old).idx
         (D.files disk.new).idx) }

@@ -22,8 +22,7 @@ fn rows_before<D: Disk>(
     n: Option<u32>,
 ) -> Result<Rows, ChangeFault>
     requires keeps { IsTrue D.tells → Keeps (D.files disk.old).pkg store.now }
-    ensures rows { IfOk result (λ rows. IsTrue D.tells
-        → rows ≡ old_rows n (packages (D.files disk.old).pkg store.now)) }
+    ensures rows { IfOk result (λ rows. IsTrue D.tells → rows ≡ old_rows n (packages (D.files disk.old).pkg store.now)) }
     ensures kinds { IfErr result IsOfReading }
     ensures looks { Looks D.Disk Pkg (cost_before n store.now) disk.old disk.new }
     ensures cause { DiskFault D.Disk (result ≡ Err ChangeFault.DiskFault) disk.old disk.new }
@@ -71,8 +70,7 @@ pub fn prepare_rows<D: Disk>(
     ensures full { IsTrue D.tells → (before after : finite.FinMap nat_cmp Package)
         → HasRows before (D.files disk.old).idx → HasChanged drops.now adds.now (rows before) (rows after)
         → FullIndexIs (units_for (rows after)) result }
-    ensures whole { IfOk result (λ plan. IsTrue D.tells → IsWholeIndex (D.files disk.old).idx
-        → WritesWhole plan.work (D.files disk.old).idx) }
+    ensures whole { IfOk result (λ plan. IsTrue D.tells → IsWholeIndex (D.files disk.old).idx → WritesWhole plan.work (D.files disk.old).idx) }
     ensures bad { IsTrue D.tells → BadIndexIs (D.files disk.old).idx result }
     ensures kinds { IfErr result IsOfIndex }
     ensures looks { LooksAt D.Disk Idx disk.old disk.new }
@@ -108,8 +106,7 @@ pub fn prepare_change<D: Disk>(
         → HasRows (packages (D.files disk.old).pkg store.now) (D.files disk.old).idx
         → HasChanged (old_rows n (packages (D.files disk.old).pkg store.now)) adds
         (rows (packages (D.files disk.old).pkg store.now)) (rows after) → FullIndexIs (units_for (rows after)) result }
-    ensures whole { IfOk result (λ plan. IsTrue D.tells → IsWholeIndex (D.files disk.old).idx
-        → WritesWhole plan.work (D.files disk.old).idx) }
+    ensures whole { IfOk result (λ plan. IsTrue D.tells → IsWholeIndex (D.files disk.old).idx → WritesWhole plan.work (D.files disk.old).idx) }
     ensures bad { IsTrue D.tells → BadIndexIs (D.files disk.old).idx result }
     ensures kinds { IfErr result IsOfIndex }
     ensures reads { D.bytes_read disk.new Pkg ≤ D.bytes_read disk.old Pkg + cost_before n store.now }

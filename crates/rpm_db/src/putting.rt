@@ -121,8 +121,7 @@ pub fn erase_number<D: Disk>(
     ensures index { IndexIs D.Disk disk.old (packages (D.files disk.old).pkg store.old)
         (units_for (rows (packages_of (finite.remove (blobs (D.files disk.old).pkg store.old) n)))) result }
     ensures end { OnOk result (IsTrue D.tells → length (D.files disk.new).pkg ≤ length (D.files disk.old).pkg) }
-    ensures refused { IfErr result (λ e. IsRefusal e
-        → IsRefused D.Disk disk.old disk.new store.old store.new index.old index.new) }
+    ensures refused { IfErr result (λ e. IsRefusal e → IsRefused D.Disk disk.old disk.new store.old store.new index.old index.new) }
     ensures stops { IsTrue D.tells → AreLawful (images D.Disk disk.old)
         → HasRows (packages (D.files disk.old).pkg store.old) (D.files disk.old).idx
         → LeavesIn D.Disk disk.old disk.new (IsChangedStill (state (D.files disk.old).pkg store.old)

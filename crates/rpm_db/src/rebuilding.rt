@@ -27,8 +27,7 @@ fn remake<D: Disk>(
     ensures full { IsTrue D.tells → FullIs (units_for (rows (packages (D.files disk.old).pkg store.now))) result }
     ensures some { is_some index.new ≡ true }
     ensures remade { OnOk result (IsRemade D.Disk disk.new store.now.generation index.new) }
-    ensures refused { IfErr result (λ e. IsRefused e → (index.new ≡ index.old)
-        × (IsTrue D.tells → D.files disk.new ≡ D.files disk.old)) }
+    ensures refused { IfErr result (λ e. IsRefused e → (index.new ≡ index.old) × (IsTrue D.tells → D.files disk.new ≡ D.files disk.old)) }
     ensures reach { OnOk result (IsTrue D.tells
         → ReachesMade (units_for (rows (packages (D.files disk.old).pkg store.now))) (D.files disk.old).idx
         (D.files disk.new).idx) }

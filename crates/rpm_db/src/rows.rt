@@ -35,8 +35,7 @@ fn push_key(
     number: u32,
     place: u32,
 ) -> Result<(), AllocError>
-    ensures { OnOk result (rows.new ≡ rows.old ++ record
-        { kind = code_of kind; key = key.now; number = number; place = place } ∷ []) }
+    ensures { OnOk result (rows.new ≡ rows.old ++ record { kind = code_of kind; key = key.now; number = number; place = place } ∷ []) }
 {
     if key.len() >= 268_435_456 {
         return Err(AllocError);

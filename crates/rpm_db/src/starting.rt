@@ -44,13 +44,10 @@ pub fn make_files<D: Disk>(
     ensures room { (needed : ℕ) → result ≢ Err (RewriteFault.IndexFull needed) }
     ensures made { IfOk result (λ _index. store.new ≡ made_new store.old) }
     ensures empty { IfOk result (λ index. IsMadeEmpty D.Disk disk.new store.new index) }
-    ensures refused { IfErr result (λ e. IsRefused e → (store.new ≡ store.old)
-        × (IsTrue D.tells → D.files disk.new ≡ D.files disk.old)) }
+    ensures refused { IfErr result (λ e. IsRefused e → (store.new ≡ store.old) × (IsTrue D.tells → D.files disk.new ≡ D.files disk.old)) }
     ensures stops { IsTrue D.tells → LeavesIn D.Disk disk.old disk.new (IsEmptyStill (images D.Disk disk.old)) }
-    ensures reach { IfOk result (λ _index. IsTrue D.tells
-        → ReachesMade (units_for []) (D.files disk.old).idx (D.files disk.new).idx) }
-    ensures end { IfOk result (λ _index. IsTrue D.tells
-        → ReachesTo store.new (D.files disk.old).pkg (D.files disk.new).pkg) }
+    ensures reach { IfOk result (λ _index. IsTrue D.tells → ReachesMade (units_for []) (D.files disk.old).idx (D.files disk.new).idx) }
+    ensures end { IfOk result (λ _index. IsTrue D.tells → ReachesTo store.new (D.files disk.old).pkg (D.files disk.new).pkg) }
     ensures reads { ReadAtMost Idx 32 (D.bytes_read disk.old) (D.bytes_read disk.new) }
     ensures runs { Runs D.Disk SameLog disk.old disk.new }
     ensures cause { DiskFault D.Disk (result ≡ Err RewriteFault.DiskFault) disk.old disk.new }
@@ -83,8 +80,7 @@ impl Db {
     /// - `NoMemory` where the index finds no memory. It answers no other fault.
     pub fn init<D: Disk>(&mut self, alloc: Global, disk: &mut D) -> Result<bool, ChangeFault>
         requires keeps { self.old.stopped ≡ false → IsTrue D.tells → Keeps (D.files disk.old).pkg self.old }
-        requires pkg { self.old.stopped ≡ false → is_blank self.old ≡ true → IsTrue D.tells
-            → IsSettled D.Disk Pkg disk.old }
+        requires pkg { self.old.stopped ≡ false → is_blank self.old ≡ true → IsTrue D.tells → IsSettled D.Disk Pkg disk.old }
         ensures made { IfOk result (IsThere D.Disk disk.old disk.new self.old self.new) }
         ensures done { result ≡ Ok true → IsInit D.Disk disk.old disk.new self.old self.new }
         ensures same { result ≡ Ok false → (self.new ≡ self.old) × (disk.new ≡ disk.old) }

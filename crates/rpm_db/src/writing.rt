@@ -33,8 +33,7 @@ fn edit_store<D: Disk>(
     requires suits { Suits edit blob.now store.old }
     ensures edit { OnOk result (HasEdit edit store.old store.new) }
     ensures err { OnErr result (store.new.pages ≡ store.old.pages) }
-    ensures edited { OnOk result (IsTrue D.tells
-        → IsEdited D.Disk disk.old disk.new store.old store.new edit blob.now) }
+    ensures edited { OnOk result (IsTrue D.tells → IsEdited D.Disk disk.old disk.new store.old store.new edit blob.now) }
     ensures stops { IsTrue D.tells → IsQuiet store.old (D.files disk.old) (images D.Disk disk.old)
         → LeavesIn D.Disk disk.old disk.new (Stops Pkg (EditsTo store.old edit blob.now (D.files disk.old).pkg)
         (images D.Disk disk.old)) }
@@ -64,14 +63,12 @@ pub fn edit_raised<D: Disk>(
     requires can { CanEdit edit blob.now store.old }
     ensures edit { OnOk result (HasEdit edit (raised store.old) store.new) }
     ensures err { OnErr result (store.new.pages ≡ store.old.pages) }
-    ensures stored { OnOk result (IsStored D.Disk disk.new store.new
-        (edited edit blob.now (blobs (D.files disk.old).pkg store.old))) }
+    ensures stored { OnOk result (IsStored D.Disk disk.new store.new (edited edit blob.now (blobs (D.files disk.old).pkg store.old))) }
     ensures images { IsTrue D.tells → IsQuiet store.old (D.files disk.old) (images D.Disk disk.old)
         → LeavesIn D.Disk disk.old disk.new (Stops Pkg (BlobsTo store.old.generation store.old.field
         (field_edited edit store.old.field) (blobs (D.files disk.old).pkg store.old)
         (edited edit blob.now (blobs (D.files disk.old).pkg store.old))) (images D.Disk disk.old)) }
-    ensures end { OnOk result (IsTrue D.tells
-        → EditReaches edit store.new (D.files disk.old).pkg (D.files disk.new).pkg) }
+    ensures end { OnOk result (IsTrue D.tells → EditReaches edit store.new (D.files disk.old).pkg (D.files disk.new).pkg) }
     ensures writes { Writes D.Disk Pkg Anything (edit_cost edit store.old) result disk.old disk.new }
 {
     match store.raise(disk) {
@@ -90,8 +87,7 @@ fn apply_sealed<D: Disk>(
     requires change { CanApply index.old.units plan.work }
     requires keeps { IsTrue D.tells → hindex.Keeps (D.files disk.old).idx index.old }
     ensures applied { OnOk result (IsApplied D.Disk disk.old disk.new index.old index.new generation plan.work) }
-    ensures writes { Writes D.Disk Idx (IndexTo generation plan.work (D.files disk.old).idx) 0 result disk.old
-        disk.new }
+    ensures writes { Writes D.Disk Idx (IndexTo generation plan.work (D.files disk.old).idx) 0 result disk.old disk.new }
 {
     let Ok(()) = index.apply(disk, plan) else {
         return Err(IndexDiskFault);

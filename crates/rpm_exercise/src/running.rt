@@ -129,8 +129,7 @@ pub fn exercise<D: Disk, O: Sink + Drop>(
     requires few { n ≤ 100000 }
     requires ready { IsReady D.Disk disk.old db.old }
     ensures empty { IsRefused (IsNext (λ m. database.holds m db.old) 0) result }
-    ensures refused { (number : ℕ) → result ≡ Err (ExerciseFault.NotEmpty number)
-        → (db.new ≡ db.old) × (disk.new ≡ disk.old) × (out.new ≡ out.old) }
+    ensures refused { (number : ℕ) → result ≡ Err (ExerciseFault.NotEmpty number) → (db.new ≡ db.old) × (disk.new ≡ disk.old) × (out.new ≡ out.old) }
     ensures ended { IsTrue D.tells → (err_tells : Bool) (err : List ℕ)
         → OnceBegun (λ r. Ended (exercise n (state_in D.Disk disk.old db.old)) (state_in D.Disk disk.old db.old)
         (state_in D.Disk disk.new db.new) r (with_out O.Sink err_tells err out.old)

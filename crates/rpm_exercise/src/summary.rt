@@ -52,8 +52,7 @@ fn push_capabilities<D: Disk>(
 /// How many packages are left, how many provide each capability, and the digest of what an export would write.
 pub fn summary<D: Disk>(alloc: Global, db: &Db, disk: &mut D) -> Result<Vec<u8>, Halt>
     requires asked { IsAskable D.Disk disk.old db.now }
-    ensures told { IsTrue D.tells → HasRows D.Disk disk.old db.now
-        → IfOk result (λ text. text.items ≡ summary (packages_in D.Disk disk.old db.now)) }
+    ensures told { IsTrue D.tells → HasRows D.Disk disk.old db.now → IfOk result (λ text. text.items ≡ summary (packages_in D.Disk disk.old db.now)) }
     ensures asks { Asks D.Disk disk.old disk.new db.now (result_err result) }
 {
     let mut text = Vec::new(alloc);

@@ -51,8 +51,7 @@ pub fn survey<D: Disk>(
     selection: &Selection<'_>,
 ) -> Result<Found, Halt>
     requires asked { IsAskable D.Disk disk.old db.now }
-    ensures told { IsTrue D.tells → HasRows D.Disk disk.old db.now
-        → IfOk result (IsFound (packages_in D.Disk disk.old db.now) selection.now) }
+    ensures told { IsTrue D.tells → HasRows D.Disk disk.old db.now → IfOk result (IsFound (packages_in D.Disk disk.old db.now) selection.now) }
     ensures asks { Asks D.Disk disk.old disk.new db.now (result_err result) }
 {
     let mut picker = match Picker::new(alloc, db, disk, selection) {

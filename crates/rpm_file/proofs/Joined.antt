@@ -1,8 +1,12 @@
 -- The parts of a package file together.
-use Rattle.std.proofs.Common.{◌≡◌, ℕ, List, Option, Result, Ok, Err, sym, ap, ◌∙◌}
-use Rattle.rpm_file.proofs.Vocabulary.{after_signature, AnswersBy, AnswersMade, behind_lead, behind_padding, behind_signature, FileFault, front_header}
-use Rattle.rpm_file.proofs.Vocabulary.{Headed, headed, headed_of, Header, header, HeaderFault, HeaderKind, IsFileFault, joined_by, left, main_at, merged}
-use Rattle.rpm_file.proofs.Vocabulary.{or_fault_in, package_header, signature_at, with_rest}
+use Rattle.std.proofs.Common.{◌≡◌, ℕ, List, [], Option, Result, Ok, Err, refl, sym, ap, ◌∙◌}
+use Rattle.std.proofs.lemmas.List.{append-nil}
+use Rattle.rpm_file.proofs.Vocabulary.{after_signature, and_entries, AnswersBy, AnswersMade, behind_lead, behind_padding, behind_signature, dribbles}
+use Rattle.rpm_file.proofs.Vocabulary.{FileFault, Found, front_header, HasIndex}
+use Rattle.rpm_file.proofs.Vocabulary.{Headed, headed, headed_of, headed_with, Header, header, HeaderFault, HeaderKind, IsFileFault, Item, joined_by}
+use Rattle.rpm_file.proofs.Vocabulary.{left, ListFault, main_at, merged}
+use Rattle.rpm_file.proofs.Vocabulary.{or_fault_in, package_header, package_with, signature_at, with_entries, with_rest}
+use Rattle.rpm_file.specs.inner.Layers.{has_index, laid_once}
 use Rattle.rpm_file.specs.declared.fault.FileFault.TheVariants as fault
 use Rattle.rpm_file.specs.declared.fault.HeaderKind.TheVariants as part
 
@@ -45,6 +49,12 @@ module _ (s : Header) (bytes mid blob rest : List ℕ) (skipped : behind_padding
 
   pub main_good : (main : Header) → Ok main ≡ header blob → behind_signature s bytes ≡ with_rest (merged s.entries main) rest
   main_good main is = behind_is s bytes mid skipped ∙ ap (joined_by s.entries) (headed_is part.Main mid blob rest (Ok main) front is)
+
+-- entries after a header that is found are entries after that header
+pub with_layer : (more : List Item) (made : Result Header FileFault) (rest : List ℕ)
+    → headed_with more (with_rest made rest) ≡ with_rest (and_entries more made) rest
+with_layer more (Ok h) rest = refl
+with_layer more (Err f) rest = refl
 
 pub made_answers : (found : List ℕ → Result Headed FileFault) (made : Result Header FileFault) (old new : Option (List ℕ))
     (r : Result Header FileFault) → found (left old) ≡ with_rest made (left new) → AnswersMade made r → AnswersBy found old new r
@@ -89,8 +99,46 @@ module _ (bytes mid blob rest : List ℕ) (lead : behind_lead bytes ≡ Ok mid) 
   pub signature_good : (s : Header) → Ok s ≡ header blob → package_header bytes ≡ behind_signature s rest
   signature_good s is = file_is bytes mid lead ∙ ap after_signature (headed_is part.Signature mid blob rest (Ok s) front is)
 
--- what goes on after the signature header is the whole
-pub whole_answers : (s : Header) (old mid new : Option (List ℕ)) (r : Result Header FileFault)
-    → package_header (left old) ≡ behind_signature s (left mid) → AnswersBy (behind_signature s) mid new r → AnswersBy package_header old new r
-whole_answers s old mid new (Ok h) same a = same ∙ a
-whole_answers s old mid new (Err e) same a = passed (behind_signature s (left mid)) (package_header (left old)) e (λ f is. same ∙ is) a
+-- what goes on is the whole
+pub whole_answers : (found whole : List ℕ → Result Headed FileFault) (old mid new : Option (List ℕ)) (r : Result Header FileFault)
+    → whole (left old) ≡ found (left mid) → AnswersBy found mid new r → AnswersBy whole old new r
+whole_answers found whole old mid new (Ok h) same a = same ∙ a
+whole_answers found whole old mid new (Err e) same a = passed (found (left mid)) (whole (left old)) e (λ f is. same ∙ is) a
+
+-- ---- with no entries more
+
+-- a header that was laid out is laid out again as it is
+none_more : (main : Header) (es : List Item) → HasIndex main → and_entries [] (with_entries main es) ≡ with_entries main es
+none_more main es room = laid_once main es [] room ∙ ap (with_entries main) (append-nil es)
+
+none_made : (signature : List Item) (blob rest : List ℕ) (r : Result Header HeaderFault) → header blob ≡ r
+    → headed_with [] (joined_by signature (with_rest (or_fault_in part.Main r) rest)) ≡ joined_by signature (with_rest (or_fault_in part.Main r) rest)
+unfolding merged
+none_made signature blob rest (Err f) is = refl
+none_made signature blob rest (Ok h) is =
+    with_layer [] (merged signature h) rest
+    ∙ ap (λ (m : Result Header FileFault). with_rest m rest) (none_more h (dribbles h.entries signature) (has_index blob h is))
+
+none_found : (signature : List Item) (r : Result Found ListFault)
+    → headed_with [] (joined_by signature (headed_of part.Main r)) ≡ joined_by signature (headed_of part.Main r)
+none_found signature (Err f) = refl
+none_found signature (Ok found) = none_made signature found.blob found.rest (header found.blob) refl
+
+none_main : (signature : List Item) (r : Result (List ℕ) FileFault) → headed_with [] (main_at signature r) ≡ main_at signature r
+unfolding headed
+none_main signature (Err f) = refl
+none_main signature (Ok bytes) = none_found signature (front_header bytes)
+
+none_after : (r : Result Headed FileFault) → headed_with [] (after_signature r) ≡ after_signature r
+unfolding behind_signature
+none_after (Err f) = refl
+none_after (Ok signature) = none_main signature.header.entries (behind_padding signature.header.blob signature.rest)
+
+none_at : (r : Result (List ℕ) FileFault) → headed_with [] (signature_at r) ≡ signature_at r
+none_at (Err f) = refl
+none_at (Ok bytes) = none_after (headed part.Signature bytes)
+
+-- so the package's header with no entries more is the package's header
+pub none_with : (bytes : List ℕ) → package_header bytes ≡ package_with [] bytes
+unfolding package_header
+none_with bytes = sym (none_at (behind_lead bytes))

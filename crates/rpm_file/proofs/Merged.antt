@@ -1,7 +1,7 @@
 -- The entries that join, one after the other.
 use Rattle.std.proofs.Common.{◌≡◌, ℕ, ◌+◌, ◌≤◌, ◌<◌, List, [], ◌∷◌, ◌++◌, Option, Some, None, Result, Ok, Err, length, take, true, false, refl, sym, ap, ◌∙◌, le-ltb, lt-ltb, inl, inr}
 use Rattle.std.specs.Prelude.{slice_get, ◌↔◌}
-use Rattle.rpm_file.proofs.Vocabulary.{BuildFault, dribble, dribble_as, dribbled, dribbled_data, dribbles, entries_or_none, filter_map, Form, has_tag, Header}
+use Rattle.rpm_file.proofs.Vocabulary.{and_entries, BuildFault, dribble, dribble_as, dribbled, dribbled_data, dribbles, entries_or_none, filter_map, Form, has_tag, HasIndex, Header}
 use Rattle.rpm_file.proofs.Vocabulary.{header, HeaderFault, is_null, IsMadeFault, Item, joins_as, made_fault, merged, passes_limits, read_again, retagged}
 use Rattle.rpm_file.proofs.Vocabulary.{with_entries}
 use Rattle.std.proofs.lemmas.List.{append-nil}
@@ -11,6 +11,7 @@ use Rattle.rpm_header.specs.declared.form.Form.TheVariants as form
 use Rattle.rpm_header.specs.declared.laying.BuildFault.TheVariants as build
 use Rattle.rpm_file.specs.declared.fault.FileFault.TheVariants as fault
 use Rattle.rpm_file.proofs.Tagged.{next_taken}
+use Rattle.rpm_file.specs.inner.Layers.{laid_once}
 
 -- ---- what an entry becomes
 
@@ -94,8 +95,8 @@ made_not r build.TooMuchData main more is many much =
     made_large main more (rw (le-ltb 65535 (length main.entries + length more) both.0, lt-ltb 67108864 (length (dribbled_data main more)) both.1) refl)
 made_not r build.NoMemory main more is many much = tt
 
--- the entries that join are those
-pub merged_is : (signature : List Item) (main : Header) (more : List Item) → more ≡ dribbles main.entries signature
-    → with_entries main more ≡ merged signature main
+-- the entries that join, and those of the caller after them, all at once
+pub merged_is : (signature : List Item) (main : Header) (stamps more : List Item) → HasIndex main → more ≡ dribbles main.entries signature ++ stamps
+    → with_entries main more ≡ and_entries stamps (merged signature main)
 unfolding merged
-merged_is signature main more are = ap (with_entries main) are
+merged_is signature main stamps more room are = ap (with_entries main) are ∙ sym (laid_once main (dribbles main.entries signature) stamps room)

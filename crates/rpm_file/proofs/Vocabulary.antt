@@ -2,17 +2,18 @@
 pub use Rattle.rpm_file.specs.Answers.{AnswersBy, AnswersNextIn, IsFileFault, IsListFault}
 pub use Rattle.rpm_file.specs.List.{data_in, entries_in, Found, has_magic, list_head, sized, some_found}
 unfoldable pub use Rattle.rpm_file.specs.List.{front_header, size_in}
-pub use Rattle.rpm_file.specs.Merging.{dribble_as, dribbles, has_tag, is_null, joins_as, passes_limits, with_entries}
+pub use Rattle.rpm_file.specs.Merging.{and_entries, dribble_as, dribbles, has_tag, is_null, joins_as, passes_limits, stamp_items, with_entries}
 unfoldable pub use Rattle.rpm_file.specs.Merging.{dribble, merged}
-pub use Rattle.rpm_file.specs.Package.{after_signature, early_fault, entries_or_none, Headed, headed_of, is_lead, joined_by, lead_magic, main_at, or_fault_in}
-pub use Rattle.rpm_file.specs.Package.{padding_of, read_again, signature_at, with_rest}
+pub use Rattle.rpm_file.specs.Package.{after_signature, early_fault, entries_or_none, Headed, headed_of, headed_with, is_lead, joined_by, lead_magic}
+pub use Rattle.rpm_file.specs.Package.{main_at, or_fault_in}
+pub use Rattle.rpm_file.specs.Package.{package_with, padding_of, read_again, signature_at, with_rest}
 unfoldable pub use Rattle.rpm_file.specs.Package.{behind_lead, behind_padding, behind_signature, headed, package_header}
 pub use Rattle.rpm_file.specs.declared.fault.FileFault.{FileFault}
 pub use Rattle.rpm_file.specs.declared.fault.FileFault.TheVariants.{Signature}
 pub use Rattle.rpm_file.specs.declared.fault.HeaderKind.{HeaderKind}
 pub use Rattle.rpm_file.specs.declared.fault.ListFault.{ListFault}
 pub use Rattle.rpm_file.specs.inner.Filling.{Extends, Fills, IsOutside}
-pub use Rattle.rpm_file.specs.inner.Joining.{HasTags, JoinsUnder, made_fault}
+pub use Rattle.rpm_file.specs.inner.Joining.{HasIndex, HasTags, JoinsUnder, made_fault}
 pub use Rattle.rpm_file.specs.inner.Parts.{AnswersBehind, AnswersBytes, AnswersMade, AnswersSkip, AnswersTake, IsMadeFault}
 pub use Rattle.rpm_header.specs.Build.{retagged}
 unfoldable pub use Rattle.rpm_header.specs.Bytes.{are_ended, number_at, numbers, texts}

@@ -1,13 +1,14 @@
 -- The entries of a signature header that join the main header after its own.
-use Rattle.std.specs.Prelude.{ℕ, ◌+◌, List, ◌++◌, length, Bool, true, false, ◌==◌, ◌&&◌, ◌||◌, nat_lt, nat_le, if◌then◌else◌, Option, Some, None, Result, Ok, Err}
+use Rattle.std.specs.Prelude.{◌≡◌, ℕ, ◌+◌, List, [], ◌∷◌, ◌++◌, length, map, All, Bool, true, false, ◌==◌, ◌&&◌, ◌||◌, nat_lt, nat_le, if◌then◌else◌, Option, Some, None, Result, Ok, Err}
 use Rattle.std.specs.List.{list_any, filter_map}
 use Rattle.rpm_header.specs.declared.form.Form.{Form}
 use Rattle.rpm_header.specs.declared.form.Form.TheVariants as form
-use Rattle.rpm_header.specs.Header.{max_data, max_entries, Item, Header}
-use Rattle.rpm_header.specs.Build.{retagged}
+use Rattle.rpm_header.specs.Header.{max_data, max_entries, is_region_tag, Item, Header}
+use Rattle.rpm_header.specs.Build.{numbers_item, retagged}
 use Rattle.rpm_header.specs.Dribbles.{dribbled, dribbled_data}
 use Rattle.rpm_file.specs.declared.fault.FileFault.{FileFault}
 use Rattle.rpm_file.specs.declared.fault.FileFault.TheVariants.{TooLarge}
+use Rattle.rpm_file.specs.declared.merging.Stamp.{Stamp}
 
 -- the tag under which an entry of the signature header joins, by its own tag
 abbrev pub joins_as : ℕ → Option ℕ
@@ -40,6 +41,22 @@ dribble main e = if is_null e.form then None else dribble_as main e (joins_as e.
 abbrev pub dribbles : List Item → List Item → List Item
 dribbles main signature = filter_map (dribble main) signature
 
+-- ---- entries of the caller's own
+
+-- an entry of one number
+abbrev pub stamp_item : Stamp → Item
+stamp_item stamp = numbers_item stamp.tag form.Int32 (stamp.number ∷ [])
+
+-- entries of one number each
+abbrev pub stamp_items : List Stamp → List Item
+stamp_items stamps = map stamp_item stamps
+
+-- none of them is a region
+abbrev pub AreStamps : List Stamp → Type 0
+AreStamps stamps = All (λ stamp. is_region_tag stamp.tag ≡ false) stamps
+
+-- ---- the header with all of them
+
 -- so many entries, or so many bytes of data, are more than a header may have
 abbrev pub passes_limits : ℕ → ℕ → Bool
 passes_limits count size = nat_lt max_entries count || nat_lt max_data size
@@ -49,6 +66,11 @@ abbrev pub with_entries : Header → List Item → Result Header FileFault
 with_entries main more =
     if passes_limits (length main.entries + length more) (length (dribbled_data main more)) then Err TooLarge
     else Ok (record { blob = dribbled main more; entries = main.entries ++ more })
+
+-- the same where there is a header
+abbrev pub and_entries : List Item → Result Header FileFault → Result Header FileFault
+and_entries more (Ok h) = with_entries h more
+and_entries more (Err fault) = Err fault
 
 -- the main header with all that join it
 unfoldable pub merged : List Item → Header → Result Header FileFault

@@ -13,7 +13,7 @@ use Rattle.rpm_file.specs.declared.fault.FileFault.TheVariants.{Short, NotAPacka
 use Rattle.rpm_file.specs.declared.fault.HeaderKind.{HeaderKind}
 use Rattle.rpm_file.specs.declared.fault.HeaderKind.TheVariants as part
 use Rattle.rpm_file.specs.List.{Found, front_header}
-use Rattle.rpm_file.specs.Merging.{merged}
+use Rattle.rpm_file.specs.Merging.{merged, with_entries}
 
 -- ---- the lead
 
@@ -122,3 +122,12 @@ signature_at (Ok bytes) = after_signature (headed part.Signature bytes)
 -- the main header with what joins it and the bytes that follow it in the file, or the first fault
 unfoldable pub package_header : List ℕ → Result Headed FileFault
 package_header bytes = signature_at (behind_lead bytes)
+
+-- a header that was found with these entries after its own
+abbrev pub headed_with : List Item → Result Headed FileFault → Result Headed FileFault
+headed_with more (Err fault) = Err fault
+headed_with more (Ok found) = with_rest (with_entries found.header more) found.rest
+
+-- the same with these entries after all others
+abbrev pub package_with : List Item → List ℕ → Result Headed FileFault
+package_with more bytes = headed_with more (package_header bytes)

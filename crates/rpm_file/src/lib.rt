@@ -16,5 +16,6 @@ mod package;
 
 pub use fault::{FileFault, ListFault};
 pub use list::{next_header, read_header};
-pub use package::{Package, read_package};
+pub use merging::Stamp;
+pub use package::{Package, read_package, read_package_with};
 pub use rpm_header::HeaderFault;

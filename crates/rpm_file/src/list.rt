@@ -72,8 +72,7 @@ fn read_behind<S: Shelf>(
 ) -> Result<Option<usize>, ListFault>
     requires { length intro.now ≡ 16 }
     ensures within { IfOk result (λ found. IfSome found (λ size. size ≤ vec_len room.new)) }
-    ensures answers { IsTrue S.tells → AnswersBehind intro.now (S.rest shelf.old) (S.rest shelf.new) room.new.items
-        result }
+    ensures answers { IsTrue S.tells → AnswersBehind intro.now (S.rest shelf.old) (S.rest shelf.new) room.new.items result }
     ensures browses { Browses S.Shelf shelf.old shelf.new }
     ensures cause { HasCauseAt (result ≡ Err ListFault.ReadFault) (S.faults shelf.old) (S.faults shelf.new) }
 {

@@ -1,11 +1,18 @@
-//! The entries of a signature header that join the main header.
+//! The entries that come after the main header's own: those of the signature header that join it, and the caller's.
 
-ghost use Rattle.std.specs.Prelude.{◌≡◌, ◌<◌, List, length, false, IfOk, IfSome};
-ghost use Rattle.rpm_file.specs.Prelude.{AnswersBytes, dribbles, HasTags, is_null, is_region_tag, Item, joins_as, JoinsUnder, made_fault, merged, with_entries};
+ghost use Rattle.std.specs.Prelude.{◌≡◌, ◌<◌, ◌++◌, List, length, false, IfOk, IfSome, OnOk};
+ghost use Rattle.rpm_file.specs.Prelude.{and_entries, AnswersBytes, AreStamps, dribbles, HasIndex, HasTags, is_null, is_region_tag, Item, joins_as, JoinsUnder, made_fault, merged, stamp_items, with_entries};
 
 use crate::fault::FileFault;
 use rpm_header::{BuildFault, Builder, Entry, Form, View, with_dribbles};
 use std::alloc::{AllocError, Global};
+
+/// An entry of one `Int32` that a caller adds to a package's header.
+#[derive(Clone, Copy)]
+pub struct Stamp {
+    pub tag: u32,
+    pub number: u32,
+}
 
 /// The tag under which an entry of the signature header joins, by its own tag.
 fn joins_as(tag: u32) -> Option<u32>
@@ -96,15 +103,49 @@ fn with_entries(alloc: Global, main: &View<'_>, more: &Builder) -> Result<Vec<u8
     }
 }
 
-/// The main header with the entries of the signature header that join it.
+/// Adds entries of the caller's own after those of a builder.
+fn push_stamps(builder: &mut Builder, stamps: &[Stamp]) -> Result<(), AllocError>
+    requires { AreStamps stamps.now }
+    ensures { OnOk result (builder.new ≡ builder.old ++ stamp_items stamps.now) }
+{
+    for stamp in stamps {
+        builder.push_numbers(stamp.tag, Form::Int32, &[u64::from(stamp.number)])?;
+    }
+    Ok(())
+}
+
+/// All entries that come after the main header's own.
+fn joining(
+    alloc: Global,
+    signature: &View<'_>,
+    main: &View<'_>,
+    stamps: &[Stamp],
+) -> Result<Builder, AllocError>
+    requires { AreStamps stamps.now }
+    ensures { IfOk result (λ b. b ≡ dribbles main.now.entries signature.now.entries ++ stamp_items stamps.now) }
+{
+    let mut more = dribbles_of(alloc, main, signature)?;
+    push_stamps(&mut more, stamps)?;
+    Ok(more)
+}
+
+/// The main header with the entries of the signature header that join it, and the caller's own after these. It is
+/// laid out once.
 ///
 /// # Errors
 ///
 /// `TooLarge` exactly where it would pass a limit of a header, `NoMemory` where no memory was found.
-pub fn merged(alloc: Global, signature: &View<'_>, main: &View<'_>) -> Result<Vec<u8>, FileFault>
-    ensures { AnswersBytes (merged signature.now.entries main.now) result }
+pub fn merged(
+    alloc: Global,
+    signature: &View<'_>,
+    main: &View<'_>,
+    stamps: &[Stamp],
+) -> Result<Vec<u8>, FileFault>
+    requires index { HasIndex main.now }
+    requires stamps { AreStamps stamps.now }
+    ensures { AnswersBytes (and_entries (stamp_items stamps.now) (merged signature.now.entries main.now)) result }
 {
-    match dribbles_of(alloc, main, signature) {
+    match joining(alloc, signature, main, stamps) {
         Ok(more) => with_entries(alloc, main, &more),
         Err(AllocError) => Err(FileFault::NoMemory),
     }

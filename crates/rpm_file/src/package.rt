@@ -1,13 +1,13 @@
 //! The main header of a package file.
 
 ghost use Rattle.std.specs.Prelude.{◌≡◌, ◌≤◌, IsTrue, length, Ok, Err};
-ghost use Rattle.rpm_file.specs.Prelude.{AnswersBy, AnswersMade, AnswersPart, AnswersSkip, AnswersTake, behind_lead, behind_padding, behind_signature, Browses, early_fault, fault_in, HasCauseAt, Header, header, is_lead, max_blob, merged, package_header, read_again};
+ghost use Rattle.rpm_file.specs.Prelude.{and_entries, AnswersBy, AnswersMade, AnswersPart, AnswersSkip, AnswersTake, AreStamps, behind_lead, behind_padding, behind_signature, Browses, early_fault, fault_in, HasCauseAt, HasIndex, headed_with, Header, header, is_lead, max_blob, merged, package_header, package_with, read_again, stamp_items};
 
 use crate::bytes::u16_at;
 use crate::fault::{FileFault, HeaderKind, ListFault};
 use crate::filling::fill;
 use crate::list::next_header;
-use crate::merging::merged;
+use crate::merging::{Stamp, merged};
 use rpm_header::{HeaderFault, View};
 use rpm_outside::{Failed, Shelf};
 use std::alloc::Global;
@@ -35,6 +35,14 @@ impl Package {
         ensures again { header result.now ≡ Ok self.now }
     {
         &self.blob
+    }
+
+    /// The same bytes, in the vector that holds them.
+    pub fn into_header(self) -> Vec<u8>
+        ensures value { result.items ≡ self.blob }
+        ensures again { header result.items ≡ Ok self }
+    {
+        self.blob
     }
 }
 
@@ -83,8 +91,7 @@ fn skip_lead<S: Shelf>(shelf: &mut S) -> Result<(), FileFault>
 /// Skips what fills a header of this length up to a multiple of 8.
 fn skip_padding<S: Shelf>(shelf: &mut S, blob: &[u8]) -> Result<(), FileFault>
     requires { length blob.now ≤ max_blob }
-    ensures answers { IsTrue S.tells → AnswersSkip (behind_padding blob.now) (S.rest shelf.old) (S.rest shelf.new)
-        result }
+    ensures answers { IsTrue S.tells → AnswersSkip (behind_padding blob.now) (S.rest shelf.old) (S.rest shelf.new) result }
     ensures browses { Browses S.Shelf shelf.old shelf.new }
     ensures cause { HasCauseAt (result ≡ Err FileFault.ReadFault) (S.faults shelf.old) (S.faults shelf.new) }
 {
@@ -128,27 +135,36 @@ fn read_part<S: Shelf>(alloc: Global, shelf: &mut S, part: HeaderKind) -> Result
     }
 }
 
-/// Reads the main header after a signature header.
+/// Reads the main header after a signature header, with the caller's entries after all others.
 fn read_main<S: Shelf>(
     alloc: Global,
     shelf: &mut S,
     signature: &View<'_>,
+    stamps: &[Stamp],
 ) -> Result<Package, FileFault>
-    ensures answers { IsTrue S.tells → AnswersBy (behind_signature signature.now) (S.rest shelf.old) (S.rest shelf.new)
-        result }
+    requires { AreStamps stamps.now }
+    ensures answers { IsTrue S.tells → AnswersBy (λ bytes. headed_with (stamp_items stamps.now) (behind_signature signature.now bytes))
+        (S.rest shelf.old) (S.rest shelf.new) result }
     ensures browses { Browses S.Shelf shelf.old shelf.new }
     ensures cause { HasCauseAt (result ≡ Err FileFault.ReadFault) (S.faults shelf.old) (S.faults shelf.new) }
 {
     skip_padding(shelf, signature.blob())?;
     let blob = read_part(alloc, shelf, HeaderKind::Main)?;
     let main = View::parse(&blob)?;
-    joined(alloc, signature, &main)
+    joined(alloc, signature, &main, stamps)
 }
 
-fn joined(alloc: Global, signature: &View<'_>, main: &View<'_>) -> Result<Package, FileFault>
-    ensures { AnswersMade (merged signature.now.entries main.now) result }
+fn joined(
+    alloc: Global,
+    signature: &View<'_>,
+    main: &View<'_>,
+    stamps: &[Stamp],
+) -> Result<Package, FileFault>
+    requires index { HasIndex main.now }
+    requires stamps { AreStamps stamps.now }
+    ensures { AnswersMade (and_entries (stamp_items stamps.now) (merged signature.now.entries main.now)) result }
 {
-    let blob = merged(alloc, signature, main)?;
+    let blob = merged(alloc, signature, main, stamps)?;
     Ok(Package { blob })
 }
 
@@ -170,8 +186,27 @@ pub fn read_package<S: Shelf>(alloc: Global, shelf: &mut S) -> Result<Package, F
     ensures browses { Browses S.Shelf shelf.old shelf.new }
     ensures cause { HasCauseAt (result ≡ Err FileFault.ReadFault) (S.faults shelf.old) (S.faults shelf.new) }
 {
+    read_package_with(alloc, shelf, &[])
+}
+
+/// Reads the package file that is open, as `read_package` does, with entries of the caller's own after all others,
+/// none of them a region. The header is laid out once.
+///
+/// # Errors
+///
+/// Those of `read_package`; `TooLarge` exactly where the header with all these entries passes a limit.
+pub fn read_package_with<S: Shelf>(
+    alloc: Global,
+    shelf: &mut S,
+    stamps: &[Stamp],
+) -> Result<Package, FileFault>
+    requires { AreStamps stamps.now }
+    ensures answers { IsTrue S.tells → AnswersBy (package_with (stamp_items stamps.now)) (S.rest shelf.old) (S.rest shelf.new) result }
+    ensures browses { Browses S.Shelf shelf.old shelf.new }
+    ensures cause { HasCauseAt (result ≡ Err FileFault.ReadFault) (S.faults shelf.old) (S.faults shelf.new) }
+{
     skip_lead(shelf)?;
     let blob = read_part(alloc, shelf, HeaderKind::Signature)?;
     let signature = View::parse(&blob).map_err(FileFault::Signature)?;
-    read_main(alloc, shelf, &signature)
+    read_main(alloc, shelf, &signature, stamps)
 }

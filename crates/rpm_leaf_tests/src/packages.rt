@@ -1,7 +1,7 @@
 //! Package files that are read.
 
 use crate::fixtures::{LEAD, PACKAGE, PIECES, PLAIN, bytes_of, joined, opened};
-use rpm_file::read_package;
+use rpm_file::{Stamp, read_package, read_package_with};
 use rpm_outside::{MemShelf, Shelf};
 use std::alloc::{AllocError, Global};
 
@@ -13,6 +13,37 @@ const JOINED: &str = "00000005 0000000c
     000003fe 00000006 00000006 00000001
     00000101 00000004 00000008 00000001
     61003100 32007800 00000058";
+
+// The same with two numbers of the caller's after all others.
+const STAMPED: &str = "00000007 00000014
+    000003e8 00000006 00000000 00000001
+    000003e9 00000006 00000002 00000001
+    000003ea 00000006 00000004 00000001
+    000003fe 00000006 00000006 00000001
+    00000101 00000004 00000008 00000001
+    000003f0 00000004 0000000c 00000001
+    00000468 00000004 00000010 00000001
+    61003100 32007800 00000058 00000005 00000006";
+
+/// Whether the numbers of the caller's stand after all others.
+fn is_stamped(alloc: Global) -> Result<bool, AllocError> {
+    let file = joined(alloc, PACKAGE)?;
+    let want = bytes_of(alloc, STAMPED)?;
+    let stamps = [
+        Stamp {
+            tag: 1008,
+            number: 5,
+        },
+        Stamp {
+            tag: 1128,
+            number: 6,
+        },
+    ];
+    match read_package_with(alloc, &mut opened(alloc, &file, u32::MAX)?, &stamps) {
+        Ok(package) => Ok(package.into_header().as_slice() == want.as_slice()),
+        Err(_) => Ok(false),
+    }
+}
 
 /// Whether the open package has this header, and a byte of 7 after its main header.
 fn has_header(alloc: Global, shelf: &mut MemShelf, want: &[u8]) -> bool {
@@ -133,5 +164,9 @@ fn signature_entries_join_under_their_tags(rt: HostRuntime) {
     let alloc = rt.alloc();
     let join = unlike_join(alloc);
     let many = is_many_joined(alloc);
-    assert!(rt; join.is_none() && many == Ok(true), "{join:?} {many:?}");
+    let stamped = is_stamped(alloc);
+    assert!(rt;
+        join.is_none() && many == Ok(true) && stamped == Ok(true),
+        "{join:?} {many:?} {stamped:?}"
+    );
 }

@@ -1,8 +1,6 @@
-//! Headers of the exercise, and of packages that are installed.
+//! Headers of the exercise.
 
-use crate::fixtures::HEADER;
-use rpm_change::{generated, installed};
-use rpm_header::View;
+use rpm_change::generated;
 use std::test::Fail;
 
 // The headers in hex, made by a program of a few lines in Python, which packs an entry's numbers after filling up
@@ -40,20 +38,5 @@ fn headers_are_generated(rt: HostRuntime) -> Result<(), Fail> {
         are_right = are_right && text.as_str() == header;
     }
     assert!(rt; are_right);
-    Ok(())
-}
-
-// The header of four texts with the time and the transaction of its installation.
-const INSTALLED: &str =
-    "0000000600000010000003e8000000060000000000000001000003e9000000060000000200000001\
-    000003ea000000060000000400000001000003fe000000060000000600000001000003f0000000040000000800000001\
-    00000468000000040000000c0000000161003100320078000000000500000005";
-
-#[test]
-fn installed_headers_have_the_moment(rt: HostRuntime) -> Result<(), Fail> {
-    let view = View::parse(HEADER).map_err(|_| "fault")?;
-    let installed = installed(rt.alloc(), &view, 5).map_err(|_| "too large")?;
-    let text = hex::encode(rt.alloc(), installed.as_slice())?;
-    assert!(rt; text.as_str() == INSTALLED);
     Ok(())
 }

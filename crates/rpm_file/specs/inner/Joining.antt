@@ -1,7 +1,7 @@
 -- What the calls that join entries keep and answer.
-use Rattle.std.specs.Prelude.{◌≡◌, ℕ, List, length, Bool, false, Option, Some, None, ◌<◌, slice_index_or}
+use Rattle.std.specs.Prelude.{◌≡◌, ℕ, ◌+◌, ◌*◌, ◌≤◌, List, length, Bool, false, Option, Some, None, ◌<◌, slice_index_or}
 use Rattle.rpm_header.specs.declared.form.Form.TheVariants as form
-use Rattle.rpm_header.specs.Header.{Item, is_region_tag}
+use Rattle.rpm_header.specs.Header.{Header, Item, is_region_tag}
 use Rattle.rpm_header.specs.Build.{retagged}
 use Rattle.rpm_header.specs.declared.laying.BuildFault.{BuildFault}
 use Rattle.rpm_header.specs.declared.laying.BuildFault.TheVariants as build
@@ -24,3 +24,7 @@ abbrev pub made_fault : BuildFault → FileFault
 made_fault build.TooManyEntries = TooLarge
 made_fault build.TooMuchData = TooLarge
 made_fault build.NoMemory = NoMemory
+
+-- its own bytes have its two lengths and its index
+abbrev pub HasIndex : Header → Type 0
+HasIndex h = 8 + 16 * length h.entries ≤ length h.blob

@@ -12,7 +12,13 @@ use Rattle.rpm_db.proofs.changing.change_both.Goals as goal
 pub prepare_change-requires-clause-read : goal.prepare_change-requires-clause-read
 prepare_change-requires-clause-read g c = read_of g.D.Disk _ _ _ c.requires.ready
 
+pub prepare_change-requires-clause-order : goal.prepare_change-requires-clause-order
+prepare_change-requires-clause-order g c = c.requires.rows.0
+
 -- ---- nothing was written
+
+pub returns-in-Err-clause-store : goal.returns-in-Err-clause-store
+returns-in-Err-clause-store g c = (search rules, search rules)
 
 pub returns-in-Err-clause-runs : goal.returns-in-Err-clause-runs
 returns-in-Err-clause-runs g c = record { files = log_same g.D.Disk _ _ c.in-Err.ensures.runs; cause = search rules }
@@ -21,6 +27,9 @@ pub returns-in-Err-clause-stops : goal.returns-in-Err-clause-stops
 returns-in-Err-clause-stops g c = λ told lawful has. stops_refused _ _ g.D.Disk _ _ told lawful c.in-Err.ensures.runs
 
 -- ---- the store was, in part
+
+pub returns-in_default-clause-store : goal.returns-in_default-clause-store
+returns-in_default-clause-store g c = (search rules, search rules)
 
 pub returns-in_default-clause-stops : goal.returns-in_default-clause-stops
 returns-in_default-clause-stops g c = λ told lawful has.
@@ -36,6 +45,9 @@ returns-in_default-clause-runs g c = record {
 
 -- ---- both were
 
+pub returns-clause-store : goal.returns-clause-store
+returns-clause-store g c = (search rules, search rules)
+
 pub returns-clause-stops : goal.returns-clause-stops
 returns-clause-stops g c = λ told lawful has.
     let r = c.requires.ready in
@@ -43,7 +55,7 @@ returns-clause-stops g c = λ told lawful has.
     let w = c.in-Ok-edit_raised.ensures in
     both_stop g.D.Disk _ _ _ told lawful (g.met.D.Disk.as_read c.args.disk.now told) e.runs c.args.store.now (r.keeps told) r.made (r.quiet told)
     (r.settled told) _ _ (rw (e.runs.reads_as told) at (w.images told)) _ c.edit_raised.new.store c.in-Ok.change.work _ _
-    ((e.leads _ c.requires.rows).makes told has) w.writes.changes w.edit.generation w.edit.field (rw (e.runs.reads_as told) at w.stored)
+    ((e.leads _ c.requires.rows.1).makes told has) w.writes.changes w.edit.generation w.edit.field (rw (e.runs.reads_as told) at w.stored)
     c.generation.ensures.value c.write_rows.ensures.writes.changes
 
 pub returns-clause-runs : goal.returns-clause-runs
@@ -65,7 +77,7 @@ returns-clause-done g c =
     let index = c.write_rows.new.index in
     let work = c.in-Ok.change.work in
     let to = edited c.args.edit c.args.blob.now (blobs old.pkg st) in
-    let leads = e.leads _ c.requires.rows in
+    let leads = e.leads _ c.requires.rows.1 in
     let stored : IsStored D c.write_rows.new.disk after to = stored_then D after _ to _ 0 _ _ (λ told.
     ap (λ (f : Files). edited c.args.edit c.args.blob.now (blobs f.pkg st)) (e.runs.reads_as told)) c.write_rows.ensures.writes.changes w.stored in
     map_ok c.write_rows.result (λ (done : IsApplied D c.edit_raised.new.disk c.write_rows.new.disk c.args.index.now index c.generation.result work).

@@ -36,24 +36,25 @@ pub change_both-requires-clause-can : goal.change_both-requires-clause-can
 change_both-requires-clause-can g c =
     subst (λ (b : List ℕ). CanEdit (edit.Put c.in-Ok.plan) b c.plan_blob.new.store) (sym c.blob.ensures.value) c.in-Ok.ensures.plan
 
-pub change_both-requires-clause-order : goal.change_both-requires-clause-order
-change_both-requires-clause-order g c =
-    subst AreByPlace (sym c.in-Ok-rows_behind.ensures) (by_place_header c.number_of-number.result c.args.view.now)
-
 pub change_both-requires-clause-rows : goal.change_both-requires-clause-rows
 change_both-requires-clause-rows g c =
     let file = (g.D.Disk.files c.args.disk.now).pkg in
-    let e = c.in-Ok.ensures in
-    subst (λ (k : BlobMap). HasChanged (old_rows c.args.n (packages file c.plan_blob.new.store)) c.in-Ok-rows_behind.rows
-    (rows (packages file c.plan_blob.new.store)) (rows (packages_of k)))
-    (sym (map_is file (planned e.value e.plan.suits.plan_is e.placed.1 c.blob.ensures.value)))
-    (rows_planned file c.args.store.now c.plan_blob.new.store e.value c.args.n _ c.number_of-number.ensures _ c.in-Ok-rows_behind.ensures e.own)
+    let e = c.in-Ok.ensures in (
+      subst AreByPlace (sym c.in-Ok-rows_behind.ensures) (by_place_header c.number_of-number.result c.args.view.now),
+      subst (λ (k : BlobMap). HasChanged (old_rows c.args.n (packages file c.plan_blob.new.store)) c.in-Ok-rows_behind.rows
+          (rows (packages file c.plan_blob.new.store)) (rows (packages_of k)))
+          (sym (map_is file (planned e.value e.plan.suits.plan_is e.placed.1 c.blob.ensures.value)))
+          (rows_planned file c.args.store.now c.plan_blob.new.store e.value c.args.n _ c.number_of-number.ensures _ c.in-Ok-rows_behind.ensures e.own),
+    )
 
 -- ---- both were changed, or refused
 
+pub returns-clause-made : goal.returns-clause-made
+returns-clause-made g c = c.change_both.ensures.store.0
+
 pub returns-clause-room : goal.returns-clause-room
 returns-clause-room g c =
-    finds_room _ _ _ _ _ c.in-Ok.plan c.in-Ok.ensures.later c.in-Ok.ensures.placed.0 c.in-Ok.ensures.value c.change_both.result c.change_both.ensures.edit
+    finds_room _ _ _ _ _ c.in-Ok.plan c.in-Ok.ensures.later c.in-Ok.ensures.placed.0 c.in-Ok.ensures.value c.change_both.result c.change_both.ensures.store.1
     c.change_both.ensures.kinds
 
 pub returns-clause-index : goal.returns-clause-index
