@@ -3,7 +3,8 @@ use Rattle.rpm_check.proofs.Vocabulary.{above, all_above_zero, AllByRecursion, B
 use Rattle.rpm_check.proofs.Vocabulary.{HeaderFault, is_above, is_below, is_lt, is_there, IsFirst, IsNext, IsNextUnmet, Keeps, lacks, nat_cmp, Needed}
 use Rattle.rpm_check.proofs.Vocabulary.{none_is, Package, packages, required, room, Units, Unmet, unmet, unmet_after, unmet_at, unmet_in, unmet_of}
 use Rattle.rpm_check.proofs.Vocabulary.{unmet_read}
-use Rattle.std.proofs.Common.{◌≡◌, ℕ, ◌+◌, ◌-◌, ◌<◌, ◌≤◌, List, [], ◌∷◌, ◌++◌, Bool, true, false, Option, Some, None, is_some, Result, Ok, Err, refl, sym, ap, ◌∙◌, subst, inl, inr, arith, nat_lt}
+use Rattle.std.proofs.Common.{◌≡◌, ℕ, ◌+◌, ◌-◌, ◌<◌, ◌≤◌, List, [], ◌∷◌, ◌++◌, length, Bool, true, false, Option, Some, None, is_some, Result, Ok, Err}
+use Rattle.std.proofs.Common.{refl, sym, ap, ◌∙◌, subst, inl, inr, arith, nat_lt}
 use Rattle.std.specs.Prelude.{T, filter}
 use Rattle.std.specs.FinMap as finite
 use Rattle.std.proofs.lemmas.Bool.{cases_Bool, cases_lt}
@@ -240,8 +241,18 @@ module _ (is_lacking : Needed → Bool) (n i number place : ℕ) (need : Needed)
   pub not_lacking : is_lacking need ≡ false → from_here ≡ filter (is_above n i) (unmet_in is_lacking number needs (place + 1))
   not_lacking met = rw met refl
 
+  pub not_above : is_above n i pair ≡ false → from_here ≡ filter (is_above n i) (unmet_in is_lacking number needs (place + 1))
+  not_above under = elim (cases_Bool (is_lacking need)) [
+    | inl lacking ↦ rw lacking (rw under refl)
+    | inr met ↦ not_lacking met
+  ]
+
   pub first_lacking : is_above n i pair ≡ true → is_lacking need ≡ true → IsFirst from_here (Some pair)
   first_lacking over lacking = (filter (is_above n i) (unmet_in is_lacking number needs (place + 1)), rw lacking (rw over refl))
+
+pub none_left : (is_lacking : Needed → Bool) (number place : ℕ) (needs : List Needed) → length needs ≡ 0 → unmet_in is_lacking number needs place ≡ []
+none_left is_lacking number place [] none = refl
+none_left is_lacking number place (need ∷ needs) none = absurd (omega (arith, none))
 
 -- ---- a search begins at (0, 0)
 

@@ -26,8 +26,7 @@ fn push_edge(graph: &mut Graph, from: u32, to: u32) -> Result<(), AllocError>
     requires begins { is_in from graph.old.numbers ≡ true }
     requires behind { All (λ e. IsBefore e (edge from to)) graph.old.edges }
     ensures numbers { graph.new.numbers ≡ graph.old.numbers }
-    ensures told { OnOk result (graph.new.edges ≡ graph.old.edges ++ map (edge from)
-        (filter (is_end graph.old.numbers from) (to ∷ []))) }
+    ensures told { OnOk result (graph.new.edges ≡ graph.old.edges ++ map (edge from) (filter (is_end graph.old.numbers from) (to ∷ []))) }
     ensures refused { OnErr result (graph.new.edges ≡ graph.old.edges) }
 {
     if is_end(graph, from, to) {
@@ -44,8 +43,7 @@ fn push_edges(graph: &mut Graph, from: u32, ends: &[u32]) -> Result<(), AllocErr
     requires behind { All (BeginsBelow from) graph.old.edges }
     ensures numbers { graph.new.numbers ≡ graph.old.numbers }
     ensures reached { All (BeginsUpTo from) graph.new.edges }
-    ensures told { OnOk result (graph.new.edges ≡ graph.old.edges ++ map (edge from)
-        (filter (is_end graph.old.numbers from) ends.now)) }
+    ensures told { OnOk result (graph.new.edges ≡ graph.old.edges ++ map (edge from) (filter (is_end graph.old.numbers from) ends.now)) }
 {
     for to in ends {
         push_edge(graph, from, *to)?;

@@ -89,8 +89,7 @@ fn push_ends_of<D: Disk>(
 ) -> Result<bool, CheckFault>
     requires asked { IsAskable D.Disk disk.old db.now }
     requires remembers { KnowsGiversOn D.Disk disk.old db.now memo.old }
-    ensures good { IfOk result (λ good. IsTrue D.tells
-        → good ≡ is_good_at (finite.get (packages_in D.Disk disk.old db.now) number)) }
+    ensures good { IfOk result (λ good. IsTrue D.tells → good ≡ is_good_at (finite.get (packages_in D.Disk disk.old db.now) number)) }
     ensures told { OnOk result (IsTrue D.tells → HasRows D.Disk disk.old db.now
         → ends.new.items ≡ ends.old.items ++ flat_map (givers (packages_in D.Disk disk.old db.now))
         (needs_at (finite.get (packages_in D.Disk disk.old db.now) number))) }
@@ -118,8 +117,7 @@ pub fn ends_of<D: Disk>(
 ) -> Result<Option<Vec<u32>>, CheckFault>
     requires asked { IsAskable D.Disk disk.old db.now }
     requires remembers { KnowsGiversOn D.Disk disk.old db.now memo.old }
-    ensures good { IfOk result (λ found. IsTrue D.tells
-        → is_some found ≡ is_good_at (finite.get (packages_in D.Disk disk.old db.now) number)) }
+    ensures good { IfOk result (λ found. IsTrue D.tells → is_some found ≡ is_good_at (finite.get (packages_in D.Disk disk.old db.now) number)) }
     ensures rising { IfOk result (λ found. IfSome found (λ ends. IsStrictlyIncreasing ends.items)) }
     ensures told { IfOk result (λ found. IfSome found (λ ends. IsTrue D.tells → HasRows D.Disk disk.old db.now
         → (m : ℕ) → is_in m ends.items ≡ is_in m (flat_map (givers (packages_in D.Disk disk.old db.now))

@@ -47,16 +47,14 @@ impl Memo {
 
     /// What is known of a requirement.
     pub fn get(&self, key: &Requirement) -> Option<bool>
-        ensures { (packages : FinMap nat_cmp Package) → Knows packages self.now
-            → IfSome result (λ known. known ≡ is_met packages (need_of key.now)) }
+        ensures { (packages : FinMap nat_cmp Package) → Knows packages self.now → IfSome result (λ known. known ≡ is_met packages (need_of key.now)) }
     {
         self.answers.get(key).copied()
     }
 
     /// Notes whether a requirement is met.
     pub fn put(&mut self, key: Requirement, met: bool) -> Result<(), AllocError>
-        ensures { (packages : FinMap nat_cmp Package) → Knows packages self.old → met ≡ is_met packages (need_of key)
-            → Knows packages self.new }
+        ensures { (packages : FinMap nat_cmp Package) → Knows packages self.old → met ≡ is_met packages (need_of key) → Knows packages self.new }
     {
         self.answers.insert(key, met)?;
         Ok(())

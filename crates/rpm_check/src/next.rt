@@ -100,10 +100,8 @@ pub fn next_unmet<D: Disk>(
     i: u32,
 ) -> Result<Option<Unmet>, CheckFault>
     requires asked { IsAskable D.Disk disk.old db.now }
-    ensures told { IfOk result (λ next. IsTrue D.tells → HasRows D.Disk disk.old db.now
-        → IsNextUnmet (packages_in D.Disk disk.old db.now) n i next) }
-    ensures begins { IsTrue D.tells → unmet_after (packages_in D.Disk disk.old db.now) 0 0 ≡ unmet
-        (packages_in D.Disk disk.old db.now) }
+    ensures told { IfOk result (λ next. IsTrue D.tells → HasRows D.Disk disk.old db.now → IsNextUnmet (packages_in D.Disk disk.old db.now) n i next) }
+    ensures begins { IsTrue D.tells → unmet_after (packages_in D.Disk disk.old db.now) 0 0 ≡ unmet (packages_in D.Disk disk.old db.now) }
     ensures asks { Asks D.Disk disk.old disk.new db.now result }
 {
     let mut memo = Memo::new(alloc);

@@ -60,8 +60,7 @@ fn push_node<D: Disk>(
 pub fn read_nodes<D: Disk>(alloc: Global, db: &Db, disk: &mut D) -> Result<Vec<Node>, CheckFault>
     requires asked { IsAskable D.Disk disk.old db.now }
     ensures rising { IfOk result (λ nodes. AreRising nodes.items) }
-    ensures numbers { IfOk result (λ nodes. IsTrue D.tells
-        → numbers_of nodes.items ≡ good_numbers (packages_in D.Disk disk.old db.now)) }
+    ensures numbers { IfOk result (λ nodes. IsTrue D.tells → numbers_of nodes.items ≡ good_numbers (packages_in D.Disk disk.old db.now)) }
     ensures told { IfOk result (λ nodes. IsTrue D.tells → HasRows D.Disk disk.old db.now
         → flat_map (edges_of (good_numbers (packages_in D.Disk disk.old db.now))) nodes.items ≡ all_edges
         (packages_in D.Disk disk.old db.now)) }

@@ -21,10 +21,8 @@ pub fn read_header<'a, D: Disk>(
     room: &'a mut Vec<u8>,
 ) -> Result<Option<View<'a>>, CheckFault>
     requires asked { IsAskable D.Disk disk.old db.now }
-    ensures good { IfOk result (λ read. IsTrue D.tells
-        → is_some read ≡ is_good_at (finite.get (packages_in D.Disk disk.old db.now) number)) }
-    ensures told { IfOk result (λ read. IsTrue D.tells
-        → read ≡ header_at (finite.get (packages_in D.Disk disk.old db.now) number)) }
+    ensures good { IfOk result (λ read. IsTrue D.tells → is_some read ≡ is_good_at (finite.get (packages_in D.Disk disk.old db.now) number)) }
+    ensures told { IfOk result (λ read. IsTrue D.tells → read ≡ header_at (finite.get (packages_in D.Disk disk.old db.now) number)) }
     ensures asks { Asks D.Disk disk.old disk.new db.now result }
 {
     match db.read_in(disk, number, replace(room, Vec::new(alloc))) {

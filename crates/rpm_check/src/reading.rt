@@ -31,10 +31,8 @@ use std::alloc::Global;
 /// - `NoMemory` where a package, a requirement, what is found of it or the graph finds no memory.
 pub fn read_graph<D: Disk>(alloc: Global, db: &Db, disk: &mut D) -> Result<Graph, CheckFault>
     requires asked { IsAskable D.Disk disk.old db.now }
-    ensures told { IfOk result (λ g. IsTrue D.tells → HasRows D.Disk disk.old db.now
-        → g ≡ graph_of (packages_in D.Disk disk.old db.now)) }
-    ensures edges { IfOk result (λ g. IsTrue D.tells → HasRows D.Disk disk.old db.now
-        → HasEdgesOf (packages_in D.Disk disk.old db.now) g) }
+    ensures told { IfOk result (λ g. IsTrue D.tells → HasRows D.Disk disk.old db.now → g ≡ graph_of (packages_in D.Disk disk.old db.now)) }
+    ensures edges { IfOk result (λ g. IsTrue D.tells → HasRows D.Disk disk.old db.now → HasEdgesOf (packages_in D.Disk disk.old db.now) g) }
     ensures asks { Asks D.Disk disk.old disk.new db.now result }
 {
     let nodes = read_nodes(alloc, db, disk)?;
@@ -47,10 +45,8 @@ pub trait ReadGraph {
     /// The graph that `read_graph` gives, with the same faults.
     fn read<D: Disk>(alloc: Global, db: &Db, disk: &mut D) -> Result<Graph, CheckFault>
         requires asked { IsAskable D.Disk disk.old db.now }
-        ensures told { IfOk result (λ g. IsTrue D.tells → HasRows D.Disk disk.old db.now
-            → g ≡ graph_of (packages_in D.Disk disk.old db.now)) }
-        ensures edges { IfOk result (λ g. IsTrue D.tells → HasRows D.Disk disk.old db.now
-            → HasEdgesOf (packages_in D.Disk disk.old db.now) g) }
+        ensures told { IfOk result (λ g. IsTrue D.tells → HasRows D.Disk disk.old db.now → g ≡ graph_of (packages_in D.Disk disk.old db.now)) }
+        ensures edges { IfOk result (λ g. IsTrue D.tells → HasRows D.Disk disk.old db.now → HasEdgesOf (packages_in D.Disk disk.old db.now) g) }
         ensures asks { Asks D.Disk disk.old disk.new db.now result };
 }
 

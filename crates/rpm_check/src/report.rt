@@ -56,8 +56,7 @@ fn push_unmet<D: Disk>(
 /// - `NoMemory` where a package, a requirement, what is found of it or the list finds no memory.
 pub fn unmet<D: Disk>(alloc: Global, db: &Db, disk: &mut D) -> Result<UnmetList, CheckFault>
     requires asked { IsAskable D.Disk disk.old db.now }
-    ensures told { IfOk result (λ list. IsTrue D.tells → HasRows D.Disk disk.old db.now
-        → list ≡ unmet (packages_in D.Disk disk.old db.now)) }
+    ensures told { IfOk result (λ list. IsTrue D.tells → HasRows D.Disk disk.old db.now → list ≡ unmet (packages_in D.Disk disk.old db.now)) }
     ensures asks { Asks D.Disk disk.old disk.new db.now result }
 {
     let mut memo = Memo::new(alloc);

@@ -11,6 +11,12 @@ returns-in-Some-clause-told g c =
     is ∙ ap (λ (ms : List ℕ). old ++ ms) (c.deref.ensures.value ∙ c.in-Some.ensures all (c.requires.remembers told has) ∙ ap (givers all) c.in_ok-key.ensures))
     c.push_all.ensures.told
 
+pub returns-clause-told : goal.returns-clause-told
+returns-clause-told g c = λ told has.
+    let old = c.args.ends.now.items in
+    c.in_ok-push_all.ensures.told ∙ ap (λ (ms : List ℕ). old ++ ms) (c.deref-2.ensures.value
+    ∙ c.in_ok-found.ensures.told told has (c.requires.remembers told has).recent)
+
 pub returns-in-Some-clause-asks : goal.returns-in-Some-clause-asks
 returns-in-Some-clause-asks g c =
     asks_ended g.D.Disk c.push_all.result (asking_none g.D.Disk g.met.D.Disk.follows_refl _ _ c.requires.asked) c.push_all.ensures.refused

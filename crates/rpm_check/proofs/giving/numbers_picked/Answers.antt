@@ -31,7 +31,7 @@ loop-numbers-preserved g c =
     let done = c.in_ok-next.ensures in
     let n = c.loop-numbers.passed in
     let picker = c.in_ok-picker.picker in
-    let is : c.in_ok-next.field-0 ≡ Some c.in-Some.next = cc in
+    let is : c.in_ok-next.field-0 ≡ Some c.in-Some.next = c.in-Some.is in
     record {
       asking = asking_next g.D.Disk g.met.D.Disk.follows_trans inv.asking done.asks;
       recalls = λ told holds.

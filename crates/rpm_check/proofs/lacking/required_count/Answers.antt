@@ -5,12 +5,12 @@ use Rattle.rpm_check.proofs.lacking.required_count.Goals as goal
 
 pub returns-in-None : goal.returns-in-None
 returns-in-None c =
-    let is : None ≡ texts_in c.args.view.now REQUIRENAME = cc in
+    let is : None ≡ texts_in c.args.view.now REQUIRENAME = c.in-None.ensures in
     ap (λ (o : Option (List (List ℕ))). length (listed o)) is
     ∙ sym (length-dependencies (record { names = REQUIRENAME; flags = REQUIREFLAGS; versions = REQUIREVERSION }) c.args.view.now)
 
 pub returns-in-Some : goal.returns-in-Some
 returns-in-Some c =
-    let is : Some c.in-Some.texts ≡ texts_in c.args.view.now REQUIRENAME = cc in
+    let is : Some c.in-Some.texts ≡ texts_in c.args.view.now REQUIRENAME = c.in-Some.ensures in
     c.count.ensures.value ∙ ap (λ (o : Option (List (List ℕ))). length (listed o)) is
     ∙ sym (length-dependencies (record { names = REQUIRENAME; flags = REQUIREFLAGS; versions = REQUIREVERSION }) c.args.view.now)

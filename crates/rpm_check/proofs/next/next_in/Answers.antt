@@ -1,9 +1,9 @@
 use Rattle.rpm_check.proofs.Vocabulary.{Files, HasIndexRows, header_at, is_above, IsFirst, Knows, lacks, packages, required, room, Unmet, unmet_in}
-use Rattle.std.proofs.Common.{◌≡◌, Some, Ok, sym, subst}
+use Rattle.std.proofs.Common.{◌≡◌, Some, Ok, sym, ap, subst}
 use Rattle.std.specs.Prelude.{filter, List}
 use Rattle.std.specs.FinMap as finite
 use Rattle.rpm_check.proofs.Asking.{asking_of, asks_ended, asks_failed, asks_then, known_back, known_here, told_more}
-use Rattle.rpm_check.proofs.Heading.{unmet_some}
+use Rattle.rpm_check.proofs.Heading.{unmet_none, unmet_some}
 use Rattle.rpm_check.proofs.next.next_in.Goals as goal
 
 pub returns-in-Some-clause-told : goal.returns-in-Some-clause-told
@@ -17,11 +17,15 @@ returns-in-Some-clause-told g c =
     let first = subst (λ (f : Files). HasIndexRows c.args.db.now f.pkg f.idx
     → IsFirst (filter above (unmet_in (lacks (packages f.pkg store)) number (required view) 0)) next)
     (c.in_ok-view.ensures.asks.looks.untouched told).same (said told) has in
-    let which = c.in-Some.is in
-    let read = c.in_ok-view.ensures.told told in
-    let is : header_at (finite.get all number) ≡ Some view = cc in
+    let is : header_at (finite.get all number) ≡ Some view = sym ((rw c.in-Some.is at c.in_ok-view.ensures.told) told) in
     subst (λ (us : List Unmet). IsFirst (filter above us) next) (sym (unmet_some (lacks all) number (finite.get all number) view is)) first)
     c.next_lacking.ensures.told
+
+pub returns-in-None-clause-told : goal.returns-in-None-clause-told
+returns-in-None-clause-told g c = λ told has.
+    let all = packages (g.D.Disk.files c.args.disk.now).pkg (room c.args.db.now) in
+    ap (filter (is_above c.args.n c.args.i)) (unmet_none (lacks all) c.args.number (finite.get all c.args.number)
+    (sym ((rw c.in-None.is at c.in_ok-view.ensures.told) told)))
 
 pub next_lacking-requires-clause-remembers : goal.next_lacking-requires-clause-remembers
 next_lacking-requires-clause-remembers g c =

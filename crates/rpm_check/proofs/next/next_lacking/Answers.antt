@@ -1,7 +1,7 @@
 use Rattle.rpm_check.proofs.Vocabulary.{is_above, IsFirst, Knows, lacks, Needed, packages, room, Unmet, unmet_in}
-use Rattle.std.proofs.Common.{◌≡◌, ◌∷◌, length, Some, Ok, rules, arith, true, false, sym, ap, ◌∙◌, subst}
+use Rattle.std.proofs.Common.{◌≡◌, ◌∷◌, length, Some, Ok, arith, true, false, sym, ap, ◌∙◌, subst}
 use Rattle.std.specs.Prelude.{filter, List}
-use Rattle.rpm_check.proofs.Enumerating.{not_lacking, first_lacking}
+use Rattle.rpm_check.proofs.Enumerating.{first_lacking, none_left, not_above, not_lacking}
 use Rattle.rpm_check.proofs.next.next_lacking.Goals as goal
 use Rattle.rpm_check.proofs.Asking.{asking_then, asks_ended, asks_failed, asks_then, known_back, known_here}
 
@@ -10,12 +10,12 @@ returns-then-branch-clause-told g c = λ told has.
     let db = c.args.db.now in
     let inv = c.loop-place.invariant in
     let need : Needed = record { name = c.in-Some.needed.name.now; flags = c.in-Some.needed.flags; version = c.in-Some.needed.version.now } in
-    let cons : c.loop-place.left ≡ need ∷ c.next.new.self = search rules in
+    let cons : c.loop-place.left ≡ need ∷ c.next.new.self = c.in-Some.ensures.steps in
     let is_lacking = lacks (packages (g.D.Disk.files c.args.disk.now).pkg (room db)) in
     let lacking : is_lacking need ≡ true =
     sym (known_back g.D.Disk (λ all. c.in_ok-lacks.field-0 ≡ lacks all need) inv.asking c.in_ok-lacks.ensures.told told has) ∙ c.if-branch.true in
     let pair : Unmet = record { number = c.args.number; place = c.loop-place.place } in
-    let over : is_above c.args.n c.args.i pair ≡ true = search rules in
+    let over : is_above c.args.n c.args.i pair ≡ true = sym c.is_above.ensures ∙ c.if-not-is_above.false in
     subst (λ (us : List Unmet). IsFirst us (Some pair)) (sym (inv.told told has))
     (subst (λ (needs : List Needed). IsFirst (filter (is_above c.args.n c.args.i) (unmet_in is_lacking c.args.number needs c.loop-place.place))
     (Some pair)) (sym cons)
@@ -27,7 +27,7 @@ loop-place-preserved g c =
     let inv = c.loop-place.invariant in
     let done = c.in_ok-lacks.ensures in
     let need : Needed = record { name = c.in-Some.needed.name.now; flags = c.in-Some.needed.flags; version = c.in-Some.needed.version.now } in
-    let cons : c.loop-place.left ≡ need ∷ c.next.new.self = search rules in
+    let cons : c.loop-place.left ≡ need ∷ c.next.new.self = c.in-Some.ensures.steps in
     record {
       asking = asking_then g.D.Disk g.met.D.Disk.follows_trans c.args.disk.now c.loop-place.disk c.lacks.new.disk db inv.asking done.asks;
       places = omega (arith, inv.places, ap length cons);
@@ -40,6 +40,40 @@ loop-place-preserved g c =
           ∙ ap (λ (needs : List Needed). filter (is_above c.args.n c.args.i) (unmet_in is_lacking c.args.number needs c.loop-place.place)) cons
           ∙ not_lacking is_lacking c.args.n c.args.i c.args.number c.loop-place.place need c.next.new.self met;
     }
+
+pub loop-place-preserved-then-not-is_above : goal.loop-place-preserved-then-not-is_above
+loop-place-preserved-then-not-is_above g c =
+    let inv = c.loop-place.invariant in
+    let n = c.args.n in
+    let i = c.args.i in
+    let number = c.args.number in
+    let place = c.loop-place.place in
+    let need : Needed = record { name = c.in-Some.needed.name.now; flags = c.in-Some.needed.flags; version = c.in-Some.needed.version.now } in
+    let cons : c.loop-place.left ≡ need ∷ c.next.new.self = c.in-Some.ensures.steps in
+    record {
+      asking = inv.asking;
+      places = omega (arith, inv.places, ap length cons);
+      remembers = inv.remembers;
+      told = λ told has.
+          let is_lacking = lacks (packages (g.D.Disk.files c.args.disk.now).pkg (room c.args.db.now)) in
+          inv.told told has ∙ ap (λ (needs : List Needed). filter (is_above n i) (unmet_in is_lacking number needs place)) cons
+          ∙ not_above is_lacking n i number place need c.next.new.self (sym c.is_above.ensures ∙ c.if-not-is_above.true);
+    }
+
+pub returns-in_default-clause-told : goal.returns-in_default-clause-told
+returns-in_default-clause-told g c = λ told has.
+    let is_lacking = lacks (packages (g.D.Disk.files c.args.disk.now).pkg (room c.args.db.now)) in
+    let above = is_above c.args.n c.args.i in
+    c.loop-place.invariant.told told has
+    ∙ ap (λ (needs : List Needed). filter above (unmet_in is_lacking c.args.number needs c.loop-place.place)) c.in_default.ensures.steps.0
+
+pub returns-clause-told : goal.returns-clause-told
+returns-clause-told g c = λ told has.
+    let is_lacking = lacks (packages (g.D.Disk.files c.args.disk.now).pkg (room c.args.db.now)) in
+    let none : length c.loop-place.left ≡ 0
+    = omega (arith, c.loop-place.invariant.places, c.loop-place-test.false, c.required_count-place-end.ensures) in
+    c.loop-place.invariant.told told has
+    ∙ ap (filter (is_above c.args.n c.args.i)) (none_left is_lacking c.args.number c.loop-place.place c.loop-place.left none)
 
 pub lacks-requires-clause-remembers : goal.lacks-requires-clause-remembers
 lacks-requires-clause-remembers g c = known_here g.D.Disk (λ all. Knows all c.loop-place.memo) c.loop-place.invariant.asking c.loop-place.invariant.remembers

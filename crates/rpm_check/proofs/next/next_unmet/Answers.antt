@@ -76,5 +76,8 @@ returns-in_err-found-clause-begins g c = λ told. begins _ c.args.db.now (c.requ
 pub returns-then-is_some-clause-begins : goal.returns-then-is_some-clause-begins
 returns-then-is_some-clause-begins g c = λ told. begins _ c.args.db.now (c.requires.asked.keeps told)
 
+pub returns-clause-asks : goal.returns-clause-asks
+returns-clause-asks g c = asks_ended g.D.Disk (Ok _) c.loop-number.invariant.asking tt
+
 pub returns-clause-begins : goal.returns-clause-begins
 returns-clause-begins g c = λ told. begins _ c.args.db.now (c.requires.asked.keeps told)

@@ -1,12 +1,12 @@
 use Rattle.rpm_check.proofs.Vocabulary.{AreRising, Edge, edges_from, edges_of, Files, flat_map, from_one, good_if, good_numbers, good_of}
 use Rattle.rpm_check.proofs.Vocabulary.{is_good_at, KnowsGivers, Node, numbers_of, Package, packages, room}
-use Rattle.std.proofs.Common.{◌≡◌, ℕ, ◌<◌, ◌≤◌, ◌++◌, [], List, Option, Some, sym, ap, ◌∙◌, subst, arith, append_assoc, append-nil}
+use Rattle.std.proofs.Common.{◌≡◌, ℕ, ◌<◌, ◌≤◌, ◌++◌, [], List, Option, Some, Ok, sym, ap, ◌∙◌, subst, arith, append_assoc, append-nil}
 use Rattle.std.specs.FinMap as finite
 use Rattle.std.proofs.lemmas.List.Elements.{All-nil, All-same, All-weaker}
 use Rattle.rpm_check.proofs.Gathering.{none_rise}
 use Rattle.rpm_check.proofs.Turning.{turns_above, one_turn, no_turn, all_turns, goods_are, edges_are_all}
 use Rattle.rpm_check.proofs.nodes.read_nodes.Goals as goal
-use Rattle.rpm_check.proofs.Asking.{asking_none, asking_then, asks_failed, asks_then, known_back, known_here}
+use Rattle.rpm_check.proofs.Asking.{asking_none, asking_then, asks_ended, asks_failed, asks_then, known_back, known_here}
 
 pub loop-next-init : goal.loop-next-init
 loop-next-init g c =
@@ -84,6 +84,9 @@ returns-clause-told g c = λ told has.
     let old = flat_map (edges_of (good_numbers all)) c.loop-next.nodes.items in
     sym (append-nil old) ∙ ap (λ (es : List Edge). old ++ es) (sym (no_turn all f c.loop-next.passed (c.in_default.ensures.told pkg)))
     ∙ c.loop-next.invariant.told told has
+
+pub returns-clause-asks : goal.returns-clause-asks
+returns-clause-asks g c = asks_ended g.D.Disk (Ok _) c.loop-next.invariant.asking tt
 
 pub push_node-requires-clause-remembers : goal.push_node-requires-clause-remembers
 push_node-requires-clause-remembers g c =

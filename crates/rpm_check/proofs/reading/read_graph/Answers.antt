@@ -1,6 +1,6 @@
 use Rattle.rpm_check.proofs.Vocabulary.{AreRising, edges_of, flat_map, graph_of, HasEdgesOf, Network, Node, numbers_of, packages, room}
-use Rattle.std.proofs.Common.{◌≡◌, ℕ, List, sym, ap, ◌∙◌, subst}
-use Rattle.rpm_check.proofs.Asking.{asks_failed}
+use Rattle.std.proofs.Common.{◌≡◌, ℕ, List, Ok, sym, ap, ◌∙◌, subst}
+use Rattle.rpm_check.proofs.Asking.{asking_of, asks_ended, asks_failed, asks_memory}
 use Rattle.rpm_check.proofs.Between.{has_edges}
 use Rattle.rpm_check.proofs.reading.read_graph.Goals as goal
 
@@ -25,6 +25,12 @@ pub returns-clause-edges : goal.returns-clause-edges
 returns-clause-edges g c = λ told has.
     let all = packages (g.D.Disk.files c.args.disk.now).pkg (room c.args.db.now) in
     subst (HasEdgesOf all) (sym (returns-clause-told g c told has)) (has_edges all)
+
+pub returns-clause-asks : goal.returns-clause-asks
+returns-clause-asks g c = asks_ended g.D.Disk (Ok _) (asking_of g.D.Disk c.in_ok-nodes.ensures.asks) tt
+
+pub returns-in_err-graph-clause-asks : goal.returns-in_err-graph-clause-asks
+returns-in_err-graph-clause-asks g c = asks_memory g.D.Disk (asking_of g.D.Disk c.in_ok-nodes.ensures.asks) c.from_residual-in_err-graph.ensures.1
 
 pub returns-in_err-nodes-clause-asks : goal.returns-in_err-nodes-clause-asks
 returns-in_err-nodes-clause-asks g c = asks_failed g.D.Disk c.in_err-nodes.ensures.asks c.from_residual.ensures.1

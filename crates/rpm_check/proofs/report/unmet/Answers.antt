@@ -1,10 +1,10 @@
 use Rattle.rpm_check.proofs.Vocabulary.{from_one, Knows, lacks, packages, room, Unmet, unmet_at}
-use Rattle.std.proofs.Common.{◌≡◌, ◌++◌, sym, ap, ◌∙◌, append_assoc, append-nil}
+use Rattle.std.proofs.Common.{◌≡◌, ◌++◌, Ok, sym, ap, ◌∙◌, append_assoc, append-nil}
 use Rattle.std.specs.Prelude.{List}
 use Rattle.std.specs.FinMap as finite
 use Rattle.rpm_check.proofs.Rounding.{unmet_above, one_round, no_round, all_rounds}
 use Rattle.rpm_check.proofs.report.unmet.Goals as goal
-use Rattle.rpm_check.proofs.Asking.{asking_none, asking_then, asks_failed, asks_then, known_back, known_here}
+use Rattle.rpm_check.proofs.Asking.{asking_none, asking_then, asks_ended, asks_failed, asks_then, known_back, known_here}
 
 pub loop-next-init : goal.loop-next-init
 loop-next-init g c = record {
@@ -46,6 +46,9 @@ returns-clause-told g c = λ told has.
     c.of.ensures ∙ sym (append-nil old)
     ∙ ap (λ (us : List Unmet). old ++ us) (sym (no_round all (lacks all) c.loop-next.passed (c.in_default.ensures.told pkg)))
     ∙ c.loop-next.invariant.told told has
+
+pub returns-clause-asks : goal.returns-clause-asks
+returns-clause-asks g c = asks_ended g.D.Disk (Ok _) c.loop-next.invariant.asking tt
 
 pub push_unmet-requires-clause-remembers : goal.push_unmet-requires-clause-remembers
 push_unmet-requires-clause-remembers g c = known_here g.D.Disk (λ all. Knows all c.loop-next.memo) c.loop-next.invariant.asking c.loop-next.invariant.remembers
