@@ -1,4 +1,4 @@
--- The endings of a command whose database isn't recovered, loaded or opened.
+-- The endings of a command whose database isn't recovered, loaded or opened. No field of the page (`rpm_tool`, Theorem.antt) rests on them.
 use Rattle.std.specs.Prelude.{Bool, true}
 use Rattle.rpm_group.specs.declared.load.LoadFault.{LoadFault}
 use Rattle.rpm_group.specs.declared.load.LoadFault.TheVariants as load

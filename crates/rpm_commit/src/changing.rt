@@ -1,4 +1,4 @@
-//! Commands that change packages: all changes of a command line are one.
+//! `AnswersChange` of the theorem: commands that change packages, all changes of a command line as one.
 
 ghost use Rattle.std.specs.Prelude.{◌≡◌, ◌⊎◌, ◌≤◌, true, false, IsTrue, Err, IfErr};
 ghost use Rattle.rpm_commit.specs.Prelude.{asked_task, done_why, EmptyBy, EndsGroup, is_done, is_halt, is_of_streams, is_of_words, IsShut, IsSound, Keeps, laid_files, LogIs, needs_none, OneChange, overlay_below, overlay_held, overlay_starved, reads_shelf, reopened, Rose, shown, Streams, task_course, unlogged};
@@ -46,8 +46,7 @@ fn end_group<D: Disk>(overlay: Overlay<D>, ended: Result<Tally, Why>) -> (Comman
     ensures ends { IsTrue D.tells → EndsGroup D.Disk ended result.0.why result.0.changes
         (unlogged (laid_files (overlay_held overlay) (D.files (overlay_below overlay)))) (overlay_below overlay)
         result.1 }
-    ensures log { IsTrue D.tells → LogIs (laid_files (overlay_held overlay) (D.files (overlay_below overlay)))
-        result.0.why }
+    ensures log { IsTrue D.tells → LogIs (laid_files (overlay_held overlay) (D.files (overlay_below overlay))) result.0.why }
     ensures counted { is_done result.0.why ≡ false → result.0.changes ≡ 0 }
     ensures of_words { is_of_words result.0.why ≡ false }
     ensures kept { is_of_streams result.0.why ≡ true → ended ≡ Err result.0.why }
@@ -120,8 +119,7 @@ pub fn change_asked<D: Disk, S: Shelf, O: Sink + Drop, E: Sink + Drop>(
         → OneChange D.Disk (asked_task words.now ask.now)
         (task_course (S.paths shelf.old) now (asked_task words.now ask.now)) result.0.why result.0.changes disk result.1
         (shown O.Sink E.Sink out.old err.old) (shown O.Sink E.Sink out.new err.new) }
-    ensures empty { IsTrue D.tells → EmptyBy (needs_none (asked_task words.now ask.now)) (reopened (D.files disk))
-        result.0.why }
+    ensures empty { IsTrue D.tells → EmptyBy (needs_none (asked_task words.now ask.now)) (reopened (D.files disk)) result.0.why }
     ensures keeps { Keeps D.Disk result.0 disk result.1 }
     ensures streams { Streams S.Shelf O.Sink E.Sink (reads_shelf (asked_task words.now ask.now))
         (λ why. result.0.why ≡ why) (shelf.old, out.old, err.old)

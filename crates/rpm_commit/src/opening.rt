@@ -30,8 +30,7 @@ fn make_blank<D: Disk>(alloc: Global, db: &mut Db, disk: &mut D) -> Result<(), W
 
 /// Opens the database with its index, to change it; where there is none, one is made.
 pub(crate) fn open_to_change<D: Disk>(alloc: Global, disk: &mut D) -> Result<Db, Why>
-    ensures found { IsTrue D.tells → OpensBy (D.files disk.old) (store (D.files disk.old).pkg)
-        (D.files disk.new) result }
+    ensures found { IsTrue D.tells → OpensBy (D.files disk.old) (store (D.files disk.old).pkg) (D.files disk.new) result }
     ensures opens { IfOk result (OpensOn D.Disk disk.old disk.new) }
     ensures fault { IfErr result IsOfOpening }
     ensures runs { Runs D.Disk SameLog disk.old disk.new }

@@ -12,8 +12,8 @@ use Rattle.rpm_words.specs.Ask.{AskParts, ask}
 use Rattle.rpm_qfparse.specs.declared.fault.FormatFault.{FormatFault}
 use Rattle.rpm_qfparse.specs.Tree.{Tree}
 use Rattle.rpm_qfparse.specs.Format.{format}
-use Rattle.rpm_print.specs.declared.asked.Deed.{Deed}
-use Rattle.rpm_print.specs.declared.asked.Deed.TheVariants as deed
+use Rattle.rpm_print.specs.declared.reading.Deed.{Deed}
+use Rattle.rpm_print.specs.declared.reading.Deed.TheVariants as deed
 
 -- what a command does with the database that it opens
 abbrev pub deed_of : Mode → Deed

@@ -8,8 +8,8 @@ use Rattle.rpm_db.specs.State.{Package, Good, Bad, above, packages}
 use Rattle.rpm_change.specs.Steps.{Bearer, bearer, Step, ToOut, ToErr}
 use Rattle.rpm_print.specs.Steps.{Portion, told}
 use Rattle.rpm_header.specs.Digest.{magic}
-use Rattle.rpm_print.specs.declared.asked.Deed.{Deed}
-use Rattle.rpm_print.specs.declared.asked.Deed.TheVariants as deed
+use Rattle.rpm_print.specs.declared.reading.Deed.{Deed}
+use Rattle.rpm_print.specs.declared.reading.Deed.TheVariants as deed
 
 -- the line of a number whose package can't be read
 unfoldable pub bad_line : ℕ → List ℕ

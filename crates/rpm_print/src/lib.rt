@@ -3,13 +3,13 @@
 #![tactic(auto)]
 
 mod answer;
-mod asked;
 mod closing;
 mod pieces;
+mod reading;
 mod step;
 
 pub use answer::{Outcome, Why, status_of};
-pub use asked::{Deed, by_key, deed_of, of_files, read_command};
 pub use closing::put_closing;
 pub use pieces::{put_line, put_out};
+pub use reading::{Deed, by_key, deed_of, of_files, read_command};
 pub use step::{print_header, print_picked, put_bad, put_text};

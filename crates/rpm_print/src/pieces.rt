@@ -18,8 +18,7 @@ pub fn put_pieces<S: Sink>(sink: &mut S, pieces: &[&[u8]]) -> Result<(), Failed>
 
 /// Writes these pieces to the sink behind a buffer, one after the other. What the buffer held is let go.
 pub fn put_line<S: Sink + Drop>(sink: &mut Buffered<S>, pieces: &[&[u8]]) -> Result<(), Failed>
-    ensures writes { Writes S.Sink (inner sink.old) (inner sink.new) (concat (map (λ piece. piece.now) pieces.now))
-        result }
+    ensures writes { Writes S.Sink (inner sink.old) (inner sink.new) (concat (map (λ piece. piece.now) pieces.now)) result }
 {
     sink.clear();
     put_pieces(sink, pieces)?;

@@ -3,7 +3,7 @@
 ghost use Rattle.std.specs.Prelude.{◌≡◌, ◌≢◌, ℕ, ◌++◌, true, Err, IfOk, IfErr};
 ghost use Rattle.rpm_print.specs.Prelude.{bad_line, Bearer, bearer, entry_in, ErrTakes, Good, HaltHands, IsOfPrint, magic, meaning, OutTakes, printed, prints_packages, PutsErr, PutsOut, shown, step_by, StepIs, ToErr, ToOut};
 
-use crate::asked::Deed;
+use crate::reading::Deed;
 use itoa::Buffer;
 use rpm_change::Halt;
 use rpm_header::{MAGIC, View};

@@ -36,7 +36,7 @@ pub use Rattle.rpm_query.specs.Queries.{answered, argument_part, lent, picked_by
 unfoldable pub use Rattle.rpm_query.specs.Queries.{missing_part, picked}
 pub use Rattle.rpm_query.specs.Reach.{IsFaultOf, IsOfChain, reach_of}
 unfoldable pub use Rattle.rpm_query.specs.Reach.{argument_reach}
-pub use Rattle.rpm_query.specs.declared.picked.PrintedPackages.{PrintedPackages}
+pub use Rattle.rpm_query.specs.declared.printing.PrintedPackages.{PrintedPackages}
 pub use Rattle.rpm_select.specs.Candidates.{has_key, has_key_in, is_candidate}
 unfoldable pub use Rattle.rpm_select.specs.Candidates.{candidates, keys_asked}
 pub use Rattle.rpm_select.specs.Picks.{entry_in, NextIs, number_in}

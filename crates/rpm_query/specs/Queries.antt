@@ -25,7 +25,7 @@ use Rattle.rpm_select.specs.declared.picked.PickFault.{PickFault}
 use Rattle.rpm_select.specs.declared.picked.PickFault.TheVariants as pick
 use Rattle.rpm_change.specs.declared.tally.Halt.{Halt}
 use Rattle.rpm_change.specs.declared.tally.Halt.TheVariants as halt
-use Rattle.rpm_query.specs.declared.picked.PrintedPackages.{PrintedPackages}
+use Rattle.rpm_query.specs.declared.printing.PrintedPackages.{PrintedPackages}
 
 -- ---- an argument
 

@@ -1,11 +1,11 @@
 //! The queries: of an opened database, argument by argument, and of package files.
 #![tactic(auto)]
 
-mod argument;
+mod answering;
 mod missing;
 mod package_files;
-mod picked;
-mod query;
+mod printing;
+mod querying;
 
 pub use package_files::print_files;
-pub use query::{query_all, query_each};
+pub use querying::{query_all, query_each};

@@ -24,8 +24,7 @@ fn put_missing<O: Sink + Drop>(
 
 /// Writes to err that a number has no record.
 fn put_no_record<E: Sink + Drop>(err: &mut Buffered<E>, text: &[u8]) -> Result<bool, Halt>
-    ensures part { (j : ℕ) → ErrTakes E.Sink (λ old new. PartIs (missing_record j text.now) result old new
-        (λ for. for ≡ whole j)) err.old err.new }
+    ensures part { (j : ℕ) → ErrTakes E.Sink (λ old new. PartIs (missing_record j text.now) result old new (λ for. for ≡ whole j)) err.old err.new }
     ensures puts { PutsErr E.Sink result err.old err.new }
 {
     match put_line(err, &[b"error: record ", text, b" could not be read\n"]) {
@@ -37,10 +36,8 @@ fn put_no_record<E: Sink + Drop>(err: &mut Buffered<E>, text: &[u8]) -> Result<b
 /// The texts around an argument in its line on out, where it has one.
 #[tactic(auto, unfolding(crate::specs::Queries::missing_part))]
 fn texts_around(chosen: Chosen) -> Option<(&'static [u8], &'static [u8])>
-    ensures some { IfSome result (λ texts. (j : ℕ) (text : List ℕ)
-        → missing_part chosen j text ≡ missing j texts.0.now text texts.1.now) }
-    ensures none { IfNone result (chosen ≢ Chosen.Number → (j : ℕ) (text : List ℕ)
-        → missing_part chosen j text ≡ nothing) }
+    ensures some { IfSome result (λ texts. (j : ℕ) (text : List ℕ) → missing_part chosen j text ≡ missing j texts.0.now text texts.1.now) }
+    ensures none { IfNone result (chosen ≢ Chosen.Number → (j : ℕ) (text : List ℕ) → missing_part chosen j text ≡ nothing) }
 {
     match chosen {
         Chosen::All | Chosen::Package | Chosen::Number => None,

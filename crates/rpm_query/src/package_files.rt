@@ -1,10 +1,10 @@
-//! A query of package files.
+//! `AnswersOfFiles` of the theorem: a query of package files.
 
 ghost use Rattle.std.specs.Prelude.{◌≡◌, ◌≢◌, ◌++◌, ℕ, [], ◌∷◌, map, false, IsTrue, Err, IfErr};
 ghost use Rattle.rpm_change.specs.Adding.{stop_in};
 ghost use Rattle.rpm_query.specs.Prelude.{absent_line, Anywhere, bearer, concat, EndHands, ErrTakes, fails, file_part, HaltHands, is_of_words, IsOfPrint, left, meaning, package_header, PartIs, printed, PutsErr, query_files, read_part, refused_line, ShelfFault, shown, ToErr, told, Went, whole};
 
-use crate::query::count;
+use crate::querying::count;
 use rpm_change::{Halt, refused_line};
 use rpm_file::{FileFault, Package, read_package};
 use rpm_header::View;

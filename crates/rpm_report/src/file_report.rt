@@ -1,4 +1,4 @@
-//! What is told of the paths that several packages own and that differ.
+//! `AnswersPlain` of the theorem: what is told of the paths that several packages own and that differ.
 
 ghost use Rattle.std.specs.Prelude.{◌≡◌, ◌≢◌, ◌+◌, ◌≤◌, [], ◌∷◌, map, false, IsTrue, Err, IfErr};
 ghost use Rattle.rpm_report.specs.Prelude.{check_files, conflict_step, cost_all, DiskFault, EndHands, Everything, fails, HaltHands, if_differs, is_foreign, is_of_opening, IsAskable, IsOfPrint, label_told, Looks, OutTakes, packages_in, PartIs, Pkg, pkg_read, PutsOut, reached_by, shown, together, told_steps, Went, whole};

@@ -1,4 +1,4 @@
-//! An order in which the packages could be installed.
+//! `AnswersKeyed` of the theorem: an order in which the packages could be installed.
 
 ghost use Rattle.std.specs.Prelude.{◌≡◌, ◌<◌, [], ◌∷◌, map, true, IsTrue, Err, IfErr};
 ghost use Rattle.rpm_report.specs.Prelude.{Anywhere, class_steps, DiskFault, flat_map, HaltHands, HasRows, IsAskable, IsOfPrint, label_step, OrderPartIs, OutTakes, packages_in, Peeks, Reached, shown, HaltsOfSome, TellsOut};

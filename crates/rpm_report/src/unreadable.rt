@@ -34,8 +34,7 @@ pub fn read_into<D: Disk>(
     room: &mut Vec<u8>,
 ) -> Result<(), Halt>
     requires asked { IsAskable D.Disk disk.old db.now }
-    ensures told { IfOk result (λ _done. IsTrue D.tells
-        → IsRead (packages_in D.Disk disk.old db.now) number room.new.items) }
+    ensures told { IfOk result (λ _done. IsTrue D.tells → IsRead (packages_in D.Disk disk.old db.now) number room.new.items) }
     ensures reads { ReadsBy D.Disk result disk.old disk.new }
 {
     match db.read_in(disk, number, replace(room, Vec::new(alloc))) {

@@ -1,4 +1,4 @@
-//! The requirements that no package meets, each with its line.
+//! `AnswersKeyed` of the theorem: the requirements that no package meets, each with its line.
 
 ghost use Rattle.std.specs.Prelude.{◌≡◌, ◌==◌, ◌<◌, ◌≤◌, [], ◌++◌, length, map, if◌then◌else◌, true, IsTrue, Err, IfOk, IfErr, OnOk, slice_get};
 ghost use Rattle.std.specs.List.{All, prefix_len};
@@ -67,8 +67,7 @@ fn push_unmet(
     label: &[u8],
     place: u32,
 ) -> Result<(), AllocError>
-    ensures { OnOk result (text.new.items ≡ text.old.items
-        ++ line_of label.now (slice_get (required view.now) place)) }
+    ensures { OnOk result (text.new.items ≡ text.old.items ++ line_of label.now (slice_get (required view.now) place)) }
 {
     let mut left = dependencies(view, REQUIRES);
     match left.nth(place as usize) {

@@ -1,4 +1,4 @@
-//! What verifying says of all packages.
+//! `AnswersPlain` of the theorem: what verifying says of all packages.
 
 ghost use Rattle.std.specs.Prelude.{◌≡◌, ◌≢◌, ◌+◌, ◌≤◌, [], ◌∷◌, true, false, IsTrue, Err, IfErr};
 ghost use Rattle.rpm_report.specs.Prelude.{bearer, cost, cost_all, DiskFault, Everything, Hand, holds, is_foreign, is_of_opening, IsAskable, IsOfPrint, Looks, OutTakes, PartIs, Pkg, pkg_read, PutsOut, reached_by, room, unsound, verdict, verdict_part, verify, Went};
@@ -18,8 +18,7 @@ fn put_unsound<O: Sink + Drop>(
     number: u32,
     text: &[u8],
 ) -> Result<bool, Halt>
-    ensures part { OutTakes O.Sink (λ old new. PartIs (unsound number text.now) result old new
-        (λ for. for ≡ bearer 0 number)) out.old out.new }
+    ensures part { OutTakes O.Sink (λ old new. PartIs (unsound number text.now) result old new (λ for. for ≡ bearer 0 number)) out.old out.new }
     ensures puts { PutsOut O.Sink result out.old out.new }
 {
     let mut digits = Buffer::new();

@@ -5,7 +5,7 @@ use Rattle.rpm_tool.proofs.Vocabulary.{is_done_or_outside, is_foreign, is_query,
 use Rattle.rpm_tool.proofs.Vocabulary.{Units, unless_starved, unsatisfied, verify, Went, Why}
 use Rattle.rpm_words.specs.declared.ask.Mode.TheVariants as mode
 use Rattle.rpm_print.specs.declared.answer.Why.TheVariants as why
-use Rattle.rpm_print.specs.declared.asked.Deed.TheVariants as deed
+use Rattle.rpm_print.specs.declared.reading.Deed.TheVariants as deed
 use Rattle.rpm_commit.specs.inner.ByEnding.{by_starved}
 use Rattle.rpm_tool.proofs.Loading.{went_reads}
 use Rattle.rpm_report.specs.inner.Reporting.{none_listed}

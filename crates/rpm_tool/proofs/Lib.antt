@@ -4,12 +4,14 @@ mod Closed
 mod Completed
 mod Deeds
 mod Endings
+mod Faults
 mod Loading
 mod Numbered
 mod OpeningLaws
 mod Page
 mod Recovered
 mod Undone
+mod Unloaded
 mod Unrecovered
 mod Wanting
 pub mod Vocabulary

@@ -1,6 +1,7 @@
 -- What the log says of a database: it is gone through, or what is said where it can't be recovered.
 use Rattle.std.proofs.Common.{◌≡◌, ℕ, Bool, true, false, List, [], Result, Ok, Err, refl, sym, subst}
-use Rattle.rpm_tool.proofs.Vocabulary.{AskParts, BadIs, Damage, Deeds, Files, FullIs, is_done, is_done_or_outside, is_foreign, IsSound, Loaded, LogState}
+use Rattle.rpm_tool.proofs.Vocabulary.{AskParts, BadIs, Damage, Deeds, Files, FullIs, is_done, is_done_or_outside, is_foreign}
+use Rattle.rpm_tool.proofs.Vocabulary.{is_of_streams, IsSound, Loaded, LogState}
 use Rattle.rpm_tool.proofs.Vocabulary.{Opened, Outputs, RecoverFault, RecoverSays, Store, Through, Why, why_of_recover}
 use Rattle.rpm_group.specs.declared.recovery.RecoverFault.TheVariants as recover
 use Rattle.rpm_print.specs.declared.answer.Why.TheVariants as why
@@ -25,6 +26,10 @@ unrecovered_full files recover.DiskFault = tt
 pub unrecovered_kind : (fault : RecoverFault) → is_foreign (why_of_recover fault) ≡ false
 unrecovered_kind (recover.BadLog unit) = refl
 unrecovered_kind recover.DiskFault = refl
+
+pub unrecovered_streams : (fault : RecoverFault) → is_of_streams (why_of_recover fault) ≡ false
+unrecovered_streams (recover.BadLog unit) = refl
+unrecovered_streams recover.DiskFault = refl
 
 pub unrecovered_bad : (words : List (List ℕ)) (a : AskParts) (files : Files) (fault : RecoverFault) → BadIs words a files (why_of_recover fault)
 unrecovered_bad words a files (recover.BadLog unit) = tt

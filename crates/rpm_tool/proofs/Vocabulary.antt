@@ -43,7 +43,7 @@ pub use Rattle.rpm_print.specs.Printed.{step_of}
 pub use Rattle.rpm_print.specs.Reads.{reach_sum, reached_by}
 pub use Rattle.rpm_print.specs.Steps.{RisesFrom, with_number}
 pub use Rattle.rpm_print.specs.declared.answer.Why.{Why}
-pub use Rattle.rpm_print.specs.declared.asked.Deed.{Deed}
+pub use Rattle.rpm_print.specs.declared.reading.Deed.{Deed}
 pub use Rattle.rpm_qfparse.specs.Tree.{Tree}
 pub use Rattle.rpm_qfparse.specs.declared.fault.FormatFault.{FormatFault}
 pub use Rattle.rpm_query.specs.PackageFiles.{query_files}

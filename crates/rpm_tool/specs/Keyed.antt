@@ -19,8 +19,8 @@ use Rattle.rpm_words.specs.Ask.{AskParts}
 use Rattle.rpm_qfparse.specs.Tree.{Tree}
 use Rattle.rpm_print.specs.declared.answer.Why.{Why}
 use Rattle.rpm_print.specs.declared.answer.Why.TheVariants as why
-use Rattle.rpm_print.specs.declared.asked.Deed.{Deed}
-use Rattle.rpm_print.specs.declared.asked.Deed.TheVariants as deed
+use Rattle.rpm_print.specs.declared.reading.Deed.{Deed}
+use Rattle.rpm_print.specs.declared.reading.Deed.TheVariants as deed
 use Rattle.rpm_print.specs.Asked.{always_keyed, is_query, deed_of}
 use Rattle.rpm_change.specs.Steps.{Bearer}
 use Rattle.rpm_report.specs.Requirements.{IsOfSome}
@@ -30,7 +30,7 @@ use Rattle.rpm_query.specs.Reach.{IsOfChains}
 use Rattle.rpm_change.specs.Endings.{Outputs, Through}
 use Rattle.rpm_print.specs.Classes.{is_done, is_done_or_outside, is_foreign, is_refusal}
 use Rattle.rpm_tool.specs.Deeds.{Deeds, Loaded, DoesBy, reaches_of, asked_reaches, blocks_cost}
-use Rattle.rpm_commit.specs.Lawful.{AreLawfulGroups, IsLawfulGroup, StandsStill}
+pub use Rattle.rpm_commit.specs.Lawful.{AreLawfulGroups, IsLawfulGroup, StandsStill}
 
 -- ---- an index that is ready
 

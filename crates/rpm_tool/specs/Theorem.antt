@@ -31,8 +31,7 @@ use Rattle.rpm_commit.specs.Changing.{DidOn, ChangesWith, EmptyBy}
 use Rattle.rpm_print.specs.Classes.{is_done, is_done_or_outside, is_foreign}
 use Rattle.rpm_tool.specs.Deeds.{Queried, query_cost}
 use Rattle.rpm_print.specs.Frame.{images, pkg_read, Leaves, LeavesIn}
-use Rattle.rpm_tool.specs.Keyed.{IsReady, KeyedIs, FullIs, BadIs, HasRoom, keyed_cost}
-use Rattle.rpm_commit.specs.Lawful.{AreLawfulGroups, IsLawfulGroup, StandsStill}
+use Rattle.rpm_tool.specs.Keyed.{AreLawfulGroups, IsLawfulGroup, StandsStill, IsReady, KeyedIs, FullIs, BadIs, HasRoom, keyed_cost}
 use Rattle.rpm_commit.specs.Limits.{LimitsBy, LogBy, FaultIs}
 use Rattle.rpm_query.specs.PackageFiles.{passing, query_files}
 use Rattle.rpm_query.specs.Queries.{picked, argument_part, query_of, AreOfEach, AreQuestions}

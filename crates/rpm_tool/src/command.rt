@@ -23,13 +23,11 @@ fn command<D: Disk, S: Shelf, O: Sink + Drop, E: Sink + Drop>(
     now: u32,
 ) -> (CommandEnding, D)
     ensures words { AnswersWords words.now result.0.why }
-    ensures unread { asks words.now ≡ None → (result.1 ≡ disk) × (shelf.new ≡ shelf.old) × (out.new ≡ out.old)
-        × (err.new ≡ err.old) }
+    ensures unread { asks words.now ≡ None → (result.1 ≡ disk) × (shelf.new ≡ shelf.old) × (out.new ≡ out.old) × (err.new ≡ err.old) }
     ensures answers { Answers (ran D.Disk S.Shelf words.now now result.0.why result.0.changes (disk, shelf.old)
         (shown O.Sink E.Sink out.old err.old) (result.1, shelf.new)) (shown O.Sink E.Sink out.new err.new) }
     ensures disk { DiskFault D.Disk (result.0.why ≡ Why.DiskFault) disk result.1 }
-    ensures streams { Streams S.Shelf O.Sink E.Sink true (λ why. result.0.why ≡ why) (shelf.old, out.old, err.old)
-        (shelf.new, out.new, err.new) }
+    ensures streams { Streams S.Shelf O.Sink E.Sink true (λ why. result.0.why ≡ why) (shelf.old, out.old, err.old) (shelf.new, out.new, err.new) }
 {
     let (ask, format) = match read_command(alloc, words) {
         Ok(read) => read,
@@ -116,8 +114,7 @@ pub fn run<D: Disk, S: Shelf, O: Sink, E: Sink>(
     ensures answers { Ends (Answers (ran D.Disk S.Shelf words.now now result.0.why result.0.changes (disk, shelf.old)
         (outs O.Sink E.Sink out.old err.old) (result.1, shelf.new))) (closing words.now result.0.why)
         (outs O.Sink E.Sink out.new err.new) (E.faults err.old) (E.faults err.new) }
-    ensures causes { Causes D.Disk S.Shelf O.Sink E.Sink result.0.why (disk, shelf.old, out.old, err.old)
-        (result.1, shelf.new, out.new, err.new) }
+    ensures causes { Causes D.Disk S.Shelf O.Sink E.Sink result.0.why (disk, shelf.old, out.old, err.old) (result.1, shelf.new, out.new, err.new) }
     ensures laws { Laws words.now }
 {
     let mut out = Buffered::new(out);

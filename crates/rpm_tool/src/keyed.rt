@@ -1,9 +1,10 @@
-//! Questions by key and reports on requirements: commands that open the database with its index, and change no package.
+//! `AnswersKeyed` of the theorem: questions by key and reports on requirements, which open the database with its index
+//! and change no package.
 
 ghost use Rattle.std.specs.Prelude.{◌≡◌, false, IsTrue};
 ghost use Rattle.rpm_tool.specs.Prelude.{AnswersByKey, DiskFault, EndHands, is_foreign, shown};
 
-use crate::inquiries::answer_opened;
+use crate::dispatch::answer_opened;
 use rpm_commit::{why_of_open, why_of_recover};
 use rpm_db::Db;
 use rpm_group::recover;

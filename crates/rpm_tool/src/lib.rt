@@ -4,7 +4,7 @@
 #![tactic(auto)]
 
 mod command;
-mod inquiries;
+mod dispatch;
 mod keyed;
 mod loaded;
 mod unindexed;

@@ -1,9 +1,9 @@
-//! The commands that open the database without its index.
+//! `AnswersPlain` of the theorem: the commands that open the database without its index.
 
 ghost use Rattle.std.specs.Prelude.{◌≡◌, ◌+◌, ◌≤◌, ℕ, [], false, IsTrue};
 ghost use Rattle.rpm_tool.specs.Prelude.{always_keyed, deed_of, DidPlain, DiskFault, EndHands, is_foreign, Looks, Opened, Pkg, pkg_read, query_cost, shown, store};
 
-use crate::inquiries::answer_opened;
+use crate::dispatch::answer_opened;
 use rpm_db::{Db, DbOpenFault};
 use rpm_outside::{Buffered, Disk, File, Sink};
 use rpm_print::Why;
@@ -27,8 +27,7 @@ pub fn answer_unindexed<D: Disk, O: Sink + Drop, E: Sink + Drop>(
     ensures went { IsTrue D.tells → Opened (DidPlain format.now words.now ask.now (D.files disk.old).pkg
         (pkg_read D.Disk disk.old) (pkg_read D.Disk disk.new)) (store (D.files disk.old).pkg) result
         (shown O.Sink E.Sink out.old err.old) (shown O.Sink E.Sink out.new err.new) }
-    ensures reads { IsTrue D.tells → pkg_read D.Disk disk.new ≤ pkg_read D.Disk disk.old + query_cost words.now ask.now
-        (D.files disk.old).pkg }
+    ensures reads { IsTrue D.tells → pkg_read D.Disk disk.new ≤ pkg_read D.Disk disk.old + query_cost words.now ask.now (D.files disk.old).pkg }
     ensures done { is_foreign result ≡ false }
     ensures looks { (most : ℕ) × Looks D.Disk Pkg most disk.old disk.new }
     ensures disk { DiskFault D.Disk (result ≡ Why.DiskFault) disk.old disk.new }

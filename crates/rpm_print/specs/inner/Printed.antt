@@ -8,11 +8,11 @@ use Rattle.rpm_header.specs.declared.form.HeaderFault.{HeaderFault}
 use Rattle.rpm_select.specs.Picks.{entry_in, number_in}
 use Rattle.rpm_print.specs.Printed.{bad_step, header_step, printed, step_by, step_of}
 use Rattle.rpm_print.specs.Steps.{bearer_of, is_bad}
-use Rattle.rpm_print.specs.declared.asked.Deed.{Deed}
+use Rattle.rpm_print.specs.declared.reading.Deed.{Deed}
 use Rattle.rpm_qfeval.specs.Meaning.{meaning}
 use Rattle.rpm_qfparse.specs.Tree.{Tree}
 use Rattle.rpm_select.specs.declared.picked.Picked.{Picked}
-use Rattle.rpm_print.specs.declared.asked.Deed.TheVariants as deed
+use Rattle.rpm_print.specs.declared.reading.Deed.TheVariants as deed
 use Rattle.rpm_select.specs.declared.picked.Picked.TheVariants as pick
 
 bearer-printed : (for : Bearer) (what : Result (List ℕ) (ℕ × ℕ)) → bearer_of (printed for what) ≡ for

@@ -1,11 +1,25 @@
-use Rattle.std.proofs.Common.{◌≡◌, true, false, refl, sym, ◌∙◌}
-use Rattle.rpm_tool.proofs.Vocabulary.{inner}
-use Rattle.rpm_tool.proofs.Page.{answered, does_plain, does_files, does_keyed, does_change, does_nothing}
+use Rattle.std.proofs.Common.{◌≡◌, true, false, refl, subst, sym, ◌∙◌}
+use Rattle.rpm_tool.proofs.Vocabulary.{ask, asks_format, inner, Undone}
+use Rattle.rpm_tool.proofs.Begun.{unforeign}
+use Rattle.rpm_tool.proofs.Faults.{never_cause}
+use Rattle.rpm_tool.proofs.Page.{answered, asked_streams, does_plain, does_files, does_keyed, does_change, does_nothing}
 use Rattle.rpm_print.specs.inner.Peeking.{leaves_none}
-use Rattle.rpm_tool.proofs.Undone.{asked_some, starved, undone_words}
+use Rattle.rpm_tool.proofs.Undone.{asked_some, done_words, starved, undone_words}
 use Rattle.rpm_tool.proofs.command.command.Goals as goal
 
 -- ---- a change
+
+pub returns-then-is_changing-clause-words : goal.returns-then-is_changing-clause-words
+returns-then-is_changing-clause-words g c =
+    done_words c.args.words.now c.in-Ok.ensures.ok c.change_asked.result.0.why c.change_asked.ensures.keeps.of_words
+
+pub returns-then-is_changing-clause-disk : goal.returns-then-is_changing-clause-disk
+returns-then-is_changing-clause-disk g c = c.change_asked.ensures.keeps.disk
+
+pub returns-then-is_changing-clause-streams : goal.returns-then-is_changing-clause-streams
+returns-then-is_changing-clause-streams g c =
+    let said = c.change_asked.ensures.streams in
+    record { unread = λ is. absurd cc; paths = said.paths; shelf = said.shelf; hands = said.hands }
 
 pub returns-then-is_changing-clause-unread : goal.returns-then-is_changing-clause-unread
 returns-then-is_changing-clause-unread g c = λ none. asked_some c.args.words.now c.in-Ok.ensures.ok none
@@ -19,6 +33,17 @@ returns-then-is_changing-clause-answers g c =
 
 -- ---- package files
 
+pub returns-then-of_files-clause-words : goal.returns-then-of_files-clause-words
+returns-then-of_files-clause-words g c = done_words c.args.words.now c.in-Ok.ensures.ok c.print_files-why.result c.print_files-why.ensures.done
+
+pub returns-then-of_files-clause-disk : goal.returns-then-of_files-clause-disk
+returns-then-of_files-clause-disk g c = never_cause (g.D.Disk.faults c.args.disk) c.print_files-why.ensures.no_disk
+
+pub returns-then-of_files-clause-streams : goal.returns-then-of_files-clause-streams
+returns-then-of_files-clause-streams g c =
+    let said = c.print_files-why.ensures in
+    record { unread = λ is. absurd cc; paths = said.paths; shelf = said.shelf; hands = said.hands }
+
 pub returns-then-of_files-clause-unread : goal.returns-then-of_files-clause-unread
 returns-then-of_files-clause-unread g c = λ none. asked_some c.args.words.now c.in-Ok.ensures.ok none
 
@@ -31,6 +56,16 @@ returns-then-of_files-clause-answers g c =
 
 -- ---- by key
 
+pub returns-then-by_key-clause-words : goal.returns-then-by_key-clause-words
+returns-then-by_key-clause-words g c =
+    done_words c.args.words.now c.in-Ok.ensures.ok c.answer_keyed-why.result.0 (unforeign c.answer_keyed-why.result.0 c.answer_keyed-why.ensures.done)
+
+pub returns-then-by_key-clause-disk : goal.returns-then-by_key-clause-disk
+returns-then-by_key-clause-disk g c = c.answer_keyed-why.ensures.disk
+
+pub returns-then-by_key-clause-streams : goal.returns-then-by_key-clause-streams
+returns-then-by_key-clause-streams g c = asked_streams c.answer_keyed-why.ensures.done c.answer_keyed-why.ensures.hands
+
 pub returns-then-by_key-clause-unread : goal.returns-then-by_key-clause-unread
 returns-then-by_key-clause-unread g c = λ none. asked_some c.args.words.now c.in-Ok.ensures.ok none
 
@@ -41,6 +76,16 @@ returns-then-by_key-clause-answers g c =
     (does_keyed (sym c.by_key.ensures ∙ c.if-by_key.true) said.keyed refl)
 
 -- ---- without the index
+
+pub returns-clause-words : goal.returns-clause-words
+returns-clause-words g c =
+    done_words c.args.words.now c.in-Ok.ensures.ok c.answer_loaded-why.result.0 (unforeign c.answer_loaded-why.result.0 c.answer_loaded-why.ensures.done)
+
+pub returns-clause-disk : goal.returns-clause-disk
+returns-clause-disk g c = c.answer_loaded-why.ensures.disk
+
+pub returns-clause-streams : goal.returns-clause-streams
+returns-clause-streams g c = asked_streams c.answer_loaded-why.ensures.done c.answer_loaded-why.ensures.hands
 
 pub returns-clause-unread : goal.returns-clause-unread
 returns-clause-unread g c = λ none. asked_some c.args.words.now c.in-Ok.ensures.ok none
@@ -53,6 +98,13 @@ returns-clause-answers g c =
     (λ told. record { went = said.went told; reads = said.reads told }) said.looks refl)
 
 -- ---- nothing that could be read
+
+pub returns-in-Err-clause-unread : goal.returns-in-Err-clause-unread
+returns-in-Err-clause-unread g c = λ none. (refl, refl, refl, refl)
+
+pub returns-in-Err-clause-disk : goal.returns-in-Err-clause-disk
+returns-in-Err-clause-disk g c = never_cause (g.D.Disk.faults c.args.disk)
+    (λ is. subst (Undone (ask c.args.words.now) (asks_format c.args.words.now)) is c.in-Err.ensures.undone)
 
 pub returns-in-Err-clause-words : goal.returns-in-Err-clause-words
 returns-in-Err-clause-words g c = undone_words c.args.words.now c.in-Err.why c.in-Err.ensures.undone

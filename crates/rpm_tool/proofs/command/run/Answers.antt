@@ -1,7 +1,8 @@
-use Rattle.std.proofs.Common.{◌∙◌, ap, refl, rules, arith}
-use Rattle.rpm_tool.proofs.Vocabulary.{closing, inner}
+use Rattle.std.proofs.Common.{◌∙◌, ap, refl, rules}
+use Rattle.rpm_tool.proofs.Vocabulary.{Answers, closing, inner, outs, ran}
 use Rattle.rpm_tool.proofs.Arguments.{questions}
 use Rattle.rpm_tool.proofs.Closed.{ended, handed, counted_fault}
+use Rattle.rpm_tool.proofs.Faults.{le_self}
 use Rattle.rpm_tool.proofs.Numbered.{argument_numbers, picked_rises, whole_numbers, all_rise}
 use Rattle.rpm_print.specs.inner.Printing.{inner_same}
 use Rattle.rpm_tool.proofs.command.run.Goals as goal
@@ -16,10 +17,13 @@ returns-clause-answers g c =
     let out = ap (λ (lent : _). lent.now) c.new-out.ensures.inner in
     let err = ap (λ (lent : _). lent.now) c.new-err.ensures.inner in
     let line = c.put_closing.ensures in
-    ended g.O.Sink g.E.Sink (closing c.args.words.now c.command-disk.result.0.why) c.put_closing.result (inner c.command-disk.new.out).now _
+    let ending = c.command-disk.result.0 in
+    ended g.O.Sink g.E.Sink (closing c.args.words.now ending.why) c.put_closing.result (inner c.command-disk.new.out).now _
     (inner c.new-err.result).now (inner c.command-disk.new.err).now (inner c.put_closing.new.err).now c.args.err.now _ err
     c.command-disk.ensures.streams.hands.err.cause.later
-    (record { ok = line.ok; err = line.err; cause = line.cause; goes_on = line.goes_on.1 }) (search rules) (search rules) _
+    (record { ok = line.ok; err = line.err; cause = line.cause; goes_on = line.goes_on.1 }) (search rules) (search rules)
+    (Answers (ran g.D.Disk g.S.Shelf c.args.words.now c.args.now ending.why ending.changes (c.args.disk, c.args.shelf.now)
+    (outs g.O.Sink g.E.Sink c.args.out.now c.args.err.now) (c.command-disk.result.1, c.command-disk.new.shelf)))
     (rw (out, err) at c.command-disk.ensures.answers)
 
 pub returns-clause-causes : goal.returns-clause-causes
@@ -28,9 +32,11 @@ returns-clause-causes g c =
     record {
       disk = c.command-disk.ensures.disk;
       shelf = c.command-disk.ensures.streams.shelf;
-      out = counted_fault g.O.Sink (inner c.command-disk.new.out).now (ap (λ (lent : _). lent.now) c.new-out.ensures.inner) hands.out.cause
-          (omega arith) (search rules);
-      err = counted_fault g.E.Sink (inner c.put_closing.new.err).now (ap (λ (lent : _). lent.now) c.new-err.ensures.inner) hands.err.cause
+      out = counted_fault g.O.Sink (inner c.command-disk.new.out).now {mid = (inner c.command-disk.new.out).now}
+          (ap (λ (lent : _). lent.now) c.new-out.ensures.inner) hands.out.cause
+          (le_self (g.O.Sink.faults (inner c.command-disk.new.out).now)) (search rules);
+      err = counted_fault g.E.Sink (inner c.put_closing.new.err).now {mid = (inner c.command-disk.new.err).now}
+          (ap (λ (lent : _). lent.now) c.new-err.ensures.inner) hands.err.cause
           c.put_closing.ensures.cause.later (search rules);
     }
 

@@ -1,10 +1,13 @@
-use Rattle.std.proofs.Common.{[], ap, arith}
-use Rattle.rpm_tool.proofs.Vocabulary.{Files, inner, log_state, pkg_read, reopened, shown, store, Through}
+use Rattle.std.proofs.Common.{[], ap, ◌∙◌, arith}
+use Rattle.rpm_tool.proofs.Vocabulary.{Files, inner, is_foreign, is_of_streams, log_state, pkg_read, reopened, shown, store, Through}
+use Rattle.rpm_tool.proofs.Faults.{cause_then, hands_none}
 use Rattle.rpm_tool.proofs.OpeningLaws.{leaves_peeks, runs_peeks}
 use Rattle.rpm_print.specs.inner.Reaching.{through_none}
 use Rattle.rpm_tool.proofs.Recovered.{deeds, did_opened, did_unopened, recovered, undone_fault}
 use Rattle.rpm_commit.specs.inner.Regrouped.{recovering_still}
-use Rattle.rpm_tool.proofs.Unrecovered.{unrecovered, unrecovered_kind, unrecovered_full, unrecovered_bad, unrecovered_complete, unrecovered_undone}
+use Rattle.rpm_tool.proofs.Unloaded.{open_own, open_streams}
+use Rattle.rpm_tool.proofs.Unrecovered.{unrecovered, unrecovered_bad, unrecovered_complete, unrecovered_full, unrecovered_kind, unrecovered_streams}
+use Rattle.rpm_tool.proofs.Unrecovered.{unrecovered_undone}
 use Rattle.rpm_tool.proofs.keyed.answer_keyed.Goals as goal
 
 pub answer_opened-why-requires : goal.answer_opened-why-requires
@@ -32,6 +35,25 @@ returns-in-Ok-open_settled-clause-keyed g c = λ told.
     (did_opened c.args.format.now c.args.words.now c.args.ask.now g.D.Disk c.recover.new.disk c.open_settled.new.disk c.answer_opened-why.new.disk
     c.in-Ok-open_settled.db c.answer_opened-why.result old new told (then.opened told) (then.runs.reads_as told) then.served.fresh.indexed (then.reads told)
     last.does last.done last.opened)
+
+pub returns-in-Ok-open_settled-clause-goes_on : goal.returns-in-Ok-open_settled-clause-goes_on
+returns-in-Ok-open_settled-clause-goes_on g c =
+    g.met.D.Disk.follows_trans c.args.disk c.recover.new.disk c.answer_opened-why.new.disk c.recover.ensures.reads.goes_on
+    (g.met.D.Disk.follows_trans c.recover.new.disk c.open_settled.new.disk c.answer_opened-why.new.disk c.open_settled.ensures.runs.goes_on
+    c.answer_opened-why.ensures.does.looks.goes_on)
+
+pub returns-in-Ok-open_settled-clause-done : goal.returns-in-Ok-open_settled-clause-done
+returns-in-Ok-open_settled-clause-done g c = c.answer_opened-why.ensures.done
+
+pub returns-in-Ok-open_settled-clause-disk : goal.returns-in-Ok-open_settled-clause-disk
+returns-in-Ok-open_settled-clause-disk g c =
+    let faults = g.D.Disk.faults in
+    cause_then (faults c.args.disk) (faults c.recover.new.disk) (faults c.answer_opened-why.new.disk) c.recover.ensures.cause.later
+    (cause_then (faults c.recover.new.disk) (faults c.open_settled.new.disk) (faults c.answer_opened-why.new.disk) c.open_settled.ensures.cause.later
+    c.answer_opened-why.ensures.disk)
+
+pub returns-in-Ok-open_settled-clause-hands : goal.returns-in-Ok-open_settled-clause-hands
+returns-in-Ok-open_settled-clause-hands g c = c.answer_opened-why.ensures.hands
 
 pub returns-in-Err-open_settled-clause-keyed : goal.returns-in-Err-open_settled-clause-keyed
 returns-in-Err-open_settled-clause-keyed g c = λ told.
@@ -71,3 +93,28 @@ returns-in-Err-clause-keyed g c = λ told.
       packages = ap (λ (f : Files). f.pkg) (first.stands told);
       stops = λ lawful. recovering_still g.D.Disk c.args.disk c.recover.new.disk (first.images told) lawful;
     })
+
+-- ---- what wasn't opened
+
+pub returns-in-Err-open_settled-clause-goes_on : goal.returns-in-Err-open_settled-clause-goes_on
+returns-in-Err-open_settled-clause-goes_on g c =
+    g.met.D.Disk.follows_trans c.args.disk c.recover.new.disk c.open_settled.new.disk c.recover.ensures.reads.goes_on c.open_settled.ensures.runs.goes_on
+
+pub returns-in-Err-open_settled-clause-done : goal.returns-in-Err-open_settled-clause-done
+returns-in-Err-open_settled-clause-done g c = ap is_foreign c.why_of_open.ensures ∙ open_own c.in-Err-open_settled.fault
+
+pub returns-in-Err-open_settled-clause-hands : goal.returns-in-Err-open_settled-clause-hands
+returns-in-Err-open_settled-clause-hands g c =
+    hands_none g.O.Sink g.E.Sink g.met.O.Sink.follows_refl g.met.E.Sink.follows_refl c.why_of_open.result
+    (ap is_of_streams c.why_of_open.ensures ∙ open_streams c.in-Err-open_settled.fault) c.args.out.now c.args.err.now
+
+pub returns-in-Err-clause-goes_on : goal.returns-in-Err-clause-goes_on
+returns-in-Err-clause-goes_on g c = c.recover.ensures.reads.goes_on
+
+pub returns-in-Err-clause-done : goal.returns-in-Err-clause-done
+returns-in-Err-clause-done g c = ap is_foreign c.why_of_recover.ensures ∙ unrecovered_kind c.in-Err.fault
+
+pub returns-in-Err-clause-hands : goal.returns-in-Err-clause-hands
+returns-in-Err-clause-hands g c =
+    hands_none g.O.Sink g.E.Sink g.met.O.Sink.follows_refl g.met.E.Sink.follows_refl c.why_of_recover.result
+    (ap is_of_streams c.why_of_recover.ensures ∙ unrecovered_streams c.in-Err.fault) c.args.out.now c.args.err.now

@@ -1,10 +1,13 @@
 use Rattle.std.proofs.Common.{◌≡◌, ◌+◌, ◌≤◌, true, refl, sym, ap, ◌∙◌, subst, arith}
-use Rattle.rpm_tool.proofs.Vocabulary.{deed_of, DidPlain, Files, Idx, is_of_streams, laid_files, log_state, Opened, Pkg, pkg_read, query_cost, read_to}
+use Rattle.rpm_tool.proofs.Vocabulary.{deed_of, DidPlain, Files, Idx, inner, is_of_streams, laid_files, log_state, Opened, Pkg, pkg_read, query_cost, read_to}
 use Rattle.rpm_tool.proofs.Vocabulary.{reopened, shown, store, Units, unless_starved, Why}
 use Rattle.rpm_print.specs.declared.answer.Why.TheVariants as why
 use Rattle.rpm_commit.specs.inner.Starved.{starved_streams}
 use Rattle.rpm_tool.proofs.Deeds.{does_reads, does_starved}
+use Rattle.rpm_print.specs.inner.Reaching.{through_none}
+use Rattle.rpm_tool.proofs.Faults.{hands_none, le_more, le_none}
 use Rattle.rpm_tool.proofs.Loading.{opened_as, loaded_sound, below_reads}
+use Rattle.rpm_tool.proofs.Unloaded.{load_fault, load_own, load_streams, unloaded}
 use Rattle.rpm_tool.proofs.Wanting.{refused_starved, fault_below}
 use Rattle.rpm_tool.proofs.loaded.answer_loaded.Goals as goal
 
@@ -105,3 +108,42 @@ returns-in-Ok-clause-hands g c =
         goes_on = hands.err.goes_on;
       };
     }
+
+-- ---- what couldn't be loaded
+
+pub returns-in-Err-clause-went : goal.returns-in-Err-clause-went
+returns-in-Err-clause-went g c = λ told.
+    let files = g.D.Disk.files c.args.disk in
+    let refused = c.in-Err.refused in
+    let x = shown g.O.Sink g.E.Sink c.args.out.now c.args.err.now in
+    rw c.why_of_load.ensures (unloaded c.args.format.now c.args.words.now c.args.ask.now (reopened files).pkg (pkg_read g.D.Disk c.args.disk)
+    (pkg_read g.D.Disk refused.disk) x (through_none {ot = g.O.Sink.tells} {et = g.E.Sink.tells} (g.O.Sink.taken (inner c.args.out.now))
+    (g.E.Sink.taken (inner c.args.err.now))) (log_state files.log) refused.why (c.in-Err.ensures.says told))
+
+pub returns-in-Err-clause-reads : goal.returns-in-Err-clause-reads
+returns-in-Err-clause-reads g c = λ told.
+    le_more (pkg_read g.D.Disk c.in-Err.refused.disk) (pkg_read g.D.Disk c.args.disk)
+    (query_cost c.args.words.now c.args.ask.now (reopened (g.D.Disk.files c.args.disk)).pkg) c.in-Err.ensures.looks.reads.pkg
+
+pub returns-in-Err-clause-done : goal.returns-in-Err-clause-done
+returns-in-Err-clause-done g c = rw c.why_of_load.ensures (load_own c.in-Err.refused.why)
+
+pub returns-in-Err-clause-looks : goal.returns-in-Err-clause-looks
+returns-in-Err-clause-looks g c =
+    let said = c.in-Err.ensures.looks in
+    record {
+      untouched = said.untouched;
+      moment_stays = said.moment_stays;
+      index_unread = le_none (g.D.Disk.bytes_read c.in-Err.refused.disk Idx) (g.D.Disk.bytes_read c.args.disk Idx) said.reads.idx;
+      goes_on = said.goes_on;
+    }
+
+pub returns-in-Err-clause-disk : goal.returns-in-Err-clause-disk
+returns-in-Err-clause-disk g c =
+    let cause = c.in-Err.ensures.cause in
+    record { later = cause.later; rose = λ is. cause.rose (load_fault c.in-Err.refused.why (sym c.why_of_load.ensures ∙ is)) }
+
+pub returns-in-Err-clause-hands : goal.returns-in-Err-clause-hands
+returns-in-Err-clause-hands g c =
+    hands_none g.O.Sink g.E.Sink g.met.O.Sink.follows_refl g.met.E.Sink.follows_refl c.why_of_load.result
+    (ap is_of_streams c.why_of_load.ensures ∙ load_streams c.in-Err.refused.why) c.args.out.now c.args.err.now

@@ -1,9 +1,15 @@
-use Rattle.rpm_tool.proofs.Vocabulary.{always_keyed, asked_reaches, Bearer, blocks_cost, Damage, deed_of, DidPlain, DoesBy, Files, is_indexed, looks_then}
-use Rattle.rpm_tool.proofs.Vocabulary.{no_index_rows, Opened, Pkg, pkg_read, reach_sum, reached_by, read_to, room, shown, Store, Units}
-use Rattle.std.proofs.Common.{◌≡◌, ◌+◌, ◌-◌, ◌^◌, ◌≤◌, ◌||◌, false, Result, sym, ap, ◌∙◌, subst, arith}
+use Rattle.rpm_tool.proofs.Vocabulary.{always_keyed, asked_reaches, Bearer, blocks_cost, Damage, deed_of, DidPlain, DoesBy}
+use Rattle.rpm_tool.proofs.Vocabulary.{Files, inner, is_indexed, looks_then}
+use Rattle.rpm_tool.proofs.Vocabulary.{no_index_rows, Opened, Pkg, pkg_read, reach_sum, reached_by, read_to, room, shown, store, Store, Units}
+use Rattle.std.proofs.Common.{◌≡◌, ◌+◌, ◌-◌, ◌^◌, ◌≤◌, ◌||◌, false, Result, refl, sym, ap, ◌∙◌, subst, arith}
+use Rattle.rpm_print.specs.declared.answer.Why.TheVariants as why
 use Rattle.rpm_print.specs.inner.Askable.{keeps_none}
+use Rattle.rpm_tool.proofs.Faults.{cause_then, hands_none, le_first}
 use Rattle.rpm_tool.proofs.Deeds.{does_reads}
 use Rattle.rpm_print.specs.inner.Peeking.{looks_unindexed}
+use Rattle.rpm_pkgdb.specs.Costs.{opening_cost}
+use Rattle.rpm_print.specs.inner.Reaching.{through_none}
+use Rattle.rpm_tool.proofs.Unloaded.{unopened_fault, unopened_memory}
 use Rattle.rpm_query.specs.inner.Sums.{store_by, store_sum}
 use Rattle.rpm_tool.proofs.unindexed.answer_unindexed.Goals as goal
 
@@ -75,3 +81,64 @@ returns-in-Ok-clause-looks g c =
           (omega arith) c.in-Ok.ensures.looks
           (looks_unindexed d none c.answer_opened.ensures.does.looks),
     )
+
+pub returns-in-Ok-clause-done : goal.returns-in-Ok-clause-done
+returns-in-Ok-clause-done g c = c.answer_opened.ensures.done
+
+pub returns-in-Ok-clause-disk : goal.returns-in-Ok-clause-disk
+returns-in-Ok-clause-disk g c =
+    let faults = g.D.Disk.faults in
+    cause_then (faults c.args.disk.now) (faults c.open_unindexed.new.disk) (faults c.answer_opened.new.disk) c.open_unindexed.ensures.cause.later
+    c.answer_opened.ensures.disk
+
+pub returns-in-Ok-clause-hands : goal.returns-in-Ok-clause-hands
+returns-in-Ok-clause-hands g c = c.answer_opened.ensures.hands
+
+-- ---- what wasn't opened
+
+pub returns-in-Err-DiskFault-clause-hands : goal.returns-in-Err-DiskFault-clause-hands
+returns-in-Err-DiskFault-clause-hands g c =
+    hands_none g.O.Sink g.E.Sink g.met.O.Sink.follows_refl g.met.E.Sink.follows_refl why.DiskFault refl c.args.out.now c.args.err.now
+
+pub returns-in-Err-NoMemory-clause-hands : goal.returns-in-Err-NoMemory-clause-hands
+returns-in-Err-NoMemory-clause-hands g c =
+    hands_none g.O.Sink g.E.Sink g.met.O.Sink.follows_refl g.met.E.Sink.follows_refl why.NoMemory refl c.args.out.now c.args.err.now
+
+pub returns-in-Err-DiskFault-clause-went : goal.returns-in-Err-DiskFault-clause-went
+returns-in-Err-DiskFault-clause-went g c = λ told.
+    unopened_fault c.args.format.now c.args.words.now c.args.ask.now (g.D.Disk.files c.args.disk.now).pkg (pkg_read g.D.Disk c.args.disk.now)
+    (pkg_read g.D.Disk c.open_unindexed.new.disk) (shown g.O.Sink g.E.Sink c.args.out.now c.args.err.now)
+    (through_none {ot = g.O.Sink.tells} {et = g.E.Sink.tells} (g.O.Sink.taken (inner c.args.out.now)) (g.E.Sink.taken (inner c.args.err.now)))
+
+pub returns-in-Err-NoMemory-clause-went : goal.returns-in-Err-NoMemory-clause-went
+returns-in-Err-NoMemory-clause-went g c = λ told.
+    unopened_memory c.args.format.now c.args.words.now c.args.ask.now (g.D.Disk.files c.args.disk.now).pkg (pkg_read g.D.Disk c.args.disk.now)
+    (pkg_read g.D.Disk c.open_unindexed.new.disk) (shown g.O.Sink g.E.Sink c.args.out.now c.args.err.now)
+    (through_none {ot = g.O.Sink.tells} {et = g.E.Sink.tells} (g.O.Sink.taken (inner c.args.out.now)) (g.E.Sink.taken (inner c.args.err.now)))
+
+pub returns-in-Err-Damaged-clause-looks : goal.returns-in-Err-Damaged-clause-looks
+returns-in-Err-Damaged-clause-looks g c = (2 ^ 32, c.open_unindexed.ensures.looks)
+
+pub returns-in-Err-Damaged-clause-reads : goal.returns-in-Err-Damaged-clause-reads
+returns-in-Err-Damaged-clause-reads g c = λ told.
+    let file = (g.D.Disk.files c.args.disk.now).pkg in
+    le_first (pkg_read g.D.Disk c.open_unindexed.new.disk) (pkg_read g.D.Disk c.args.disk.now) (opening_cost file)
+    (blocks_cost (λ s. false) file (store file) c.args.words.now c.args.ask.now) (c.open_unindexed.ensures.reads told)
+
+pub returns-in-Err-DiskFault-clause-looks : goal.returns-in-Err-DiskFault-clause-looks
+returns-in-Err-DiskFault-clause-looks g c = (2 ^ 32, c.open_unindexed.ensures.looks)
+
+pub returns-in-Err-DiskFault-clause-reads : goal.returns-in-Err-DiskFault-clause-reads
+returns-in-Err-DiskFault-clause-reads g c = λ told.
+    let file = (g.D.Disk.files c.args.disk.now).pkg in
+    le_first (pkg_read g.D.Disk c.open_unindexed.new.disk) (pkg_read g.D.Disk c.args.disk.now) (opening_cost file)
+    (blocks_cost (λ s. false) file (store file) c.args.words.now c.args.ask.now) (c.open_unindexed.ensures.reads told)
+
+pub returns-in-Err-NoMemory-clause-looks : goal.returns-in-Err-NoMemory-clause-looks
+returns-in-Err-NoMemory-clause-looks g c = (2 ^ 32, c.open_unindexed.ensures.looks)
+
+pub returns-in-Err-NoMemory-clause-reads : goal.returns-in-Err-NoMemory-clause-reads
+returns-in-Err-NoMemory-clause-reads g c = λ told.
+    let file = (g.D.Disk.files c.args.disk.now).pkg in
+    le_first (pkg_read g.D.Disk c.open_unindexed.new.disk) (pkg_read g.D.Disk c.args.disk.now) (opening_cost file)
+    (blocks_cost (λ s. false) file (store file) c.args.words.now c.args.ask.now) (c.open_unindexed.ensures.reads told)

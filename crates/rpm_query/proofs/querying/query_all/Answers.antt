@@ -9,7 +9,7 @@ use Rattle.rpm_query.specs.inner.Sums.{reads_one}
 use Rattle.rpm_print.specs.inner.Stopping.{reached_reads}
 use Rattle.rpm_print.specs.inner.Parts.{went_stop}
 use Rattle.rpm_print.specs.inner.Askable.{asked_still}
-use Rattle.rpm_query.proofs.query.query_all.Goals as goal
+use Rattle.rpm_query.proofs.querying.query_all.Goals as goal
 
 pub print_above-requires : goal.print_above-requires
 print_above-requires g c = record {

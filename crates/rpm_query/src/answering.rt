@@ -4,7 +4,7 @@ ghost use Rattle.std.specs.Prelude.{◌≡◌, ◌+◌, ◌≤◌, ℕ, IsTrue, 
 ghost use Rattle.rpm_query.specs.Prelude.{above, argument_part, argument_reach, cost_to, DiskFault, HaltHands, HasRows, is_indexed, is_some_of, IsAskable, IsOfChain, IsOfPrint, IsOfRead, lent, Looks, packages_in, PartIs, Peeks, picks, Pkg, pkg_read, question_of, reach_all, reach_to, ReadsOf, Serves, shown};
 
 use crate::missing::put_missing_part;
-use crate::picked::{halt_of_pick, print_above};
+use crate::printing::{halt_of_pick, print_above};
 use rpm_change::Halt;
 use rpm_db::Db;
 use rpm_outside::{Buffered, Disk, File, Sink};
@@ -113,8 +113,7 @@ pub fn answer<D: Disk, O: Sink + Drop, E: Sink + Drop>(
     ensures reads { IsTrue D.tells → HasRows D.Disk disk.old db.now
         → pkg_read D.Disk disk.new ≤ pkg_read D.Disk disk.old + reach_all
         (argument_reach (is_indexed db.now) (packages_in D.Disk disk.old db.now) chosen text.now) db.now }
-    ensures bad_index { IsTrue D.tells → IfErr result (IsOfChain (question_of chosen (lent text.now))
-        (D.files disk.old).idx) }
+    ensures bad_index { IsTrue D.tells → IfErr result (IsOfChain (question_of chosen (lent text.now)) (D.files disk.old).idx) }
     ensures looks { Peeks D.Disk (is_indexed db.now) disk.old disk.new }
     ensures disk { DiskFault D.Disk (result ≡ Err Halt.DiskFault) disk.old disk.new }
     ensures class { IfErr result IsOfPrint }

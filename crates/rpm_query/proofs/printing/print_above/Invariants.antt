@@ -2,7 +2,7 @@ use Rattle.std.proofs.Common.{◌≡◌, ◌+◌, ◌-◌, ◌^◌, ◌≤◌}
 use Rattle.std.specs.Prelude.{IsTrue}
 use Rattle.rpm_query.proofs.Vocabulary.{cost_to, inner, Looks, packages_in, picks, Pkg, pkg_read, reach_to, Serves, step_by}
 use Rattle.rpm_query.proofs.Nexts.{PrintedTo}
-use Rattle.rpm_query.proofs.picked.print_above.Given as goal
+use Rattle.rpm_query.proofs.printing.print_above.Given as goal
 
 abbrev pub invariant-loop-picked : goal.invariant-loop-picked
 invariant-loop-picked g l = record {

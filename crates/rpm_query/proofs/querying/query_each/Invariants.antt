@@ -3,7 +3,7 @@ use Rattle.std.proofs.Common.{◌+◌, ◌≤◌, map}
 use Rattle.std.specs.Prelude.{IsTrue}
 use Rattle.rpm_print.specs.Frame.{HasRows}
 use Rattle.rpm_query.proofs.Turns.{Turned}
-use Rattle.rpm_query.proofs.query.query_each.Given as goal
+use Rattle.rpm_query.proofs.querying.query_each.Given as goal
 
 abbrev pub invariant-loop-k : goal.invariant-loop-k
 invariant-loop-k g l = record {

@@ -1,4 +1,4 @@
-//! What a command does with a database that was opened, with its index or without.
+//! `AnswersPlain` and `AnswersKeyed` of the theorem: what a command does with a database that was opened.
 
 ghost use Rattle.std.specs.Prelude.{◌≡◌, [], false, Err, IfErr};
 ghost use Rattle.rpm_tool.specs.Prelude.{deed_of, DiskFault, DoesOn, EndHands, is_foreign, is_of_opening, IsAskable, IsOfPrint, shown, why_of_report};

@@ -1,7 +1,7 @@
 use Rattle.rpm_query.proofs.Vocabulary.{above, from_one, is_some_of, packages, picks, picks_from_one, room}
 use Rattle.std.proofs.Common.{ℕ, ap, sym, ◌∙◌}
 use Rattle.rpm_query.specs.inner.Rising.{any_passed}
-use Rattle.rpm_query.proofs.argument.is_any_picked.Goals as goal
+use Rattle.rpm_query.proofs.answering.is_any_picked.Goals as goal
 
 pub returns-then-after-eq0-clause-told : goal.returns-then-after-eq0-clause-told
 returns-then-after-eq0-clause-told g c = λ told serves known.

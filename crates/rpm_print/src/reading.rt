@@ -1,4 +1,4 @@
-//! The command that the words ask for, and its format.
+//! `AnswersWords` of the theorem: the command that the words ask for, and its format.
 
 ghost use Rattle.std.specs.Prelude.{◌≡◌, true, Some, Ok, IfOk, IfErr};
 ghost use Rattle.rpm_print.specs.Prelude.{ask, asks_format, by_key, deed_of, format_text, IsSound, needs_no_index, of_files, Undone};

@@ -1,14 +1,16 @@
-use Rattle.rpm_tool.proofs.Vocabulary.{Anywhere, argument_reach, check_files, inner, is_indexed, order_part, packages_in, room, shown, text_at}
+use Rattle.rpm_select.specs.Reach.{Everything}
+use Rattle.rpm_tool.proofs.Vocabulary.{Anywhere, argument_reach, check_files, inner, is_indexed, order_part, outputs, packages_in, pkg_read, reach_sum}
+use Rattle.rpm_tool.proofs.Vocabulary.{reached_by, room, shown, text_at}
 use Rattle.rpm_tool.proofs.Vocabulary.{unsatisfied_part}
 use Rattle.rpm_tool.proofs.Vocabulary.{verify}
-use Rattle.std.proofs.Common.{◌≡◌, length, map, sym, ◌∙◌, arith}
+use Rattle.std.proofs.Common.{◌≡◌, ◌+◌, ◌≤◌, [], ◌∷◌, length, map, sym, ◌∙◌, arith}
 use Rattle.rpm_query.specs.inner.Answering.{query_none, query_some, reaches_none, reaches_some}
 use Rattle.rpm_report.specs.inner.Reporting.{went_report}
 use Rattle.rpm_report.specs.inner.Checked.{report_some, report_done}
 use Rattle.rpm_print.specs.inner.Peeking.{peeks_packages}
 use Rattle.rpm_query.specs.inner.Unbroken.{chains_none}
 use Rattle.rpm_report.specs.inner.Reporting.{some_none, some_went}
-use Rattle.rpm_tool.proofs.inquiries.answer_opened.Goals as goal
+use Rattle.rpm_tool.proofs.dispatch.answer_opened.Goals as goal
 
 -- ---- a query, without arguments and with some
 
@@ -62,7 +64,10 @@ returns-in-Verify-clause-does g c =
     rw (← c.mode.ensures, ← c.deed_of.ensures, c.in-Verify.is) (record {
       went = λ told rows. said.went told g.E.Sink.tells e;
       reads = λ keyed told rows. omega (arith, said.looks.reads.pkg);
-      bad = λ told. some_went (verify files.pkg (room c.args.db.now)) _ _ _ files.idx c.report.result (said.went told g.E.Sink.tells e);
+      bad = λ told. some_went (verify files.pkg (room c.args.db.now)) (outputs g.O.Sink.tells (g.O.Sink.taken (inner c.args.out.now)) g.E.Sink.tells e)
+          (outputs g.O.Sink.tells (g.O.Sink.taken (inner c.report.new.out)) g.E.Sink.tells e)
+          (λ for. pkg_read g.D.Disk c.report.new.disk ≤ pkg_read g.D.Disk c.args.disk.now + reached_by (Everything ∷ []) c.args.db.now for)
+          files.idx c.report.result (said.went told g.E.Sink.tells e);
       looks = peeks_packages g.D.Disk said.looks;
     })
 
@@ -72,7 +77,9 @@ returns-in-CheckFiles-clause-does g c =
     rw (← c.mode.ensures, ← c.deed_of.ensures, c.in-CheckFiles.is) (record {
       went = λ told rows. said.went told;
       reads = λ keyed told rows. omega (arith, said.looks.reads.pkg);
-      bad = λ told. some_went (check_files (packages_in g.D.Disk c.args.disk.now c.args.db.now)) _ _ _
+      bad = λ told. some_went (check_files (packages_in g.D.Disk c.args.disk.now c.args.db.now))
+          (shown g.O.Sink g.E.Sink c.args.out.now c.args.err.now) (shown g.O.Sink g.E.Sink c.check_files.new.out c.check_files.new.err)
+          (λ for. pkg_read g.D.Disk c.check_files.new.disk ≤ pkg_read g.D.Disk c.args.disk.now + reached_by (Everything ∷ []) c.args.db.now for)
           (g.D.Disk.files c.args.disk.now).idx c.check_files.result (said.went told);
       looks = peeks_packages g.D.Disk said.looks;
     })
@@ -87,7 +94,8 @@ returns-in-Unmet-clause-does g c =
     let new = shown g.O.Sink g.E.Sink c.report_unmet.new.out c.report_unmet.new.err in
     rw (← c.mode.ensures, ← c.deed_of.ensures, c.in-Unmet.is, c.why_of_report.ensures.value) (record {
       went = λ told rows. went_report (unsatisfied_part (packages_in g.D.Disk c.args.disk.now c.args.db.now)) told' old new Anywhere (said.went told rows);
-      reads = λ keyed told rows. absurd cc;
+      reads = λ keyed told rows. absurd {A = pkg_read g.D.Disk c.report_unmet.new.disk ≤ pkg_read g.D.Disk c.args.disk.now
+          + reach_sum (Everything ∷ []) c.args.db.now} cc;
       bad = λ told. report_some (g.D.Disk.files c.args.disk.now).idx told' (said.broken told);
       looks = said.looks;
     })
@@ -106,7 +114,8 @@ returns-in-Order-clause-does g c =
             record { each = part.1.each; all = λ done. part.1.all (report_done told' done) },
             went_report (order_part all part.0) told' old new Anywhere part.2,
           );
-      reads = λ keyed told rows. absurd cc;
+      reads = λ keyed told rows. absurd {A = pkg_read g.D.Disk c.report_order.new.disk ≤ pkg_read g.D.Disk c.args.disk.now
+          + reach_sum (Everything ∷ []) c.args.db.now} cc;
       bad = λ told. report_some (g.D.Disk.files c.args.disk.now).idx told' (said.broken told);
       looks = said.looks;
     })

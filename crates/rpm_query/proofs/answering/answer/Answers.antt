@@ -9,7 +9,7 @@ use Rattle.rpm_query.proofs.Nexts.{any_here}
 use Rattle.rpm_query.proofs.Picking.{picking_part, picking_peeks, picking_peeks_both, picking_reads}
 use Rattle.rpm_query.proofs.Questions.{picked_is, chain_same}
 use Rattle.rpm_query.specs.inner.Unbroken.{part_unbroken, chain_unbroken, chain_of}
-use Rattle.rpm_query.proofs.argument.answer.Goals as goal
+use Rattle.rpm_query.proofs.answering.answer.Goals as goal
 
 -- ---- no question
 

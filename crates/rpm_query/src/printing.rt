@@ -41,8 +41,7 @@ pub fn begin_unasked<D: Disk>(
     requires asked { IsAskable D.Disk disk.old db.now }
     requires unasked { asks db.now selection.now ≡ false }
     ensures reach { IsTrue D.tells → HasRows D.Disk disk.old db.now → result ≡ unasked selection.now }
-    ensures serves { IsTrue D.tells → HasRows D.Disk disk.old db.now
-        → Serves result (packages_in D.Disk disk.new db.now) selection.now }
+    ensures serves { IsTrue D.tells → HasRows D.Disk disk.old db.now → Serves result (packages_in D.Disk disk.new db.now) selection.now }
     ensures looks { Looks D.Disk Pkg 0 disk.old disk.new }
     ensures faults { D.faults disk.old ≤ D.faults disk.new }
 {
@@ -76,8 +75,7 @@ pub fn print_above<D: Disk, O: Sink + Drop, E: Sink + Drop>(
     ensures some { IsTrue D.tells → Serves picker.old (packages_in D.Disk disk.old db.now) selection.now
         → IfOk result (λ p. p.some ≡ is_some_of (above after (picks (packages_in D.Disk disk.old db.now)
         selection.now))) }
-    ensures reads { pkg_read D.Disk disk.new + reach_to after picker.old db.now ≤ pkg_read D.Disk disk.old + reach_all
-        picker.old db.now }
+    ensures reads { pkg_read D.Disk disk.new + reach_to after picker.old db.now ≤ pkg_read D.Disk disk.old + reach_all picker.old db.now }
     ensures looks { Looks D.Disk Pkg (cost_all db.now - cost_to after db.now) disk.old disk.new }
     ensures disk { DiskFault D.Disk (result ≡ Err Halt.DiskFault) disk.old disk.new }
     ensures unbroken { (unit : ℕ) → result ≢ Err (Halt.BadIndex unit) }

@@ -8,7 +8,7 @@ use Rattle.rpm_query.proofs.Nexts.{next_here, printed_none, printed_next, printe
 use Rattle.rpm_print.specs.inner.Printed.{bearer-step_by, number-entry}
 use Rattle.rpm_print.specs.inner.Reached.{entry_reach, reach_then}
 use Rattle.rpm_query.specs.inner.Unbroken.{step_unbroken}
-use Rattle.rpm_query.proofs.picked.print_above.Goals as goal
+use Rattle.rpm_query.proofs.printing.print_above.Goals as goal
 
 pub loop-picked-init : goal.loop-picked-init
 loop-picked-init g c = record {

@@ -6,7 +6,7 @@ use Rattle.rpm_print.specs.inner.Peeking.{peeks_none, peeks_then}
 use Rattle.rpm_query.specs.inner.Sums.{before_some, get_map}
 use Rattle.rpm_query.proofs.Turns.{few_more, turned_none, turned_more, turned_stop, part_here, reads_here, read_more, read_sum, read_by}
 use Rattle.rpm_query.specs.inner.Unbroken.{chains_of}
-use Rattle.rpm_query.proofs.query.query_each.Goals as goal
+use Rattle.rpm_query.proofs.querying.query_each.Goals as goal
 
 pub loop-k-init : goal.loop-k-init
 loop-k-init g c = record {

@@ -1,11 +1,11 @@
-//! The queries of an opened database.
+//! `AnswersPlain` and `AnswersKeyed` of the theorem: the queries of an opened database.
 
 ghost use Rattle.std.specs.Prelude.{◌≡◌, ◌≢◌, ◌+◌, ◌<◌, ◌≤◌, ℕ, [], ◌∷◌, if◌then◌else◌, false, true, map, IsTrue};
 ghost use Rattle.rpm_query.specs.Prelude.{argument_part, argument_reach, before, cost_all, DiskFault, EndHands, Everything, HasRows, idle, in_turn, is_foreign, is_indexed, is_of_opening, IsAskable, IsOfChains, Looks, packages_in, packages_part, Peeks, picks, Pkg, pkg_read, prints_packages, reach_sum, reached_by, shown, step_by, text_at, Went};
 ghost use Rattle.rpm_select.specs.declared.selection.Selection.TheVariants as question;
 
-use crate::argument::answer;
-use crate::picked::{begin_unasked, print_above};
+use crate::answering::answer;
+use crate::printing::{begin_unasked, print_above};
 use rpm_db::Db;
 use rpm_outside::{Buffered, Disk, File, Sink};
 use rpm_print::{Deed, Why};
@@ -89,8 +89,7 @@ pub fn query_each<D: Disk, O: Sink + Drop, E: Sink + Drop>(
         → pkg_read D.Disk disk.new ≤ pkg_read D.Disk disk.old + reach_sum
         (map (argument_reach (is_indexed db.now) (packages_in D.Disk disk.old db.now) ask.now.chosen)
         (map (text_at words.now) ask.now.arguments)) db.now }
-    ensures bad_index { IsTrue D.tells → IsOfChains ask.now.chosen (map (text_at words.now) ask.now.arguments)
-        (D.files disk.old).idx result }
+    ensures bad_index { IsTrue D.tells → IsOfChains ask.now.chosen (map (text_at words.now) ask.now.arguments) (D.files disk.old).idx result }
     ensures looks { Peeks D.Disk (is_indexed db.now) disk.old disk.new }
     ensures disk { DiskFault D.Disk (result ≡ Why.DiskFault) disk.old disk.new }
     ensures hands { EndHands O.Sink E.Sink result out.old err.old out.new err.new }
