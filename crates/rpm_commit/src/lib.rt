@@ -9,4 +9,3 @@ mod task;
 
 pub use changing::{CommandEnding, change_asked};
 pub use endings::{unless_starved, why_of_load, why_of_open, why_of_recover};
-pub use task::is_changing;

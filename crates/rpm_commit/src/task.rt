@@ -1,7 +1,7 @@
 //! What a command changes, by its words.
 
 ghost use Rattle.std.specs.Prelude.{◌≡◌, ℕ, ◌+◌, ◌<◌, ◌≤◌, ◌^◌, [], ◌∷◌, ◌++◌, length, map, IfOk, OnOk};
-ghost use Rattle.rpm_commit.specs.Prelude.{asked_task, filter_map, is_changing, IsCountable, IsSound, number, numbers_asked, replacing, task_parts, text_at};
+ghost use Rattle.rpm_commit.specs.Prelude.{asked_task, filter_map, IsCountable, IsSound, number, numbers_asked, replacing, task_parts, text_at};
 
 use rpm_words::{Ask, Mode, Words, number_of};
 use std::alloc::{AllocError, Global};
@@ -23,17 +23,6 @@ pub enum Task<'a> {
     Rebuild,
     /// It makes the exercise of so many headers, where there are no packages.
     Exercise(u32),
-}
-
-/// Whether a command changes packages, or makes the database.
-pub fn is_changing(ask: &Ask) -> bool
-    ensures { result ≡ is_changing ask.now }
-{
-    match ask.mode() {
-        Mode::Addpkg | Mode::Replacepkg | Mode::Erasepkg => true,
-        Mode::Initdb | Mode::Rebuilddb | Mode::Importdb | Mode::Exercise(_) => true,
-        _ => false,
-    }
 }
 
 /// Puts the number after the others that a text is, where it is one.

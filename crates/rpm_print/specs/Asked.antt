@@ -1,5 +1,5 @@
 -- What command lines ask for, and by which format they print: by it `asked` of the page (`rpm_tool`, Theorem.antt) tells commands apart.
-use Rattle.std.specs.Prelude.{ℕ, List, Option, Some, None, Result, Ok, Err, Bool, true, false, not, ◌&&◌, if◌then◌else◌, codes}
+use Rattle.std.specs.Prelude.{◌≡◌, ℕ, List, Option, Some, None, Result, Ok, Err, Bool, true, false, not, ◌&&◌, if◌then◌else◌, codes}
 use Rattle.rpm_words.specs.declared.ask.Mode.{Mode}
 use Rattle.rpm_words.specs.declared.ask.Mode.TheVariants.{Query, Addpkg, Replacepkg, Erasepkg, Verify, Initdb, Rebuilddb, Verifydb, Exportdb, Importdb}
 use Rattle.rpm_words.specs.declared.ask.Mode.TheVariants.{Exercise, Order, Checkfiles}
@@ -14,6 +14,8 @@ use Rattle.rpm_qfparse.specs.Tree.{Tree}
 use Rattle.rpm_qfparse.specs.Format.{format}
 use Rattle.rpm_print.specs.declared.reading.Deed.{Deed}
 use Rattle.rpm_print.specs.declared.reading.Deed.TheVariants as deed
+use Rattle.rpm_print.specs.declared.reading.Kind.{Kind}
+use Rattle.rpm_print.specs.declared.reading.Kind.TheVariants as kind
 
 -- what a command does with the database that it opens
 abbrev pub deed_of : Mode → Deed
@@ -91,6 +93,13 @@ is_package others = false
 -- a query of package files, which opens no database
 abbrev pub of_files : AskParts → Bool
 of_files a = is_query a.mode && is_package a.chosen
+
+-- the command is of this kind: what else it is and isn't, and what it does with the database that it opens
+abbrev pub KindIs : Kind → AskParts → Type 0
+KindIs kind.Change a = is_changing a ≡ true
+KindIs kind.Files a = (is_changing a ≡ false) × (of_files a ≡ true)
+KindIs (kind.Keyed d) a = (is_changing a ≡ false) × (of_files a ≡ false) × (by_key a ≡ true) × (d ≡ deed_of a.mode)
+KindIs (kind.Plain d) a = (is_changing a ≡ false) × (of_files a ≡ false) × (by_key a ≡ false) × (d ≡ deed_of a.mode)
 
 -- ---- the format
 

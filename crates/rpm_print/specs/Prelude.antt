@@ -10,7 +10,7 @@ pub use Rattle.rpm_words.specs.Ask.{IsSound, ask}
 pub use Rattle.rpm_words.specs.Words.{text_at}
 pub use Rattle.std.specs.List.{concat}
 pub use Rattle.rpm_print.specs.Answers.{PartIs, StepIs, Undone, why_of_halt}
-pub use Rattle.rpm_print.specs.Asked.{asks_format, by_key, deed_of, format_text, needs_no_index, of_files, prints_packages}
+pub use Rattle.rpm_print.specs.Asked.{KindIs, asks_format, format_text, needs_no_index, prints_packages}
 pub use Rattle.rpm_print.specs.Classes.{IsOfPrint}
 pub use Rattle.rpm_print.specs.Closing.{closing, damage_line, fault_text, fixed_line, format_line, number_line, reason_text, rule_text}
 pub use Rattle.rpm_print.specs.Closing.{status_of, usage_line, word_told}

@@ -11,5 +11,5 @@ mod step;
 pub use answer::{Outcome, Why, status_of};
 pub use closing::put_closing;
 pub use pieces::{put_line, put_out};
-pub use reading::{Deed, by_key, deed_of, of_files, read_command};
+pub use reading::{Deed, Kind, kind_of, read_command};
 pub use step::{print_header, print_picked, put_bad, put_text};

@@ -1,7 +1,7 @@
 //! `AnswersWords` of the theorem: the command that the words ask for, and its format.
 
 ghost use Rattle.std.specs.Prelude.{◌≡◌, true, Some, Ok, IfOk, IfErr};
-ghost use Rattle.rpm_print.specs.Prelude.{ask, asks_format, by_key, deed_of, format_text, IsSound, needs_no_index, of_files, Undone};
+ghost use Rattle.rpm_print.specs.Prelude.{ask, asks_format, format_text, IsSound, KindIs, needs_no_index, Undone};
 
 use crate::answer::Why;
 use rpm_qfparse::{Format, FormatKind, parse};
@@ -35,37 +35,36 @@ pub enum Deed {
     Order,
 }
 
-/// What a command of this mode does.
-pub fn deed_of(mode: Mode) -> Deed
-    ensures { result ≡ deed_of mode }
-{
-    match mode {
-        Mode::Exportdb => Deed::Export,
-        Mode::Verifydb => Deed::Verify,
-        Mode::Checkfiles => Deed::CheckFiles,
-        Mode::Verify => Deed::Unmet,
-        Mode::Order => Deed::Order,
-        _ => Deed::Print,
-    }
+/// What kind of command a command line is: each of the four has a record of its own on the theorem's page.
+#[derive(Clone, Copy, Debug, PartialEq, Eq)]
+pub enum Kind {
+    /// It changes packages, or makes the database: `AnswersChange`.
+    Change,
+    /// It is a query of package files, which opens no database: `AnswersOfFiles`.
+    Files,
+    /// It opens the database with its index, and changes no package: a question by key, or a report on requirements.
+    /// `AnswersKeyed`.
+    Keyed(Deed),
+    /// It opens the database without its index, and changes nothing: `AnswersPlain`.
+    Plain(Deed),
 }
 
-/// Whether a command is a question by key or a report on requirements: it opens the database with its index, and
-/// changes no package.
-pub fn by_key(ask: &Ask) -> bool
-    ensures { result ≡ by_key ask.now }
+/// What kind of command a command is, and what it does with the database that it opens.
+pub fn kind_of(ask: &Ask) -> Kind
+    ensures { KindIs result ask.now }
 {
     match ask.mode() {
-        Mode::Query => !needs_no_index(ask.chosen(), ask.noindex()),
-        Mode::Verify | Mode::Order => true,
-        _ => false,
+        Mode::Query if matches!(ask.chosen(), Chosen::Package) => Kind::Files,
+        Mode::Query if needs_no_index(ask.chosen(), ask.noindex()) => Kind::Plain(Deed::Print),
+        Mode::Query => Kind::Keyed(Deed::Print),
+        Mode::Verify => Kind::Keyed(Deed::Unmet),
+        Mode::Order => Kind::Keyed(Deed::Order),
+        Mode::Exportdb => Kind::Plain(Deed::Export),
+        Mode::Verifydb => Kind::Plain(Deed::Verify),
+        Mode::Checkfiles => Kind::Plain(Deed::CheckFiles),
+        Mode::Addpkg | Mode::Replacepkg | Mode::Erasepkg => Kind::Change,
+        Mode::Initdb | Mode::Rebuilddb | Mode::Importdb | Mode::Exercise(_) => Kind::Change,
     }
-}
-
-/// Whether a command is a query of package files.
-pub fn of_files(ask: &Ask) -> bool
-    ensures { result ≡ of_files ask.now }
-{
-    matches!(ask.mode(), Mode::Query) && matches!(ask.chosen(), Chosen::Package)
 }
 
 /// The text of the format: the one that is given, that of the list, or else that of labels.

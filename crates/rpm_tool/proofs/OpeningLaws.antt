@@ -1,6 +1,6 @@
 -- A database that is opened with its index, and then asked.
 use Rattle.rpm_tool.proofs.Vocabulary.{asked_reaches, AskParts, BadIs, Bearer, blank_unpaged, CauseIs, Database, Files, has_index, HasIndex}
-use Rattle.rpm_tool.proofs.Vocabulary.{HasIndexRows, is_blank, is_indexed, IsLawful, IsOpened, kept_current, must_make, no_index_rows, packages}
+use Rattle.rpm_tool.proofs.Vocabulary.{HasIndexRows, is_blank, is_indexed, IsLawful, IsOpened, kept_current, must_make, no_index_rows}
 use Rattle.rpm_tool.proofs.Vocabulary.{Peeks, Reach, reach_sum, reached_by, room, Runs, store, unindexed, Units, Why}
 use Rattle.rpm_outside.specs.declared.disk.Disk as disk
 use Rattle.rpm_outside.specs.Frame.{LeavesIn}

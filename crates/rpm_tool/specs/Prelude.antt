@@ -5,7 +5,7 @@ pub use Rattle.rpm_pkgdb.specs.Store.{store}
 pub use Rattle.rpm_commit.specs.Endings.{unless_starved, why_of_load, why_of_recover}
 pub use Rattle.rpm_commit.specs.inner.OneChange.{Streams}
 pub use Rattle.rpm_print.specs.Answers.{Ends}
-pub use Rattle.rpm_print.specs.Asked.{always_keyed, asks, deed_of, is_changing}
+pub use Rattle.rpm_print.specs.Asked.{always_keyed, asks, deed_of}
 pub use Rattle.rpm_print.specs.Classes.{IsOfPrint, is_foreign, is_of_opening}
 pub use Rattle.rpm_print.specs.Closing.{closing, status_of}
 pub use Rattle.rpm_print.specs.Frame.{DiskFault, EndHands, IsAskable, Leaves, Looks, outs, pkg_read, shown}

@@ -1,13 +1,13 @@
 //! The top call: a command line does what its command's steps say.
 
 ghost use Rattle.std.specs.Prelude.{◌≡◌, true, false, None};
-ghost use Rattle.rpm_tool.specs.Prelude.{Answers, AnswersWords, asks, Causes, closing, DiskFault, Ends, is_changing, Laws, outs, ran, shown, status_of, Streams};
+ghost use Rattle.rpm_tool.specs.Prelude.{Answers, AnswersWords, asks, Causes, closing, DiskFault, Ends, Laws, outs, ran, shown, status_of, Streams};
 
 use crate::keyed::answer_keyed;
 use crate::loaded::answer_loaded;
-use rpm_commit::{CommandEnding, change_asked, is_changing};
+use rpm_commit::{CommandEnding, change_asked};
 use rpm_outside::{Buffered, Disk, File, Shelf, Sink};
-use rpm_print::{Outcome, Why, by_key, of_files, put_closing, read_command, status_of};
+use rpm_print::{Kind, Outcome, Why, kind_of, put_closing, read_command, status_of};
 use rpm_query::print_files;
 use rpm_words::Words;
 use std::alloc::Global;
@@ -33,17 +33,20 @@ fn command<D: Disk, S: Shelf, O: Sink + Drop, E: Sink + Drop>(
         Ok(read) => read,
         Err(why) => return (CommandEnding { why, changes: 0 }, disk),
     };
-    if is_changing(&ask) {
-        change_asked(alloc, words, &ask, disk, shelf, out, err, now)
-    } else if of_files(&ask) {
-        let why = print_files(alloc, shelf, words, &ask, &format, out, err);
-        (CommandEnding { why, changes: 0 }, disk)
-    } else if by_key(&ask) {
-        let (why, disk) = answer_keyed(alloc, disk, words, &ask, &format, out, err);
-        (CommandEnding { why, changes: 0 }, disk)
-    } else {
-        let (why, disk) = answer_loaded(alloc, disk, words, &ask, &format, out, err);
-        (CommandEnding { why, changes: 0 }, disk)
+    match kind_of(&ask) {
+        Kind::Change => change_asked(alloc, words, &ask, disk, shelf, out, err, now),
+        Kind::Files => {
+            let why = print_files(alloc, shelf, words, &ask, &format, out, err);
+            (CommandEnding { why, changes: 0 }, disk)
+        }
+        Kind::Keyed(deed) => {
+            let (why, disk) = answer_keyed(alloc, disk, words, &ask, deed, &format, out, err);
+            (CommandEnding { why, changes: 0 }, disk)
+        }
+        Kind::Plain(deed) => {
+            let (why, disk) = answer_loaded(alloc, disk, words, &ask, deed, &format, out, err);
+            (CommandEnding { why, changes: 0 }, disk)
+        }
     }
 }
 

@@ -6,7 +6,7 @@ ghost use Rattle.rpm_tool.specs.Prelude.{deed_of, DiskFault, DoesOn, EndHands, i
 use rpm_change::Halt;
 use rpm_db::Db;
 use rpm_outside::{Buffered, Disk, File, Sink};
-use rpm_print::{Deed, Why, deed_of};
+use rpm_print::{Deed, Why};
 use rpm_qfparse::Format;
 use rpm_query::{query_all, query_each};
 use rpm_report::{check_files, report, report_order, report_unmet};
@@ -38,11 +38,13 @@ pub fn answer_opened<D: Disk, O: Sink + Drop, E: Sink + Drop>(
     disk: &mut D,
     words: &Words,
     ask: &Ask,
+    deed: Deed,
     format: &Format,
     out: &mut Buffered<O>,
     err: &mut Buffered<E>,
 ) -> Why
     requires asked { IsAskable D.Disk disk.old db.now }
+    requires deed { deed ≡ deed_of ask.now.mode }
     ensures does { DoesOn D.Disk (deed_of ask.now.mode) format.now db.now words.now ask.now result
         (shown O.Sink E.Sink out.old err.old) (shown O.Sink E.Sink out.new err.new) disk.old disk.new }
     ensures done { is_foreign result ≡ false }
@@ -50,7 +52,7 @@ pub fn answer_opened<D: Disk, O: Sink + Drop, E: Sink + Drop>(
     ensures disk { DiskFault D.Disk (result ≡ Why.DiskFault) disk.old disk.new }
     ensures hands { EndHands O.Sink E.Sink result out.old err.old out.new err.new }
 {
-    match deed_of(ask.mode()) {
+    match deed {
         Deed::Print => {
             let count = ask.arguments();
             if count == 0 {

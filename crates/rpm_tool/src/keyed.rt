@@ -2,14 +2,14 @@
 //! and change no package.
 
 ghost use Rattle.std.specs.Prelude.{◌≡◌, false, IsTrue};
-ghost use Rattle.rpm_tool.specs.Prelude.{AnswersByKey, DiskFault, EndHands, is_foreign, shown};
+ghost use Rattle.rpm_tool.specs.Prelude.{AnswersByKey, deed_of, DiskFault, EndHands, is_foreign, shown};
 
 use crate::dispatch::answer_opened;
 use rpm_commit::{why_of_open, why_of_recover};
 use rpm_db::Db;
 use rpm_group::recover;
 use rpm_outside::{Buffered, Disk, File, Sink};
-use rpm_print::Why;
+use rpm_print::{Deed, Why};
 use rpm_qfparse::Format;
 use rpm_words::{Ask, Words};
 use std::alloc::Global;
@@ -23,10 +23,12 @@ pub fn answer_keyed<D: Disk, O: Sink + Drop, E: Sink + Drop>(
     disk: D,
     words: &Words,
     ask: &Ask,
+    deed: Deed,
     format: &Format,
     out: &mut Buffered<O>,
     err: &mut Buffered<E>,
 ) -> (Why, D)
+    requires deed { deed ≡ deed_of ask.now.mode }
     ensures keyed { IsTrue D.tells → AnswersByKey D.Disk format.now words.now ask.now result.0
         (shown O.Sink E.Sink out.old err.old) (shown O.Sink E.Sink out.new err.new) disk result.1 }
     ensures goes_on { D.follows disk result.1 }
@@ -38,7 +40,7 @@ pub fn answer_keyed<D: Disk, O: Sink + Drop, E: Sink + Drop>(
     match recover(&mut disk) {
         Ok(_) => match Db::open_settled(alloc, &mut disk) {
             Ok(db) => {
-                let why = answer_opened(alloc, &db, &mut disk, words, ask, format, out, err);
+                let why = answer_opened(alloc, &db, &mut disk, words, ask, deed, format, out, err);
                 (why, disk)
             }
             Err(fault) => (why_of_open(fault), disk),

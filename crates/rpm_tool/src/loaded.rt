@@ -7,7 +7,7 @@ use crate::unindexed::answer_unindexed;
 use rpm_commit::{unless_starved, why_of_load};
 use rpm_group::Overlay;
 use rpm_outside::{Buffered, Disk, File, Sink};
-use rpm_print::Why;
+use rpm_print::{Deed, Why};
 use rpm_qfparse::Format;
 use rpm_words::{Ask, Words};
 use std::alloc::Global;
@@ -18,10 +18,12 @@ pub fn answer_loaded<D: Disk, O: Sink + Drop, E: Sink + Drop>(
     disk: D,
     words: &Words,
     ask: &Ask,
+    deed: Deed,
     format: &Format,
     out: &mut Buffered<O>,
     err: &mut Buffered<E>,
 ) -> (Why, D)
+    requires deed { deed ≡ deed_of ask.now.mode }
     requires plain { always_keyed (deed_of ask.now.mode) ≡ false }
     ensures went { IsTrue D.tells → Queried format.now words.now ask.now (D.files disk) result.0
         (shown O.Sink E.Sink out.old err.old) (shown O.Sink E.Sink out.new err.new) (pkg_read D.Disk disk)
@@ -35,7 +37,7 @@ pub fn answer_loaded<D: Disk, O: Sink + Drop, E: Sink + Drop>(
     match Overlay::load(alloc, disk) {
         Ok(overlay) => {
             let mut overlay = overlay;
-            let ended = answer_unindexed(alloc, &mut overlay, words, ask, format, out, err);
+            let ended = answer_unindexed(alloc, &mut overlay, words, ask, deed, format, out, err);
             let why = unless_starved(overlay.is_starved(), ended);
             (why, overlay.release())
         }

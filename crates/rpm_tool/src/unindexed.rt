@@ -6,7 +6,7 @@ ghost use Rattle.rpm_tool.specs.Prelude.{always_keyed, deed_of, DidPlain, DiskFa
 use crate::dispatch::answer_opened;
 use rpm_db::{Db, DbOpenFault};
 use rpm_outside::{Buffered, Disk, File, Sink};
-use rpm_print::Why;
+use rpm_print::{Deed, Why};
 use rpm_qfparse::Format;
 use rpm_words::{Ask, Words};
 use std::alloc::Global;
@@ -19,10 +19,12 @@ pub fn answer_unindexed<D: Disk, O: Sink + Drop, E: Sink + Drop>(
     disk: &mut D,
     words: &Words,
     ask: &Ask,
+    deed: Deed,
     format: &Format,
     out: &mut Buffered<O>,
     err: &mut Buffered<E>,
 ) -> Why
+    requires deed { deed ≡ deed_of ask.now.mode }
     requires plain { always_keyed (deed_of ask.now.mode) ≡ false }
     ensures went { IsTrue D.tells → Opened (DidPlain format.now words.now ask.now (D.files disk.old).pkg
         (pkg_read D.Disk disk.old) (pkg_read D.Disk disk.new)) (store (D.files disk.old).pkg) result
@@ -34,7 +36,7 @@ pub fn answer_unindexed<D: Disk, O: Sink + Drop, E: Sink + Drop>(
     ensures hands { EndHands O.Sink E.Sink result out.old err.old out.new err.new }
 {
     match Db::open_unindexed(alloc, disk) {
-        Ok(db) => answer_opened(alloc, &db, disk, words, ask, format, out, err),
+        Ok(db) => answer_opened(alloc, &db, disk, words, ask, deed, format, out, err),
         Err(DbOpenFault::Damaged(damage)) => Why::Damaged(damage),
         Err(DbOpenFault::DiskFault) => Why::DiskFault,
         Err(DbOpenFault::NoMemory) => Why::NoMemory,

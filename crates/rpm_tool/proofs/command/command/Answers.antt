@@ -9,71 +9,71 @@ use Rattle.rpm_tool.proofs.command.command.Goals as goal
 
 -- ---- a change
 
-pub returns-then-is_changing-clause-words : goal.returns-then-is_changing-clause-words
-returns-then-is_changing-clause-words g c =
+pub returns-in-Change-clause-words : goal.returns-in-Change-clause-words
+returns-in-Change-clause-words g c =
     done_words c.args.words.now c.in-Ok.ensures.ok c.change_asked.result.0.why c.change_asked.ensures.keeps.of_words
 
-pub returns-then-is_changing-clause-disk : goal.returns-then-is_changing-clause-disk
-returns-then-is_changing-clause-disk g c = c.change_asked.ensures.keeps.disk
+pub returns-in-Change-clause-disk : goal.returns-in-Change-clause-disk
+returns-in-Change-clause-disk g c = c.change_asked.ensures.keeps.disk
 
-pub returns-then-is_changing-clause-streams : goal.returns-then-is_changing-clause-streams
-returns-then-is_changing-clause-streams g c =
+pub returns-in-Change-clause-streams : goal.returns-in-Change-clause-streams
+returns-in-Change-clause-streams g c =
     let said = c.change_asked.ensures.streams in
     record { unread = λ is. absurd cc; paths = said.paths; shelf = said.shelf; hands = said.hands }
 
-pub returns-then-is_changing-clause-unread : goal.returns-then-is_changing-clause-unread
-returns-then-is_changing-clause-unread g c = λ none. asked_some c.args.words.now c.in-Ok.ensures.ok none
+pub returns-in-Change-clause-unread : goal.returns-in-Change-clause-unread
+returns-in-Change-clause-unread g c = λ none. asked_some c.args.words.now c.in-Ok.ensures.ok none
 
-pub returns-then-is_changing-clause-answers : goal.returns-then-is_changing-clause-answers
-returns-then-is_changing-clause-answers g c =
+pub returns-in-Change-clause-answers : goal.returns-in-Change-clause-answers
+returns-in-Change-clause-answers g c =
     let said = c.change_asked.ensures in
-    let is = sym c.is_changing.ensures ∙ c.if-is_changing.true in
+    let is = c.in-Change.ensures in
     answered c.in-Ok.ensures.ok (λ still. let both : true ≡ false = sym is ∙ still in absurd cc) said.keeps.counted said.streams.paths said.keeps.goes_on
     (does_change is said.one said.empty said.streams.unread)
 
 -- ---- package files
 
-pub returns-then-of_files-clause-words : goal.returns-then-of_files-clause-words
-returns-then-of_files-clause-words g c = done_words c.args.words.now c.in-Ok.ensures.ok c.print_files-why.result c.print_files-why.ensures.done
+pub returns-in-Files-clause-words : goal.returns-in-Files-clause-words
+returns-in-Files-clause-words g c = done_words c.args.words.now c.in-Ok.ensures.ok c.print_files-why.result c.print_files-why.ensures.done
 
-pub returns-then-of_files-clause-disk : goal.returns-then-of_files-clause-disk
-returns-then-of_files-clause-disk g c = never_cause (g.D.Disk.faults c.args.disk) c.print_files-why.ensures.no_disk
+pub returns-in-Files-clause-disk : goal.returns-in-Files-clause-disk
+returns-in-Files-clause-disk g c = never_cause (g.D.Disk.faults c.args.disk) c.print_files-why.ensures.no_disk
 
-pub returns-then-of_files-clause-streams : goal.returns-then-of_files-clause-streams
-returns-then-of_files-clause-streams g c =
+pub returns-in-Files-clause-streams : goal.returns-in-Files-clause-streams
+returns-in-Files-clause-streams g c =
     let said = c.print_files-why.ensures in
     record { unread = λ is. absurd cc; paths = said.paths; shelf = said.shelf; hands = said.hands }
 
-pub returns-then-of_files-clause-unread : goal.returns-then-of_files-clause-unread
-returns-then-of_files-clause-unread g c = λ none. asked_some c.args.words.now c.in-Ok.ensures.ok none
+pub returns-in-Files-clause-unread : goal.returns-in-Files-clause-unread
+returns-in-Files-clause-unread g c = λ none. asked_some c.args.words.now c.in-Ok.ensures.ok none
 
-pub returns-then-of_files-clause-answers : goal.returns-then-of_files-clause-answers
-returns-then-of_files-clause-answers g c =
+pub returns-in-Files-clause-answers : goal.returns-in-Files-clause-answers
+returns-in-Files-clause-answers g c =
     let said = c.print_files-why.ensures in
     answered c.in-Ok.ensures.ok (λ still. refl) (λ not. refl) said.paths (g.met.D.Disk.follows_refl c.args.disk)
-    (does_files (sym c.of_files.ensures ∙ c.if-of_files.true) (record { went = said.went; disk_unread = refl })
+    (does_files c.in-Files.ensures.1 (record { went = said.went; disk_unread = refl })
     (leaves_none g.D.Disk g.met.D.Disk.follows_refl))
 
 -- ---- by key
 
-pub returns-then-by_key-clause-words : goal.returns-then-by_key-clause-words
-returns-then-by_key-clause-words g c =
+pub returns-in-Keyed-clause-words : goal.returns-in-Keyed-clause-words
+returns-in-Keyed-clause-words g c =
     done_words c.args.words.now c.in-Ok.ensures.ok c.answer_keyed-why.result.0 (unforeign c.answer_keyed-why.result.0 c.answer_keyed-why.ensures.done)
 
-pub returns-then-by_key-clause-disk : goal.returns-then-by_key-clause-disk
-returns-then-by_key-clause-disk g c = c.answer_keyed-why.ensures.disk
+pub returns-in-Keyed-clause-disk : goal.returns-in-Keyed-clause-disk
+returns-in-Keyed-clause-disk g c = c.answer_keyed-why.ensures.disk
 
-pub returns-then-by_key-clause-streams : goal.returns-then-by_key-clause-streams
-returns-then-by_key-clause-streams g c = asked_streams c.answer_keyed-why.ensures.done c.answer_keyed-why.ensures.hands
+pub returns-in-Keyed-clause-streams : goal.returns-in-Keyed-clause-streams
+returns-in-Keyed-clause-streams g c = asked_streams c.answer_keyed-why.ensures.done c.answer_keyed-why.ensures.hands
 
-pub returns-then-by_key-clause-unread : goal.returns-then-by_key-clause-unread
-returns-then-by_key-clause-unread g c = λ none. asked_some c.args.words.now c.in-Ok.ensures.ok none
+pub returns-in-Keyed-clause-unread : goal.returns-in-Keyed-clause-unread
+returns-in-Keyed-clause-unread g c = λ none. asked_some c.args.words.now c.in-Ok.ensures.ok none
 
-pub returns-then-by_key-clause-answers : goal.returns-then-by_key-clause-answers
-returns-then-by_key-clause-answers g c =
+pub returns-in-Keyed-clause-answers : goal.returns-in-Keyed-clause-answers
+returns-in-Keyed-clause-answers g c =
     let said = c.answer_keyed-why.ensures in
     answered c.in-Ok.ensures.ok (λ still. refl) (λ not. refl) (λ told. refl) said.goes_on
-    (does_keyed (sym c.by_key.ensures ∙ c.if-by_key.true) said.keyed refl)
+    (does_keyed c.in-Keyed.ensures.2 said.keyed refl)
 
 -- ---- without the index
 
@@ -94,7 +94,7 @@ pub returns-clause-answers : goal.returns-clause-answers
 returns-clause-answers g c =
     let said = c.answer_loaded-why.ensures in
     answered c.in-Ok.ensures.ok (λ still. refl) (λ not. refl) (λ told. refl) said.looks.goes_on
-    (does_plain (sym c.of_files.ensures ∙ c.if-of_files.false) (sym c.by_key.ensures ∙ c.if-by_key.false) (sym c.is_changing.ensures ∙ c.if-is_changing.false)
+    (does_plain c.in-Plain.ensures.1 c.in-Plain.ensures.2 c.in-Plain.ensures.0
     (λ told. record { went = said.went told; reads = said.reads told }) said.looks refl)
 
 -- ---- nothing that could be read

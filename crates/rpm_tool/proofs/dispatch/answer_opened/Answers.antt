@@ -22,7 +22,7 @@ returns-then-count-eq0-clause-does g c =
     let none : length a.arguments ≡ 0 = sym c.arguments-count.ensures ∙ c.if-count-eq0.true in
     let reaches = reaches_none (argument_reach (is_indexed c.args.db.now) all a.chosen) f a.arguments none in
     let said = c.query_all.ensures in
-    rw (← c.mode.ensures, ← c.deed_of.ensures, c.in-Print.is) (record {
+    rw (← c.requires.deed, c.in-Print.is) (record {
       went = λ told rows. rw (query_none c.args.format.now all a.chosen a.after f a.arguments none, reaches) (rw c.after.ensures at (said.went told rows));
       reads = λ keyed told rows. rw reaches (omega (arith, said.looks.reads.pkg));
       bad = λ told. chains_none a.chosen (map f a.arguments) (g.D.Disk.files c.args.disk.now).idx c.query_all.result said.unbroken;
@@ -37,7 +37,7 @@ returns-else-count-eq0-clause-does g c =
     let some = λ (none : length a.arguments ≡ 0). c.if-count-eq0.false (c.arguments-count.ensures ∙ none) in
     let reaches = reaches_some (argument_reach (is_indexed c.args.db.now) all a.chosen) f a.arguments some in
     let said = c.query_each.ensures in
-    rw (← c.mode.ensures, ← c.deed_of.ensures, c.in-Print.is) (record {
+    rw (← c.requires.deed, c.in-Print.is) (record {
       went = λ told rows. rw (query_some c.args.format.now all a.chosen a.after f a.arguments some, reaches) (said.went told rows);
       reads = λ keyed told rows. rw reaches (said.reads told rows);
       bad = said.bad_index;
@@ -49,7 +49,7 @@ returns-else-count-eq0-clause-does g c =
 pub returns-in-Export-clause-does : goal.returns-in-Export-clause-does
 returns-in-Export-clause-does g c =
     let said = c.query_all-in-Export.ensures in
-    rw (← c.mode.ensures, ← c.deed_of.ensures, c.in-Export.is) (record {
+    rw (← c.requires.deed, c.in-Export.is) (record {
       went = said.went;
       reads = λ keyed told rows. omega (arith, said.looks.reads.pkg);
       bad = λ told. some_none (g.D.Disk.files c.args.disk.now).idx c.query_all-in-Export.result said.unbroken;
@@ -61,7 +61,7 @@ returns-in-Verify-clause-does g c =
     let said = c.report.ensures in
     let e = g.E.Sink.taken (inner c.args.err.now) in
     let files = g.D.Disk.files c.args.disk.now in
-    rw (← c.mode.ensures, ← c.deed_of.ensures, c.in-Verify.is) (record {
+    rw (← c.requires.deed, c.in-Verify.is) (record {
       went = λ told rows. said.went told g.E.Sink.tells e;
       reads = λ keyed told rows. omega (arith, said.looks.reads.pkg);
       bad = λ told. some_went (verify files.pkg (room c.args.db.now)) (outputs g.O.Sink.tells (g.O.Sink.taken (inner c.args.out.now)) g.E.Sink.tells e)
@@ -74,7 +74,7 @@ returns-in-Verify-clause-does g c =
 pub returns-in-CheckFiles-clause-does : goal.returns-in-CheckFiles-clause-does
 returns-in-CheckFiles-clause-does g c =
     let said = c.check_files.ensures in
-    rw (← c.mode.ensures, ← c.deed_of.ensures, c.in-CheckFiles.is) (record {
+    rw (← c.requires.deed, c.in-CheckFiles.is) (record {
       went = λ told rows. said.went told;
       reads = λ keyed told rows. omega (arith, said.looks.reads.pkg);
       bad = λ told. some_went (check_files (packages_in g.D.Disk c.args.disk.now c.args.db.now))
@@ -92,7 +92,7 @@ returns-in-Unmet-clause-does g c =
     let said = c.report_unmet.ensures in
     let old = shown g.O.Sink g.E.Sink c.args.out.now c.args.err.now in
     let new = shown g.O.Sink g.E.Sink c.report_unmet.new.out c.report_unmet.new.err in
-    rw (← c.mode.ensures, ← c.deed_of.ensures, c.in-Unmet.is, c.why_of_report.ensures.value) (record {
+    rw (← c.requires.deed, c.in-Unmet.is, c.why_of_report.ensures.value) (record {
       went = λ told rows. went_report (unsatisfied_part (packages_in g.D.Disk c.args.disk.now c.args.db.now)) told' old new Anywhere (said.went told rows);
       reads = λ keyed told rows. absurd {A = pkg_read g.D.Disk c.report_unmet.new.disk ≤ pkg_read g.D.Disk c.args.disk.now
           + reach_sum (Everything ∷ []) c.args.db.now} cc;
@@ -107,7 +107,7 @@ returns-in-Order-clause-does g c =
     let all = packages_in g.D.Disk c.args.disk.now c.args.db.now in
     let old = shown g.O.Sink g.E.Sink c.args.out.now c.args.err.now in
     let new = shown g.O.Sink g.E.Sink c.report_order.new.out c.report_order.new.err in
-    rw (← c.mode.ensures, ← c.deed_of.ensures, c.in-Order.is, c.why_of_report-in-Order.ensures.value) (record {
+    rw (← c.requires.deed, c.in-Order.is, c.why_of_report-in-Order.ensures.value) (record {
       went = λ told rows.
           let part = said.went told rows in (
             part.0,

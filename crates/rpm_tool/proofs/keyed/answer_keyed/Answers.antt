@@ -19,6 +19,7 @@ answer_opened-why-requires g c =
         keeps_index = λ told. (opened.opened told).keeps.1;
         going = opened.served.fresh.going;
       };
+      deed = c.requires.deed;
     }
 
 pub returns-in-Ok-open_settled-clause-keyed : goal.returns-in-Ok-open_settled-clause-keyed

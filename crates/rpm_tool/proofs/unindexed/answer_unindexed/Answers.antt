@@ -22,6 +22,7 @@ answer_opened-requires g c =
         keeps_index = λ told. keeps_none (g.D.Disk.files c.open_unindexed.new.disk).idx c.in-Ok.db.index opened.unindexed;
         going = opened.runs;
       };
+      deed = c.requires.deed;
     }
 
 pub returns-in-Ok-clause-went : goal.returns-in-Ok-clause-went
