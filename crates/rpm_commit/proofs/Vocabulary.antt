@@ -24,7 +24,7 @@ pub use Rattle.rpm_commit.specs.Limits.{begun, command_limit, LimitsBy, LogIs, L
 pub use Rattle.rpm_commit.specs.Tasks.{asked_task, changes_index, is_anew, needs_none, reads_shelf, task_course, task_parts, TaskParts}
 pub use Rattle.rpm_commit.specs.Working.{done_why, ended_as, EndsGroup, exercise_ended, IsShut, OpensBy, OpensIn, Stopped, why_of, WorkedBy, WorkedOn}
 pub use Rattle.rpm_commit.specs.Working.{WorkedWith}
-pub use Rattle.rpm_commit.specs.inner.OneChange.{FoundAs, OpensOn, Streams, WorksOn}
+pub use Rattle.rpm_commit.specs.OneChange.{FoundAs, OpensOn, Streams, WorksOn}
 pub use Rattle.rpm_db.specs.Changes.{apply, Change, Says}
 pub use Rattle.rpm_db.specs.Database.{Database, holds, IsIndexed, IsNext, IsPaged, Keeps}
 pub use Rattle.rpm_db.specs.Frame.{room}

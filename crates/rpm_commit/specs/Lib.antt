@@ -2,6 +2,7 @@ pub mod Changing
 pub mod Endings
 pub mod Lawful
 pub mod Limits
+pub mod OneChange
 pub mod Tasks
 pub mod Working
 pub mod inner

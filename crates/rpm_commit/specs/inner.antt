@@ -3,7 +3,6 @@ pub mod Brokens
 pub mod ByEnding
 pub mod Emptied
 pub mod Limited
-pub mod OneChange
 pub mod Outcomes
 pub mod Regrouped
 pub mod Standing

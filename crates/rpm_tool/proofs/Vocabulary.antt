@@ -7,7 +7,7 @@ pub use Rattle.rpm_commit.specs.Endings.{unless_starved, why_of_recover}
 pub use Rattle.rpm_commit.specs.Lawful.{AreLawfulGroups, IsLawfulGroup, StandsStill}
 pub use Rattle.rpm_commit.specs.Limits.{OneChange}
 pub use Rattle.rpm_commit.specs.Tasks.{asked_course, asked_task, needs_none, reads_shelf, task_course}
-pub use Rattle.rpm_commit.specs.inner.OneChange.{Streams}
+pub use Rattle.rpm_commit.specs.OneChange.{Streams}
 pub use Rattle.rpm_db.specs.Database.{Database, is_blank, is_indexed, unindexed}
 pub use Rattle.rpm_db.specs.Frame.{room}
 pub use Rattle.rpm_db.specs.Lawful.{AreLawful, IsLawful, IsLawfulStill, Remade}

@@ -3,7 +3,7 @@ pub use Rattle.rpm_outside.specs.Logs.{reopened}
 pub use Rattle.rpm_outside.specs.declared.disk.File.TheVariants.{Pkg}
 pub use Rattle.rpm_pkgdb.specs.Store.{store}
 pub use Rattle.rpm_commit.specs.Endings.{unless_starved, why_of_load, why_of_recover}
-pub use Rattle.rpm_commit.specs.inner.OneChange.{Streams}
+pub use Rattle.rpm_commit.specs.OneChange.{Streams}
 pub use Rattle.rpm_print.specs.Answers.{Ends}
 pub use Rattle.rpm_print.specs.Asked.{always_keyed, asks, deed_of}
 pub use Rattle.rpm_print.specs.Classes.{IsOfPrint, is_foreign, is_of_opening}

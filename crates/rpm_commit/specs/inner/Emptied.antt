@@ -12,7 +12,7 @@ use Rattle.rpm_outside.specs.Files.{Files, Units}
 use Rattle.rpm_pkgdb.specs.declared.slot.Damage.{Damage}
 use Rattle.rpm_commit.specs.Changing.{EmptyBy, EmptyIs, EmptyOn}
 use Rattle.rpm_commit.specs.Working.{done_why, EndsAs, OpensBy, OpensIn, why_of, why_of_exercise}
-use Rattle.rpm_commit.specs.inner.OneChange.{FoundAs}
+use Rattle.rpm_commit.specs.OneChange.{FoundAs}
 use Rattle.rpm_db.specs.Frame.{room}
 use Rattle.rpm_db.specs.Openings.{must_make, units_needed}
 use Rattle.rpm_db.specs.PackageLaws.{is_there}
