@@ -17,7 +17,7 @@ HANDLE = re.compile(r"(\d+)<([^>]*)>")
 TEXT = re.compile(r'"([^"]*)"')
 # Calls that leave the database's files as they are. One that stands in neither list ends the script: nobody knows what it would do.
 LOOKS = {"read", "pread64", "lseek", "close", "statx", "newfstatat", "fstat", "stat", "access", "faccessat2", "readlink", "readlinkat", "getcwd",
-         "execve", "mmap", "fcntl", "ioctl", "exit_group", "dup", "dup2", "poll"}
+         "execve", "mmap", "fcntl", "flock", "ioctl", "exit_group", "dup", "dup2", "poll"}
 CHANGES = {"openat", "mkdir", "pwrite64", "write", "ftruncate", "fsync", "fdatasync"}
 LOG = "Hlog.db"
 # Files and folders whose syncs count as none: to see that the images show a program that forgets one.

@@ -1,25 +1,34 @@
 //! The folder of the database's files, and the names in it.
 
+use crate::lock::{Beside, take_lock};
 use rpm_outside::Failed;
 use std::alloc::{AllocError, Global};
 use std::fs::OpenFile;
 use std::io::ErrorKind;
 use std::path::Path;
-use std::rt::Files;
+use std::rt::{Clock, Files};
 use std::{fs, io};
 
-/// A folder, and whether the names in it last.
+/// A folder, and whether the names in it are durable.
 #[derive(Drop)]
 pub struct Folder {
-    alloc: Global,
     path: String,
-    // A file was made in it.
+    // A name of the same folder that nothing but a folder has, so that no pipe is opened by it.
+    inside: String,
+    // The folder is open, where it is there and this process may read it.
+    handle: Option<fs::File>,
+    // The folder and those above it were made, or were there.
+    is_made: bool,
+    // A file was made in the folder, and the folder wasn't synced since.
     is_changed: bool,
-    // It was synced, and no file was made in it since.
+    // The folder was synced, and no file was made in it since.
     is_settled: bool,
 }
 
-/// Syncs a folder: the names in it last.
+/// The files by which other kinds of rpm's database are known.
+const OTHERS: [&str; 2] = ["rpmdb.sqlite", "Packages"];
+
+/// Makes the names in a folder durable.
 fn sync_names<R: Files<File = fs::File>>(rt: &R, path: &str) -> io::Result<()> {
     fs::open(rt, path)?.sync_all()
 }
@@ -40,8 +49,8 @@ fn is_folder<R: Files<File = fs::File>>(rt: &R, path: &str) -> bool {
     }
 }
 
-/// Makes a folder in one that is there, and its name last. One that is there may have been made by a process that was
-/// stopped before its name lasted, so the folder above it is synced as well, if that can be.
+/// Makes a folder in one that is there, and its name durable. One that is there may have been made by a process that
+/// was killed before its name was durable, so the folder above it is synced as well, if that can be.
 fn make_one<R: Files<File = fs::File>>(rt: &R, path: &str) -> Result<(), Failed> {
     let is_made = rt.create_dir(path).is_ok();
     if !is_made && !is_folder(rt, path) {
@@ -55,16 +64,65 @@ fn make_one<R: Files<File = fs::File>>(rt: &R, path: &str) -> Result<(), Failed>
 
 impl Folder {
     pub fn new(alloc: Global, path: &str) -> Result<Folder, AllocError> {
+        let inside = if path.is_empty() {
+            String::new(alloc)
+        } else {
+            format!(in alloc; "{path}/.")?
+        };
         Ok(Folder {
-            alloc,
             path: String::from_str(alloc, path)?,
+            inside,
+            handle: None,
+            is_made: false,
             is_changed: false,
             is_settled: false,
         })
     }
 
-    /// Makes the folder where it isn't there, and those above it, for a file that is made in it.
-    pub fn make<R: Files<File = fs::File>>(&mut self, rt: &R) -> Result<(), Failed> {
+    /// Opens the folder, where this process may read it, and answers whether it is there.
+    pub fn open<R: Files<File = fs::File>>(&mut self, rt: &R) -> bool {
+        match fs::open(rt, self.inside.as_str()) {
+            Ok(handle) => {
+                self.handle = Some(handle);
+                true
+            }
+            Err(error) => !matches!(error.kind(), ErrorKind::NotFound | ErrorKind::NotADirectory),
+        }
+    }
+
+    /// The file in it by which another kind of database is known.
+    pub fn other_database<R: Files<File = fs::File>>(
+        &self,
+        rt: &R,
+        alloc: Global,
+    ) -> Result<Option<&'static str>, AllocError> {
+        let folder = self.path.as_str();
+        for name in OTHERS {
+            let path = format!(in alloc; "{folder}/{name}")?;
+            if rt.symlink_metadata(path.as_str()).is_ok() {
+                return Ok(Some(name));
+            }
+        }
+        Ok(None)
+    }
+
+    /// Takes the folder's lock. Who may not read the folder goes without.
+    pub fn hold<R: Clock>(&self, rt: &R, beside: Beside) -> Result<(), Failed> {
+        match &self.handle {
+            Some(handle) => take_lock(rt, handle, beside),
+            None => Ok(()),
+        }
+    }
+
+    /// Gives that lock back, by closing the folder. A folder whose names aren't durable yet is kept.
+    pub fn release(&mut self) {
+        if !self.is_changed {
+            self.handle = None;
+        }
+    }
+
+    /// Makes the folder where it isn't there, and those above it.
+    fn make_all<R: Files<File = fs::File>>(&mut self, rt: &R) -> Result<(), Failed> {
         let path = self.path.as_str();
         for end in 1..path.len() {
             if let Some((part, rest)) = path.split_at_checked(end)
@@ -74,45 +132,42 @@ impl Folder {
             }
         }
         make_one(rt, path)?;
+        if self.handle.is_none() {
+            let Ok(handle) = fs::open(rt, self.inside.as_str()) else {
+                return Err(Failed);
+            };
+            self.handle = Some(handle);
+        }
+        self.is_made = true;
+        Ok(())
+    }
+
+    /// Makes the folder ready for a file that is made in it: who can't sync its names makes none.
+    pub fn make<R: Files<File = fs::File>>(&mut self, rt: &R) -> Result<(), Failed> {
+        if !self.is_made {
+            self.make_all(rt)?;
+        }
         self.is_changed = true;
         self.is_settled = false;
         Ok(())
     }
 
-    /// Makes the names in a folder last: this one, or one that a symbolic link leads to. Who may not read it, and
-    /// made no file, goes without.
-    fn keep_names<R: Files<File = fs::File>>(&self, rt: &R, path: &str) -> Result<(), Failed> {
-        match sync_names(rt, path) {
-            Ok(()) => Ok(()),
-            Err(error) if !self.is_changed && error.kind() == ErrorKind::PermissionDenied => Ok(()),
-            Err(_) => Err(Failed),
-        }
-    }
-
-    /// Makes the names in the folder last. That is done once, and again where a file was made since.
-    pub fn settle<R: Files<File = fs::File>>(&mut self, rt: &R) -> Result<(), Failed> {
+    /// Makes the names in the folder durable. That is done once, and again where a file was made since. Who may not
+    /// read the folder, and made no file, goes without.
+    pub fn settle(&mut self) -> Result<(), Failed> {
         if self.is_settled {
             return Ok(());
         }
-        self.keep_names(rt, self.path.as_str())?;
+        match &self.handle {
+            Some(handle) => match handle.sync_all() {
+                Ok(()) => {}
+                Err(_) => return Err(Failed),
+            },
+            None if self.is_changed => return Err(Failed),
+            None => {}
+        }
+        self.is_changed = false;
         self.is_settled = true;
         Ok(())
-    }
-
-    /// Makes the name last of the file that a path leads to, where the path is a symbolic link.
-    pub fn settle_target<R: Files<File = fs::File>>(
-        &self,
-        rt: &R,
-        path: &str,
-    ) -> Result<(), Failed> {
-        match rt.symlink_metadata(path) {
-            Ok(metadata) if !metadata.is_symlink() => return Ok(()),
-            Ok(_) => {}
-            Err(_) => return Err(Failed),
-        }
-        match rt.canonicalize(self.alloc, path) {
-            Ok(target) => self.keep_names(rt, above(target.as_str())),
-            Err(_) => Err(Failed),
-        }
     }
 }

@@ -1,21 +1,23 @@
 //! A disk over the files of a folder.
 
-ghost use Rattle.std.specs.Prelude.{false, [], is_err};
+ghost use Rattle.std.specs.Prelude.{◌≡◌, false, [], is_err};
 ghost use Rattle.rpm_outside.specs.Causes.{HasCause};
 ghost use Rattle.rpm_real.specs.Counts.{Counted};
 
-use crate::folder::Folder;
+use crate::door::Door;
+use crate::obstacle::Obstacle;
+use crate::purpose::Purpose;
 use crate::real_file::RealFile;
 use rpm_outside::{Disk, Failed, File};
 use std::alloc::{AllocError, Global};
 use std::fs;
-use std::rt::Files;
+use std::rt::{Clock, Files};
 
 /// The files `Packages.db`, `Hindex.db` and `Hlog.db` of a folder. What they hold isn't told.
 #[derive(Drop)]
-pub struct RealDisk<'a, R: Files<File = fs::File>> {
+pub struct RealDisk<'a, R: Files<File = fs::File> + Clock> {
     rt: &'a R,
-    folder: Folder,
+    door: Door,
     pkg: RealFile,
     idx: RealFile,
     log: RealFile,
@@ -23,23 +25,58 @@ pub struct RealDisk<'a, R: Files<File = fs::File>> {
     faults: u64,
 }
 
-impl<'a, R: Files<File = fs::File>> RealDisk<'a, R> {
-    /// The disk of a folder, of which no file is opened yet. It needs not be there: the first write makes it. Where
-    /// its name is empty, each call fails.
+impl<'a, R: Files<File = fs::File> + Clock> RealDisk<'a, R> {
+    /// The disk of a folder, of which no file is opened yet. For a change it needs not be there: the first write makes
+    /// it. Where its name is empty, each call fails.
     ///
     /// # Errors
     ///
     /// `AllocError` where the paths find no memory.
-    pub fn new(alloc: Global, rt: &'a R, folder: &str) -> Result<RealDisk<'a, R>, AllocError> {
+    pub fn new(
+        alloc: Global,
+        rt: &'a R,
+        folder: &str,
+        purpose: Purpose,
+    ) -> Result<RealDisk<'a, R>, AllocError> {
         Ok(RealDisk {
             rt,
-            folder: Folder::new(alloc, folder)?,
-            pkg: RealFile::new(alloc, folder, "Packages.db")?,
-            idx: RealFile::new(alloc, folder, "Hindex.db")?,
-            log: RealFile::new(alloc, folder, "Hlog.db")?,
+            door: Door::new(alloc, folder, purpose)?,
+            pkg: RealFile::new(alloc, folder, "Packages.db", purpose)?,
+            idx: RealFile::new(alloc, folder, "Hindex.db", purpose)?,
+            log: RealFile::new(alloc, folder, "Hlog.db", purpose)?,
             moment: 0,
             faults: 0,
         })
+    }
+
+    /// What stood in the way of a call that failed, where it is known.
+    pub fn obstacle(&self) -> Option<Obstacle> {
+        self.door
+            .obstacle()
+            .or(self.pkg.obstacle())
+            .or(self.idx.obstacle())
+            .or(self.log.obstacle())
+    }
+}
+
+/// How many units of the index say what it is. A question that reads on has found it current.
+const INDEX_HEAD: u64 = 2;
+
+impl<'a, R: Files<File = fs::File> + Clock> RealDisk<'a, R> {
+    /// Before a write: of the index alone, or of all files.
+    fn start_writing(&mut self, file: File) -> Result<(), Failed>
+        ensures pkg { self.new.pkg.read ≡ self.old.pkg.read }
+        ensures idx { self.new.idx.read ≡ self.old.idx.read }
+        ensures log { self.new.log.read ≡ self.old.log.read }
+        ensures moment { self.new.moment ≡ self.old.moment }
+        ensures faults { self.new.faults ≡ self.old.faults }
+    {
+        self.door.enter(self.rt, &mut self.pkg)?;
+        if file == File::Idx {
+            return self.door.start_writing(self.rt);
+        }
+        self.door
+            .make_ready(self.rt, &mut self.pkg, &mut self.idx, &mut self.log)
     }
 }
 
@@ -54,7 +91,7 @@ fn counted<T: Copy>(faults: &mut u64, answer: Result<T, Failed>) -> Result<T, Fa
     answer
 }
 
-impl<'a, R: Files<File = fs::File>> Disk for RealDisk<'a, R> {
+impl<'a, R: Files<File = fs::File> + Clock> Disk for RealDisk<'a, R> {
     ghost use Rattle.rpm_real.specs.Counts.{count_of};
 
     ghost tells = { false };
@@ -82,39 +119,48 @@ impl<'a, R: Files<File = fs::File>> Disk for RealDisk<'a, R> {
     ghost follows_trans = { λ a b c f g. tt };
 
     fn len(&mut self, file: File) -> Result<u64, Failed> {
+        let entered = self.door.enter(self.rt, &mut self.pkg);
         let answer = match file {
-            File::Pkg => self.pkg.units(self.rt),
-            File::Idx => self.idx.units(self.rt),
-            File::Log => self.log.units(self.rt),
+            File::Pkg => self.pkg.units(self.rt, entered),
+            File::Idx => self.idx.units(self.rt, entered),
+            File::Log => self.log.units(self.rt, entered),
         };
         counted(&mut self.faults, answer)
     }
 
     fn read_at(&mut self, file: File, unit: u64, into: &mut [u8]) -> Result<(), Failed> {
+        let entered = self.door.enter(self.rt, &mut self.pkg);
+        if file == File::Idx && unit >= INDEX_HEAD {
+            self.door.leave_writing();
+        }
         let answer = match file {
-            File::Pkg => self.pkg.read_at(self.rt, unit, into),
-            File::Idx => self.idx.read_at(self.rt, unit, into),
-            File::Log => self.log.read_at(self.rt, unit, into),
+            File::Pkg => self.pkg.read_at(self.rt, entered, unit, into),
+            File::Idx => self.idx.read_at(self.rt, entered, unit, into),
+            File::Log => self.log.read_at(self.rt, entered, unit, into),
         };
         counted(&mut self.faults, answer)
     }
 
     fn write_at(&mut self, file: File, unit: u64, bytes: &[u8]) -> Result<(), Failed> {
         self.moment = self.moment.saturating_add(1);
+        let entered = self.start_writing(file);
+        let folder = &mut self.door.folder;
         let answer = match file {
-            File::Pkg => self.pkg.write_at(self.rt, &mut self.folder, unit, bytes),
-            File::Idx => self.idx.write_at(self.rt, &mut self.folder, unit, bytes),
-            File::Log => self.log.write_at(self.rt, &mut self.folder, unit, bytes),
+            File::Pkg => self.pkg.write_at(self.rt, entered, folder, unit, bytes),
+            File::Idx => self.idx.write_at(self.rt, entered, folder, unit, bytes),
+            File::Log => self.log.write_at(self.rt, entered, folder, unit, bytes),
         };
         counted(&mut self.faults, answer)
     }
 
     fn sync(&mut self, file: File) -> Result<(), Failed> {
         self.moment = self.moment.saturating_add(1);
+        let entered = self.door.enter(self.rt, &mut self.pkg);
+        let folder = &mut self.door.folder;
         let answer = match file {
-            File::Pkg => self.pkg.sync(self.rt, &mut self.folder),
-            File::Idx => self.idx.sync(self.rt, &mut self.folder),
-            File::Log => self.log.sync(self.rt, &mut self.folder),
+            File::Pkg => self.pkg.sync(self.rt, entered, folder),
+            File::Idx => self.idx.sync(self.rt, entered, folder),
+            File::Log => self.log.sync(self.rt, entered, folder),
         };
         counted(&mut self.faults, answer)
     }

@@ -3,153 +3,79 @@
 ghost use Rattle.std.specs.Prelude.{◌≡◌, ◌<◌, ◌≤◌, ◌+◌, ◌-◌, ◌^◌, min, length};
 
 use crate::folder::Folder;
+use crate::obstacle::Obstacle;
+use crate::place::{Identity, cut_tail, fill};
+use crate::purpose::Purpose;
 use rpm_outside::Failed;
 use std::alloc::{AllocError, Global};
 use std::fs;
-use std::fs::{OpenFile, OpenOptions};
-use std::io::{ErrorKind, Seek, SeekFrom};
+use std::io::{Seek, SeekFrom};
 use std::os::unix::fs::FileExt;
 use std::rt::Files;
+
+mod opening;
+mod refusing;
 
 /// A file that is opened when it is first used, and made only by a write.
 #[derive(Drop)]
 pub struct RealFile {
+    name: &'static str,
     // Of a folder without a name it is empty, and no file is looked for.
     path: String,
+    purpose: Purpose,
     file: Option<fs::File>,
     can_write: bool,
-    // It was looked for, and wasn't there.
+    // The file was looked for, and wasn't there.
     is_absent: bool,
-    // How many whole units it has, where that was asked and nothing was written since.
+    // Which file the name leads to, where it is no symbolic link.
+    identity: Option<Identity>,
+    obstacle: Option<Obstacle>,
+    // How many whole units the file has, where that was asked and nothing was written since.
     units: Option<u64>,
-    // It was seen to end with a whole unit, and no write of it failed since.
+    // The file was seen to end with a whole unit, and no write of it failed since.
     is_whole: bool,
-    // Its name was made to last.
-    is_named: bool,
     pub read: u64,
 }
 
 // No file has more units than that: the place of each in bytes is one that the system knows.
 const UNITS: u64 = 1 << 58;
 
-/// Fills `into` from a byte on, where one read didn't.
-#[cold]
-#[inline(never)]
-fn fill_again(file: &fs::File, offset: u64, into: &mut [u8]) -> Result<(), Failed> {
-    match file.read_exact_at(into, offset) {
-        Ok(()) => Ok(()),
-        Err(_) => Err(Failed),
-    }
-}
-
-/// Fills `into` from a byte on. One read does, unless a signal or the file's end cuts it short.
-fn fill(file: &fs::File, offset: u64, into: &mut [u8]) -> Result<(), Failed> {
-    match file.read_at(into, offset) {
-        Ok(count) if count == into.len() => Ok(()),
-        _ => fill_again(file, offset, into),
-    }
-}
-
-/// Cuts off the bytes after the last whole unit. Nobody sees them; a write after them would show them in place of
-/// zeros. The cut lasts before anything is written, since a crash could keep the write and lose the cut.
-fn cut_tail(file: &mut fs::File) -> Result<(), Failed> {
-    let Ok(end) = file.seek(SeekFrom::End(0)) else {
-        return Err(Failed);
-    };
-    if end % 16 == 0 {
-        return Ok(());
-    }
-    if file.set_len(end - end % 16).is_err() || file.sync_all().is_err() {
-        return Err(Failed);
-    }
-    Ok(())
-}
-
 impl RealFile {
-    pub fn new(alloc: Global, folder: &str, name: &str) -> Result<RealFile, AllocError> {
+    pub fn new(
+        alloc: Global,
+        folder: &str,
+        name: &'static str,
+        purpose: Purpose,
+    ) -> Result<RealFile, AllocError> {
         let path = if folder.is_empty() {
             String::new(alloc)
         } else {
             format!(in alloc; "{folder}/{name}")?
         };
         Ok(RealFile {
+            name,
             path,
+            purpose,
             file: None,
             can_write: false,
             is_absent: false,
+            identity: None,
+            obstacle: None,
             units: None,
             is_whole: false,
-            is_named: false,
             read: 0,
         })
     }
 
-    /// Looks for the file, which isn't open, and opens it for reading, if it is there. One that isn't there is looked
-    /// for once.
-    #[cold]
-    #[inline(never)]
-    fn look<R: Files<File = fs::File>>(&mut self, rt: &R) -> Result<(), Failed>
-        ensures { self.new.read ≡ self.old.read }
-    {
-        if self.is_absent {
-            return Ok(());
-        }
-        if self.path.is_empty() {
-            return Err(Failed);
-        }
-        match fs::open(rt, self.path.as_str()) {
-            Ok(file) => {
-                self.file = Some(file);
-                Ok(())
-            }
-            Err(error) if error.kind() == ErrorKind::NotFound => {
-                self.is_absent = true;
-                Ok(())
-            }
-            Err(_) => Err(Failed),
-        }
-    }
-
-    /// Opens the file for reading, if it is there.
-    fn open_to_read<R: Files<File = fs::File>>(&mut self, rt: &R) -> Result<(), Failed>
-        ensures { self.new.read ≡ self.old.read }
-    {
-        if self.file.is_some() {
-            return Ok(());
-        }
-        self.look(rt)
-    }
-
-    /// Opens the file for reading and writing. Where it isn't there, it is made, with its folder.
-    fn open_to_write<R: Files<File = fs::File>>(
+    /// The number of its whole units: none where it isn't there. The system is asked once between two writes.
+    pub fn units<R: Files<File = fs::File>>(
         &mut self,
         rt: &R,
-        folder: &mut Folder,
-    ) -> Result<(), Failed>
+        entered: Result<(), Failed>,
+    ) -> Result<u64, Failed>
         ensures { self.new.read ≡ self.old.read }
     {
-        if self.can_write {
-            return Ok(());
-        }
-        self.open_to_read(rt)?;
-        if self.file.is_none() {
-            folder.make(rt)?;
-        }
-        let mut how = OpenOptions::new();
-        how.read(true).write(true).create(true);
-        let Ok(file) = how.open(rt, self.path.as_str()) else {
-            return Err(Failed);
-        };
-        self.file = Some(file);
-        self.can_write = true;
-        self.is_absent = false;
-        Ok(())
-    }
-
-    /// The number of its whole units: none where it isn't there. The system is asked once between two writes.
-    pub fn units<R: Files<File = fs::File>>(&mut self, rt: &R) -> Result<u64, Failed>
-        ensures { self.new.read ≡ self.old.read }
-    {
+        entered?;
         if let Some(units) = self.units {
             return Ok(units);
         }
@@ -172,6 +98,7 @@ impl RealFile {
     pub fn read_at<R: Files<File = fs::File>>(
         &mut self,
         rt: &R,
+        entered: Result<(), Failed>,
         unit: u64,
         into: &mut [u8],
     ) -> Result<(), Failed>
@@ -179,6 +106,7 @@ impl RealFile {
         ensures later { self.old.read ≤ self.new.read }
     {
         self.read = self.read.saturating_add(into.len() as u64);
+        entered?;
         self.open_to_read(rt)?;
         match &self.file {
             Some(file) if unit < UNITS => fill(file, 16 * unit, into),
@@ -208,12 +136,14 @@ impl RealFile {
     pub fn write_at<R: Files<File = fs::File>>(
         &mut self,
         rt: &R,
+        entered: Result<(), Failed>,
         folder: &mut Folder,
         unit: u64,
         bytes: &[u8],
     ) -> Result<(), Failed>
         ensures { self.new.read ≡ self.old.read }
     {
+        entered?;
         if unit >= UNITS {
             return Err(Failed);
         }
@@ -222,15 +152,17 @@ impl RealFile {
         self.put(unit, bytes)
     }
 
-    /// Makes what was written last, and the name of the file: also of one that was there, since who made it may have
-    /// been stopped before.
+    /// Makes durable what was written, and the name of the file: also of one that was there, since who made it may
+    /// have been killed before.
     pub fn sync<R: Files<File = fs::File>>(
         &mut self,
         rt: &R,
+        entered: Result<(), Failed>,
         folder: &mut Folder,
     ) -> Result<(), Failed>
         ensures { self.new.read ≡ self.old.read }
     {
+        entered?;
         self.open_to_read(rt)?;
         let Some(file) = &self.file else {
             return Ok(());
@@ -238,11 +170,6 @@ impl RealFile {
         if file.sync_all().is_err() {
             return Err(Failed);
         }
-        folder.settle(rt)?;
-        if !self.is_named {
-            folder.settle_target(rt, self.path.as_str())?;
-            self.is_named = true;
-        }
-        Ok(())
+        folder.settle()
     }
 }

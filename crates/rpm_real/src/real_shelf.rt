@@ -7,6 +7,7 @@ ghost use Rattle.rpm_real.specs.Counts.{ShelfCounted};
 
 use rpm_outside::{Absent, Failed, Shelf};
 use std::alloc::Global;
+use std::fs::OpenFile;
 use std::io::{BufReader, ErrorKind, Input, Read};
 use std::rt::Files;
 use std::{fs, io};
@@ -57,13 +58,16 @@ impl<'a, R: Files + Input> RealShelf<'a, R> {
         }
     }
 
-    /// The item under a path, with a buffer in front of it.
+    /// The item under a path, with a buffer in front of it. A folder is none.
     fn item_of(&self, path: &str) -> io::Result<Item<R::File, R::Reader>> {
         if path == "-" {
             let input = BufReader::with_capacity(self.alloc, AHEAD, self.rt.reader())?;
             return Ok(Item::Input(input));
         }
         let file = fs::open(self.rt, path)?;
+        if file.metadata()?.is_dir() {
+            return Err(io::Error::from(ErrorKind::IsADirectory));
+        }
         let file = BufReader::with_capacity(self.alloc, AHEAD, file)?;
         Ok(Item::File(file))
     }

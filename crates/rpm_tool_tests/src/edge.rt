@@ -1,9 +1,10 @@
-//! Folders that have no name, or aren't there.
+//! Folders that have no name, aren't there, or have a link among the three names.
 
-use crate::fixtures::package;
+use crate::fixtures::{database, package};
 use crate::runs::{has_ended, outcome, run_in};
 use rpm_tool::Why;
 use std::fs;
+use std::os::unix::fs::symlink;
 use std::test::Fail;
 
 // Commands that need the database.
@@ -32,15 +33,13 @@ fn a_folder_without_a_name_is_no_database(rt: HostRuntime) -> Result<(), Fail> {
     Ok(())
 }
 
-// A question, how many arguments fail, and what it prints where there is no folder.
-type Question<'a> = (&'a str, u32, &'a [u8]);
-
-const QUESTIONS: &[Question<'static>] = &[
-    ("rpm -qa", 0, b""),
-    ("rpm -q a", 1, b"package a is not installed\n"),
-    ("rpm -q --noindex a", 1, b"package a is not installed\n"),
-    ("rpmdb --verifydb", 0, b""),
-    ("rpmdb --exportdb", 0, b""),
+// Questions, which need a folder that is there.
+const QUESTIONS: &[&str] = &[
+    "rpm -qa",
+    "rpm -q a",
+    "rpm -q --noindex a",
+    "rpmdb --verifydb",
+    "rpmdb --exportdb",
 ];
 
 // A command that makes a database, and how many changes it makes.
@@ -55,15 +54,11 @@ const CHANGES: &[(&str, u32)] = &[
 fn a_folder_is_made_by_a_change_alone(rt: HostRuntime) -> Result<(), Fail> {
     let folder = "not/there/yet";
     let mut are_right = true;
-    for &(line, failed, out) in QUESTIONS {
+    let refused = b"rpm: the database could not be read or written\n";
+    for &line in QUESTIONS {
         let told = run_in(&rt, folder, line)?;
-        let why = if failed == 0 {
-            Why::Done
-        } else {
-            Why::Failed(failed)
-        };
-        let ending = outcome(failed.min(250) as u8, why, 0);
-        are_right = are_right && has_ended(&told, ending, out, b"") && !fs::exists(&rt, "not")?;
+        let ending = outcome(252, Why::DiskFault, 0);
+        are_right = are_right && has_ended(&told, ending, b"", refused) && !fs::exists(&rt, "not")?;
     }
     fs::write(&rt, "p3.rpm", package(rt.alloc())?.as_slice())?;
     for &(line, changes) in CHANGES {
@@ -73,6 +68,37 @@ fn a_folder_is_made_by_a_change_alone(rt: HostRuntime) -> Result<(), Fail> {
         fs::remove_dir_all(&rt, "not")?;
     }
     fs::remove_file(&rt, "p3.rpm")?;
+    assert!(rt; are_right);
+    Ok(())
+}
+
+// Links that lead to a file, or nowhere, and what a change leaves of one's target.
+const LINKS: &[(&str, &str)] = &[
+    ("full/Hindex.db", "nowhere"),
+    ("full/Hindex.db", "../target"),
+    ("full/Hlog.db", "nowhere"),
+];
+
+#[test]
+fn a_change_that_may_not_write_all_files_does_nothing(rt: HostRuntime) -> Result<(), Fail> {
+    let line = b"rpm: the database could not be read or written\n";
+    let mut are_right = true;
+    for &(name, target) in LINKS {
+        fs::create_dir_all(&rt, "full")?;
+        fs::write(&rt, "full/Packages.db", database(rt.alloc())?.as_slice())?;
+        fs::write(&rt, "target", b"")?;
+        symlink(&rt, target, name)?;
+        let told = run_in(&rt, "full", "rpm --erasepkg 1")?;
+        let is_refused = has_ended(&told, outcome(252, Why::DiskFault, 0), b"", line);
+        fs::remove_file(&rt, name)?;
+        // Nothing is left that a later command would make of it.
+        let told = run_in(&rt, "full", "rpm -q a")?;
+        let is_kept = has_ended(&told, outcome(0, Why::Done, 0), b"a-1-2.x\n", b"");
+        let is_untouched = fs::read(&rt, "target")?.is_empty();
+        are_right = are_right && is_refused && is_kept && is_untouched;
+        fs::remove_dir_all(&rt, "full")?;
+    }
+    fs::remove_file(&rt, "target")?;
     assert!(rt; are_right);
     Ok(())
 }

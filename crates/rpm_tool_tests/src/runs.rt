@@ -3,9 +3,10 @@
 
 use crate::fixtures::package;
 use rpm_outside::{MemDisk, MemShelf, MemSink};
-use rpm_real::{RealDisk, RealShelf};
+use rpm_print::{Kind, kind_of};
+use rpm_real::{Purpose, RealDisk, RealShelf};
 use rpm_tool::{Outcome, Why, run};
-use rpm_words::Words;
+use rpm_words::{Words, read};
 use std::alloc::{AllocError, Global};
 
 /// What a command line gave on a disk in memory.
@@ -61,11 +62,23 @@ pub fn run_on(alloc: Global, line: &str, disk: MemDisk) -> Result<Ran, AllocErro
     })
 }
 
+// What a line is to do with the database.
+fn purpose_of(alloc: Global, words: &Words) -> Purpose {
+    match read(alloc, words) {
+        Ok(ask) => match kind_of(&ask) {
+            Kind::Change => Purpose::Change,
+            Kind::Keyed(_) => Purpose::Keyed,
+            Kind::Files | Kind::Plain(_) => Purpose::Plain,
+        },
+        Err(_) => Purpose::Plain,
+    }
+}
+
 /// Runs a line on the files of a folder, at the moment 5.
 pub fn run_in(rt: &HostRuntime, folder: &str, line: &str) -> Result<Told, AllocError> {
     let alloc = rt.alloc();
     let words = words_of(alloc, line)?;
-    let disk = RealDisk::new(alloc, rt, folder)?;
+    let disk = RealDisk::new(alloc, rt, folder, purpose_of(alloc, &words))?;
     let mut shelf = RealShelf::new(alloc, rt);
     let mut out = MemSink::new(alloc);
     let mut err = MemSink::new(alloc);

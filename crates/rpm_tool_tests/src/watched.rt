@@ -8,7 +8,8 @@ use std::fs::{Metadata, OpenFile, OpenOptions};
 use std::io;
 use std::io::{BufRead, ErrorKind, Input, Lines, Print, Read};
 use std::path::PathBuf;
-use std::rt::Files;
+use std::rt::{Clock, Files};
+use std::time::Duration;
 
 /// The files of a system, with the number of folders that were opened.
 #[derive(Drop)]
@@ -27,6 +28,16 @@ impl<'a, R: Files> Watched<'a, R> {
 
     pub fn folders(&self) -> u32 {
         self.folders.get()
+    }
+}
+
+impl<'a, R: Files + Clock> Clock for Watched<'a, R> {
+    fn monotonic(&self) -> io::Result<Duration> {
+        self.rt.monotonic()
+    }
+
+    fn since_1970(&self) -> io::Result<Duration> {
+        self.rt.since_1970()
     }
 }
 
