@@ -6,9 +6,10 @@
 #
 # PROGRAM is crates/rpm_prog/out/rpm_prog (made by `rt run` there). Wants rpm, valgrind and python3 (Debian: apt-get install rpm valgrind).
 # One list of headers is made and imported into both databases. Questions by key are asked of an index that is there. The package that is
-# added has the same files as the others, but for --real; it is one that is erased. Real systems are measured by bench/distributions.py.
+# added has the same files as the others, but for --real; it is one that is erased. Real systems are measured by trials/distributions.py.
 set -euf
 
+[ "${1-}" != --help ] || { sed -n '1d; /^#/!q; s/^# \{0,1\}//p' "$0"; exit; }
 here=$(cd "$(dirname "$0")" && pwd)
 [ $# -ge 1 ] || { echo "usage: against_rpm.sh PROGRAM [--real] [COUNT..]" >&2; exit 2; }
 program=$1

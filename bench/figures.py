@@ -120,6 +120,9 @@ def table(program, counts):
 
 
 def main():
+    if "--help" in sys.argv:
+        print(__doc__)
+        return
     words = [word for word in sys.argv[1:] if word != "--write"]
     if not words:
         sys.exit(__doc__)

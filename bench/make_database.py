@@ -13,6 +13,7 @@ import struct
 import sys
 import zlib
 
+sys.dont_write_bytecode = True
 import real_packages
 
 CHAR, INT16, INT32, TEXT, BIN, TEXTS, I18N = 1, 3, 4, 6, 7, 8, 9
@@ -91,8 +92,13 @@ def package(i, states=False, parts=common):
     ]))
 
 
-if __name__ == "__main__":
+def main():
     words = [word for word in sys.argv[1:] if not word.startswith("--")]
+    if "--help" in sys.argv:
+        print(__doc__)
+        return
+    if len(words) not in (2, 3):
+        sys.exit(__doc__)
     count, folder = int(words[0]), words[1]
     states, parts = "--states" in sys.argv, own if "--own" in sys.argv else common
     if "--real" in sys.argv:
@@ -104,3 +110,7 @@ if __name__ == "__main__":
     for name in words[2:]:
         with open(name, "wb") as file:
             file.writelines(MAGIC + blob for _, blob in packages)
+
+
+if __name__ == "__main__":
+    main()

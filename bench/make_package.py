@@ -7,6 +7,7 @@ and no payload.
 import struct
 import sys
 
+sys.dont_write_bytecode = True
 from make_database import INT32, MAGIC, common, header, own, package
 
 
@@ -20,9 +21,18 @@ def signature(blob):
     return entries + b"\0" * (-len(entries) % 8)
 
 
-if __name__ == "__main__":
+def main():
     words = [word for word in sys.argv[1:] if word != "--own"]
+    if "--help" in words:
+        print(__doc__)
+        return
+    if len(words) != 2:
+        sys.exit(__doc__)
     number, path = int(words[0]), words[1]
     blob = package(number, parts=own if "--own" in sys.argv else common)
     with open(path, "wb") as file:
         file.write(lead(f"package{number}") + signature(blob) + MAGIC + blob)
+
+
+if __name__ == "__main__":
+    main()

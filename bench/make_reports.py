@@ -10,6 +10,7 @@ Each package has 20 requirements and 20 files, and a size and a digest of each f
 """
 import sys
 
+sys.dont_write_bytecode = True
 from make_database import INT16, INT32, TEXT, TEXTS, header, store
 
 ANY, AT_LEAST = 0, 12
@@ -61,9 +62,16 @@ def of_kind(kind, i, count):
     return package(i, requirements(i, count), own_files(i) if kind == "mixed" else shared_files())
 
 
-if __name__ == "__main__":
+def main():
+    if "--help" in sys.argv:
+        print(__doc__)
+        return
+    if len(sys.argv) != 4 or sys.argv[1] not in ("mixed", "shared", "chain"):
+        sys.exit(__doc__)
     kind, count, folder = sys.argv[1], int(sys.argv[2]), sys.argv[3]
-    if kind not in ("mixed", "shared", "chain"):
-        sys.exit(f"no such kind: {kind}")
     with open(f"{folder}/Packages.db", "wb") as file:
         file.write(store([(i, of_kind(kind, i, count)) for i in range(1, count + 1)], count + 1))
+
+
+if __name__ == "__main__":
+    main()

@@ -8,6 +8,7 @@
 # chain of 100,000 packages, each of which requires the next (CHAIN=COUNT for another length, 0 for none): its seconds alone.
 set -euf
 
+[ "${1-}" != --help ] || { sed -n '1d; /^#/!q; s/^# \{0,1\}//p' "$0"; exit; }
 here=$(cd "$(dirname "$0")" && pwd)
 [ $# -ge 1 ] || { echo "usage: reports.sh PROGRAM [COUNT..]" >&2; exit 2; }
 program=$1

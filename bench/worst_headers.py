@@ -20,6 +20,7 @@ import random
 import struct
 import sys
 
+sys.dont_write_bytecode = True
 from make_database import store
 
 NULL, INT8, INT16, INT32, TEXT, TEXTS = 0, 2, 3, 4, 6, 8
@@ -122,7 +123,16 @@ def worst(case, size):
     sys.exit(__doc__)
 
 
-if __name__ == "__main__":
+def main():
+    if "--help" in sys.argv:
+        print(__doc__)
+        return
+    if len(sys.argv) != 4:
+        sys.exit(__doc__)
     name, length, folder = sys.argv[1], int(sys.argv[2]), sys.argv[3]
     with open(f"{folder}/Packages.db", "wb") as file:
         file.write(store([(1, worst(name, length))], 2))
+
+
+if __name__ == "__main__":
+    main()

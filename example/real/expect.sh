@@ -5,10 +5,11 @@
 #   example/real/expect.sh            prints nothing where the files are current, else the differences, and fails
 #   example/real/expect.sh --write    writes them
 #
-# Wants rpm and python3 (Debian: apt-get install rpm python3). The packages are read out of the bytes of NAME.db by bench/read_store.py, and
-# imported as a list into a database of rpm's own backend. Package numbers and what a list has are those of the bytes: rpm's import gives
+# Wants rpm and python3 (Debian: apt-get install rpm python3). The packages are read out of the bytes of NAME.db by
+# crates/rpm_rows/models/read_store.py, and imported as a list into a database of rpm's own backend. Package numbers and what a list has are those of the bytes: rpm's import gives
 # numbers of its own. A change is made on the packages that were read, and they are imported again.
 set -eu
+[ "${1-}" != --help ] || { sed -n '1d; /^#/!q; s/^# \{0,1\}//p' "$0"; exit; }
 here=$(cd "$(dirname "$0")" && pwd)
 for needed in rpm rpmdb python3; do
     command -v "$needed" > /dev/null || { echo "expect.sh: there is no $needed" >&2; exit 1; }
@@ -80,7 +81,7 @@ cd "$room"
 for file in "$here"/*.db; do
     name=$(basename "$file" .db)
     mkdir "$room/packages"
-    following=$("$here/../../bench/read_store.py" "$file" "$room/packages")
+    following=$("$here/../../crates/rpm_rows/models/read_store.py" "$file" "$room/packages")
     import
     answers "$here/$name.expected" > "$room/$name.expected"
     rm -r "$room/packages"

@@ -1,7 +1,8 @@
-"""What bench/distributions.py asks rpm and this program over the same packages.
+"""What trials/distributions.py asks rpm and this program over the same packages.
 
-Each answer is compared whole. Where two differ, the rules of bench/known_differences.py are gone through in turn, and each that applies brings rpm's answer nearer to
-this program's. Where the two are then the same, the difference counts under the rules that were used; else it is unknown, and ends the questions of its sort.
+Each answer is compared whole. Where two differ, the rules of trials/known_differences.py are gone through in turn, and each that applies brings rpm's
+answer nearer to this program's. Where the two are then the same, the difference counts under the rules that were used; else it is unknown, and ends the
+questions of its sort.
 """
 import collections
 import os
@@ -10,9 +11,10 @@ import re
 import subprocess
 from pathlib import Path
 
+from folders import TOP
 from known_differences import RULES, TAGS
 
-PAGE = Path(__file__).resolve().parent.parent / "man" / "rpm-q.8"
+PAGE = TOP / "man" / "rpm-q.8"
 NOBODY = "no-such-thing"
 MOST_ARGUMENTS, PATHS = 1500, 120
 LABELS = ["%{NAME}", "%{NAME}.%{ARCH}", "%{NAME}-%{VERSION}", "%{NAME}-%{VERSION}.%{ARCH}", "%{NAME}-%{VERSION}-%{RELEASE}", "%{NVRA}"]

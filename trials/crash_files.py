@@ -1,4 +1,4 @@
-"""What a crash may leave of files, by a trace of the calls of a program, for bench/crashes.py.
+"""What a crash may leave of files, by a trace of the calls of a program, for trials/crashes.py.
 
 Assumed is what docs/PROVED.md says under "What is trusted": units of 16 bytes are written whole; what was written since a file's last fsync is
 there or not, unit by unit, in any order; the file's length is any between; a new name is durable once its folder was synced after it.

@@ -1,4 +1,4 @@
-"""What a database has to say before and after a command, for bench/crashes.py: made from docs/FORMATS.md and man/, nothing of the program.
+"""What a database has to say before and after a command, for trials/crashes.py: made from docs/FORMATS.md and man/, nothing of the program.
 
 A State has the entries of each package (None where its header can't be read) and the next number. A Command has its words, what it reads
 from standard input, the state that it leaves, and what it prints. Answers are (status, standard output, standard error).

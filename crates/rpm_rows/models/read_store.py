@@ -1,7 +1,7 @@
 #!/usr/bin/env python3
 """The packages that a Packages.db holds, read after docs/FORMATS.md alone, with nothing of the program.
 
-    bench/read_store.py FILE FOLDER    writes each package as FOLDER/NUMBER: the magic of a header list, and its header
+    crates/rpm_rows/models/read_store.py FILE FOLDER    writes each package as FOLDER/NUMBER: the magic of a header list, and its header
 
 It prints the number that the next package gets, and fails where a slot, a blob's frame or a checksum isn't as it has to be.
 """
@@ -34,6 +34,9 @@ def header_of(blocks, number):
 
 
 def main():
+    if "--help" in sys.argv:
+        print(__doc__)
+        return
     if len(sys.argv) != 3:
         sys.exit(__doc__)
     file, folder = Path(sys.argv[1]).read_bytes(), Path(sys.argv[2])

@@ -1,4 +1,4 @@
-"""The cases of bench/hard_cases.py in which files are damaged, cut, or missing."""
+"""The cases of trials/hard_cases.py in which files are damaged, cut, or missing."""
 import os
 import sqlite3
 

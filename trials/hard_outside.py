@@ -1,4 +1,4 @@
-"""The cases of bench/hard_cases.py in which what is around the program fails it: disk, output, rights, memory, another program, the clock."""
+"""The cases of trials/hard_cases.py in which what is around the program fails it: disk, output, rights, memory, another program, the clock."""
 import os
 import resource
 import shutil

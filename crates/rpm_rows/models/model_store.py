@@ -1,13 +1,13 @@
 #!/usr/bin/env python3
 """What worked rows expect of Packages.db: a second model of it, made from docs/FORMATS.md alone, nothing of the program.
 
-    bench/model_store.py blob NUMBER GENERATION HEX    the blocks of a package whose header is these bytes, as pieces of a row
-    bench/model_store.py imports COUNT                 package a so many times
-    bench/model_store.py replaced COUNT NUMBER         the same, then number NUMBER replaced by the package file at the moment 5
-    bench/model_store.py erased COUNT NUMBER           the same, then number NUMBER erased and the package file added at the moment 5
-    bench/model_store.py generated COUNT               the generated headers 1 to COUNT
-    bench/model_store.py exercise COUNT                what an exercise prints, how many changes it makes
-    bench/model_store.py exercise COUNT a              the same behind package a, which was added and erased
+    crates/rpm_rows/models/model_store.py blob NUMBER GENERATION HEX    the blocks of a package whose header is these bytes, as pieces of a row
+    crates/rpm_rows/models/model_store.py imports COUNT                 package a so many times
+    crates/rpm_rows/models/model_store.py replaced COUNT NUMBER         the same, then number NUMBER replaced by the package file at the moment 5
+    crates/rpm_rows/models/model_store.py erased COUNT NUMBER           the same, then number NUMBER erased and the package file added at the moment 5
+    crates/rpm_rows/models/model_store.py generated COUNT               the generated headers 1 to COUNT
+    crates/rpm_rows/models/model_store.py exercise COUNT                what an exercise prints, how many changes it makes
+    crates/rpm_rows/models/model_store.py exercise COUNT a              the same behind package a, which was added and erased
 
 All but the first print how many slot pages, bytes and index records there are, and the SHA-256 of Packages.db.
 """
@@ -183,6 +183,11 @@ def print_blob(number, generation, made):
 
 
 def main():
+    if "--help" in sys.argv:
+        print(__doc__)
+        return
+    if len(sys.argv) < 3:
+        sys.exit(__doc__)
     what, count = sys.argv[1], int(sys.argv[2])
     if what == "blob":
         print_blob(count, int(sys.argv[3]), bytes.fromhex(sys.argv[4]))

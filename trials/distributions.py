@@ -1,7 +1,7 @@
 #!/usr/bin/env python3
 """What this program and rpm answer over the packages of installed systems, and what that costs each.
 
-    bench/distributions.py [--quick] [--costs N] [--jobs N] [--write] [--program PROGRAM] [DATABASE..]
+    trials/distributions.py [--quick] [--costs N] [--jobs N] [--write] [--program PROGRAM] [DATABASE..]
 
 Two commands on Debian 12: `apt-get install rpm valgrind golang-github-knqyf263-go-rpmdb-dev`, and this one without arguments, which takes the databases of
 ten CentOS systems that the last of these packages has. A DATABASE is the folder of another system's database, whatever its backend: /var/lib/rpm or
@@ -9,8 +9,8 @@ ten CentOS systems that the last of these packages has. A DATABASE is the folder
 is copied, and never written. PROGRAM is what release/program.sh names, where none is given.
 
 rpm exports each database, and the list is imported into rpm (sqlite) and into this program. Both then have to give the list back byte for byte, to verify
-their database without a word, and to answer all of bench/questions.py alike, but for differences that a rule of bench/known_differences.py explains; these are
-counted. Any other difference is printed, and fails the run. Then costs are measured, of one run each on a copy: seconds of the processor, and instructions
+their database without a word, and to answer all of trials/questions.py alike, but for differences that a rule of trials/known_differences.py explains;
+these are counted. Any other difference is printed, and fails the run. Then costs are measured, of one run each on a copy: seconds of the processor, and instructions
 as callgrind counts them, which takes long and --quick leaves out. --costs measures the N least systems alone, 0 none; --jobs so many processes run at once,
 one where it isn't given. --write puts the tables into docs/REAL.md. Wants rpm, and valgrind but for --quick.
 """
@@ -28,12 +28,12 @@ from concurrent.futures import ThreadPoolExecutor
 from pathlib import Path
 
 sys.dont_write_bytecode = True
+from folders import TOP
 from known_differences import RULES
 from questions import QUESTIONS, Pair, Unknown, ask_unmet, sampled
 
-TOP = Path(__file__).resolve().parent.parent
 PAGE = TOP / "docs" / "REAL.md"
-MARKS = "<!-- made by bench/distributions.py --write -->\n", "<!-- end of what it made -->\n"
+MARKS = "<!-- made by trials/distributions.py --write -->\n", "<!-- end of what it made -->\n"
 TEN = Path("/usr/share/gocode/src/github.com/knqyf263/go-rpmdb/pkg/testdata")
 # What of rpm's transaction isn't the database's work is left out.
 QUIETLY = ["--justdb", "--nodeps", "--noscripts", "--notriggers"]

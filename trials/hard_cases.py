@@ -1,5 +1,5 @@
 #!/usr/bin/env python3
-"""What rpm and this program do in the cases that users of package databases fear: bench/hard_cases.py PROGRAM [--quick] [--write] [PART]
+"""What rpm and this program do in the cases that users of package databases fear: trials/hard_cases.py PROGRAM [--quick] [--write] [PART]
 
 PROGRAM is crates/rpm_prog/out/rpm_prog (made by `rt run` there). Wants rpm, as Debian 12 has it (4.18, sqlite). What a case alone wants is named in its
 row where it isn't there: strace, setpriv and to be root, faketime. Each case is done to both, in folders of their own. Prints the tables of
@@ -12,22 +12,22 @@ import sys
 import tempfile
 
 sys.dont_write_bytecode = True
+from folders import TOP
 import hard_changes
 import hard_files
 import hard_outside
-from definitions import TOP
 from hard_sides import COUNT, MAGIC, Side, Table, split
 from make_database import package
 
 PAGE = TOP / "docs" / "HARD_CASES.md"
 HEAD = """# Hard cases
 
-What Debian 12's rpm (4.18.0, sqlite) and this program do in the cases that users of package databases fear. `bench/hard_cases.py --write` does each of them to
+What Debian 12's rpm (4.18.0, sqlite) and this program do in the cases that users of package databases fear. `trials/hard_cases.py --write` does each of them to
 both, over {count} packages where no other number is said, and writes this page. It fails where this program doesn't do what is stated beside the case there.
 
 A cell has the status, how much of the right answer was printed, and the first line of the message, or its end. "Kept" is how many of the packages from before
 an export has afterwards, unchanged, of rpm and of this program; for damaged, missing and cut files after their `--rebuilddb`. "Refused" is a database that
-none of these commands reads or changes. `bench/refused_memory.sh` refuses each allocation in turn.
+none of these commands reads or changes. `trials/refused_memory.sh` refuses each allocation in turn.
 
 Two things to know: nobody locks the files of this program, so that of two changes at one time one may be lost, though both end with 0. And a damaged place of a
 package, a damaged log or a cut file has it refuse the whole database: copy it before you repair it by hand. A file that is cut to nothing is a blank database.
@@ -70,6 +70,9 @@ def tables(folder, program, words, part):
 
 
 def main():
+    if "--help" in sys.argv:
+        print(__doc__)
+        return
     words = [word for word in sys.argv[1:] if not word.startswith("--")]
     if len(words) not in (1, 2) or set(sys.argv[1:]) - set(words) - {"--quick", "--write"}:
         sys.exit(__doc__)

@@ -1,6 +1,6 @@
 #!/usr/bin/env python3
-"""What the contracts of two trees say: bench/clauses.py [--all] [--words FILE] [--crate NAME ..] OLD NEW
-How much one tree's contracts say:      bench/clauses.py [--all] [--many N] --count TREE
+"""What the contracts of two trees say: .ci/clauses.py [--all] [--words FILE] [--crate NAME ..] OLD NEW
+How much one tree's contracts say:      .ci/clauses.py [--all] [--many N] --count TREE
 
 A tree is a checkout, as a folder. Of each public function, of each trait and of each type with ghost fields the clauses are compared by kind,
 name and text, however they are laid out; so is each definition of specs/. `-` stands before what only OLD says, `+` before what only NEW

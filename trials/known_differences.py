@@ -1,4 +1,4 @@
-"""By which rules the answers of rpm and of this program over the same packages may differ, as bench/questions.py counts them.
+"""By which rules the answers of rpm and of this program over the same packages may differ, as trials/questions.py counts them.
 
 RULES has them all, in the order in which they are tried: a kind, the sentence that says what differs, and a function of the pair of databases, the question
 (its option and its argument), rpm's answer and this program's. It gives rpm's answer brought as near to this program's as its sentence says, by what rpm itself

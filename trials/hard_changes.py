@@ -1,4 +1,4 @@
-"""The cases of bench/hard_cases.py that are large: many packages, and many random changes, compared at the end with a model of the database."""
+"""The cases of trials/hard_cases.py that are large: many packages, and many random changes, compared at the end with a model of the database."""
 import hashlib
 import random
 

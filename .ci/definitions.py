@@ -1,5 +1,5 @@
 #!/usr/bin/env python3
-"""docs/DEFINITIONS.md, made from the definitions in crates/*/specs: bench/definitions.py --write | --check | --bare
+"""docs/DEFINITIONS.md, made from the definitions in crates/*/specs: .ci/definitions.py --write | --check | --bare
 
 A definition is a record, a data type, an abbreviation or an unfoldable function that other files may use. Its entry is its name and the
 beginning of the comment in front of it: up to the first point, colon or semicolon, and at most 14 words. What lies in specs/inner, and lemmas,
@@ -16,7 +16,7 @@ MOST_WORDS = 14
 DEFINITION = re.compile(r" {0,2}(?:(?:abbrev|unfoldable) pub (?:record |data )?|pub (?:record|data) )([^ :({]+)")
 HEAD = """# The definitions
 
-What each contract rests on, by crate and file, with the beginning of the comment that each definition has there. `bench/definitions.py --write` makes this
+What each contract rests on, by crate and file, with the beginning of the comment that each definition has there. `.ci/definitions.py --write` makes this
 page; the merge gate checks that it is current. Definitions without a comment are only named. Files of `specs/inner/` hold laws that no reader has to believe.
 
 The definitions are computed, without the code, on small inputs: by `Fixtures.antt`, `Asking.antt` and `Defaults.antt` in `crates/rpm_print/proofs/`, and by
@@ -98,13 +98,15 @@ def main():
         PAGE.write_text(page(), encoding="utf-8")
     elif sys.argv[1:] == ["--check"]:
         if PAGE.read_text(encoding="utf-8") != page():
-            sys.exit("docs/DEFINITIONS.md isn't current: run bench/definitions.py --write")
+            sys.exit("docs/DEFINITIONS.md isn't current: run .ci/definitions.py --write")
     elif sys.argv[1:] == ["--bare"]:
         for crate in crates():
             for path in files(crate):
                 for name, comment in definitions(path):
                     if not comment:
                         print(f"{path.relative_to(TOP)}: {name}")
+    elif sys.argv[1:] == ["--help"]:
+        print(__doc__)
     else:
         sys.exit(__doc__)
 

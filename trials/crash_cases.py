@@ -1,4 +1,4 @@
-"""The databases and command lines that bench/crashes.py tries, with the states that they have to have."""
+"""The databases and command lines that trials/crashes.py tries, with the states that they have to have."""
 import copy
 import re
 from dataclasses import dataclass, field

@@ -1,10 +1,10 @@
 #!/usr/bin/env python3
-"""What the documents say of the size of the tree: bench/sizes.py [--write | --check]
+"""What the documents say of the size of the tree: .ci/sizes.py [--write | --check]
 
 Prints the table of docs/FIGURES.md that has the lines, clauses, must-fail edits, tests and worked rows of each crate, and the sentence of
 README.md that sums it up. --write puts both into the documents, --check fails where they aren't current. Code and contracts are lines that are
 neither blank nor comments; what a ghost use brings belongs to contracts. Of the rest all lines of a file count. Clauses are those of functions,
-as bench/clauses.py reads them. What crates of tests and rows have in src/ isn't counted as code.
+as .ci/clauses.py reads them. What crates of tests and rows have in src/ isn't counted as code.
 """
 import re
 import sys
@@ -89,9 +89,11 @@ def main():
     elif sys.argv[1:] == ["--check"]:
         old = [str(path.relative_to(TOP)) for path, text, made in documents() if text != made]
         if old:
-            sys.exit(f"{', '.join(old)}: the counts aren't current: run bench/sizes.py --write")
+            sys.exit(f"{', '.join(old)}: the counts aren't current: run .ci/sizes.py --write")
     elif not sys.argv[1:]:
         print("\n".join(counted()))
+    elif sys.argv[1:] == ["--help"]:
+        print(__doc__)
     else:
         sys.exit(__doc__)
 

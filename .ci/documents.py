@@ -1,11 +1,11 @@
 #!/usr/bin/env python3
-"""The form of the documents: bench/documents.py [--check]
+"""The form of the documents: .ci/documents.py [--check]
 
 The documents are README.md, docs/*.md and crates/*/README.md. Prints how many words each has: runs of characters without a blank that have a
 letter, so neither bars of tables nor figures count. With --check it prints what breaks a rule, and fails where anything does:
 
 - no line is longer than 160 columns, and no paragraph, item or cell of a table has more than 120 words;
-- all documents together have at most 17,000 words, docs/DEFINITIONS.md aside, which bench/definitions.py makes, and the pages of evidence, which have
+- all documents together have at most 17,000 words, docs/DEFINITIONS.md aside, which .ci/definitions.py makes, and the pages of evidence, which have
   at most 6,000: what was tried over real systems, crashes and hard cases, how this program differs from rpm, and how one comes from rpm and back;
 - the words of the glossary in docs/MAP.md are used: none of those that they replace stands outside of code;
 - each crate has a page, and a row in README.md and docs/MAP.md; each file of the crate that its page names is there, and all that it names under
@@ -156,6 +156,8 @@ def main():
             print(f"{words_of(text):7,}  {path.relative_to(TOP)}" + {"made": " (made)", "pages of evidence": " (evidence)"}.get(kind_of(path), ""))
         for kind in ("documents", "pages of evidence"):
             print(f"{words_in_all(texts, kind):7,}  all {kind}")
+    elif sys.argv[1:] == ["--help"]:
+        print(__doc__)
     else:
         sys.exit(__doc__)
 

@@ -3,10 +3,13 @@
 # (status 254), what it printed is the beginning of what is printed with ample memory, and the packages are those from before. Or it ends
 # as with ample memory; or, where the buffer of a package file or of the standard input finds none, that isn't opened, which is status 1.
 #
-#   bench/refused_memory.sh PROGRAM    PROGRAM is rpm_prog as it is built; a C compiler is asked for
+#   trials/refused_memory.sh PROGRAM    PROGRAM is crates/rpm_prog/out/rpm_prog; wants python3 and a C compiler (Debian: apt-get install gcc)
+#
+# It prints a line for each command line, and takes about TIMES. Its status is 1 where one ended otherwise.
 set -eu
 
-[ $# -eq 1 ] || { echo "bench/refused_memory.sh: name the program" >&2; exit 1; }
+[ "${1-}" != --help ] || { sed -n '1d; /^#/!q; s/^# \{0,1\}//p' "$0"; exit; }
+[ $# -eq 1 ] || { echo "trials/refused_memory.sh: name the program" >&2; exit 1; }
 program=$(realpath "$1")
 here=$(cd "$(dirname "$0")" && pwd)
 room=$(mktemp -d)
@@ -14,7 +17,7 @@ trap 'rm -rf "$room"' EXIT
 cd "$room"
 cc -shared -fPIC -O1 -o refuse_memory.so "$here/refuse_memory.c" -ldl
 mkdir begun
-python3 "$here/make_package.py" 1 p1.rpm
+python3 "$here/../bench/make_package.py" 1 p1.rpm
 # From a lead of 96 bytes and a signature header of 40 on a package file is the list of its one header.
 tail -c +137 p1.rpm > one
 cat one one one > list
@@ -39,7 +42,7 @@ packages() {
 # Whether the words end so at each refusal.
 try() {
     run 0 "$@"
-    [ "$status" -eq 0 ] || { echo "bench/refused_memory.sh: $*: status $status" >&2; exit 1; }
+    [ "$status" -eq 0 ] || { echo "trials/refused_memory.sh: $*: status $status" >&2; exit 1; }
     mv out wanted
     count=$(cat count)
     packages > behind
@@ -53,7 +56,7 @@ try() {
         elif [ "$status" -eq 254 ] || grep -qx 'error: open of .* failed' err; then
             if head -c "$(stat -c %s out)" wanted | cmp -s - out && cmp -s left before; then continue; fi
         fi
-        echo "bench/refused_memory.sh: $*: allocation $number of $count: status $status" >&2
+        echo "trials/refused_memory.sh: $*: allocation $number of $count: status $status" >&2
         failed=1
     done
     echo "$*: $count allocations, $refusals answered with status 254"

@@ -1,5 +1,5 @@
 #!/usr/bin/env python3
-"""Crashes over real files: bench/crashes.py PROGRAM [--quick] [--write] [--seed N] [--databases NAMES] [--only PATTERN] [--forget NAME]
+"""Crashes over real files: trials/crashes.py PROGRAM [--quick] [--write] [--seed N] [--databases NAMES] [--only PATTERN] [--forget NAME]
 
 Each command that changes files is run under strace: killed before and after each call that changes anything; with each call on the database
 failing once; and once as it is, to make from its calls the files that a crash of the machine may leave (crash_files.py says which). What is left is
@@ -25,12 +25,13 @@ from concurrent.futures import ProcessPoolExecutor
 from pathlib import Path
 
 sys.dont_write_bytecode = True
+from folders import TOP
 from crash_cases import Cases
 from crash_files import FORGOTTEN, Unknown
 from crash_runs import Bench, Loss
 
-PAGE = Path(__file__).resolve().parent.parent / "docs" / "CRASHES.md"
-TABLE = re.compile(r"(?<=<!-- made by bench/crashes.py --write -->\n).*?(?=<!-- end -->)", re.S)
+PAGE = TOP / "docs" / "CRASHES.md"
+TABLE = re.compile(r"(?<=<!-- made by trials/crashes.py --write -->\n).*?(?=<!-- end -->)", re.S)
 BENCH = None
 
 
@@ -104,7 +105,7 @@ def written(bench, rows):
 
 def words():
     """The words of the command line."""
-    parser = argparse.ArgumentParser(usage=__doc__, add_help=False)
+    parser = argparse.ArgumentParser(description=__doc__, formatter_class=argparse.RawDescriptionHelpFormatter)
     parser.add_argument("program")
     for name in ("--quick", "--write"):
         parser.add_argument(name, action="store_true")
@@ -120,7 +121,7 @@ def main():
     asked, begin, rows = words(), time.time(), {}
     program = Path(asked.program).resolve()
     if shutil.which("strace") is None or not program.exists():
-        sys.exit(f"bench/crashes.py: there is no {'strace' if program.exists() else program}")
+        sys.exit(f"trials/crashes.py: there is no {'strace' if program.exists() else program}")
     base = tempfile.mkdtemp(dir="/dev/shm" if Path("/dev/shm").is_dir() else None)
     try:
         BENCH = Bench(program, base, asked.seed, asked.quick)
@@ -133,13 +134,13 @@ def main():
                 if asked.write:
                     written(BENCH, rows)
     except (Loss, Unknown) as fault:
-        sys.exit(f"bench/crashes.py: {fault}")
+        sys.exit(f"trials/crashes.py: {fault}")
     finally:
         shutil.rmtree(base, ignore_errors=True)
     print(table(BENCH, rows), end="")
     print(f"{(time.time() - begin) / 60:.1f} minutes")
     lost = sum(cells[-1] for cells in rows.values())
-    sys.exit(f"bench/crashes.py: {lost} lost" if lost else 0)
+    sys.exit(f"trials/crashes.py: {lost} lost" if lost else 0)
 
 
 main()

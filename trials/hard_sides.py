@@ -1,4 +1,4 @@
-"""What bench/hard_cases.py and bench/hard_changes.py share: rpm and this program, each with a database in a folder of its own, and what they answer.
+"""What trials/hard_cases.py and trials/hard_changes.py share: rpm and this program, each with a database in a folder of its own, and what they answer.
 
 A side is asked by the words of a command line; `Seen` is what came of it: a status, what was printed, and the text of standard error.
 """

@@ -1,8 +1,8 @@
 #!/usr/bin/env python3
-"""Whether each row of docs/DIFFERENCES.md is true: bench/differences.py PROGRAM [TEXT]
+"""Whether each row of docs/DIFFERENCES.md is true: trials/differences.py PROGRAM [TEXT]
 
 PROGRAM is crates/rpm_prog/out/rpm_prog (made by `rt run` there). Wants rpm, as Debian 12 has it (4.18, sqlite), and sh; docs/DIFFERENCES.md says what
-that rpm does. Both get the same packages, one list of headers that is imported into both, and are asked what bench/differences.cases says. With a TEXT
+that rpm does. Both get the same packages, one list of headers that is imported into both, and are asked what trials/differences.cases says. With a TEXT
 only the rows are tried that have it in their name.
 
 The cases are blocks, each with the name of its row in brackets. In a block a line with `$` is a command of a shell, in a folder with `theirs` and `ours`,
@@ -21,7 +21,7 @@ import sys
 import tempfile
 
 sys.dont_write_bytecode = True
-from definitions import TOP
+from folders import TOP
 from make_database import BIN, CHAR, I18N, INT16, INT32, MAGIC, TEXT, TEXTS, header
 from make_package import lead
 
@@ -188,13 +188,16 @@ def faults(folder, name, cases):
 
 
 def main():
+    if "--help" in sys.argv:
+        print(__doc__)
+        return
     if len(sys.argv) not in (2, 3):
         sys.exit(__doc__)
     program, wanted = os.path.realpath(sys.argv[1]), sys.argv[2] if len(sys.argv) == 3 else ""
     for needed in (RPM, RPM + "db", program):
         if not os.access(needed, os.X_OK):
             sys.exit(f"differences.py: wants {needed}")
-    rows = blocks((TOP / "bench" / "differences.cases").read_text(encoding="utf-8"))
+    rows = blocks((TOP / "trials" / "differences.cases").read_text(encoding="utf-8"))
     written = ROW.findall((TOP / "docs" / "DIFFERENCES.md").read_text(encoding="utf-8"))
     found = [f"docs/DIFFERENCES.md has no row {name}" for name in rows if name not in written]
     found += [f"differences.cases has no block [{name}]" for name in written if name not in rows]

@@ -1,4 +1,4 @@
-"""Commands that are killed, that meet faults, and whose files are left as a crash may leave them, for bench/crashes.py; and what is asked then."""
+"""Commands that are killed, that meet faults, and whose files are left as a crash may leave them, for trials/crashes.py; and what is asked then."""
 import copy
 import hashlib
 import os
