@@ -1,28 +1,33 @@
 #!/usr/bin/env python3
 """The form of the documents: .ci/documents.py [--check]
 
-The documents are README.md, docs/*.md and crates/*/README.md. Prints how many words each has: runs of characters without a blank that have a
-letter, so neither bars of tables nor figures count. With --check it prints what breaks a rule, and fails where anything does:
+The documents are the pages at the top, docs/*.md, and the README.md of each crate and folder. Prints how many words each has: runs of characters
+without a blank that have a letter, so neither bars of tables nor figures count. With --check it prints what breaks a rule, and fails where
+anything does. It needs Python 3 alone, and takes a second.
 
-- no line is longer than 160 columns, and no paragraph, item or cell of a table has more than 120 words;
-- all documents together have at most 17,000 words, docs/DEFINITIONS.md aside, which .ci/definitions.py makes, and the pages of evidence, which have
-  at most 6,000: what was tried over real systems, crashes and hard cases, how this program differs from rpm, and how one comes from rpm and back;
-- the words of the glossary in docs/MAP.md are used: none of those that they replace stands outside of code;
-- each crate has a page, and a row in README.md and docs/MAP.md; each file of the crate that its page names is there, and all that it names under
-  "Proved" is a word of the crate's src or specs; so is each field of the theorem that README.md and docs/PROVED.md name with a dot, as `plain.went`;
-- docs/PROVED.md names each field of the theorem's page, from its first numbered part on;
+- No line is longer than 160 columns, and no paragraph, item or cell of a table has more than 120 words.
+- What one reads to work here has at most 14,000 words: README.md, CONTRIBUTING.md, MAP, PROVED and DECISIONS of docs/, and the crates' pages.
+  References, and pages of evidence, have as many as they need.
+- The words of the glossary in docs/MAP.md are used: none of those that they replace stands outside of code.
+- Each crate has a page, and a row in README.md and docs/MAP.md; each file of the crate that its page names is there, and all that it names under
+  "Proved" is a word of the crate's src or specs; so is each field of the theorem that README.md and docs/PROVED.md name with a dot, as `plain.went`.
+- docs/PROVED.md names each field of the theorem's page, from its first numbered part on.
 - README.md names the greatest share of rpm's instructions that the table against rpm in docs/FIGURES.md has.
 """
+import argparse
 import re
 import sys
 from functools import cache
 
 sys.dont_write_bytecode = True
-from definitions import TOP, crates
+from evidence import PAGES
+from specs import TOP, crates
 
 MADE = TOP / "docs" / "DEFINITIONS.md"
-EVIDENCE = [TOP / "docs" / name for name in ("REAL.md", "CRASHES.md", "HARD_CASES.md", "DIFFERENCES.md", "MIGRATING.md")]
-MOST_COLUMNS, MOST_IN_PARAGRAPH, MOST_WORDS, MOST_EVIDENCE = 160, 120, 17_000, 6_000
+EVIDENCE = [*PAGES, TOP / "CHANGELOG.md", TOP / "docs" / "CHANGELOG.md"]
+TO_WORK = [TOP / name for name in ("README.md", "CONTRIBUTING.md", "docs/MAP.md", "docs/PROVED.md", "docs/DECISIONS.md")]
+KINDS = ("to work here", "reference", "evidence")
+MOST_COLUMNS, MOST_IN_PARAGRAPH, MOST_TO_WORK = 160, 120, 14_000
 REPLACED = re.compile(r"\b(?:behind|anew|tells|told|(?<!\.)stops? (?:leaves|at)|a stop|power cut)\b", re.I)
 
 FILE = re.compile(r"`(?:(rpm_\w+)/)?(?:[\w/]*/)?(\w+\.(?:rt|antt|rows))`")
@@ -32,7 +37,8 @@ FIELD = re.compile(r"^ +pub (\w+) :", re.M)
 
 def documents():
     """All documents, in the order of reading."""
-    return [TOP / "README.md"] + sorted((TOP / "docs").glob("*.md")) + sorted((TOP / "crates").glob("*/README.md"))
+    pages = [path for folder in ("*.md", "docs/*.md", "*/README.md", "example/*/README.md", "crates/*/README.md") for path in sorted(TOP.glob(folder))]
+    return sorted(pages, key=lambda path: KINDS.index(kind_of(path)))
 
 
 def words_of(text):
@@ -42,11 +48,11 @@ def words_of(text):
 
 def kind_of(path):
     """What a document is counted among."""
-    return "made" if path == MADE else "pages of evidence" if path in EVIDENCE else "documents"
+    return "evidence" if path in EVIDENCE else "to work here" if path in TO_WORK or path.parent.parent == TOP / "crates" else "reference"
 
 
 def words_in_all(texts, kind):
-    """How many words all documents of a kind have."""
+    """How many words all pages of a kind have."""
     return sum(words_of(text) for path, text in texts.items() if kind_of(path) == kind)
 
 
@@ -139,27 +145,24 @@ def faults(texts):
     yield from faults_of_crates(texts)
     yield from faults_of_fields(texts)
     yield from faults_of_figures(texts)
-    for kind, most in (("documents", MOST_WORDS), ("pages of evidence", MOST_EVIDENCE)):
-        words = words_in_all(texts, kind)
-        if words > most:
-            yield TOP / "README.md", 1, f"all {kind} have {words:,} words, more than {most:,}"
+    words = words_in_all(texts, "to work here")
+    if words > MOST_TO_WORK:
+        yield TOP / "README.md", 1, f"all that one reads to work here has {words:,} words, more than {MOST_TO_WORK:,}"
 
 
 def main():
+    parser = argparse.ArgumentParser(description=__doc__, formatter_class=argparse.RawDescriptionHelpFormatter)
+    parser.add_argument("--check", action="store_true")
     texts = {path: path.read_text(encoding="utf-8") for path in documents()}
-    if sys.argv[1:] == ["--check"]:
+    if parser.parse_args().check:
         found = [f"{path.relative_to(TOP)}:{number}: {fault}" for path, number, fault in faults(texts)]
         if found:
             sys.exit("\n".join(found))
-    elif not sys.argv[1:]:
-        for path, text in texts.items():
-            print(f"{words_of(text):7,}  {path.relative_to(TOP)}" + {"made": " (made)", "pages of evidence": " (evidence)"}.get(kind_of(path), ""))
-        for kind in ("documents", "pages of evidence"):
-            print(f"{words_in_all(texts, kind):7,}  all {kind}")
-    elif sys.argv[1:] == ["--help"]:
-        print(__doc__)
-    else:
-        sys.exit(__doc__)
+        return
+    for path, text in texts.items():
+        print(f"{words_of(text):7,}  {path.relative_to(TOP)} ({kind_of(path)})")
+    for kind in KINDS:
+        print(f"{words_in_all(texts, kind):7,}  {kind}")
 
 
 main()

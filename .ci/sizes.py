@@ -4,14 +4,15 @@
 Prints the table of docs/FIGURES.md that has the lines, clauses, must-fail edits, tests and worked rows of each crate, and the sentence of
 README.md that sums it up. --write puts both into the documents, --check fails where they aren't current. Code and contracts are lines that are
 neither blank nor comments; what a ghost use brings belongs to contracts. Of the rest all lines of a file count. Clauses are those of functions,
-as .ci/clauses.py reads them. What crates of tests and rows have in src/ isn't counted as code.
+as .ci/clauses.py reads them. What crates of tests and rows have in src/ isn't counted as code. It needs Python 3 alone, and takes a second.
 """
+import argparse
 import re
 import sys
 
 sys.dont_write_bytecode = True
 from clauses import read_source, read_tree
-from definitions import TOP, crates
+from specs import TOP, crates
 
 
 HEAD = ("| Crate | Code | Contracts | Clauses | Definitions, laws (`specs/`) | Proofs | Must-fail edits | Tests | Worked rows | Lines of tests and rows |\n"
@@ -83,19 +84,20 @@ def documents():
 
 
 def main():
-    if sys.argv[1:] == ["--write"]:
+    parser = argparse.ArgumentParser(description=__doc__, formatter_class=argparse.RawDescriptionHelpFormatter)
+    which = parser.add_mutually_exclusive_group()
+    which.add_argument("--write", action="store_true")
+    which.add_argument("--check", action="store_true")
+    options = parser.parse_args()
+    if options.write:
         for path, _, made in documents():
             path.write_text(made, encoding="utf-8")
-    elif sys.argv[1:] == ["--check"]:
+    elif options.check:
         old = [str(path.relative_to(TOP)) for path, text, made in documents() if text != made]
         if old:
             sys.exit(f"{', '.join(old)}: the counts aren't current: run .ci/sizes.py --write")
-    elif not sys.argv[1:]:
-        print("\n".join(counted()))
-    elif sys.argv[1:] == ["--help"]:
-        print(__doc__)
     else:
-        sys.exit(__doc__)
+        print("\n".join(counted()))
 
 
 main()

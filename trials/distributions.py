@@ -17,6 +17,7 @@ one where it isn't given. --write puts the tables into docs/REAL.md. Wants rpm, 
 import argparse
 import collections
 import datetime
+import hashlib
 import os
 import re
 import shutil
@@ -190,7 +191,9 @@ def costs_table(systems, is_counted):
 def tables(systems, measured, is_counted):
     version = subprocess.run(["rpm", "--version"], stdout=subprocess.PIPE, text=True, check=True).stdout.strip()
     asked = sum(system.pair.asked for system in systems)
-    text = f"On {datetime.date.today():%d %B %Y}, {version}: {asked:,} questions, answered alike but for these kinds.\n\n" + answers_table(systems)
+    digest = hashlib.sha256(Path(systems[0].program).read_bytes()).hexdigest()[:16]
+    text = f"On {datetime.date.today():%d %B %Y}, of the program with the digest `{digest}`, {version}: {asked:,} questions, "
+    text += "answered alike but for these kinds.\n\n" + answers_table(systems)
     if measured:
         names = "all systems" if len(measured) == len(systems) else ", ".join(system.name for system in measured)
         told = f"One run of each command, of {names} together: seconds of the processor. A share is the least and the greatest of a system."

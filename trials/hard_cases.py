@@ -7,9 +7,11 @@ docs/HARD_CASES.md, and with --write writes them there, each in the place of the
 changes in place of 10,000 (a tenth of rpm); a PART is the name of a function below. Fails where this program loses a package, or gives another answer than
 the one that stands beside the case. TMPDIR=/dev/shm spares the waiting for a disk.
 """
+import hashlib
 import os
 import sys
 import tempfile
+from pathlib import Path
 
 sys.dont_write_bytecode = True
 from folders import TOP
@@ -21,6 +23,8 @@ from make_database import package
 
 PAGE = TOP / "docs" / "HARD_CASES.md"
 HEAD = """# Hard cases
+
+*Of the program `{digest}`.*
 
 What Debian 12's rpm (4.18.0, sqlite) and this program do in the cases that users of package databases fear. `trials/hard_cases.py --write` does each of them to
 both, over {count} packages where no other number is said, and writes this page. It fails where this program doesn't do what is stated beside the case there.
@@ -49,7 +53,8 @@ def write(table):
     """Puts the tables into the page, each in the place of the one that it has already."""
     made = sections(PAGE.read_text(encoding="utf-8")) if PAGE.exists() else {}
     made.update(sections("\n".join(table.lines)))
-    PAGE.write_text(HEAD.format(count=COUNT) + "".join(f"\n## {made[title]}\n" for title in TITLES if title in made), encoding="utf-8")
+    digest = hashlib.sha256(Path(table.ours.commands["rpm"][0]).read_bytes()).hexdigest()[:16]
+    PAGE.write_text(HEAD.format(count=COUNT, digest=digest) + "".join(f"\n## {made[title]}\n" for title in TITLES if title in made), encoding="utf-8")
 
 
 def tables(folder, program, words, part):
