@@ -43,10 +43,10 @@ The definitions are computed, without the code, on small inputs: by `Fixtures.an
 
 # What the theorem rests on
 
-The theorem rests on {definitions:,} definitions of {lines:,} lines, in {files:,} files, the last of them {deep} steps from `run`. They are all that a reader has
-to believe beside what `docs/PROVED.md` says under "What is trusted": a proof can't be wrong, but a definition can say something else than its sentence. They
-stand here from the page of the theorem down, crate by crate, and each with the first sentence of its comment. Beside them it rests on {types} types and traits
-of the code, which follow each crate's name, and on what the library of Rattle defines.
+The theorem rests on {definitions:,} definitions of {lines:,} lines, in {files:,} files, the last of them {deep} steps from `run`. The check refuses a
+wrong proof, but nothing checks that a definition says what its sentence says: so these are what a reader has to believe, beside what `docs/PROVED.md` has under
+"What is trusted". They stand here from the page of the theorem down, crate by crate, and each with the first sentence of its comment. The theorem also rests on
+{types} types and traits of the code, which follow each crate's name, and on what the library of Rattle defines.
 
 | Crate | Definitions | Lines |
 |---|---|---|
@@ -166,7 +166,8 @@ def check():
     old = [str(path.relative_to(TOP)) for path, text, made in documents() if text != made]
     if old:
         yield f"{', '.join(old)}: not current: run .ci/definitions.py --write"
-    for found, most, what in zip(fragments(), (MOST_FRAGMENTS, MOST_PARTICIPLES), ("comments that begin as half a sentence", "names that are bare participles")):
+    limits = ((MOST_FRAGMENTS, "comments that begin as half a sentence"), (MOST_PARTICIPLES, "names that are bare participles"))
+    for found, (most, what) in zip(fragments(), limits):
         if len(found) > most:
             yield f"{len(found)} {what}, more than {most}: .ci/definitions.py --fragments lists them"
 
@@ -183,8 +184,8 @@ def told(options):
                         f"{len(participles)} names are bare participles (at most {MOST_PARTICIPLES}), of {len(every()):,} definitions"]
     made = numbers()
     lines = [f"{len(found):6,}{sum(len(it.lines) for it in found):7,}  {name}" for name, (found, _, _) in counts().items()]
-    return lines + [f"{made['definitions']:6,}{made['lines']:7,}  in all: definitions, and their lines, in {made['files']} files, the last {made['deep']} steps "
-                    f"from run; and {made['types']} types and traits of the code"]
+    where = f"in {made['files']} files, the last {made['deep']} steps from run; and {made['types']} types and traits of the code"
+    return lines + [f"{made['definitions']:6,}{made['lines']:7,}  in all: definitions, and their lines, {where}"]
 
 
 def main():

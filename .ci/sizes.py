@@ -69,7 +69,8 @@ def counted():
     total = {key: sum(row[key] for _, row in rows) for key in COUNTS}
     table = HEAD + "".join(f"| {name} | " + " | ".join(f"{row[key]:,}" for key in COUNTS) + " |\n" for name, row in rows + [("in all", total)])
     sentence = (f"The tree has {len(rows)} crates: {total['code']:,} lines of code, {total['contracts']:,} of contracts with {total['clauses']:,} clauses,\n"
-                f"{total['specs']:,} of definitions and laws, {total['proofs']:,} of proofs, {total['edits']:,} must-fail edits, {total['tests']:,} tests and {total['rows']:,} worked rows.")
+                f"{total['specs']:,} of definitions and laws, {total['proofs']:,} of proofs, "
+                f"{total['edits']:,} must-fail edits, {total['tests']:,} tests and {total['rows']:,} worked rows.")
     return table, sentence
 
 
