@@ -16,8 +16,10 @@ from pathlib import Path
 sys.dont_write_bytecode = True
 from folders import TOP
 import hard_changes
+import hard_edge
 import hard_files
 import hard_outside
+import hard_places
 from hard_sides import COUNT, MAGIC, Side, Table, split
 from make_database import package
 
@@ -33,15 +35,21 @@ A cell has the status, how much of the right answer was printed, and the first l
 an export has afterwards, unchanged, of rpm and of this program; for damaged, missing and cut files after their `--rebuilddb`. "Refused" is a database that
 none of these commands reads or changes. `trials/refused_memory.sh` refuses each allocation in turn.
 
-Two things to know: nobody locks the files of this program, so that of two changes at one time one may be lost, though both end with 0. And a damaged place of a
-package, a damaged log or a cut file has it refuse the whole database: copy it before you repair it by hand. A file that is cut to nothing is a blank database.
+Two things to know. That nobody else writes is supposed, and a lock of the system keeps it true among processes of this program (`docs/TOGETHER.md`): of two
+changes the second waits for the first, at most five seconds. And a damaged place of a package, a damaged log or a cut file has it refuse the whole database:
+copy it before you repair it by hand. A file that is cut to nothing is a blank database.
+
+In the cases of links and odd files rpm's `rpmdb.sqlite` stands for `Packages.db`, and its `-shm` and `-wal` for index and log; there "-" is kept.
 """
 TITLES = ("A flipped byte", "The index", "A file that is cut", "A disk that is full, and a crash", "An output that fails", "A user without rights",
-          "Want of memory", "Two at once", "A clock that is set back", "Many packages", "Random changes")
+          "A file that can't be written", "A closed descriptor", "A link", "A pipe, a device, a folder", "No database, or another one",
+          "A folder among package files, a word that is no text", "Want of memory", "Two at once", "A clock that is set back", "Many packages",
+          "Random changes")
 PARTS = (
-    hard_files.damaged_pages, hard_files.indexes, hard_files.cut_files, hard_outside.outputs, hard_outside.rights, hard_outside.two_at_once, hard_outside.clock,
-    hard_outside.disk, hard_outside.memory)
-LARGE = {hard_changes.many: (50_000, 2_000), hard_changes.random_changes: (10_000, 1_000)}
+    hard_files.damaged_pages, hard_files.indexes, hard_files.cut_files, hard_outside.outputs, hard_outside.rights, hard_edge.rights_of_files,
+    hard_edge.descriptors, hard_edge.links, hard_places.odd_files, hard_places.folders, hard_places.items, hard_outside.clock, hard_outside.disk,
+    hard_outside.memory)
+LARGE = {hard_outside.two_at_once: (30, 6), hard_changes.many: (50_000, 2_000), hard_changes.random_changes: (10_000, 1_000)}
 
 
 def sections(text):

@@ -2,11 +2,12 @@
 import os
 import resource
 import shutil
-import signal
 import subprocess
 import time
+from dataclasses import dataclass
 
-from hard_sides import ADDED, MAGIC, split
+import real_packages
+from hard_sides import ADDED, MAGIC
 from make_database import package
 from make_package import lead, signature
 
@@ -81,6 +82,8 @@ def disk(table):
         table.apart("no space, a write that fails, a kill", "wants strace")
     sizes = [{"limit": (resource.RLIMIT_FSIZE, (size << 10, size << 10))} for size in range(20, 420, 80)]
     tried(table, "a limit on the size of files", lambda side: sizes, r"\d+ tries: (0, )?252; 0( or 20)? added")
+    sizes = [it | {"signals": True} for it in sizes]
+    tried(table, "the same, where its signal ends the command", lambda side: sizes, r"\d+ tries: (0, )?(252|signal 25); 0( or 20)? added")
 
 
 def outputs(table):
@@ -155,33 +158,64 @@ def start(side, words, stdin, before=()):
         return subprocess.Popen(list(before) + side.words(list(words)), stdin=file, stdout=subprocess.PIPE, stderr=subprocess.DEVNULL)
 
 
-def two_imports(side, times, slowly=()):
-    """What became of two imports at one time, the first maybe slowed down; and how many packages from before are left at least."""
-    ended, added, left = [], [], []
-    for _ in range(times):
+@dataclass
+class Change:
+    """A change that runs beside another: its words for a side, its input, and the labels that it adds and erases."""
+    words: object
+    stdin: bytes = b""
+    adds: frozenset = frozenset()
+    erases: frozenset = frozenset()
+
+
+def label(i):
+    return f"package{i}-1.{i % 10}-1.fc40.x86_64"
+
+
+def importing(begin, count):
+    """An import of so many packages."""
+    return Change(lambda side: IMPORT, more(begin, count), frozenset(map(label, range(begin, begin + count))))
+
+
+def labels_of(side):
+    return set(side.run(*ALL).out.decode().split())
+
+
+def both_changes(side, changes, times, slowly=()):
+    """What became of two changes at one time, a few milliseconds apart, the first maybe slowed down; and how many packages from before are left at least."""
+    ended, lost, sure, damaged, left = [], 0, 0, 0, []
+    for turn in range(times):
         side.fresh()
-        first = start(side, IMPORT, more(41), slowly)
-        time.sleep(0.2 if slowly else 0)
-        both = [first, start(side, IMPORT, more(61))]
-        ended += [str(process.wait()) for process in both]
-        found = side.headers() or []
-        left.append(sum(header in found for header in side.before))
-        added.append(len(found) - left[-1])
-    return f"{times} tries: {endings(ended)}; {span(added)} of 40 added", min(left)
+        before = labels_of(side)
+        first = start(side, changes[0].words(side), changes[0].stdin, slowly)
+        time.sleep(0.2 if slowly else turn % 4 / 500)
+        both = [first, start(side, changes[1].words(side), changes[1].stdin)]
+        done = [change for change, process in zip(changes, both) if process.wait() == 0]
+        ended += [str(process.returncode) for process in both]
+        wanted = before.union(*(it.adds for it in done)).difference(*(it.erases for it in done))
+        found = labels_of(side)
+        sure, lost = sure + sum(len(it.adds) + len(it.erases) for it in done), lost + len(wanted ^ found)
+        damaged += side.run("rpmdb", "--verifydb").status != 0
+        left.append(len(found & before))
+    return f"{times} tries: {endings(ended)}; {lost} of {sure} changes lost" + (f", {damaged} times damaged" if damaged else ""), min(left)
 
 
-def two_at_once(table, times=4):
+def two_at_once(table, times):
     """Two commands at one time."""
     table.title("Two at once")
-    # What becomes of two changes at one time isn't stated of this program: nobody locks its files.
-    cells, counts = zip(*[two_imports(side, times) for side in table.sides])
-    table.row("two imports of 20", cells, counts, ".*")
+    large = MAGIC + real_packages.package(1009)
+    imports, wanted = importing(41, ADDED), r"\d+ tries: 0(, 252)?; 0 of \d+ changes lost"
+    for name, second, often in (
+            ("two imports of 20", importing(61, ADDED), times), ("two imports, of 20 and of 500", importing(1000, 500), times // 3),
+            ("two imports, of 20 and of one with 2,000 files", Change(lambda side: IMPORT, large, frozenset(["package1009-1.9-1.el8.x86_64"])), times),
+            ("an import of 20, three are erased", Change(lambda side: side.erasing(3), b"", frozenset(), frozenset(map(label, (1, 2, 3)))), times)):
+        cells, counts = zip(*[both_changes(side, (imports, second), often) for side in table.sides])
+        table.row(name, cells, counts, wanted, 37 if second.erases else 40)
     if shutil.which("strace"):
         slowly = [UNTRACED + ["/dev/null", "-e", f"inject=pwrite64:delay_enter={delay}"] for delay in (1000, 50000)]
-        cells, counts = zip(*[two_imports(side, 2, it) for side, it in zip(table.sides, slowly)])
-        table.row("the same, the first slowed down", cells, counts, ".*")
+        cells, counts = zip(*[both_changes(side, (imports, importing(61, ADDED)), times // 3, it) for side, it in zip(table.sides, slowly)])
+        table.row("two imports of 20, the first slowed down", cells, counts, wanted, 40)
     else:
-        table.apart("the same, the first slowed down", "wants strace")
+        table.apart("two imports of 20, the first slowed down", "wants strace")
     cells = []
     for side in table.sides:
         side.fresh()
@@ -190,26 +224,27 @@ def two_at_once(table, times=4):
         seen = [(process.communicate()[0] == right, process.returncode) for pair in both for process in pair]
         cells.append("0, all" if set(seen) == {(True, 0)} else f"{sum(it == (True, 0) for it in seen)} of {len(seen)} right")
     table.row("questions beside each other", cells, [len(side.headers()) for side in table.sides], "0, all", 40)
-    beside_an_import(table)
+    for words, stated in ((ALL, r"0(, 252)?, (40|540|40 or 540) packages"), (("rpm", "-q", "package7", "package520"), r"(0|1|0, 1)(, 252)?, (1|2|1 or 2) packages")):
+        beside_an_import(table, words, stated)
 
 
-def beside_an_import(table):
+def beside_an_import(table, words, stated):
     """Questions while an import of 500 packages runs."""
     cells, left = [], []
     for side in table.sides:
         side.fresh()
-        right = set(side.run(*ALL).out.split()) | {f"package{i}-1.{i % 10}-1.fc40.x86_64".encode() for i in range(41, 541)}
+        right = set(map(label, range(1, 541)))
         process, seen = start(side, IMPORT, more(41, 500)), []
         while process.poll() is None:
-            seen.append(side.run(*ALL))
-        counts = {len(it.out.split()) for it in seen}
-        wrong = sum(not set(it.out.split()) <= right for it in seen)
-        cells.append(f"{endings([it.ended() for it in seen])}, {span(counts)} packages" + (f", {wrong} wrong" if wrong else ""))
+            seen.append(side.run(*words))
+        found = [{line for line in it.out.decode().splitlines() if " " not in line} for it in seen if it.status != 252]
+        wrong = sum(not it <= right or label(7) not in it for it in found)
+        cells.append(f"{endings([it.ended() for it in seen])}, {span(map(len, found))} packages" + (f", {wrong} wrong" if wrong else ""))
         found = side.headers() or []
         left.append(sum(header in found for header in side.before))
         if process.returncode or len(found) != 540:
             cells[-1] += f"; the import ends with {process.returncode}"
-    table.row("`-qa` during an import of 500", cells, left, ".*")
+    table.row(f"`{words[1]}` during an import of 500", cells, left, stated, 40)
 
 
 def clock(table):

@@ -14,6 +14,8 @@ MAGIC = bytes.fromhex("8eade80100000000")
 LONGEST = 48
 LEAST = 36
 COUNT, ADDED = 40, 20
+# What rpm notes besides: of rpm on Debian, and of packages that were made for a trial.
+NOTES = ("Alien instead", "you know what you are doing", "deprecated")
 
 
 @dataclass
@@ -23,13 +25,13 @@ class Seen:
     out: bytes
     err: str
 
-    def message(self, right=b""):
-        """The first line that isn't of the right answer, without folders; of a long one the end."""
+    def message(self, right=b"", which=0):
+        """The first line that isn't of the right answer, or the one at another place of them, without folders; of a long one the end."""
         lines = self.err.splitlines() or [it for it in self.out.decode("utf-8", "replace").splitlines() if it.encode() not in right.splitlines()]
-        lines = [it for it in lines if "Alien instead" not in it and "you know what you are doing" not in it]
+        lines = [it for it in lines if not any(note in it for note in NOTES)]
         if not lines:
             return ""
-        text = re.sub(r"^(rpm|rpmdb|error): ", "", re.sub(r"/\S*/(?=\S)", "", lines[0])).replace("|", "/").replace("`", "'")
+        text = re.sub(r"^(rpm|rpmdb|error): ", "", re.sub(r"/\S*/(?=\S)", "", lines[which])).replace("|", "/").replace("`", "'")
         text = re.sub(r"\s+", " ", text)
         return text if len(text) <= LONGEST else ".." + text[-LEAST:].lstrip()
 
@@ -37,9 +39,9 @@ class Seen:
         """How it ended."""
         return f"signal {-self.status}" if self.status < 0 else str(self.status)
 
-    def cell(self, right):
-        """Status, how much of the right answer was printed, and the message."""
-        message = self.message(right)
+    def cell(self, right, which=0):
+        """Status, how much of the right answer was printed, and the message at this place of its lines."""
+        message = self.message(right, which)
         return f"{self.ended()}, {printed(self.out, right)}" + (f": `{message}`" if message else "")
 
 
@@ -69,14 +71,21 @@ class Side:
         """The words of a command over this side's database."""
         return self.commands[words[0]] + ["--dbpath", self.database] + words[1:]
 
-    def run(self, *words, before=(), stdin=b"", limit=None, stdout=subprocess.PIPE):
-        """Runs a command, maybe behind other words, or with a limit (of a kind, a number) on what it may use."""
+    def run(self, *words, before=(), stdin=b"", limit=None, stdout=subprocess.PIPE, signals=False):
+        """Runs a command, maybe behind other words, or with a limit (of a kind, a number) on what it may use; `signals` where none is ignored."""
         def limited():
             if limit:
                 resource.setrlimit(*limit)
         done = subprocess.run(list(before) + self.words(list(words)), input=stdin, stdout=stdout, stderr=subprocess.PIPE, cwd=self.folder, check=False,
-                              restore_signals=False, preexec_fn=limited, env=dict(os.environ, LC_ALL="C", TZ="UTC", HOME=self.folder))
+                              restore_signals=signals, preexec_fn=limited, env=dict(os.environ, LC_ALL="C", TZ="UTC", HOME=self.folder))
         return Seen(done.returncode, done.stdout or b"", done.stderr.decode("utf-8", "replace"))
+
+    def erasing(self, count):
+        """The words that erase the first packages."""
+        numbers = range(1, count + 1)
+        if self.name == "rpm":
+            return ("rpm", "-e", "--justdb", "--nodeps", *(f"package{i}" for i in numbers))
+        return ("rpm", "--erasepkg", *map(str, numbers))
 
     def make(self, headers):
         """The database that each case begins with."""

@@ -94,7 +94,7 @@ class Pairs:
         def pair(name, *changes, beside=(), files=self.files, state=self.state, at="db"):
             return Pair(name, files, state, list(changes), list(beside), at)
         yield pair("`--addpkg` of 3, `--addpkg` of 3", add, again)
-        yield pair("the same, no folder yet", add, again, files={}, state=none, at="new/db")
+        yield pair("`--addpkg` of 3, `--addpkg` of 3, no folder yet", add, again, files={}, state=none, at="new/db")
         yield pair("`--addpkg` of 3, `--erasepkg` of 3", add, erase)
         yield pair("`--addpkg` of one with 2,000 files, `--addpkg` of 3", big, add)
         yield pair("`--erasepkg 5`, `--erasepkg 6`", states.erase([5]), states.erase([6]))
