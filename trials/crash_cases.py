@@ -117,6 +117,12 @@ class Cases:
         yield case("`--erasepkg`, a pending transaction", states.erase(numbers), log, logged)
         yield case("the second of three", states.erase(numbers), acknowledged=[states.add(self.packages, [70])], later=[states.imports([92])])
         yield from self.after_kills(size, files, missing, state)
+        if size == "small":
+            yield case("`--erasepkg`, 0 is closed", states.erase(numbers).without(0))
+            yield case("a question, no index, 1 is closed", ask.without(1), missing)
+            yield case("a question, no index, 2 is closed", ask.without(2), missing)
+            yield case("a question, an old index, 0 to 2 are closed", ask.without(0, 1, 2), old)
+            yield case("`--erasepkg`, 0 to 2 are closed", states.erase(numbers).without(0, 1, 2))
 
     def of_none(self):
         """The cases on no database, on files with a partial unit, and the exercise."""

@@ -15,7 +15,9 @@ import crash_files
 import crash_states as states
 from crash_files import LOG, Unknown
 
-FAILED = (252, b"", b"rpm: the database could not be read or written\n")
+# A fault of the disk has its line, and may have one that says what stood in the way.
+FAILED = re.compile(rb"rpm: the database could not be read or written\n(rpm: [^\n]+\n)?")
+NOWHERE = re.compile(rb"rpm: the database could not be read or written\nrpm: [^\n]*folder[^\n]*\n")
 # Of more reads of a command some fail, spread over all; --quick also takes only so many other calls.
 MOST_READS, MOST_QUICK = 60, 12
 READS = {"read", "pread64", "lseek", "statx", "close", "newfstatat", "fstat"}
@@ -40,6 +42,12 @@ def short(answer):
     """The beginning of an answer."""
     status, out, err = answer
     return f"status {status}, {len(out)} bytes {out[:200]!r}, {err[:200]!r}"
+
+
+def is_failed(command, answer, wanted):
+    """Whether a command ended by a fault of the disk, with its line, and with no more than a beginning of the right answer."""
+    status, out, err = answer
+    return status == 252 and wanted[1].startswith(out) and (2 in command.closed and not err or FAILED.fullmatch(err) is not None)
 
 
 class Room:
@@ -75,7 +83,7 @@ class Room:
     def traced(self, command, inject=""):
         """A command under strace: its answer, its calls, and the seconds in which it ran."""
         begin = int(time.time())
-        status, out, err, calls = crash_files.traced(self.words(command.words), str(self.folder), command.given, inject)
+        status, out, err, calls = crash_files.traced(command.run_by(self.words(command.words)), str(self.folder), command.given, inject)
         return (status, out, err), calls, range(begin, int(time.time()) + 1)
 
     def want(self, words, wanted):
@@ -83,8 +91,24 @@ class Room:
         if found != wanted:
             raise Loss(f"{' '.join(words[:6])}: {short(found)} in place of {short(wanted)}")
 
+    def look_nowhere(self, allowed):
+        """Without a folder each question is refused, and no package may have been there: the state."""
+        for words in (["rpmdb", "--exportdb"], ["rpm", "-qa"], ["rpm", "-q", "pkg1"]):
+            status, out, err = self.ask(words)
+            if (status, out) != (252, b"") or not NOWHERE.fullmatch(err):
+                raise Loss(f"without a folder {' '.join(words)} answers {short((status, out, err))}")
+        state = next((it for it in allowed if not it.packages), None)
+        if state is None:
+            raise Loss("there is no folder")
+        return state
+
     def look(self, allowed, names, later=()):
         """Whether all answers are those of one of these states, before and after a transaction is finished; then of those that follow."""
+        is_there = (self.folder / self.at).is_dir()
+        self.look_later(self.look_there(allowed, names) if is_there else self.look_nowhere(allowed), names, later)
+
+    def look_there(self, allowed, names):
+        """The same of a folder that is there, without those that follow: the state."""
         exported = self.ask(["rpmdb", "--exportdb"])
         state = next((it for it in allowed if it.export() == exported), None)
         if state is None:
@@ -100,12 +124,16 @@ class Room:
         log = self.folder / self.at / LOG
         if log.exists() and any(log.read_bytes()[:16]):
             raise Loss("the log is open after a question by key")
+        return state
+
+    def look_later(self, state, names, later):
+        """Runs commands that follow on a state, and looks at what each leaves."""
         for command in later:
             begin = int(time.time())
             answer = self.ask(command.words, command.given)
             if answer != command.prints(state):
                 raise Loss(f"afterwards {' '.join(command.words)}: {short(answer)}")
-            self.look([command.after(state, now) for now in range(begin, int(time.time()) + 1)], names)
+            state = self.look_there([command.after(state, now) for now in range(begin, int(time.time()) + 1)], names)
 
 
 @dataclass
@@ -142,6 +170,7 @@ class Plan:
             yield "killed", at, None
         for at in [-1, *(sorted(near | set(some(moments, MOST_QUICK))) if is_quick else moments)]:
             yield "images", at, None
+        yield from (("faults", at, "error=EACCES") for at, call in enumerate(self.calls) if call.name == "openat" and call.path is not None)
         for at in faults:
             yield "faults", at, "error=EIO"
             if self.calls[at].name not in READS and not is_quick:
@@ -183,7 +212,7 @@ class Bench:
             answer, calls, seconds = self.room.traced(command)
             exported = self.room.ask(["rpmdb", "--exportdb"])
             before, state = state, next((it for it in (command.after(state, now) for now in seconds) if it.export() == exported), None)
-            if state is None or answer != command.prints(before):
+            if state is None or answer != command.heard(command.prints(before)):
                 raise Loss(f"{case.name} ({case.size}), run as it is: {short(answer)}; --exportdb: {short(exported)}")
         return disk, calls, self.room.held(), before, state
 
@@ -270,10 +299,13 @@ class Bench:
         answer, held, disk, count, after = self.run(plan, call, f"{error}:when={call.count}{'+' if more else ''}")
         if count < call.count:
             return 0, []
-        what, wanted = f"{error}{more} at call {at}, {call}", case.command.prints(plan.before)
+        what, wanted = f"{error}{more} at call {at}, {call}", case.command.heard(case.command.prints(plan.before))
         if answer == wanted:
             now = later = after
-        elif answer[0] == FAILED[0] and answer[2] == FAILED[2] and wanted[1].startswith(answer[1]):
+        elif is_failed(case.command, answer, wanted) and call.name == "openat":
+            # What can't be opened is known before the log has any of the change: nothing of it is made, now or later.
+            now = later = [plan.before]
+        elif is_failed(case.command, answer, wanted):
             now, later = after if disk.commit else [plan.before], [[plan.before], [plan.before] + after, after][disk.commit]
         else:
             return 1, [self.kept(plan, what, held, f"it ended with {short(answer)}")]

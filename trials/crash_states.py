@@ -124,11 +124,26 @@ class State:
 
 @dataclass
 class Command:
-    """`words` without the folder; `after(state, now)` gives the state that it leaves, `prints(state)` what it has to answer."""
+    """`words` without the folder; `after(state, now)` gives the state that it leaves, `prints(state)` what it has to answer; which of the three
+    standard descriptors are closed as it begins."""
     words: list
     after: object
     given: bytes = b""
     prints: object = lambda state: (0, b"", b"")
+    closed: tuple = ()
+
+    def heard(self, answer):
+        """What of an answer is heard."""
+        status, out, err = answer
+        return status, b"" if 1 in self.closed else out, b"" if 2 in self.closed else err
+
+    def without(self, *handles):
+        """The same with these descriptors closed."""
+        return Command(self.words, self.after, self.given, lambda state: self.prints(state), handles)
+
+    def run_by(self, words):
+        """These words of it, behind those that close descriptors."""
+        return ["sh", "-c", f"exec \"$@\" {' '.join(f'{it}>&-' for it in self.closed)}", "sh", *words] if self.closed else words
 
 
 def initdb():
