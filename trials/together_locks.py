@@ -18,11 +18,12 @@ LEAST, MOST = 2, 30
 
 @dataclass(frozen=True)
 class Held:
-    """A lock of the database: its name, the file below the folder, how it is held, and which of the commands below it lets in."""
+    """A lock of the database: its name, the file below the folder, how it is held, and which commands it lets in at once, and which after a while."""
     name: str
     path: str
     how: int
-    lets_in: tuple
+    at_once: tuple = ()
+    late: tuple = ()
 
     def take(self, folder):
         """The handle that holds it."""
@@ -31,8 +32,8 @@ class Held:
         return handle
 
 
-LOCKS = (Held("the folder's, alone", "", fcntl.LOCK_EX, ("`-qa`",)), Held("that of `Packages.db`, shared", "Packages.db", fcntl.LOCK_SH, ("`-q`", "`-qa`")),
-         Held("that of `Packages.db`, alone", "Packages.db", fcntl.LOCK_EX, ()))
+LOCKS = (Held("the folder's, alone", "", fcntl.LOCK_EX, ("`-qa`",), ("`-q`",)),
+         Held("that of `Packages.db`, shared", "Packages.db", fcntl.LOCK_SH, ("`-q`", "`-qa`")), Held("that of `Packages.db`, alone", "Packages.db", fcntl.LOCK_EX))
 
 
 def right(room, pairs, command, ended):
@@ -42,21 +43,24 @@ def right(room, pairs, command, ended):
     room.look(list(reached(pairs.state, [(command, ended.seconds)])), NAMES)
 
 
-def held_on(room, pairs, command, lock, is_let_in):
+def held_on(room, pairs, name, command, lock):
     """Runs a command while the lock is held on: the cell."""
     handle = lock.take(room.folder / room.at)
     ended = Started(room.words(command.words), room.folder, command.given).wait()
     os.close(handle)
-    if is_let_in:
+    if (ended.took < LEAST) != (name in lock.at_once) or ended.took > MOST:
+        raise Loss(f"after {ended.took:.1f} s it ended with {short(ended.answer)}")
+    when = "at once" if ended.took < LEAST else f"after {ended.took:.0f} s"
+    if name in lock.at_once + lock.late:
         right(room, pairs, command, ended)
-        return "right at once"
-    if not ended.is_refused() or not LEAST < ended.took < MOST:
+        return f"right {when}"
+    if not ended.is_refused():
         raise Loss(f"after {ended.took:.1f} s it ended with {short(ended.answer)}")
     room.look([pairs.state], NAMES)
-    return f"252 after {ended.took:.0f} s"
+    return f"252 {when}"
 
 
-def for_a_second(room, pairs, command, lock, is_let_in):
+def for_a_second(room, pairs, name, command, lock):
     """Runs a command while the lock is held for a second: the cell."""
     handle = lock.take(room.folder / room.at)
     started = Started(room.words(command.words), room.folder, command.given)
@@ -64,7 +68,7 @@ def for_a_second(room, pairs, command, lock, is_let_in):
     has_waited = started.is_running()
     os.close(handle)
     ended = started.wait()
-    if has_waited == is_let_in:
+    if has_waited == (name in lock.at_once):
         raise Loss("it waited" if has_waited else f"it didn't wait, and ended with {short(ended.answer)}")
     right(room, pairs, command, ended)
     return "right after it" if has_waited else "right at once"
@@ -77,7 +81,7 @@ def tried(task):
     folder.mkdir()
     room.put(pairs.files, {"db"})
     try:
-        return run(room, pairs, command, lock, name in lock.lets_in), None
+        return run(room, pairs, name, command, lock), None
     except (Loss, Hangs) as fault:
         return "wrong", f"{lock.name}, {name}: {fault}"
 
