@@ -17,7 +17,7 @@ import sys
 sys.dont_write_bytecode = True
 from specs import TOP
 
-PAGES = [TOP / "docs" / name for name in ("CRASHES.md", "DIFFERENCES.md", "FIGURES.md", "HARD_CASES.md", "MIGRATING.md", "REAL.md")]
+PAGES = [TOP / "docs" / name for name in ("CRASHES.md", "DIFFERENCES.md", "FIGURES.md", "HARD_CASES.md", "TOGETHER.md", "MIGRATING.md", "REAL.md")]
 LINE = re.compile(r"^\*Of the program `([0-9a-f]{16})`([^*\n]*)\*$", re.M)
 WRITTEN = re.compile(r"with\s+the\s+digest\s+`([0-9a-f]{16})`")
 SOURCES = "crates/*/src/*.rt"

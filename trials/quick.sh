@@ -9,7 +9,7 @@
 set -u
 case ${1-} in
 -h | --help)
-    sed -n '2,/^set /s/^# \{0,1\}//p' "$0" | sed '$d'
+    sed -n '2,/^set /s/^# \{0,1\}//p' "$0"
     exit 0 ;;
 '' | -*)
     echo 'usage: trials/quick.sh PROGRAM [RPM_WITH_NDB]' >&2
