@@ -10,7 +10,7 @@ NAMES = ("Packages.db", "Hindex.db", "Hlog.db")
 # What stands in rpm's folder for each of them.
 THEIRS = dict(zip(NAMES, ("rpmdb.sqlite", "rpmdb.sqlite-shm", "rpmdb.sqlite-wal")))
 REFUSED = r"252, none: `{}`"
-PLAIN, FAULT = r".*plain file.*", r"the database could not be read or written"
+PLAIN = r".*plain file.*"
 # What hangs is killed.
 SHORTLY = {"before": ["timeout", "-s", "KILL", "10"]}
 TEXT = b"A text of somebody else, which has nothing to do with packages.\n"
@@ -80,7 +80,7 @@ def rights_of_files(table):
             path = path_of(table, side, name)
             with open(path, "ab"):
                 os.chmod(path, 0o444)
-        done(table, Case(f"`{name}`, three are erased by another user", prepare, lambda side: side.erasing(3), REFUSED.format(FAULT) + "; nothing made",
+        done(table, Case(f"`{name}`, three are erased by another user", prepare, lambda side: side.erasing(3), REFUSED.format(f"this user may not write {name}") + "; nothing made",
                          changed, how={"before": NOBODY}))
 
 
