@@ -1,10 +1,14 @@
 #!/bin/sh
-# Whether release/ is of this tree: its MANIFEST names the digest of these sources and this toolchain, the packed program is the one that it
-# names, and where a build left a program here, it is that one, byte for byte. It proves nothing.
+# Whether release/ is of this tree: its MANIFEST names the digest of these sources and this toolchain, and the packed program is the one that it
+# names. Where the gate left the object of the proved program, that is the one that MANIFEST names; and where this machine has the linker and the
+# libraries that MANIFEST names, the object is linked anew and gives the packed program, byte for byte. Then the packed program is asked in a root
+# that has nothing but a database, where one can be entered. It proves nothing, and takes two seconds.
 #
 #   release/check.sh
 set -eu
-cd "$(dirname "$0")/.."
+unset CDPATH
+cd -P -- "$(dirname -- "$0")/.."
+[ "${1-}" != --help ] || { sed -n '2,/^set /s/^# \{0,1\}//p' "$0"; exit; }
 
 fail() {
     printf 'release: %s\n' "$*" >&2
@@ -16,19 +20,49 @@ told() {
     sed -n "s/^$1 //p" release/MANIFEST
 }
 
+digest() {
+    sha256sum | cut -d ' ' -f 1
+}
+
+# Runs a command in another root: ROOT COMMAND..
+in_root() {
+    if [ "$(id -u)" = 0 ]; then
+        chroot "$@"
+    else
+        unshare -r chroot "$@"
+    fi
+}
+
 { [ -f release/MANIFEST ] && [ -f release/rpm_prog.gz ]; } || fail "there is no program: run release/make.sh after the gate"
 [ "$(told sources)" = "$(release/digest.sh)" ] || fail "the program is of other sources: run release/make.sh after the gate"
 [ "$(told toolchain)" = "$(rt version)" ] || fail "the program is of another toolchain: run release/make.sh after the gate"
+[ -z "$(release/differs.sh)" ] || fail "sources.gz is of other sources: run release/make.sh"
 
-packed=$(mktemp)
-trap 'rm -f "$packed"' EXIT
-gzip -d -c release/rpm_prog.gz > "$packed"
-[ "$(told program)" = "$(sha256sum < "$packed" | cut -d ' ' -f 1)" ] || fail "the packed program isn't the one that MANIFEST names"
+room=$(mktemp -d)
+trap 'rm -rf "$room"' EXIT
+mkdir "$room/root" "$room/root/d"
+gzip -d -c release/rpm_prog.gz > "$room/root/rpm"
+[ "$(told program)" = "$(digest < "$room/root/rpm")" ] || fail "the packed program isn't the one that MANIFEST names"
 
-built=crates/rpm_prog/out/rpm_prog
-if [ -f "$built" ]; then
-    cmp -s "$packed" "$built" || fail "$built is another program than the one that is packed: run release/make.sh"
+object=crates/rpm_prog/out/rpm_prog.o
+if [ ! -f "$object" ]; then
+    echo "release: of these sources; no program was built here to compare"
+elif [ "$(told object)" != "$(digest < "$object")" ]; then
+    fail "$object is another one than that of the packed program: run release/make.sh"
+elif release/link.sh --with > "$room/with" && sed -n '/^linker/,$p' release/MANIFEST | cmp -s - "$room/with"; then
+    release/link.sh "$room/linked"
+    cmp -s "$room/root/rpm" "$room/linked" || fail "$object is linked into another program than the one that is packed"
     echo "release: of these sources, and the program that was built here, byte for byte"
 else
-    echo "release: of these sources; no program was built here to compare"
+    echo "release: of these sources, and of the object that was built here; the program isn't compared, since this machine links with something else:"
+    sed -n '/^linker/,$p' release/MANIFEST | diff - "$room/with" | sed -n 's/^[<>]/release:  &/p'
+fi
+
+if in_root / true 2> /dev/null; then
+    chmod 755 "$room/root/rpm"
+    cp example/Packages.db "$room/root/d"
+    [ "$(in_root "$room/root" /rpm --dbpath /d -qf /usr/bin/sh)" = bash-5.1-2.x86_64 ] || fail "the packed program doesn't answer in a root of its own"
+    echo "release: the packed program answers in a root that has nothing but a database"
+else
+    echo "release: no other root can be entered here, so the program wasn't asked in one that is empty"
 fi
