@@ -4,9 +4,12 @@
 # prefix and piece, which the last word consists of, and list: what may stand for the piece, in lines, each perhaps with a tab and an explanation.
 _juzkarg_plan() {
     [ -z "${ZSH_VERSION-}" ] || emulate -L sh
-    local program=$1 table=${1##*/} mode= takes= chosen= possible= used= folder= pending= ended= count=0 letters
+    local program=$1 table=rpm mode= takes= chosen= possible= used= folder= pending= ended= count=0 letters
     local kind= name= modes= value= arguments= common=
     possible=$_juzkarg_modes
+    case $1 in
+        *rpmdb) table=rpmdb ;;
+    esac
     shift
     while [ $# -gt 1 ]; do
         _juzkarg_take "$1"

@@ -133,7 +133,8 @@ def tables():
 
 def main():
     wanted = {}
-    for file, head, shell in (("rpm.bash", "# bash completion of rpm and rpmdb", "bash.sh"), ("_rpm", "#compdef rpm rpmdb", "zsh.sh")):
+    for file, head, shell in (("rpm.bash", "# bash completion of rpm and rpmdb", "bash.sh"),
+                              ("_rpm", "#compdef rpm rpmdb juzkarg-rpm juzkarg-rpmdb", "zsh.sh")):
         parts = [(HERE / part).read_text(encoding="utf-8") for part in ("core.sh", shell)]
         wanted[file] = "\n".join([head, "# Made by completion/make.py.", "", tables(), "", *parts])
     if sys.argv[1:] == ["--check"]:

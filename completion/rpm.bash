@@ -54,9 +54,12 @@ _juzkarg_option() {
 # prefix and piece, which the last word consists of, and list: what may stand for the piece, in lines, each perhaps with a tab and an explanation.
 _juzkarg_plan() {
     [ -z "${ZSH_VERSION-}" ] || emulate -L sh
-    local program=$1 table=${1##*/} mode= takes= chosen= possible= used= folder= pending= ended= count=0 letters
+    local program=$1 table=rpm mode= takes= chosen= possible= used= folder= pending= ended= count=0 letters
     local kind= name= modes= value= arguments= common=
     possible=$_juzkarg_modes
+    case $1 in
+        *rpmdb) table=rpmdb ;;
+    esac
     shift
     while [ $# -gt 1 ]; do
         _juzkarg_take "$1"
@@ -301,51 +304,67 @@ _juzkarg_keep() {
 
 # The completion of bash.
 
-# Cuts a command line into words without their quotes. Sets words, quote (the one that is open at the end) and start: how many bytes of the
-# last word stand before what readline completes, which begins after an open quote, or after the last of its own signs.
+# Cuts a command line into words without their quotes. Sets words, quote (the one that is open at the end), expands (whether the shell would put
+# something else in place of a part of the last word), and begun (a backslash at the end that quotes nothing yet).
 _juzkarg_split() {
     local line=$1 at char word= has= escaped=
-    words=() quote= start=0
+    words=() quote= expands=
     for ((at = 0; at < ${#line}; at++)); do
         char=${line:at:1}
         if [[ -n $escaped ]]; then
+            # (between double quotes a backslash stands for itself but before these four)
+            if [[ $quote == '"' && $char != [\\\"\$\`] ]]; then word+='\'; fi
             word+=$char escaped=
         elif [[ $char == '\' && $quote != "'" ]]; then
-            escaped=1 has=1
+            escaped='\' has=1
+        elif [[ $char == [\$\`] && $quote != "'" ]]; then
+            word+=$char expands=1
         elif [[ -n $quote ]]; then
             if [[ $char == "$quote" ]]; then quote=; else word+=$char; fi
         elif [[ $char == [\'\"] ]]; then
-            quote=$char start=${#word} has=1
+            quote=$char has=1
         elif [[ $char == [[:blank:]] ]]; then
             if [[ -n $word$has ]]; then words+=("$word"); fi
-            word= has= start=0
+            word= has= expands=
         else
             word+=$char
-            if [[ $char == [=:] && $COMP_WORDBREAKS == *"$char"* ]]; then start=${#word}; fi
         fi
     done
     words+=("$word")
+    begun=$escaped
+}
+
+# Prints what may stand on the line in place of what was typed of the last word: that itself, and the rest of each line of the list, quoted so that
+# the shell takes it as it is. TYPED
+_juzkarg_lines() {
+    typed=${1%"$begun"} known=${words[-1]} before=$prefix quote=$quote what=$what LC_ALL=C awk '
+        BEGIN { typed = ENVIRON["typed"]; known = length(ENVIRON["known"]) + 1; before = ENVIRON["before"]; quote = ENVIRON["quote"]; what = ENVIRON["what"] }
+        $0 == "" { next }
+        {
+            sub(/\t.*/, "")
+            rest = substr(before $0, known)
+            if (quote == "\47") gsub(/\47/, "\47\\\\\47\47", rest)
+            else if (quote == "\"") { gsub(/[\\"$`]/, "\\\\&", rest); gsub(/!/, "\"\47!\47\"", rest) }
+            else if (what != "format") gsub(/[\001-\044\046-\052,;<>?[\\`{|}\177]/, "\\\\&", rest)
+            if (quote typed == "") sub(/^~/, "\\~", rest)
+            line = typed rest
+            # (readline closes no quote behind one that stands there)
+            print line (quote != "" && substr(line, length(line)) == quote ? quote : "")
+        }' <<< "$list"
 }
 
 _juzkarg() {
-    local what prefix piece list words quote start line
+    local what prefix piece list words quote expands begun
+    COMPREPLY=()
     _juzkarg_split "${COMP_LINE:0:COMP_POINT}"
     _juzkarg_plan "${words[@]}"
-    local before=${words[-1]:0:start}
-    COMPREPLY=()
     case $what in
         files) compopt -o default ;;
         folders) compopt -o dirnames ;;
         format) compopt -o nospace ;;
+        words) [[ -z $expands ]] || return 0 ;;
     esac
-    while IFS= read -r line; do
-        line=$prefix${line%%$'\t'*}
-        if [[ -n $list && $line == "$before"* ]]; then
-            line=${line#"$before"}
-            if [[ -z $quote && $line == *[!]A-Za-z0-9%{}:=#?@_./+~^-]* ]]; then printf -v line %q "$line"; fi
-            COMPREPLY+=("$line")
-        fi
-    done <<< "$list"
+    mapfile -t COMPREPLY < <(_juzkarg_lines "$2")
 }
 
-complete -F _juzkarg rpm rpmdb
+complete -F _juzkarg rpm rpmdb juzkarg-rpm juzkarg-rpmdb

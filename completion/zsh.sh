@@ -1,7 +1,7 @@
 # The completion of zsh.
 
 _juzkarg() {
-    local what prefix piece list line current=$PREFIX
+    local what prefix piece list current=$PREFIX
     local -a given shown
     [[ -n $compstate[quote] ]] || current=${(Q)PREFIX}
     _juzkarg_plan "${(@Q)words[1,CURRENT-1]}" "$current"
@@ -12,10 +12,9 @@ _juzkarg() {
             return
             ;;
     esac
-    for line in ${(f)list}; do
-        given+=("$prefix${line%%$'\t'*}")
-        shown+=("${line/$'\t'/  }")
-    done
+    shown=(${(f)list})
+    given=("$prefix"${^shown%%$'\t'*})
+    shown=("${(@)shown/$'\t'/  }")
     if [[ $what == format ]]; then
         compadd -S '' -d shown -a given
     else
