@@ -20,6 +20,7 @@ unset CDPATH
 umask 022
 
 here=$(dirname -- "$(readlink -f -- "$0")")
+program=libexec/juzkarg/rpm_prog
 prefix=/usr/local
 deed=install
 plain=
@@ -97,7 +98,7 @@ is_in_path() {
 # The pages, a line each: where each comes from, and its name below the folder. What is made here comes from a dash.
 pages() {
     for page in "$here"/man/*.8; do
-        name=$(basename "$page")
+        name=${page##*/}
         case $name in
             juzkarg*) ;;
             *) name=$lead$name ;;
@@ -111,7 +112,7 @@ pages() {
 
 # The names below the folder of all that is put.
 targets() {
-    echo libexec/juzkarg/rpm_prog
+    echo "$program"
     for name in rpm rpmdb; do
         printf '%s\n' "bin/$lead$name" "share/bash-completion/completions/$lead$name" "share/zsh/site-functions/_$lead$name"
     done
@@ -175,14 +176,15 @@ prove() {
 # Lets the program wait for its place, and runs it there by a name of its own.
 stage_program() {
     if [ "$deed" = prove ]; then
-        stage_file 755 libexec/juzkarg/rpm_prog < "$room/rpm_prog"
+        stage_file "$program" < "$room/rpm_prog"
     else
-        gzip -d -c "$here/release/rpm_prog.gz" | stage_file 755 libexec/juzkarg/rpm_prog
-        [ "$(told program)" = "$(digest < "$(staged libexec/juzkarg/rpm_prog)")" ] || fail "release/'s program isn't the one that MANIFEST names; nothing was changed"
+        gzip -d -c "$here/release/rpm_prog.gz" | stage_file "$program"
+        grep -qxF "file $(told program) $program" "$room/new" || fail "release/'s program isn't the one that MANIFEST names; nothing was changed"
     fi
-    named=$(staged libexec/juzkarg/rpm)
-    ln -s rpm_prog "$named"
-    version=$("$named" --version 2>&1) || fail "the program doesn't run on this machine ($(uname -sm)); nothing was changed: $version"
+    waits_for "$program"
+    chmod 755 "$waits"
+    ln -sf rpm_prog "${waits%/*}/juzkarg-rpm"
+    version=$("${waits%/*}/juzkarg-rpm" --version 2>&1) || fail "the program doesn't run on this machine ($(uname -sm)); nothing was changed: $version"
 }
 
 # Lets the links to the program wait: they go by the folder above, so that all may be moved, but where bin itself is a link.
@@ -191,7 +193,7 @@ stage_links() {
     way=..
     same_folder "$prefix/bin/../libexec/juzkarg" "$prefix/libexec/juzkarg" || way=$prefix
     for name in rpm rpmdb; do
-        stage_link "$way/libexec/juzkarg/rpm_prog" "bin/$lead$name"
+        stage_link "$way/$program" "bin/$lead$name"
     done
 }
 
@@ -199,17 +201,17 @@ stage_links() {
 stage_texts() {
     for name in "${lead}rpm" "${lead}rpmdb"; do
         sed "s/^complete -F _juzkarg .*/complete -F _juzkarg ${lead}rpm ${lead}rpmdb/" "$here/completion/rpm.bash" |
-            stage_file 644 "share/bash-completion/completions/$name"
-        sed "1s/.*/#compdef ${lead}rpm ${lead}rpmdb/" "$here/completion/_rpm" | stage_file 644 "share/zsh/site-functions/_$name"
+            stage_file "share/bash-completion/completions/$name"
+        sed "1s/.*/#compdef ${lead}rpm ${lead}rpmdb/" "$here/completion/_rpm" | stage_file "share/zsh/site-functions/_$name"
     done
     pages > "$room/pages"
     while read -r page name; do
         if [ "$page" = - ]; then
-            echo ".so man8/${lead}rpm-q.8" | stage_file 644 "$name"
+            echo ".so man8/${lead}rpm-q.8" | stage_file "$name"
         elif [ -n "$lead" ]; then
-            sed -f "$here/release/names.sed" "$here/man/$page" | stage_file 644 "$name"
+            sed -f "$here/release/names.sed" "$here/man/$page" | stage_file "$name"
         else
-            stage_file 644 "$name" < "$here/man/$page"
+            stage_file "$name" < "$here/man/$page"
         fi
     done < "$room/pages"
 }
@@ -233,6 +235,8 @@ install_all() {
         mkdir -p -- "$prefix" || fail "$prefix can't be made"
         echo 'folder - .' > "$room/made"
     fi
+    prefix=$(cd -- "$prefix/" && pwd)
+    prefix=${prefix%/}
     stage_program
     stage_links
     stage_texts

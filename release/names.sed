@@ -7,3 +7,4 @@ s/^\.Dl rpm/.Dl juzkarg-rpm/
 s/^\.Ql rpm/.Ql juzkarg-rpm/
 s/^\$ rpm/$ juzkarg-rpm/
 s/^\(\$ .*[|&;] *\)rpm/\1juzkarg-rpm/
+s/^\.so man8.rpm/.so man8\/juzkarg-rpm/

@@ -9,8 +9,10 @@
 list=libexec/juzkarg/installed
 stage=.juzkarg-new
 
+# The digest of what comes on standard input.
 digest() {
-    sha256sum | cut -d ' ' -f 1
+    sum=$(sha256sum)
+    printf '%s\n' "${sum%% *}"
 }
 
 # What stands at a path: `file DIGEST`, `link DIGEST`, or `other -` for all else.
@@ -90,13 +92,14 @@ cant_write() {
     fail "$prefix/$1 can't be written; what was installed before is as it was"
 }
 
-# The path at which what will be moved to a name waits: in a folder beside it.
-staged() {
-    printf '%s\n' "$prefix/${1%/*}/$stage/${1##*/}"
+# Sets waits: the path at which what will be moved to a name waits, in a folder beside it.
+waits_for() {
+    waits=$prefix/${1%/*}/$stage/${1##*/}
 }
 
 # Makes the folder of a name, and within it an empty one for what will be moved to the name.
 make_stage() {
+    waits_for "$1"
     make_folder "${1%/*}"
     if ! grep -qxF -e "${1%/*}" "$room/stages"; then
         printf '%s\n' "${1%/*}" >> "$room/stages"
@@ -105,18 +108,18 @@ make_stage() {
     fi
 }
 
-# Lets the standard input wait for a name: MODE NAME.
+# Lets the standard input wait for a name.
 stage_file() {
-    make_stage "$2"
-    { cat > "$(staged "$2")" && chmod "$1" "$(staged "$2")"; } || cant_write "$2"
-    printf '%s %s\n' "$(state "$(staged "$2")")" "$2" >> "$room/new"
+    make_stage "$1"
+    cat > "$waits" || cant_write "$1"
+    printf '%s %s\n' "$(state "$waits")" "$1" >> "$room/new"
 }
 
 # Lets a link wait for a name: TEXT NAME.
 stage_link() {
     make_stage "$2"
-    ln -s -- "$1" "$(staged "$2")" || cant_write "$2"
-    printf '%s %s\n' "$(state "$(staged "$2")")" "$2" >> "$room/new"
+    ln -s -- "$1" "$waits" || cant_write "$2"
+    printf '%s %s\n' "$(state "$waits")" "$2" >> "$room/new"
 }
 
 # Copies each file that was changed and will be replaced to a name beside it that is free.
@@ -133,7 +136,8 @@ keep_changed() {
 
 # Moves what waits for a name there. A link that stands there is replaced, and not followed.
 place() {
-    mv -fT -- "$(staged "$1")" "$prefix/$1" || fail "$prefix/$1 can't be replaced: install again, or --uninstall"
+    waits_for "$1"
+    mv -fT -- "$waits" "$prefix/$1" || fail "$prefix/$1 can't be replaced: install again, or --uninstall"
 }
 
 # Moves all that waits to its place, and removes what the last installation had beside. Meanwhile the list names what both put, so that
@@ -142,13 +146,15 @@ place_all() {
     keep_changed
     grep '^folder ' "$room/old" > "$room/lines" || true
     cat -- "$room/made" "$room/new" >> "$room/lines"
-    { cat -- "$room/old" "$room/lines" > "$(staged "$list")" && cat -- "$room/lines" > "$(staged "$list.last")"; } || cant_write "$list"
+    waits_for "$list"
+    { cat -- "$room/lines" > "$waits.last" && cat -- "$room/old" "$room/lines" > "$waits"; } || cant_write "$list"
+    last=$waits.last
     place "$list"
     names_of "$room/new" > "$room/names"
     while IFS= read -r name; do place "$name"; done < "$room/names"
     grep -vxF -f "$room/names" "$room/old_names" > "$room/gone" || true
     remove_all "$room/gone"
-    mv -fT -- "$(staged "$list.last")" "$prefix/$list"
+    mv -fT -- "$last" "$prefix/$list"
 }
 
 # Removes the files of the last installation with these names, where they weren't changed.
