@@ -1,43 +1,100 @@
 #!/bin/sh
-# Whether the sessions of the README and of the pages go as they are written: each line behind "$ " is run, in a folder with a copy of example/, and
-# what it prints on both streams is compared with the lines below it.
+# Whether the sessions of the pages go as they are written. Each line that begins with "$ " is run, together with the lines that begin with "> "
+# right below it, and what it prints on both streams is compared with the lines that follow. It takes some ten seconds.
 #
-#   man/sessions.sh FOLDER    FOLDER has the programs rpm and rpmdb, as install.sh puts them under bin
+#   man/sessions.sh FOLDER [PAGE..]    FOLDER has the programs rpm and rpmdb; the pages are README.md, man/*.8 and docs/RECIPES.md where
+#                                      none is named
+#
+# A page is run in a folder of its own, with a copy of example/ and with bench/ and recipes/. A page with headings of the third rank has a
+# session under each: each is run in a folder of its own, after what stands before the first of these headings. Where the text of a session, or
+# what stands before the first of these headings, says "Needs `TOOL`", it is run only where that tool is, and a line tells what was left out.
+# A tool is a command or a path; `psql` means a server that psql reaches without options.
 set -eu
+case ${1-} in --help) sed -n '2,/^[^#]/s/^# \{0,1\}//p' "$0"; exit ;; esac
 
-[ $# -eq 1 ] || { echo "man/sessions.sh: name the folder of rpm and rpmdb" >&2; exit 1; }
+[ $# -ge 1 ] || { echo "man/sessions.sh: name the folder of rpm and rpmdb" >&2; exit 1; }
 bin=$(cd "$1" && pwd)
-cd "$(dirname "$0")/.."
+shift
+top=$(cd "$(dirname "$0")/.." && pwd)
 room=$(mktemp -d)
 trap 'rm -rf "$room"' EXIT
+HOME=$room/home LC_ALL=C TZ=UTC
+export HOME LC_ALL TZ
+mkdir "$HOME"
 failed=0
 
-# The lines of the sessions of a file: those that are indented in the README, and those of the displays of a page, as they are shown.
-sessions() {
+# The sessions of a page, each in a file of its own: PAGE FOLDER. The page's own text stands in FOLDER/0.
+cut_up() {
     case $1 in
-        *.md) sed -n 's/^    //p' "$1" ;;
-        *) sed -n '/^\.Bd -literal/,/^\.Ed/{/^\.[BE]d/!p;}' "$1" | sed 's/\\e/\\/g; s/\\&//g' ;;
+        *.md) awk -v folder="$2" '/^### / { part++ } { print > (folder "/" part + 0) }' "$1" ;;
+        *) sed '/^\.Bd -literal/,/^\.Ed/{s/\\e/\\/g; s/\\&//g; /^\.[BE]d/!s/^/    /;}' "$1" > "$2/0" ;;
     esac
+}
+
+# The lines of the sessions of a text: those that are indented, and empty ones between two of these, from the first command on.
+sessions() {
+    awk '
+        /^    / { while (empty > 0) { print ""; empty-- } if (/^    \$ /) told = 1; if (told) print substr($0, 5); within = told; next }
+        /^$/ { if (within) empty++; next }
+        { within = empty = 0 }
+    ' "$1"
 }
 
 # A shell's text that runs each command of a session, and writes it and what it prints.
 script() {
     awk '
-        /^\$ / { line = substr($0, 3); copy = line; gsub(/\047/, "\047\\\047\047", copy); printf "printf \"%%s\\n\" \047$ %s\047\n{ %s\n} 2>&1 || true\n", copy, line }
+        function quoted(text) { gsub(/\047/, "\047\\\047\047", text); return "\047" text "\047" }
+        function end() { if (command != "") printf "printf \"%%s\\n\" %s\n{ %s\n} 2>&1 || true\n", quoted(shown), command; command = "" }
+        /^\$ / { end(); shown = $0; command = substr($0, 3); next }
+        /^> / && command != "" { shown = shown "\n" $0; command = command "\n" substr($0, 3); next }
+        { end() }
+        END { end() }
     '
 }
 
-for file in README.md man/*.8; do
+# The first tool that a text needs and that isn't here.
+missing() {
+    sed -n 's/.*Needs `\([^`]*\)`.*/\1/p' "$@" | while IFS= read -r tool; do
+        case $tool in
+            psql) psql -XAtc 'select 1' > "$room/said" 2>&1 < /dev/null || echo "a server that psql reaches" ;;
+            */*) [ -e "$tool" ] || echo "$tool" ;;
+            *) command -v "$tool" > "$room/said" || echo "$tool" ;;
+        esac
+    done | head -n 1
+}
+
+# Runs one session of a page in a folder of its own, after another text's: PAGE BEFORE SESSION NAME.
+run() {
+    lack=$(missing "$2" "$3")
+    if [ -n "$lack" ]; then
+        echo "man/sessions.sh: $1: $4 isn't run, since there is no $lack"
+        return
+    fi
     rm -rf "$room/run"
     mkdir "$room/run"
-    cp -r example "$room/run/example"
-    # (what stands before the first command is of no session: how to install, how to test)
-    sessions "$file" | awk '/^\$ / { told = 1 } told' > "$room/wanted"
+    cp -R "$top/example" "$room/run/example"
+    ln -s "$top/bench" "$top/recipes" "$room/run"
+    if [ "$2" != "$3" ]; then
+        sessions "$2" | script > "$room/script"
+        (cd "$room/run" && PATH="$bin:$PATH" sh "$room/script" > "$room/printed" < /dev/null) || true
+    fi
+    sessions "$3" > "$room/wanted"
     script < "$room/wanted" > "$room/script"
     (cd "$room/run" && PATH="$bin:$PATH" sh "$room/script" > "$room/printed" < /dev/null) || true
     if ! diff -u "$room/wanted" "$room/printed"; then
-        echo "man/sessions.sh: $file shows something else than what is printed" >&2
+        echo "man/sessions.sh: $1: $4 shows something else than what is printed" >&2
         failed=1
     fi
+}
+
+[ $# -gt 0 ] || set -- "$top/README.md" "$top"/man/*.8 "$top/docs/RECIPES.md"
+for page in "$@"; do
+    mkdir "$room/parts"
+    cut_up "$page" "$room/parts"
+    run "$(basename "$page")" "$room/parts/0" "$room/parts/0" "its text"
+    for part in $(ls "$room/parts" | sort -n); do
+        [ "$part" = 0 ] || run "$(basename "$page")" "$room/parts/0" "$room/parts/$part" "$(sed -n '1s/^#* //p' "$room/parts/$part")"
+    done
+    rm -r "$room/parts"
 done
 exit $failed

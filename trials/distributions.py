@@ -32,6 +32,7 @@ sys.dont_write_bytecode = True
 from folders import TOP
 from known_differences import RULES
 from questions import QUESTIONS, Pair, Unknown, ask_unmet, sampled
+from recipes import PAGE as RECIPES, ask_recipes, table as table_of_recipes
 
 PAGE = TOP / "docs" / "REAL.md"
 MARKS = "<!-- made by trials/distributions.py --write -->\n", "<!-- end of what it made -->\n"
@@ -79,7 +80,7 @@ class System:
     def check(self):
         """Asks all questions; an unknown difference is printed. Gives whether there was none."""
         fine = True
-        for name, ask in {"both files": self.ask_files, **QUESTIONS, "requirements after erasures": self.ask_erased}.items():
+        for name, ask in {"both files": self.ask_files, **QUESTIONS, "recipes": ask_recipes, "requirements after erasures": self.ask_erased}.items():
             progress(f"{self.name}: {name}")
             try:
                 ask(self.pair)

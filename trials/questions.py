@@ -47,7 +47,7 @@ class Pair:
 
     def __init__(self, program, theirs, ours):
         self.program, self.folders = program, {"rpm": theirs, "ours": ours}
-        self.counts, self.asked, self.columns = collections.Counter(), 0, {}
+        self.counts, self.asked, self.columns, self.recipes = collections.Counter(), 0, {}, []
         self.mark = Path(theirs).parent / "mark"
         self.mark.touch()
 
