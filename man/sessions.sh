@@ -7,8 +7,8 @@
 #
 # A page is run in a folder of its own, with a copy of example/ and with bench/ and recipes/. A page with headings of the third rank has a
 # session under each: each is run in a folder of its own, after what stands before the first of these headings. Where the text of a session, or
-# what stands before the first of these headings, says "Needs `TOOL`", it is run only where that tool is, and a line tells what was left out.
-# A tool is a command or a path; `psql` means a server that psql reaches without options.
+# what stands before the first of these headings, says "Needs `TOOL`" or "Needs `TOOL` and `TOOL`", it is run only where these tools are, and a
+# line tells what was left out. A tool is a command or a path; `psql` means a server that psql reaches without options.
 set -eu
 case ${1-} in --help) sed -n '2,/^[^#]/s/^# \{0,1\}//p' "$0"; exit ;; esac
 
@@ -54,7 +54,7 @@ script() {
 
 # The first tool that a text needs and that isn't here.
 missing() {
-    sed -n 's/.*Needs `\([^`]*\)`.*/\1/p' "$@" | while IFS= read -r tool; do
+    sed -n 's/.*\(Needs `[^.,]*`\).*/\1/p' "$@" | grep -o '`[^`]*`' | tr -d '`' | while IFS= read -r tool; do
         case $tool in
             psql) psql -XAtc 'select 1' > "$room/said" 2>&1 < /dev/null || echo "a server that psql reaches" ;;
             */*) [ -e "$tool" ] || echo "$tool" ;;
