@@ -31,12 +31,12 @@ cut_up() {
     esac
 }
 
-# The lines of the sessions of a text: those that are indented, and empty ones between two of these, from the first command on.
+# The lines of the sessions of a text: of each block of indented lines those from the first command on. Empty lines within a block belong to it.
 sessions() {
     awk '
         /^    / { while (empty > 0) { print ""; empty-- } if (/^    \$ /) told = 1; if (told) print substr($0, 5); within = told; next }
         /^$/ { if (within) empty++; next }
-        { within = empty = 0 }
+        { told = within = empty = 0 }
     ' "$1"
 }
 
@@ -67,7 +67,7 @@ missing() {
 run() {
     lack=$(missing "$2" "$3")
     if [ -n "$lack" ]; then
-        echo "man/sessions.sh: $1: $4 isn't run, since there is no $lack"
+        echo "man/sessions.sh: $1: $4 isn't run without $lack"
         return
     fi
     rm -rf "$room/run"
