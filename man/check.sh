@@ -1,10 +1,12 @@
 #!/bin/sh
-# Whether the pages name each option, tag and formatter that the tables of the code have, and whether each line of a synopsis is one that the
-# program takes. Where there is groff or mandoc, the pages are looked at as they are shown, and rendering them gives no warning; elsewhere their
-# sources are, and no synopsis.
+# Whether the pages name each option, tag, formatter and message that the code has, whether each line of a synopsis is one that the program takes,
+# and whether the sessions of README.md, of the pages and of docs/RECIPES.md go as they are written (man/sessions.sh). Where there is groff or
+# mandoc, the pages are looked at as they are shown, and rendering them gives no warning; elsewhere their sources are, and no synopsis. It takes
+# some twenty seconds.
 #
 #   man/check.sh [PROGRAM]    PROGRAM is crates/rpm_prog/out/rpm_prog or such; the gate's or release/'s where none is given
 set -eu
+[ "${1-}" != --help ] || { sed -n '2,/^[^#]/s/^# \{0,1\}//p' "$0"; exit; }
 
 here=$(pwd)
 given=${1-}
@@ -62,6 +64,23 @@ letters() {
     sed -n "s/.*b'\([a-zA-Z]\)' => Some($1.*/-\1/p" "$switches"
 }
 
+# The pieces of all messages, a line each: the texts of the crates that print and of the edge, cut where a number or a word comes in. What is no
+# message of its own is left out: formats, what an exercise makes, files of the system.
+messages() {
+    for crate in rpm_print rpm_change rpm_query rpm_report rpm_real rpm_prog; do
+        find "crates/$crate/src" -name '*.rt' ! -name reading.rt ! -name texts.rt ! -name exercise.rt -exec cat {} +
+    done | sed 's,^ *//.*,,; /^#\[/d; /ghost use/d' | grep -oE '"([^"\\]|\\.)*"' | sed 's/^"//; s/"$//; s/\\n//g; s/{[a-z]*}/\n/g' |
+        sed 's/^[ :]*//; s/[ :]*$//' | grep -E '[a-z]{3}' | grep -vE '^(/|rpm$|rpmdb$)' | sort -u
+}
+
+# Whether each piece of a message is on one of the pages: FILES..
+told() {
+    cat "$@" | sed 's/\\&//g; s/\\e/\\/g' | tr -s ' \n' '  ' > "$room/all"
+    while IFS= read -r text; do
+        grep -qF -e "$text" "$room/all" || fail "neither page has the message: $text"
+    done
+}
+
 # Runs each command line that a synopsis stands for on a database of its own: what is refused as against the rules is no line of a synopsis.
 synopsis() {
     sed -n '/^SYNOPSIS/,/^DESCRIPTION/s/^   *//p' "$room/$1" > "$room/lines"
@@ -71,7 +90,7 @@ synopsis() {
     database=$room/database
     while IFS= read -r command; do
         case $command in
-            *'--dbpath "$database"'*) ;;
+            *'--dbpath "$database"'* | *' --help' | *' --version') ;;
             *) fail "$1: not tried, since it names no database: $command"; continue ;;
         esac
         status=0
@@ -97,12 +116,23 @@ $look tag rpm-q.8 < "$room/words"
 quoted crates/rpm_qfparse/src/tag.rt 'Row(Show::' > "$room/words"
 $look formatter rpm-q.8 < "$room/words"
 
+messages > "$room/words"
+[ -s "$room/words" ] || fail "no message was found in the code"
+if [ $look = wanted ]; then told "$room/rpm-q.8" "$room/rpmdb.8" < "$room/words"; else told man/rpm-q.8 man/rpmdb.8 < "$room/words"; fi
+
+program=$(release/program.sh "$room")
+[ -z "$given" ] || program=$(cd "$here" && cd "$(dirname "$given")" && pwd)/$(basename "$given")
 if [ $look = wanted ]; then
-    program=$(release/program.sh "$room")
-    [ -z "$given" ] || program=$(cd "$here" && cd "$(dirname "$given")" && pwd)/$(basename "$given")
     mkdir "$room/database"
     cp example/Packages.db "$room/database"
     synopsis rpm-q.8
     synopsis rpmdb.8
 fi
+
+mkdir "$room/bin"
+for name in rpm rpmdb; do
+    printf '#!/bin/sh\nexec "%s" %s "$@"\n' "$program" "$name" > "$room/bin/$name"
+    chmod +x "$room/bin/$name"
+done
+man/sessions.sh "$room/bin" || missing=1
 exit $missing
