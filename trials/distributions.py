@@ -1,7 +1,7 @@
 #!/usr/bin/env python3
 """What this program and rpm answer over the packages of installed systems, and what that costs each.
 
-    trials/distributions.py [--quick] [--costs N] [--jobs N] [--write] [--program PROGRAM] [DATABASE..]
+    trials/distributions.py [--quick] [--costs N] [--jobs N] [--write] [--program PROGRAM] [--ndb FOLDER] [DATABASE..]
 
 Two commands on Debian 12: `apt-get install rpm valgrind golang-github-knqyf263-go-rpmdb-dev`, and this one without arguments, which takes the databases of
 ten CentOS systems that the last of these packages has. A DATABASE is the folder of another system's database, whatever its backend: /var/lib/rpm or
@@ -12,7 +12,11 @@ rpm exports each database, and the list is imported into rpm (sqlite) and into t
 their database without a word, and to answer all of trials/questions.py alike, but for differences that a rule of trials/known_differences.py explains;
 these are counted. Any other difference is printed, and fails the run. Then costs are measured, of one run each on a copy: seconds of the processor, and instructions
 as callgrind counts them, which takes long and --quick leaves out. --costs measures the N least systems alone, 0 none; --jobs so many processes run at once,
-one where it isn't given. --write puts the tables into docs/REAL.md. Wants rpm, and valgrind but for --quick.
+one where it isn't given. Each recipe of docs/RECIPES.md that takes the place of an option of rpm is compared with that option. --write puts the tables into
+docs/REAL.md and docs/RECIPES.md. Wants rpm, and valgrind but for --quick.
+
+With --ndb rpm is the one of FOLDER, as trials/rpm-with-ndb builds it: it imports each list into a database of its ndb backend, and this program is asked over
+a copy of the very file that rpm wrote. No costs are measured then, and --write puts its tables under "Beside rpm itself" of docs/REAL.md.
 """
 import argparse
 import collections
@@ -21,6 +25,7 @@ import hashlib
 import os
 import re
 import shutil
+import struct
 import subprocess
 import sys
 import tempfile
@@ -35,7 +40,7 @@ from questions import QUESTIONS, Pair, Unknown, ask_unmet, sampled
 from recipes import PAGE as RECIPES, ask_recipes, table as table_of_recipes
 
 PAGE = TOP / "docs" / "REAL.md"
-MARKS = "<!-- made by trials/distributions.py --write -->\n", "<!-- end of what it made -->\n"
+MADE = "<!-- made by trials/distributions.py{} --write -->\n", "<!-- end of what it made -->\n"
 TEN = Path("/usr/share/gocode/src/github.com/knqyf263/go-rpmdb/pkg/testdata")
 # What of rpm's transaction isn't the database's work is left out.
 QUIETLY = ["--justdb", "--nodeps", "--noscripts", "--notriggers"]
@@ -48,12 +53,22 @@ def progress(text):
         print(f"\r\033[K{text}", end="", file=sys.stderr, flush=True)
 
 
+def headers(text):
+    """The headers of a list, each with its magic."""
+    found, at = [], 0
+    while at < len(text):
+        count, size = struct.unpack(">II", text[at + 8:at + 16])
+        found.append(text[at:at + 16 + 16 * count + size])
+        at += len(found[-1])
+    return found
+
+
 class System:
     """The packages of one system, in a database of rpm's and in one of this program's."""
 
-    def __init__(self, program, source, folder):
+    def __init__(self, program, source, folder, backend):
         self.name, self.program, self.folder, self.list = source.name, str(program), folder, folder / "list"
-        self.rows = {}
+        self.rows, self.backend = {}, backend
         shutil.copytree(source, folder / "source")
         for name in ("theirs", "ours", "empty"):
             (folder / name).mkdir()
@@ -61,8 +76,11 @@ class System:
         shutil.rmtree(folder / "source")
         self.bytes = self.list.stat().st_size
         self.pair = Pair(self.program, folder / "theirs", folder / "ours")
-        for whose in ("rpm", "ours"):
-            self.save(self.words(whose, ["rpmdb", "--importdb"], self.pair.folders[whose]), folder / "said", self.list)
+        self.save(self.words("rpm", ["rpmdb", "--importdb"], self.pair.folders["rpm"]), folder / "said", self.list)
+        if backend == "ndb":
+            shutil.copy(self.pair.folders["rpm"] / "Packages.db", self.pair.folders["ours"])
+        else:
+            self.save(self.words("ours", ["rpmdb", "--importdb"], self.pair.folders["ours"]), folder / "said", self.list)
         self.packages = len(self.pair.run("rpm", ["rpm", "-qa"])) - 1
         if not self.packages:
             raise Unknown(f"{source}: rpm finds no packages there")
@@ -70,7 +88,7 @@ class System:
     def words(self, whose, words, base):
         """A command line of one of the two on this folder."""
         front = [self.program] if whose == "ours" else []
-        backend = ["--define", "_db_backend sqlite"] if whose == "rpm" else []
+        backend = ["--define", f"_db_backend {self.backend}"] if whose == "rpm" else []
         return [*front, words[0], *backend, "--dbpath", str(base), *words[1:]]
 
     def save(self, words, into, feed="/dev/null"):
@@ -80,7 +98,9 @@ class System:
     def check(self):
         """Asks all questions; an unknown difference is printed. Gives whether there was none."""
         fine = True
-        for name, ask in {"both files": self.ask_files, **QUESTIONS, "recipes": ask_recipes, "requirements after erasures": self.ask_erased}.items():
+        # (rpm lists packages as they stand in the file of its ndb backend, so what it prints of all of them isn't compared with recipes there)
+        recipes = {} if self.backend == "ndb" else {"recipes": ask_recipes}
+        for name, ask in {"both files": self.ask_files, **QUESTIONS, **recipes, "requirements after erasures": self.ask_erased}.items():
             progress(f"{self.name}: {name}")
             try:
                 ask(self.pair)
@@ -95,8 +115,10 @@ class System:
         for whose, base in pair.folders.items():
             pair.asked += 2
             status = self.save(self.words(whose, ["rpmdb", "--exportdb"], base), self.folder / "said")
-            if status or (self.folder / "said").read_bytes() != self.list.read_bytes():
+            given, wanted = (self.folder / "said").read_bytes(), self.list.read_bytes()
+            if status or given != wanted and (whose == "ours" or sorted(headers(given)) != sorted(headers(wanted))):
                 raise Unknown(f"rpmdb --exportdb of {whose}: the list isn't what was imported")
+            pair.counts["order"] += given != wanted
             status = self.save(self.words(whose, ["rpmdb", "--verifydb"], base), self.folder / "said")
             if status or (self.folder / "said").stat().st_size:
                 raise Unknown(f"rpmdb --verifydb of {whose}: {(self.folder / 'said').read_text()[:200]}")
@@ -109,7 +131,8 @@ class System:
         self.save(self.words("ours", ["rpm", "--erasepkg", *gone], copies["ours"]), "/dev/null")
         other = Pair(self.program, copies["rpm"], copies["ours"])
         other.labels, other.columns = pair.labels, pair.columns
-        other.ask("rpm", "-q", "-a", "--qf", "%{DBINSTANCE}\\n")
+        words = ["rpm", "-q", "-a", "--qf", "%{DBINSTANCE}\\n"]
+        other.compare(words, ("-a", ""), *(other.run(whose, words) for whose in other.folders))
         ask_unmet(other)
         pair.asked += other.asked
         pair.counts += other.counts
@@ -209,8 +232,12 @@ def options():
     found.add_argument("--jobs", type=int, default=1, metavar="N")
     found.add_argument("--write", action="store_true")
     found.add_argument("--program", type=Path)
+    found.add_argument("--ndb", type=Path, metavar="FOLDER")
     found.add_argument("databases", nargs="*", type=Path)
     found = found.parse_args()
+    if found.ndb:
+        found.quick, found.costs = True, 0
+        use_rpm_of(found.ndb.resolve())
     for tool in ["rpm", "rpmdb"] + ["valgrind"] * (not found.quick and found.costs != 0):
         if not shutil.which(tool):
             sys.exit(f"distributions.py: there is no {tool}")
@@ -220,17 +247,30 @@ def options():
     return found
 
 
+def use_rpm_of(folder):
+    """Lets `rpm` and `rpmdb` be those of this folder."""
+    os.environ["PATH"] = f"{folder / 'bin'}:{os.environ['PATH']}"
+    os.environ["LD_LIBRARY_PATH"] = str(folder / "lib")
+
+
 def released(folder):
     """The program that a build left, or that of release/."""
     told = subprocess.run([TOP / "release" / "program.sh", folder], stdout=subprocess.PIPE, text=True, check=True)
     return Path(told.stdout.rstrip("\n"))
 
 
-def checked(program, source, folder):
+def checked(program, source, folder, backend):
     """A system, and whether both answer alike."""
     folder.mkdir()
-    system = System(program, source, folder)
+    system = System(program, source, folder, backend)
     return system, system.check()
+
+
+def put_into(page, option, text):
+    """Puts a text between the marks that a page has for it."""
+    first, last = MADE[0].format(option), MADE[1]
+    before, rest = page.read_text(encoding="utf-8").split(first)
+    page.write_text(before + first + "\n" + text + "\n" + last + rest.split(last, 1)[1], encoding="utf-8")
 
 
 def main():
@@ -238,7 +278,8 @@ def main():
     with tempfile.TemporaryDirectory() as name, ThreadPoolExecutor(asked.jobs) as pool:
         folder = Path(name)
         program = asked.program.resolve() if asked.program else released(folder)
-        done = [pool.submit(checked, program, source, folder / str(at)) for at, source in enumerate(asked.databases)]
+        backend = "ndb" if asked.ndb else "sqlite"
+        done = [pool.submit(checked, program, source, folder / str(at), backend) for at, source in enumerate(asked.databases)]
         systems, fine = zip(*(it.result() for it in done))
         if not all(fine):
             sys.exit("distributions.py: there are differences that no rule explains")
@@ -247,10 +288,12 @@ def main():
             it.result()
         text = tables(systems, measured, not asked.quick)
     progress("")
-    print(text, end="")
+    recipes = table_of_recipes([system.pair for system in systems])
+    print(text, "" if asked.ndb else "\n" + recipes, sep="", end="")
     if asked.write:
-        before, rest = PAGE.read_text(encoding="utf-8").split(MARKS[0])
-        PAGE.write_text(before + MARKS[0] + "\n" + text + "\n" + MARKS[1] + rest.split(MARKS[1])[1], encoding="utf-8")
+        put_into(PAGE, " --ndb FOLDER" if asked.ndb else "", text)
+        if not asked.ndb:
+            put_into(RECIPES, "", recipes)
 
 
 if __name__ == "__main__":

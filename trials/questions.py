@@ -17,6 +17,8 @@ from known_differences import RULES, TAGS
 PAGE = TOP / "man" / "rpm-q.8"
 NOBODY = "no-such-thing"
 MOST_ARGUMENTS, PATHS = 1500, 120
+# Bytes that stand before and after the number of a package, in front of what a format prints of it.
+BEFORE, AFTER = b"\x1e", b"\x1f"
 LABELS = ["%{NAME}", "%{NAME}.%{ARCH}", "%{NAME}-%{VERSION}", "%{NAME}-%{VERSION}.%{ARCH}", "%{NAME}-%{VERSION}-%{RELEASE}", "%{NVRA}"]
 FORMATS = {
     "files": "[%{=NAME} %{FILEMODES:perms} %{FILEUSERNAME} %{FILEGROUPNAME} %10{FILESIZES} %{FILEMTIMES:day} %{FILEDIGESTS} %{FILENAMES} %{FILELINKTOS}\\n]",
@@ -80,8 +82,9 @@ class Pair:
         if theirs == ours:
             return
         used = []
-        for kind, (_, rule) in RULES.items():
-            nearer = rule(self, question, theirs, ours)
+        # (the order of an answer may differ before and after the other rules)
+        for kind in [*RULES, "order"]:
+            nearer = RULES[kind][1](self, question, theirs, ours)
             if nearer is not None and nearer != theirs:
                 used.append(kind)
                 theirs = nearer
@@ -94,7 +97,15 @@ class Pair:
 
     def ask(self, *words):
         """One question by all words."""
-        texts = [self.printed(whose, words) for whose in self.folders]
+        if words[-2] == "--qf":
+            form = BEFORE.decode() + "%{DBINSTANCE}" + AFTER.decode() + words[-1]
+            texts = [cut_off(self.printed(whose, [*words[:-1], form])) for whose in self.folders]
+            if sorted(texts[0]) != texts[0]:
+                self.counts["order"] += 1
+                texts[0].sort()
+            texts = [b"".join(text for _, text in it) for it in texts]
+        else:
+            texts = [self.printed(whose, words) for whose in self.folders]
         lines = [[]] * 2 if texts[0] == texts[1] else [text.decode("utf-8", "surrogateescape").split("\n") for text in texts]
         self.compare(words, words[-2:], *lines)
 
@@ -109,6 +120,11 @@ class Pair:
                 raise Unknown(f"{' '.join(words)}: {len(some)} arguments, {len(answers[0])} answers of rpm, {len(answers[1])} of this program")
             for argument, theirs, ours in zip(some, *answers):
                 self.compare(words, (option, argument), theirs, ours)
+
+
+def cut_off(text):
+    """The number of each package, and what was printed of it, in the order of printing."""
+    return [(int(number), rest) for number, _, rest in (part.partition(AFTER) for part in text.split(BEFORE)[1:])]
 
 
 def cut(lines, mark):
