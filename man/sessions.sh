@@ -2,8 +2,8 @@
 # Whether the sessions of the pages go as they are written. Each line that begins with "$ " is run, together with the lines that begin with "> "
 # right below it, and what it prints on both streams is compared with the lines that follow. It takes some ten seconds.
 #
-#   man/sessions.sh FOLDER [PAGE..]    FOLDER has the programs rpm and rpmdb; the pages are README.md, man/*.8 and docs/RECIPES.md where
-#                                      none is named
+#   man/sessions.sh FOLDER [PAGE..]    FOLDER has the programs rpm and rpmdb; the pages are README.md, man/*.8, docs/RECIPES.md and
+#                                      docs/MIGRATING.md where none is named
 #
 # A page is run in a folder of its own, with a copy of example/ and with bench/ and recipes/. A page with headings of the third rank has a
 # session under each: each is run in a folder of its own, after what stands before the first of these headings. Where the text of a session, or
@@ -54,7 +54,7 @@ script() {
 
 # The first tool that a text needs and that isn't here.
 missing() {
-    sed -n 's/.*\(Needs `[^.,]*`\).*/\1/p' "$@" | grep -o '`[^`]*`' | tr -d '`' | while IFS= read -r tool; do
+    grep -ho 'Needs `[^`]*`\( and `[^`]*`\)*' "$@" | grep -o '`[^`]*`' | tr -d '`' | while IFS= read -r tool; do
         case $tool in
             psql) psql -XAtc 'select 1' > "$room/said" 2>&1 < /dev/null || echo "a server that psql reaches" ;;
             */*) [ -e "$tool" ] || echo "$tool" ;;
@@ -87,7 +87,7 @@ run() {
     fi
 }
 
-[ $# -gt 0 ] || set -- "$top/README.md" "$top"/man/*.8 "$top/docs/RECIPES.md"
+[ $# -gt 0 ] || set -- "$top/README.md" "$top"/man/*.8 "$top/docs/RECIPES.md" "$top/docs/MIGRATING.md"
 for page in "$@"; do
     mkdir "$room/parts"
     cut_up "$page" "$room/parts"
