@@ -10,10 +10,10 @@ is copied, and never written. PROGRAM is what release/program.sh names, where no
 
 rpm exports each database, and the list is imported into rpm (sqlite) and into this program. Both then have to give the list back byte for byte, to verify
 their database without a word, and to answer all of trials/questions.py alike, but for differences that a rule of trials/known_differences.py explains;
-these are counted. Any other difference is printed, and fails the run. Then costs are measured, of one run each on a copy: seconds of the processor, and instructions
-as callgrind counts them, which takes long and --quick leaves out. --costs measures the N least systems alone, 0 none; --jobs so many processes run at once,
-one where it isn't given. Each recipe of docs/RECIPES.md that takes the place of an option of rpm is compared with that option. --write puts the tables into
-docs/REAL.md and docs/RECIPES.md. Wants rpm, and valgrind but for --quick.
+these are counted. Any other difference is printed, and fails the run. So is each recipe of docs/RECIPES.md that takes the place of an option of rpm compared
+with that option. Then costs are measured, of one run each on a copy: seconds of the processor, and instructions as callgrind counts them, which takes long and
+--quick leaves out. --costs measures the N least systems alone, 0 none; --jobs so many processes run at once, one where it isn't given. --write puts the tables
+into docs/REAL.md and docs/RECIPES.md. Wants rpm, and valgrind but for --quick.
 
 With --ndb rpm is the one of FOLDER, as trials/rpm-with-ndb builds it: it imports each list into a database of its ndb backend, and this program is asked over
 a copy of the very file that rpm wrote. No costs are measured then, and --write puts its tables under "Beside rpm itself" of docs/REAL.md.

@@ -15,7 +15,7 @@ PAGE = TOP / "docs" / "RECIPES.md"
 PART = re.compile(r"^## rpm's options by a format\n(.*?)^### Compared with rpm\n", re.M | re.S)
 RECIPE = re.compile(r"^### `(--[^`]*)`.*?\n    \$ ([^\n]*\n(?:    > [^\n]*\n)*)", re.M | re.S)
 # A command as a recipe has it: its format, the package that it asks, and what it is passed through.
-COMMAND = re.compile(r"rpm --dbpath d -qa? (--qf '[^']*'(?:\\\n'[^']*')*)(?: [\w.-]+)?((?: \|.*)?)", re.S)
+COMMAND = re.compile(r"rpm --dbpath d -qa? (--qf '[^']*'(?:\\\n'[^']*')*)(?: [\w.-]+)?((?:\s\|.*)?)", re.S)
 SHORTENING = re.compile(r" \| (?:sed -n 1,\d+p|head -n \d+)$")
 KINDS = {1 << 16: "in", 1 << 17: "un", 1 << 18: "postun", 1 << 25: "prein"}
 
@@ -30,11 +30,11 @@ def recipes():
         yield option, command[1], SHORTENING.sub("", command[2])
 
 
-def printed(pair, whose, rest):
+def printed(pair, whose, selection, rest):
     """The lines that a shell's command prints whose `rpm` is one of the two."""
     called = 'rpm() { "$program" rpm "$@"; }\n' if whose == "ours" else ""
     told = {"program": str(pair.program), "d": str(pair.folders[whose]), "LC_ALL": "C", "TZ": "UTC"}
-    done = subprocess.run(["sh", "-c", f'{called}rpm --dbpath "$d" -qa {rest}'], stdin=subprocess.DEVNULL, stdout=subprocess.PIPE,
+    done = subprocess.run(["sh", "-c", f'{called}rpm --dbpath "$d" {selection} {rest}'], stdin=subprocess.DEVNULL, stdout=subprocess.PIPE,
                           stderr=subprocess.DEVNULL, env={**os.environ, **told}, check=False)
     return done.stdout.decode("utf-8", "surrogateescape").split("\n")[:-1]
 
@@ -82,17 +82,17 @@ RULES = {
 }
 
 
-def ask_recipes(pair):
+def ask_recipes(pair, selection="-qa"):
     """Compares each recipe with its option, and counts rpm's lines and those that differ."""
     for option, form, rest in recipes():
-        theirs, ours = printed(pair, "rpm", option), printed(pair, "ours", form + rest)
+        theirs, ours = printed(pair, "rpm", selection, option), printed(pair, "ours", selection, form + rest)
         one, other = collections.Counter(theirs), collections.Counter(ours)
         differing = max((one - other).total(), (other - one).total())
         if theirs != ours and option in RULES:
-            theirs, ours = RULES[option][1](theirs, ours, lambda: printed(pair, "rpm", form + rest))
+            theirs, ours = RULES[option][1](theirs, ours, lambda: printed(pair, "rpm", selection, form + rest))
         if theirs != ours:
             at = next((i for i, lines in enumerate(zip(theirs, ours)) if lines[0] != lines[1]), min(len(theirs), len(ours)))
-            raise Unknown(f"the recipe of {option}: line {at + 1}\n  of rpm: {theirs[at:at + 1]}\n  here: {ours[at:at + 1]}")
+            raise Unknown(f"{selection}: the recipe of {option}: line {at + 1}\n  of rpm: {theirs[at:at + 1]}\n  here: {ours[at:at + 1]}")
         pair.recipes.append((option, one.total(), differing))
         pair.asked += 1
 
