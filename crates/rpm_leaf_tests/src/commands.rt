@@ -129,6 +129,22 @@ const COMMANDS: &[(&str, Mode, Chosen, bool, Option<(u32, u32)>, &[u32])] = &[
         None,
         &[],
     ),
+    (
+        "rpm|--version|--dbpath|d",
+        Mode::Version,
+        Chosen::Label,
+        false,
+        None,
+        &[],
+    ),
+    (
+        "rpmdb|--help|--help",
+        Mode::Help,
+        Chosen::Label,
+        false,
+        None,
+        &[],
+    ),
 ];
 
 fn has_arguments(ask: &Ask, arguments: &[u32]) -> bool {

@@ -52,6 +52,16 @@ const BROKEN: &[(&str, WordsKind, u32)] = &[
     ("rpm|--erasepkg|1|-a", WordsKind::Misplaced, 3),
     ("rpmdb|--order|x", WordsKind::ExtraArgument, 2),
     ("rpmdb|--order|--checkfiles", WordsKind::TwoModes, 2),
+    // The texts on the program have no argument, and no option but the folder.
+    ("rpm|--version|x", WordsKind::ExtraArgument, 2),
+    ("rpmdb|x|--help", WordsKind::ExtraArgument, 1),
+    ("rpm|--help|--version", WordsKind::TwoModes, 2),
+    ("rpm|-q|--help|a", WordsKind::TwoModes, 2),
+    ("rpm|--help|-a", WordsKind::Misplaced, 2),
+    ("rpm|--version|-l|x", WordsKind::Misplaced, 2),
+    ("rpmdb|--version|--dbpath", WordsKind::MissingArgument, 3),
+    ("rpm|--help=x", WordsKind::UnknownOption, 1),
+    ("rpm|-?", WordsKind::UnknownOption, 1),
     // An earlier word in front of a later one, whatever their faults.
     ("rpm|-qa|-f|-z", WordsKind::TwoModes, 2),
     ("rpm|-qa|--after=x|-f", WordsKind::BadNumber, 2),

@@ -16,6 +16,7 @@ use Rattle.rpm_print.specs.declared.reading.Deed.{Deed}
 use Rattle.rpm_print.specs.declared.reading.Deed.TheVariants as deed
 use Rattle.rpm_print.specs.declared.reading.Kind.{Kind}
 use Rattle.rpm_print.specs.declared.reading.Kind.TheVariants as kind
+use Rattle.rpm_print.specs.Texts.{text_of}
 
 -- what a command does with the database that it opens
 abbrev pub deed_of : Mode → Deed
@@ -94,12 +95,14 @@ is_package others = false
 abbrev pub of_files : AskParts → Bool
 of_files a = is_query a.mode && is_package a.chosen
 
--- the command is of this kind: what else it is and isn't, and what it does with the database that it opens
+-- the command is of this kind: what else it is and isn't, what it does with the database that it opens, and which text it prints
 abbrev pub KindIs : Kind → AskParts → Type 0
 KindIs kind.Change a = is_changing a ≡ true
 KindIs kind.Files a = (is_changing a ≡ false) × (of_files a ≡ true)
 KindIs (kind.Keyed d) a = (is_changing a ≡ false) × (of_files a ≡ false) × (by_key a ≡ true) × (d ≡ deed_of a.mode)
-KindIs (kind.Plain d) a = (is_changing a ≡ false) × (of_files a ≡ false) × (by_key a ≡ false) × (d ≡ deed_of a.mode)
+KindIs (kind.Plain d) a =
+    (is_changing a ≡ false) × (of_files a ≡ false) × (by_key a ≡ false) × (d ≡ deed_of a.mode) × (text_of a.mode ≡ None)
+KindIs (kind.Text text) a = (is_changing a ≡ false) × (of_files a ≡ false) × (by_key a ≡ false) × (text_of a.mode ≡ Some text.now)
 
 -- ---- the format
 

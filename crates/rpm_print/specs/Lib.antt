@@ -6,5 +6,6 @@ pub mod Frame
 pub mod Printed
 pub mod Reads
 pub mod Steps
+pub mod Texts
 pub mod inner
 pub mod Prelude

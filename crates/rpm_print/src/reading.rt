@@ -4,6 +4,7 @@ ghost use Rattle.std.specs.Prelude.{◌≡◌, true, Some, Ok, IfOk, IfErr};
 ghost use Rattle.rpm_print.specs.Prelude.{ask, asks_format, format_text, IsSound, KindIs, needs_no_index, Undone};
 
 use crate::answer::Why;
+use crate::texts::{HELP, VERSION};
 use rpm_qfparse::{Format, FormatKind, parse};
 use rpm_words::{Ask, Chosen, Mode, Words, WordsKind, read};
 use std::alloc::Global;
@@ -35,7 +36,7 @@ pub enum Deed {
     Order,
 }
 
-/// What kind of command a command line is: each of the four has a record of its own on the theorem's page.
+/// What kind of command a command line is: each of the five has a record of its own on the theorem's page.
 #[derive(Clone, Copy, Debug, PartialEq, Eq)]
 pub enum Kind {
     /// It changes packages, or makes the database: `AnswersChange`.
@@ -47,6 +48,8 @@ pub enum Kind {
     Keyed(Deed),
     /// It opens the database without its index, and changes nothing: `AnswersPlain`.
     Plain(Deed),
+    /// It says something of the program itself, which is this text, and opens nothing: `AnswersText`.
+    Text(&'static [u8]),
 }
 
 /// What kind of command a command is, and what it does with the database that it opens.
@@ -62,6 +65,8 @@ pub fn kind_of(ask: &Ask) -> Kind
         Mode::Exportdb => Kind::Plain(Deed::Export),
         Mode::Verifydb => Kind::Plain(Deed::Verify),
         Mode::Checkfiles => Kind::Plain(Deed::CheckFiles),
+        Mode::Help => Kind::Text(HELP),
+        Mode::Version => Kind::Text(VERSION),
         Mode::Addpkg | Mode::Replacepkg | Mode::Erasepkg => Kind::Change,
         Mode::Initdb | Mode::Rebuilddb | Mode::Importdb | Mode::Exercise(_) => Kind::Change,
     }

@@ -1,9 +1,9 @@
 -- Commands that were begun, and one that was not.
-use Rattle.std.proofs.Common.{◌≡◌, ◌∙◌, ℕ, ◌+◌, ◌≤◌, Bool, true, false, not, List, [], refl, sym, ap}
+use Rattle.std.proofs.Common.{◌≡◌, ◌∙◌, ℕ, ◌+◌, ◌≤◌, Bool, true, false, not, List, [], Some, refl, sym, ap}
 use Rattle.std.proofs.lemmas.Bool.{and_parts}
 use Rattle.rpm_tool.proofs.Vocabulary.{AskParts, by_key, Chosen, deed_of, DidPlain, Files, is_changing, is_changing_in, is_foreign, is_of_words, is_package}
 use Rattle.rpm_tool.proofs.Vocabulary.{is_query, log_state, Mode, needs_no_index, of_files, opens_index, outputs, Queried, read_to, reopened, store, Through}
-use Rattle.rpm_tool.proofs.Vocabulary.{Tree, Why}
+use Rattle.rpm_tool.proofs.Vocabulary.{text_of, Tree, Why}
 use Rattle.rpm_words.specs.declared.switch.Chosen.TheVariants as by
 use Rattle.rpm_words.specs.declared.ask.Mode.TheVariants as mode
 use Rattle.rpm_print.specs.declared.answer.Why.TheVariants as why
@@ -20,6 +20,31 @@ not_begun tree words a files ot et o e n =
     let none : Through [] x x = through_none {ot = ot} {et = et} o e in
     loaded_memory (DidPlain tree words a file n n) (store file) x none
     (λ s. does_memory tree file s words a (λ for. n ≤ n + read_to file words a s for) x none (deed_of a.mode)) (log_state files.log)
+
+-- ---- a text is printed of no other command
+
+text_of_query : (m : Mode) (text : List ℕ) → is_query m ≡ true → text_of m ≡ Some text → ⊥
+text_of_query mode.Query text is said = cc
+text_of_query others text is said = absurd cc
+
+pub files_untold : (a : AskParts) (text : List ℕ) → of_files a ≡ true → text_of a.mode ≡ Some text → ⊥
+files_untold a text files said = text_of_query a.mode text (and_parts (is_query a.mode) (is_package a.chosen) files).0 said
+
+text_of_opening : (m : Mode) (asked : Bool) (text : List ℕ) → opens_index m asked ≡ true → text_of m ≡ Some text → ⊥
+text_of_opening mode.Help asked text opens said = cc
+text_of_opening mode.Version asked text opens said = cc
+text_of_opening others asked text opens said = absurd cc
+
+pub keyed_untold : (a : AskParts) (text : List ℕ) → by_key a ≡ true → text_of a.mode ≡ Some text → ⊥
+keyed_untold a text keyed said = text_of_opening a.mode (not (needs_no_index a.chosen a.noindex)) text keyed said
+
+text_of_change : (m : Mode) (text : List ℕ) → is_changing_in m ≡ true → text_of m ≡ Some text → ⊥
+text_of_change mode.Help text changes said = cc
+text_of_change mode.Version text changes said = cc
+text_of_change others text changes said = absurd cc
+
+pub change_untold : (a : AskParts) (text : List ℕ) → is_changing a ≡ true → text_of a.mode ≡ Some text → ⊥
+change_untold a text changes said = text_of_change a.mode text changes said
 
 -- an ending of a command that was begun is none of words
 pub unforeign : (w : Why) → is_foreign w ≡ false → is_of_words w ≡ false

@@ -1,25 +1,30 @@
 -- The records of the theorem's page, from what each kind of command says.
-use Rattle.std.proofs.Common.{◌≡◌, ◌∙◌, ℕ, List, [], Bool, true, false, Some, Ok, refl, sym, ap, arith}
-use Rattle.std.specs.Prelude.{IsTrue}
+use Rattle.std.proofs.Common.{◌≡◌, ◌∙◌, ℕ, List, [], Bool, true, false, Some, None, Ok, refl, sym, ap, subst, inl, inr, arith}
+use Rattle.std.specs.Prelude.{◌⊎◌, IsTrue}
 use Rattle.rpm_outside.specs.declared.disk.Disk as disk
 use Rattle.rpm_outside.specs.declared.shelf.Shelf as shelf
 use Rattle.rpm_outside.specs.declared.sink.Sink as sink
-use Rattle.rpm_tool.proofs.Vocabulary.{Answers, AnswersByKey, AnswersChange, AnswersKeyed, AnswersOfFiles, AnswersPlain, asked_course, ask, asked_task}
+use Rattle.rpm_tool.proofs.Vocabulary.{Answers, AnswersByKey, AnswersChange, AnswersKeyed, AnswersOfFiles, AnswersPlain, AnswersText, asked_course, ask, asked_task}
 use Rattle.rpm_tool.proofs.Vocabulary.{AskParts, asks_change, asks_format, Buffered, by_key, changes_in, Does, EmptyBy, is_changing, is_done, is_foreign}
-use Rattle.rpm_tool.proofs.Vocabulary.{Leaves, needs_none, of_files, OneChange, Outputs, outputs, Pkg, query_files, ran, reads_shelf, reopened, Run, Streams}
-use Rattle.rpm_tool.proofs.Vocabulary.{task_course, Tree, Why}
+use Rattle.rpm_tool.proofs.Vocabulary.{HasCauseAt, inner, is_of_words, Leaves, needs_none, of_files, OneChange, Outputs, outputs, Pkg, query_files, ran, reads_shelf, reopened, Run, Streams}
+use Rattle.rpm_tool.proofs.Vocabulary.{saying, task_course, text_of, Tree, Why}
+use Rattle.rpm_change.specs.Hands.{Hand}
 use Rattle.rpm_print.specs.Frame.{EndHands}
 use Rattle.rpm_print.specs.declared.answer.Why.TheVariants as why
-use Rattle.rpm_tool.proofs.Begun.{files_unchanging, files_unkeyed, keyed_unchanging, not_begun}
+use Rattle.rpm_tool.proofs.Begun.{change_untold, files_unchanging, files_unkeyed, files_untold, keyed_unchanging, keyed_untold, not_begun, unforeign}
 use Rattle.rpm_commit.specs.inner.Emptied.{memory_empty}
 use Rattle.rpm_print.specs.inner.Peeking.{leaves_none}
 use Rattle.rpm_print.specs.inner.Reaching.{through_none}
+use Rattle.rpm_tool.proofs.Faults.{never_cause}
 use Rattle.rpm_tool.proofs.Recovered.{unbegun}
 use Rattle.rpm_tool.proofs.Undone.{asked_is, asked_some, same_asked}
 use Rattle.rpm_commit.specs.inner.Unmade.{idle_run, unmade_one}
 
 clash : {P : Type 0} {b : _} → b ≡ true → b ≡ false → P
 clash is not = let both : true ≡ false = sym is ∙ not in absurd cc
+
+none_said : {P : Type 0} {X : Type 0} {o : _} {x : X} → o ≡ None → o ≡ Some x → P
+none_said {x = x} none some = let both : None ≡ Some x = sym none ∙ some in absurd cc
 
 module _ {D S : Type 0} {d : disk.Ghosts D} {s : shelf.Ghosts S} {r : Run d s} {a : AskParts} {mid : Outputs} where
   change_of : OneChange d (asked_task r.words a) (task_course (s.paths r.shelf_found) r.moment (asked_task r.words a)) r.why r.changes r.found r.left
@@ -40,11 +45,12 @@ module _ {D S : Type 0} {d : disk.Ghosts D} {s : shelf.Ghosts S} {r : Run d s} {
     stops = k.stops;
   }
 
-  pub does_plain : of_files a ≡ false → by_key a ≡ false → is_changing a ≡ false → (IsTrue d.tells → AnswersPlain r a tree mid)
-      → Leaves d r.found r.left → r.shelf_left ≡ r.shelf_found → Does r a tree mid
-  does_plain files keyed changing went looks shelf = record {
-    plain = λ _f _k _c told. went told;
+  pub does_plain : of_files a ≡ false → by_key a ≡ false → is_changing a ≡ false → text_of a.mode ≡ None
+      → (IsTrue d.tells → AnswersPlain r a tree mid) → Leaves d r.found r.left → r.shelf_left ≡ r.shelf_found → Does r a tree mid
+  does_plain files keyed changing untold went looks shelf = record {
+    plain = λ _f _k _c _t told. went told;
     files = λ is. clash is files;
+    text = λ text said. none_said untold said;
     keyed = λ is told. clash is keyed;
     changes = λ is told reads. clash is changing;
     empty = λ is told. clash is changing;
@@ -54,8 +60,9 @@ module _ {D S : Type 0} {d : disk.Ghosts D} {s : shelf.Ghosts S} {r : Run d s} {
 
   pub does_files : of_files a ≡ true → AnswersOfFiles r a tree mid → Leaves d r.found r.left → Does r a tree mid
   does_files files went looks = record {
-    plain = λ other _k _c told. clash files other;
+    plain = λ other _k _c _t told. clash files other;
     files = λ is. went;
+    text = λ text said. absurd (files_untold a text files said);
     keyed = λ is told. absurd (files_unkeyed a files is);
     changes = λ is told reads. absurd (files_unchanging a files is);
     empty = λ is told. absurd (files_unchanging a files is);
@@ -67,8 +74,9 @@ module _ {D S : Type 0} {d : disk.Ghosts D} {s : shelf.Ghosts S} {r : Run d s} {
       → (IsTrue d.tells → AnswersByKey d tree r.words a r.why r.before mid r.found r.left)
       → r.shelf_left ≡ r.shelf_found → Does r a tree mid
   does_keyed keyed went shelf = record {
-    plain = λ _f other _c told. clash keyed other;
+    plain = λ _f other _c _t told. clash keyed other;
     files = λ is. absurd (files_unkeyed a is keyed);
+    text = λ text said. absurd (keyed_untold a text keyed said);
     keyed = λ is told. keyed_of (went told);
     changes = λ is told reads. absurd (keyed_unchanging a keyed is);
     empty = λ is told. absurd (keyed_unchanging a keyed is);
@@ -83,13 +91,26 @@ module _ {D S : Type 0} {d : disk.Ghosts D} {s : shelf.Ghosts S} {r : Run d s} {
       → (IsTrue d.tells → EmptyBy (needs_none (asked_task r.words a)) (reopened (d.files r.found)) r.why)
       → (reads_shelf (asked_task r.words a) ≡ false → r.shelf_left ≡ r.shelf_found) → Does r a tree mid
   does_change changing went empty shelf = record {
-    plain = λ _f _k other told. clash changing other;
+    plain = λ _f _k other _t told. clash changing other;
     files = λ is. absurd (files_unchanging a is changing);
+    text = λ text said. absurd (change_untold a text changing said);
     keyed = λ is told. absurd (keyed_unchanging a is changing);
     changes = λ is told reads. change_of (went told reads);
     empty = λ is told. empty told;
     looks = λ _k other. clash changing other;
     shelf_unread = λ _f reads. shelf reads;
+  }
+
+  pub does_text : {text : List ℕ} → text_of a.mode ≡ Some text → AnswersText r text mid → Leaves d r.found r.left → Does r a tree mid
+  does_text {text = text} said went looks = record {
+    plain = λ _f _k _c none told. none_said none said;
+    files = λ is. absurd (files_untold a text is said);
+    text = λ other is. let both : Some text ≡ Some other = sym said ∙ is in subst (λ (t : List ℕ). AnswersText r t mid) (let same : text ≡ other = cc in same) went;
+    keyed = λ is told. absurd (keyed_untold a text is said);
+    changes = λ is told reads. absurd (change_untold a text is said);
+    empty = λ is told. absurd (change_untold a text is said);
+    looks = λ _k _c. looks;
+    shelf_unread = λ _f _r. went.unread.1;
   }
 
   -- a command that was read is the one that the words ask for
@@ -117,18 +138,49 @@ asked_streams own hands = record {
   hands = hands;
 }
 
+-- a text was printed, or standard output failed
+said_unforeign : {w : Why} → (w ≡ why.Done) ⊎ (w ≡ why.OutFault) → is_foreign w ≡ false
+said_unforeign (inl is) = ap is_foreign is
+said_unforeign (inr is) = ap is_foreign is
+
+said_undisked : {w : Why} → (w ≡ why.Done) ⊎ (w ≡ why.OutFault) → w ≡ why.DiskFault → ⊥
+said_undisked (inl is) fault = let both : why.Done ≡ why.DiskFault = sym is ∙ fault in cc
+said_undisked (inr is) fault = let both : why.OutFault ≡ why.DiskFault = sym is ∙ fault in cc
+
+said_unerred : {w : Why} → (w ≡ why.Done) ⊎ (w ≡ why.OutFault) → w ≡ why.ErrFault → ⊥
+said_unerred (inl is) fault = let both : why.Done ≡ why.ErrFault = sym is ∙ fault in cc
+said_unerred (inr is) fault = let both : why.OutFault ≡ why.ErrFault = sym is ∙ fault in cc
+
+module _ {w : Why} (ends : (w ≡ why.Done) ⊎ (w ≡ why.OutFault)) where
+  pub said_words : is_of_words w ≡ false
+  said_words = unforeign w (said_unforeign ends)
+
+  pub said_disk : (n : ℕ) → HasCauseAt (w ≡ why.DiskFault) n n
+  said_disk n = never_cause n (said_undisked ends)
+
+  pub said_streams : {S O E : Type 0} {s : shelf.Ghosts S} {o : sink.Ghosts O} {e : sink.Ghosts E} {x : S} {out out' : Buffered O} {err : Buffered E}
+      → ((y : E) → e.follows y y) → Hand o (w ≡ why.OutFault) out out' → Streams s o e true (λ y. w ≡ y) (x, out, err) (x, out', err)
+  said_streams {e = e} {err = err} stays hand = asked_streams (said_unforeign ends) (record {
+    out = hand;
+    err = record { cause = never_cause (e.faults (inner err)) (said_unerred ends); goes_on = stays (inner err) };
+  })
+
 -- a command for which memory is wanting does nothing, whatever is asked
 module _ {D S : Type 0} {d : disk.Ghosts D} {s : shelf.Ghosts S} (words : List (List ℕ)) (now : ℕ) (it : D) (at : S) (ot et : Bool) (o e : List ℕ)
     (stays : (x : D) → d.follows x x) where
   pub does_nothing : (a : AskParts) (tree : Tree) → Does (ran d s words now why.NoMemory 0 (it, at) (outputs ot o et e) (it, at)) a tree (outputs ot o et e)
   does_nothing a tree = record {
-    plain = λ _f _k _c told. record {
+    plain = λ _f _k _c _t told. record {
       went = not_begun tree words a (d.files it) ot et o e (d.bytes_read it Pkg);
       reads = omega arith;
     };
     files = λ is. record {
       went = λ told. ([], (query_files tree (s.paths at) words a).steps, refl, through_none {ot = ot} {et = et} o e);
       disk_unread = refl;
+    };
+    text = λ text said. record {
+      went = ([], (saying text).steps, refl, through_none {ot = ot} {et = et} o e);
+      unread = (refl, refl);
     };
     keyed = λ is told. keyed_of (unbegun d tree words a ot et o e it);
     changes = λ is told reads. change_of (unmade_one d (asked_task words a) (task_course (s.paths at) now (asked_task words a)) it it refl

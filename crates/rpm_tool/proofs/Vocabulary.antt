@@ -42,6 +42,7 @@ pub use Rattle.rpm_print.specs.Frame.{Leaves, outs, packages_in, Peeks, pkg_read
 pub use Rattle.rpm_print.specs.Printed.{step_of}
 pub use Rattle.rpm_print.specs.Reads.{reach_sum, reached_by}
 pub use Rattle.rpm_print.specs.Steps.{RisesFrom, with_number}
+pub use Rattle.rpm_print.specs.Texts.{saying, text_of}
 pub use Rattle.rpm_print.specs.declared.answer.Why.{Why}
 pub use Rattle.rpm_print.specs.declared.reading.Deed.{Deed}
 pub use Rattle.rpm_qfparse.specs.Tree.{Tree}
@@ -62,7 +63,7 @@ pub use Rattle.rpm_select.specs.inner.Unindexed.{no_index_rows}
 pub use Rattle.rpm_tool.specs.Deeds.{asked_reaches, blocks_cost, Deeds, DidPlain, DoesBy, Loaded, Opened, Queried, query_cost, read_to}
 pub use Rattle.rpm_tool.specs.Keyed.{AnswersByKey, BadIs, CauseIs, DidByKey, FullByUnits, FullIs, has_index, HasIndex, HasRoom, keyed_cost, keyed_to}
 pub use Rattle.rpm_tool.specs.Keyed.{KeyedIs, OnLawful, WentBy}
-pub use Rattle.rpm_tool.specs.Theorem.{Answers, AnswersChange, AnswersKeyed, AnswersOfFiles, AnswersPlain, Does, ran, Run}
+pub use Rattle.rpm_tool.specs.Theorem.{Answers, AnswersChange, AnswersKeyed, AnswersOfFiles, AnswersPlain, AnswersText, Does, ran, Run}
 pub use Rattle.rpm_version.specs.Capability.{capability, CapabilityParts}
 pub use Rattle.rpm_version.specs.declared.capability.BadCapability.{BadCapability}
 pub use Rattle.rpm_words.specs.Ask.{AskParts, IsFit}

@@ -4,7 +4,7 @@ use Rattle.std.specs.Prelude.{ℕ, ◌+◌, ◌≤◌, List, [], ◌∷◌, map,
 use Rattle.std.specs.Ordering.{nat_cmp}
 use Rattle.std.specs.FinMap.{FinMap}
 use Rattle.rpm_outside.specs.Files.{Units, Files}
-use Rattle.rpm_outside.specs.Logs.{LogState, Closed, Malformed, Open, log_state, reopened}
+use Rattle.rpm_outside.specs.Logs.{LogState, Closed, Malformed, Open, log_state}
 use Rattle.rpm_pkgdb.specs.declared.slot.Damage.{Damage}
 use Rattle.rpm_pkgdb.specs.Store.{Store, store}
 use Rattle.rpm_pkgdb.specs.Costs.{opening_cost}
@@ -13,13 +13,12 @@ use Rattle.rpm_db.specs.State.{Package, packages}
 use Rattle.rpm_check.specs.Edges.{graph_of}
 use Rattle.rpm_words.specs.Words.{text_at}
 use Rattle.rpm_words.specs.Ask.{AskParts}
-use Rattle.rpm_qfparse.specs.Tree.{Tree}
 use Rattle.rpm_select.specs.Reach.{Reach, Everything}
 use Rattle.rpm_print.specs.declared.answer.Why.{Why}
 use Rattle.rpm_print.specs.declared.reading.Deed.{Deed}
 use Rattle.rpm_print.specs.declared.reading.Deed.TheVariants as deed
 use Rattle.rpm_print.specs.Asked.{deed_of}
-use Rattle.rpm_change.specs.Endings.{Outputs, Through}
+use Rattle.rpm_change.specs.Endings.{Through}
 use Rattle.rpm_change.specs.Steps.{Bearer}
 use Rattle.rpm_print.specs.Answers.{Went, Misread, Refused, Anywhere}
 use Rattle.rpm_print.specs.Classes.{is_done}
@@ -29,6 +28,9 @@ use Rattle.rpm_print.specs.Reads.{reach_sum, reached_by}
 use Rattle.rpm_query.specs.Reach.{argument_reach, reaches_by}
 use Rattle.rpm_report.specs.Reports.{verify}
 use Rattle.rpm_query.specs.Queries.{export}
+pub use Rattle.rpm_change.specs.Endings.{Outputs}
+pub use Rattle.rpm_outside.specs.Logs.{reopened}
+pub use Rattle.rpm_qfparse.specs.Tree.{Tree}
 use Rattle.rpm_report.specs.Requirements.{unsatisfied, ordering, IsListed}
 
 -- ---- what is read

@@ -9,7 +9,6 @@ use Rattle.rpm_outside.specs.declared.disk.Disk as disk
 use Rattle.rpm_outside.specs.declared.shelf.Shelf as shelf
 use Rattle.rpm_outside.specs.declared.sink.Sink as sink
 use Rattle.rpm_outside.specs.Causes.{HasCauseAt}
-use Rattle.rpm_outside.specs.Logs.{reopened}
 use Rattle.rpm_outside.specs.Shelves.{Paths}
 use Rattle.rpm_db.specs.State.{State, Package}
 use Rattle.rpm_select.specs.Selections.{picks}
@@ -20,16 +19,14 @@ use Rattle.rpm_words.specs.declared.switch.Chosen.{Chosen}
 use Rattle.rpm_words.specs.Ask.{AskParts, ask}
 use Rattle.rpm_qfparse.specs.declared.fault.FormatFault.{FormatFault}
 use Rattle.rpm_qfparse.specs.declared.fault.FormatKind.TheVariants as wrong
-use Rattle.rpm_qfparse.specs.Tree.{Tree}
-use Rattle.rpm_change.specs.Endings.{Outputs}
-use Rattle.rpm_change.specs.Steps.{Course}
 use Rattle.rpm_print.specs.declared.answer.Why.{Why}
 use Rattle.rpm_print.specs.declared.answer.Why.TheVariants as why
 use Rattle.rpm_print.specs.Answers.{ComesWhere, Anywhere, Went}
 use Rattle.rpm_print.specs.Asked.{is_query, of_files, by_key, is_changing, asks_change, asks_format, asks}
 use Rattle.rpm_commit.specs.Changing.{DidOn, ChangesWith, EmptyBy}
 use Rattle.rpm_print.specs.Classes.{is_done, is_done_or_outside, is_foreign}
-use Rattle.rpm_tool.specs.Deeds.{Queried, query_cost}
+use Rattle.rpm_print.specs.Texts.{Course, saying, text_of}
+use Rattle.rpm_tool.specs.Deeds.{Outputs, Queried, query_cost, reopened, Tree}
 use Rattle.rpm_print.specs.Frame.{images, pkg_read, Leaves, LeavesIn}
 use Rattle.rpm_tool.specs.Keyed.{AreLawfulGroups, IsLawfulGroup, StandsStill, IsReady, KeyedIs, FullIs, BadIs, HasRoom, keyed_cost}
 use Rattle.rpm_commit.specs.Limits.{LimitsBy, LogBy, FaultIs}
@@ -40,13 +37,10 @@ use Rattle.rpm_commit.specs.Tasks.{asked_task, asked_course, reads_shelf, is_ane
 -- One run: its words and its moment, how it ended, what it found and left, what out and err had taken before.
 pub record Run {D S : Type 0} (d : disk.Ghosts D) (s : shelf.Ghosts S) : Type 0 where
   pub words : List (List ℕ)
-  pub moment : ℕ
   pub why : Why
-  pub changes : ℕ
-  pub found : D
-  pub left : D
-  pub shelf_found : S
-  pub shelf_left : S
+  pub moment changes : ℕ
+  pub found left : D
+  pub shelf_found shelf_left : S
   pub before : Outputs
 
 -- what one call of run did, as one record
@@ -74,7 +68,12 @@ module _ {D S : Type 0} {d : disk.Ghosts D} {s : shelf.Ghosts S} where
         → Went (query_files tree (s.paths r.shelf_found) r.words a) r.why r.before mid Anywhere
     pub disk_unread : r.left ≡ r.found
 
-  -- 4. QUESTIONS BY KEY, and reports on requirements, finish what a crash left, and make a stale index anew.
+  -- 4. TEXTS on the program itself, its help and its version, are printed with no call on disk and shelf.
+  pub record AnswersText (r : Run d s) (text : List ℕ) (mid : Outputs) : Type 0 where
+    pub went : Went (saying text) r.why r.before mid Anywhere
+    pub unread : (r.left ≡ r.found) × (r.shelf_left ≡ r.shelf_found)
+
+  -- 5. QUESTIONS BY KEY, and reports on requirements, finish what a crash left, and make a stale index anew.
   pub record AnswersKeyed (r : Run d s) (a : AskParts) (tree : Tree) (mid : Outputs) : Type 0 where
     pub went : KeyedIs tree r.words a (d.files r.found) r.why r.before mid
         (pkg_read d r.found) (pkg_read d r.left)
@@ -90,7 +89,7 @@ module _ {D S : Type 0} {d : disk.Ghosts D} {s : shelf.Ghosts S} where
     pub stops : AreLawfulGroups (images d r.found)
         → LeavesIn d r.found r.left (StandsStill (images d r.found))
 
-  -- 5. CHANGES of a command are one group: all made and counted, or none; each ending leaves `ChangesWith`.
+  -- 6. CHANGES of a command are one group: all made and counted, or none; each ending leaves `ChangesWith`.
   pub record AnswersChange (r : Run d s) (a : AskParts) (course : State → Course) (mid : Outputs) : Type 0 where
     pub did : DidOn course (d.files r.found) r.why r.before mid
     pub changed : ChangesWith d (is_anew (asked_task r.words a)) (changes_index (asked_task r.words a)) course
@@ -103,9 +102,10 @@ module _ {D S : Type 0} {d : disk.Ghosts D} {s : shelf.Ghosts S} where
 
   -- What is done for a command that was read, by its kind.
   pub record Does (r : Run d s) (a : AskParts) (tree : Tree) (mid : Outputs) : Type 0 where
-    pub plain : of_files a ≡ false → by_key a ≡ false → is_changing a ≡ false → IsTrue d.tells
-        → AnswersPlain r a tree mid
+    pub plain : of_files a ≡ false → by_key a ≡ false → is_changing a ≡ false → text_of a.mode ≡ None
+        → IsTrue d.tells → AnswersPlain r a tree mid
     pub files : of_files a ≡ true → AnswersOfFiles r a tree mid
+    pub text : (text : List ℕ) → text_of a.mode ≡ Some text → AnswersText r text mid
     pub keyed : by_key a ≡ true → IsTrue d.tells → AnswersKeyed r a tree mid
     pub changes : is_changing a ≡ true → IsTrue d.tells
         → (reads_shelf (asked_task r.words a) ≡ true → IsTrue s.tells)
@@ -125,7 +125,7 @@ module _ {D S : Type 0} {d : disk.Ghosts D} {s : shelf.Ghosts S} where
     pub paths : IsTrue s.tells → s.paths r.shelf_left ≡ s.paths r.shelf_found
     pub goes_on : d.follows r.found r.left
 
--- 6. CAUSES. A fault is answered only where its object counted one.
+-- 7. CAUSES. A fault is answered only where its object counted one.
 pub record Causes {D S O E : Type 0} (d : disk.Ghosts D) (s : shelf.Ghosts S) (o : sink.Ghosts O)
     (e : sink.Ghosts E) (given : Why) (old new : D × S × O × E) : Type 0 where
   pub disk : HasCauseAt (given ≡ why.DiskFault) (d.faults old.0) (d.faults new.0)
@@ -133,7 +133,7 @@ pub record Causes {D S O E : Type 0} (d : disk.Ghosts D) (s : shelf.Ghosts S) (o
   pub out : HasCauseAt (given ≡ why.OutFault) (o.faults old.2) (o.faults new.2)
   pub err : HasCauseAt (given ≡ why.ErrFault) (e.faults old.3) (e.faults new.3)
 
--- 7. LAWS of the words and of what is picked.
+-- 8. LAWS of the words and of what is picked.
 pub record Laws (words : List (List ℕ)) : Type 0 where
   -- with package files no number is passed over
   pub files_after : (tree : Tree) (paths : Paths) (n : ℕ) (a : AskParts)

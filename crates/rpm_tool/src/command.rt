@@ -7,7 +7,9 @@ use crate::keyed::answer_keyed;
 use crate::loaded::answer_loaded;
 use rpm_commit::{CommandEnding, change_asked};
 use rpm_outside::{Buffered, Disk, File, Shelf, Sink};
-use rpm_print::{Kind, Outcome, Why, kind_of, put_closing, read_command, status_of};
+use rpm_print::{
+    Kind, Outcome, Why, kind_of, print_text, put_closing, read_command, status_of,
+};
 use rpm_query::print_files;
 use rpm_words::Words;
 use std::alloc::Global;
@@ -39,6 +41,10 @@ fn command<D: Disk, S: Shelf, O: Sink + Drop, E: Sink + Drop>(
             let why = print_files(alloc, shelf, words, &ask, &format, out, err);
             (CommandEnding { why, changes: 0 }, disk)
         }
+        Kind::Text(text) => {
+            let why = print_text(text, out);
+            (CommandEnding { why, changes: 0 }, disk)
+        }
         Kind::Keyed(deed) => {
             let (why, disk) = answer_keyed(alloc, disk, words, &ask, deed, &format, out, err);
             (CommandEnding { why, changes: 0 }, disk)
@@ -63,6 +69,8 @@ fn command<D: Disk, S: Shelf, O: Sink + Drop, E: Sink + Drop>(
 /// in its place; then the argument fails, once. `--exportdb` writes each header after the magic, in one piece.
 /// `--verifydb` writes a line for each package that isn't sound. `--checkfiles` writes a line for each package that
 /// can't be read, and then one for each two packages that own a path and differ on it.
+///
+/// `--help` and `--version` print their text: no call is made on the disk and the shelf.
 ///
 /// With `-p` each argument is the path of a package file, `-` the standard input, and what is printed is of its
 /// header with the number 0: no call is made on the disk, and `--after` and `--noindex` change nothing. A path that

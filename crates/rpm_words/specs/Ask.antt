@@ -4,7 +4,7 @@ use Rattle.std.specs.Option.{option_map_or, IfSome}
 use Rattle.std.specs.List.{filter_map, All, AllByRecursion}
 use Rattle.rpm_words.specs.declared.switch.Program.{Program}
 use Rattle.rpm_words.specs.declared.switch.Command.{Command}
-use Rattle.rpm_words.specs.declared.switch.Command.TheVariants.{Query, Addpkg, Replacepkg, Erasepkg, Verify, Initdb, Rebuilddb, Verifydb, Exportdb, Importdb, Exercise, Order, Checkfiles}
+use Rattle.rpm_words.specs.declared.switch.Command.TheVariants.{Query, Addpkg, Replacepkg, Erasepkg, Verify, Initdb, Rebuilddb, Verifydb, Exportdb, Importdb, Exercise, Order, Checkfiles, Help, Version}
 use Rattle.rpm_words.specs.declared.switch.Chosen.{Chosen}
 use Rattle.rpm_words.specs.declared.switch.Chosen.TheVariants.{Label}
 use Rattle.rpm_words.specs.declared.token.Token.{Token}
@@ -65,6 +65,8 @@ mode_of Importdb n = mode.Importdb
 mode_of Exercise n = mode.Exercise n
 mode_of Order n = mode.Order
 mode_of Checkfiles n = mode.Checkfiles
+mode_of Help n = mode.Help
+mode_of Version n = mode.Version
 
 -- files are to be listed
 abbrev pub lists_files : Option Printed → Bool

@@ -2,7 +2,7 @@
 use Rattle.std.specs.Prelude.{ℕ, List, Option, Some, None, Bool, false, not, ◌||◌, ◌==◌}
 use Rattle.std.specs.List.{slice_get}
 use Rattle.rpm_words.specs.declared.switch.Command.{Command}
-use Rattle.rpm_words.specs.declared.switch.Command.TheVariants.{Query, Addpkg, Replacepkg, Erasepkg, Verify, Initdb, Rebuilddb, Verifydb, Exportdb, Importdb, Exercise, Order, Checkfiles}
+use Rattle.rpm_words.specs.declared.switch.Command.TheVariants.{Query, Addpkg, Replacepkg, Erasepkg, Verify, Initdb, Rebuilddb, Verifydb, Exportdb, Importdb, Exercise, Order, Checkfiles, Help, Version}
 use Rattle.rpm_words.specs.declared.switch.Chosen.{Chosen}
 use Rattle.rpm_words.specs.declared.switch.Chosen.TheVariants.{Label, All, Path, Group, Package, Provides, Requires, Conflicts, Obsoletes, Trigger, Number, Directory, Tid, Recommends}
 use Rattle.rpm_words.specs.declared.switch.Switch.TheVariants.{Mode, Choose}
@@ -47,6 +47,8 @@ command_number Importdb = 9
 command_number Exercise = 10
 command_number Order = 11
 command_number Checkfiles = 12
+command_number Help = 13
+command_number Version = 14
 
 -- a number for each choice, to compare them
 abbrev pub chosen_number : Chosen → ℕ

@@ -3,7 +3,7 @@ use Rattle.std.specs.Prelude.{ℕ, List, Option, Some, None, ◌==◌, if◌then
 use Rattle.std.specs.Str.{bytes_eq}
 use Rattle.rpm_words.specs.declared.switch.Program.{Program}
 use Rattle.rpm_words.specs.declared.switch.Program.TheVariants.{Rpm, Rpmdb}
-use Rattle.rpm_words.specs.declared.switch.Command.TheVariants.{Query, Addpkg, Replacepkg, Erasepkg, Verify, Initdb, Rebuilddb, Verifydb, Exportdb, Importdb, Exercise, Order, Checkfiles}
+use Rattle.rpm_words.specs.declared.switch.Command.TheVariants.{Query, Addpkg, Replacepkg, Erasepkg, Verify, Initdb, Rebuilddb, Verifydb, Exportdb, Importdb, Exercise, Order, Checkfiles, Help, Version}
 use Rattle.rpm_words.specs.declared.switch.Chosen.TheVariants.{All, Path, Group, Package, Provides, Requires, Conflicts, Obsoletes, Trigger, Number, Directory, Tid, Recommends}
 use Rattle.rpm_words.specs.declared.switch.Switch.{Switch}
 use Rattle.rpm_words.specs.declared.switch.Switch.TheVariants.{Mode, Choose, Lists, Format, After, Noindex, Nofiles, Folder}
@@ -35,6 +35,8 @@ rpm_switch text =
     else if bytes_eq text (codes "--after") then Some After
     else if bytes_eq text (codes "--noindex") then Some Noindex
     else if bytes_eq text (codes "--nofiles") then Some Nofiles
+    else if bytes_eq text (codes "--help") then Some (Mode Help)
+    else if bytes_eq text (codes "--version") then Some (Mode Version)
     else if bytes_eq text (codes "--dbpath") then Some Folder
     else None
 
@@ -49,6 +51,8 @@ rpmdb_switch text =
     else if bytes_eq text (codes "--exercise") then Some (Mode Exercise)
     else if bytes_eq text (codes "--order") then Some (Mode Order)
     else if bytes_eq text (codes "--checkfiles") then Some (Mode Checkfiles)
+    else if bytes_eq text (codes "--help") then Some (Mode Help)
+    else if bytes_eq text (codes "--version") then Some (Mode Version)
     else if bytes_eq text (codes "--dbpath") then Some Folder
     else None
 

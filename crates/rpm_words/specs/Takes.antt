@@ -41,6 +41,8 @@ takes command.Importdb by = Nothing
 takes command.Exercise by = Nothing
 takes command.Order by = Nothing
 takes command.Checkfiles by = Nothing
+takes command.Help by = Nothing
+takes command.Version by = Nothing
 
 -- how many there have to be
 abbrev pub fewest : ArgumentRule → ℕ

@@ -42,6 +42,10 @@ pub enum Mode {
     Order,
     /// To tell the paths that two packages own in different ways.
     Checkfiles,
+    /// To say what a command line may say.
+    Help,
+    /// To say which version the program is.
+    Version,
 }
 
 /// A command: a mode, its options, and the words that are its arguments.
@@ -171,6 +175,8 @@ fn mode_of(command: Command, exercise: u32) -> Mode
         Command::Exercise => Mode::Exercise(exercise),
         Command::Order => Mode::Order,
         Command::Checkfiles => Mode::Checkfiles,
+        Command::Help => Mode::Help,
+        Command::Version => Mode::Version,
     }
 }
 
@@ -217,8 +223,8 @@ fn read_options(alloc: Global, program: Program, words: &Words) -> Result<Ask, W
 /// `--whatrecommends`, `--triggeredby`, `--whatdir`, `--tid` or `--querybynumber`, and has the options
 /// `-l` (`--list`), `--qf` (`--queryformat`), `--after` and `--noindex`. Packages are verified with both
 /// `-a` and `--nofiles`. Under `rpmdb` the modes are `--initdb`, `--rebuilddb`, `--verifydb`,
-/// `--exportdb`, `--importdb`, `--exercise`, `--order` and `--checkfiles`. Both have `--dbpath`. A long
-/// option has its value after a `=`, or in the next word, whatever that is. `--` ends the options.
+/// `--exportdb`, `--importdb`, `--exercise`, `--order` and `--checkfiles`. Both have the modes
+/// `--help` and `--version`, and `--dbpath`. A long option has its value after a `=`, or in the next word, whatever that is. `--` ends the options.
 ///
 /// Of a command that is read each argument is a word, an exercise is with 1 to 100,000 packages, and
 /// the place of a format lies in its word. Of a query each argument is what its selection wants: a

@@ -26,6 +26,8 @@ pub(crate) enum Command {
     Exercise,
     Order,
     Checkfiles,
+    Help,
+    Version,
 }
 
 /// What a query picks packages by.
@@ -103,6 +105,8 @@ const RPM: &[Spelling] = &[
     Spelling("--after", Switch::After),
     Spelling("--noindex", Switch::Noindex),
     Spelling("--nofiles", Switch::Nofiles),
+    Spelling("--help", Switch::Mode(Command::Help)),
+    Spelling("--version", Switch::Mode(Command::Version)),
     Spelling("--dbpath", Switch::Folder),
 ];
 
@@ -116,6 +120,8 @@ const RPMDB: &[Spelling] = &[
     Spelling("--exercise", Switch::Mode(Command::Exercise)),
     Spelling("--order", Switch::Mode(Command::Order)),
     Spelling("--checkfiles", Switch::Mode(Command::Checkfiles)),
+    Spelling("--help", Switch::Mode(Command::Help)),
+    Spelling("--version", Switch::Mode(Command::Version)),
     Spelling("--dbpath", Switch::Folder),
 ];
 

@@ -67,7 +67,9 @@ impl Command {
             | Command::Importdb
             | Command::Exercise
             | Command::Order
-            | Command::Checkfiles => ArgumentRule::Nothing,
+            | Command::Checkfiles
+            | Command::Help
+            | Command::Version => ArgumentRule::Nothing,
         }
     }
 }

@@ -21,6 +21,8 @@ command_in mode.Importdb = command.Importdb
 command_in (mode.Exercise n) = command.Exercise
 command_in mode.Order = command.Order
 command_in mode.Checkfiles = command.Checkfiles
+command_in mode.Help = command.Help
+command_in mode.Version = command.Version
 
 pub command_back : (c : Command) (n : ℕ) → command_in (mode_of c n) ≡ c
 command_back command.Query n = refl
@@ -36,3 +38,5 @@ command_back command.Importdb n = refl
 command_back command.Exercise n = refl
 command_back command.Order n = refl
 command_back command.Checkfiles n = refl
+command_back command.Help n = refl
+command_back command.Version n = refl

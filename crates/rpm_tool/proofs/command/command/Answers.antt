@@ -2,7 +2,7 @@ use Rattle.std.proofs.Common.{◌≡◌, true, false, refl, subst, sym, ◌∙�
 use Rattle.rpm_tool.proofs.Vocabulary.{ask, asks_format, inner, Undone}
 use Rattle.rpm_tool.proofs.Begun.{unforeign}
 use Rattle.rpm_tool.proofs.Faults.{never_cause}
-use Rattle.rpm_tool.proofs.Page.{answered, asked_streams, does_plain, does_files, does_keyed, does_change, does_nothing}
+use Rattle.rpm_tool.proofs.Page.{answered, asked_streams, does_plain, does_files, does_text, does_keyed, does_change, does_nothing, said_disk, said_streams, said_words}
 use Rattle.rpm_print.specs.inner.Peeking.{leaves_none}
 use Rattle.rpm_tool.proofs.Undone.{asked_some, done_words, starved, undone_words}
 use Rattle.rpm_tool.proofs.command.command.Goals as goal
@@ -54,6 +54,28 @@ returns-in-Files-clause-answers g c =
     (does_files c.in-Files.ensures.1 (record { went = said.went; disk_unread = refl })
     (leaves_none g.D.Disk g.met.D.Disk.follows_refl))
 
+-- ---- a text
+
+pub returns-in-Text-clause-words : goal.returns-in-Text-clause-words
+returns-in-Text-clause-words g c = done_words c.args.words.now c.in-Ok.ensures.ok c.print_text-why.result (said_words c.print_text-why.ensures.ends)
+
+pub returns-in-Text-clause-disk : goal.returns-in-Text-clause-disk
+returns-in-Text-clause-disk g c = said_disk c.print_text-why.ensures.ends (g.D.Disk.faults c.args.disk)
+
+pub returns-in-Text-clause-streams : goal.returns-in-Text-clause-streams
+returns-in-Text-clause-streams g c = said_streams c.print_text-why.ensures.ends g.met.E.Sink.follows_refl c.print_text-why.ensures.out
+
+pub returns-in-Text-clause-unread : goal.returns-in-Text-clause-unread
+returns-in-Text-clause-unread g c = λ none. asked_some c.args.words.now c.in-Ok.ensures.ok none
+
+pub returns-in-Text-clause-answers : goal.returns-in-Text-clause-answers
+returns-in-Text-clause-answers g c =
+    answered c.in-Ok.ensures.ok (λ still. refl) (λ not. refl) (λ told. refl) (g.met.D.Disk.follows_refl c.args.disk)
+    (does_text c.in-Text.ensures.3 (record {
+      went = c.print_text-why.ensures.went g.E.Sink.tells (g.E.Sink.taken (inner c.args.err.now));
+      unread = (refl, refl);
+    }) (leaves_none g.D.Disk g.met.D.Disk.follows_refl))
+
 -- ---- by key
 
 pub returns-in-Keyed-clause-words : goal.returns-in-Keyed-clause-words
@@ -94,7 +116,7 @@ pub returns-clause-answers : goal.returns-clause-answers
 returns-clause-answers g c =
     let said = c.answer_loaded-why.ensures in
     answered c.in-Ok.ensures.ok (λ still. refl) (λ not. refl) (λ told. refl) said.looks.goes_on
-    (does_plain c.in-Plain.ensures.1 c.in-Plain.ensures.2 c.in-Plain.ensures.0
+    (does_plain c.in-Plain.ensures.1 c.in-Plain.ensures.2 c.in-Plain.ensures.0 c.in-Plain.ensures.4
     (λ told. record { went = said.went told; reads = said.reads told }) said.looks refl)
 
 -- ---- nothing that could be read
