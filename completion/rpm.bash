@@ -1,10 +1,10 @@
 # bash completion of rpm and rpmdb
 # Made by completion/make.py.
 
-_juzkarg_modes='Query Addpkg Replacepkg Erasepkg Verify Initdb Rebuilddb Verifydb Exportdb Importdb Exercise Order Checkfiles'
-_juzkarg_rpm='--query --addpkg --replacepkg --erasepkg --verify --all --file --group --package --whatprovides --whatrequires --whatconflicts --whatobsoletes --triggeredby --querybynumber --whatdir --tid --whatrecommends --list --qf --queryformat --after --noindex --nofiles --dbpath'
+_juzkarg_modes='Query Addpkg Replacepkg Erasepkg Verify Initdb Rebuilddb Verifydb Exportdb Importdb Exercise Order Checkfiles Help Version'
+_juzkarg_rpm='--query --addpkg --replacepkg --erasepkg --verify --all --file --group --package --whatprovides --whatrequires --whatconflicts --whatobsoletes --triggeredby --querybynumber --whatdir --tid --whatrecommends --list --qf --queryformat --after --noindex --nofiles --help --version --dbpath'
 _juzkarg_short='-q -V -a -f -g -p -l'
-_juzkarg_rpmdb='--initdb --rebuilddb --verifydb --exportdb --importdb --exercise --order --checkfiles --dbpath'
+_juzkarg_rpmdb='--initdb --rebuilddb --verifydb --exportdb --importdb --exercise --order --checkfiles --help --version --dbpath'
 _juzkarg_formatters='string hex octal perms depflags fflags fstate day date shescape base64 arraysize'
 _juzkarg_tags='SIGSIZE SIGMD5 SHA1HEADER SHA256HEADER NAME VERSION RELEASE EPOCH SUMMARY DESCRIPTION BUILDTIME BUILDHOST INSTALLTIME SIZE DISTRIBUTION VENDOR LICENSE PACKAGER GROUP SOURCE PATCH URL OS ARCH PREIN POSTIN PREUN POSTUN FILESIZES FILESTATES FILEMODES FILERDEVS FILEMTIMES FILEDIGESTS FILELINKTOS FILEFLAGS FILEUSERNAME FILEGROUPNAME SOURCERPM FILEVERIFYFLAGS ARCHIVESIZE PROVIDENAME REQUIREFLAGS REQUIRENAME REQUIREVERSION CONFLICTFLAGS CONFLICTNAME CONFLICTVERSION RPMVERSION TRIGGERSCRIPTS TRIGGERNAME TRIGGERVERSION TRIGGERFLAGS TRIGGERINDEX CHANGELOGTIME CHANGELOGNAME CHANGELOGTEXT PREINPROG POSTINPROG PREUNPROG POSTUNPROG OBSOLETENAME FILEDEVICES FILEINODES FILELANGS PROVIDEFLAGS PROVIDEVERSION OBSOLETEFLAGS OBSOLETEVERSION DIRINDEXES BASENAMES DIRNAMES OPTFLAGS DISTURL PAYLOADFORMAT PAYLOADCOMPRESSOR PAYLOADFLAGS INSTALLTID PLATFORM RECOMMENDNAME RECOMMENDVERSION RECOMMENDFLAGS NVR NVRA EVR NEVRA EPOCHNUM FILENAMES DBINSTANCE'
 
@@ -34,7 +34,9 @@ _juzkarg_option() {
         'rpm --after') kind=option name=After modes='Query' value=numbers arguments= ;;
         'rpm --noindex') kind=option name=Noindex modes='Query' value= arguments= ;;
         'rpm --nofiles') kind=option name=Nofiles modes='Verify' value= arguments= ;;
-        'rpm --dbpath') kind=option name=Folder modes='Query Addpkg Replacepkg Erasepkg Verify Initdb Rebuilddb Verifydb Exportdb Importdb Exercise Order Checkfiles' value=folders arguments= ;;
+        'rpm --help') kind=mode name=Help modes='Help' value= arguments=none ;;
+        'rpm --version') kind=mode name=Version modes='Version' value= arguments=none ;;
+        'rpm --dbpath') kind=option name=Folder modes='Query Addpkg Replacepkg Erasepkg Verify Initdb Rebuilddb Verifydb Exportdb Importdb Exercise Order Checkfiles Help Version' value=folders arguments= ;;
         'rpmdb --initdb') kind=mode name=Initdb modes='Initdb' value= arguments=none ;;
         'rpmdb --rebuilddb') kind=mode name=Rebuilddb modes='Rebuilddb' value= arguments=none ;;
         'rpmdb --verifydb') kind=mode name=Verifydb modes='Verifydb' value= arguments=none ;;
@@ -43,7 +45,9 @@ _juzkarg_option() {
         'rpmdb --exercise') kind=mode name=Exercise modes='Exercise' value=number arguments=none ;;
         'rpmdb --order') kind=mode name=Order modes='Order' value= arguments=none ;;
         'rpmdb --checkfiles') kind=mode name=Checkfiles modes='Checkfiles' value= arguments=none ;;
-        'rpmdb --dbpath') kind=option name=Folder modes='Query Addpkg Replacepkg Erasepkg Verify Initdb Rebuilddb Verifydb Exportdb Importdb Exercise Order Checkfiles' value=folders arguments= ;;
+        'rpmdb --help') kind=mode name=Help modes='Help' value= arguments=none ;;
+        'rpmdb --version') kind=mode name=Version modes='Version' value= arguments=none ;;
+        'rpmdb --dbpath') kind=option name=Folder modes='Query Addpkg Replacepkg Erasepkg Verify Initdb Rebuilddb Verifydb Exportdb Importdb Exercise Order Checkfiles Help Version' value=folders arguments= ;;
         *) return 1 ;;
     esac
 }

@@ -1,6 +1,7 @@
 #!/bin/sh
-# Whether the pages name each option, tag, formatter and message that the code has, whether each line of a synopsis is one that the program takes,
-# and whether the sessions of README.md, of the pages and of docs/RECIPES.md go as they are written (man/sessions.sh). Where there is groff or
+# Whether the pages name each option, tag, formatter and message that the code has, whether the help names all options, and none that the
+# completions lack, on one screen, whether the version is the newest of docs/CHANGELOG.md, whether each line of a synopsis is one that the program
+# takes, and whether the sessions of README.md, of the pages and of docs/RECIPES.md go as they are written (man/sessions.sh). Where there is groff or
 # mandoc, the pages are looked at as they are shown, and rendering them gives no warning; elsewhere their sources are, and no synopsis. It takes
 # some twenty seconds.
 #
@@ -12,6 +13,7 @@ here=$(pwd)
 given=${1-}
 cd "$(dirname "$0")/.."
 switches=crates/rpm_words/src/switch.rt
+texts=crates/rpm_print/src/texts.rt
 missing=0
 room=$(mktemp -d)
 trap 'rm -rf "$room"' EXIT
@@ -115,6 +117,22 @@ quoted crates/rpm_tags/src/tag.rt 'Row(Tag::' > "$room/words"
 $look tag rpm-q.8 < "$room/words"
 quoted crates/rpm_qfparse/src/tag.rt 'Row(Show::' > "$room/words"
 $look formatter rpm-q.8 < "$room/words"
+
+# The help, as the code has it, and the options that it names and that there are.
+sed -n '/const HELP: /,/^";$/{//!p;}' "$texts" | sed 's/\\\\/\\/g' > "$room/help"
+[ "$(wc -l < "$room/help")" -le 24 ] && ! grep -q '.\{81\}' "$room/help" || fail "the help has more than 24 lines, or than 80 columns"
+grep -oE -e '(^|[ ;,])--?[[:alpha:]]+' "$room/help" | sed 's/^[^-]//' | sort -u > "$room/named"
+{ options RPM; options RPMDB; letters Switch::; } | sort -u > "$room/words"
+for word in $(comm -13 "$room/named" "$room/words"); do fail "the help doesn't name $word"; done
+for word in $(comm -23 "$room/named" "$room/words"); do fail "the help names $word, which is no option"; done
+while IFS= read -r word; do
+    grep -qE -e "'rpm(db)? $word'" completion/rpm.bash || fail "the completions lack $word, which the help names"
+done < "$room/named"
+
+# The version of the code, and the first that the list of versions has.
+version=$(sed -n 's/.*const VERSION: .*b"juzkarg \([0-9.]*\)\\n";$/\1/p' "$texts")
+newest=$(grep -oE '[0-9]+\.[0-9]+\.[0-9]+' docs/CHANGELOG.md | head -n 1)
+[ -n "$version" ] && [ "$version" = "$newest" ] || fail "the code has the version '$version', docs/CHANGELOG.md '$newest'"
 
 messages > "$room/words"
 [ -s "$room/words" ] || fail "no message was found in the code"
