@@ -9,12 +9,11 @@ use Rattle.rpm_pkgdb.specs.declared.slot.Damage.{Damage}
 use Rattle.rpm_pkgdb.specs.Store.{Store, store}
 use Rattle.rpm_pkgdb.specs.Costs.{opening_cost}
 use Rattle.rpm_db.specs.Database.{unindexed}
-use Rattle.rpm_db.specs.State.{Package, packages}
+use Rattle.rpm_db.specs.State.{packages}
 use Rattle.rpm_check.specs.Edges.{graph_of}
 use Rattle.rpm_words.specs.Words.{text_at}
 use Rattle.rpm_words.specs.Ask.{AskParts}
 use Rattle.rpm_select.specs.Reach.{Reach, Everything}
-use Rattle.rpm_print.specs.declared.answer.Why.{Why}
 use Rattle.rpm_print.specs.declared.reading.Deed.{Deed}
 use Rattle.rpm_print.specs.declared.reading.Deed.TheVariants as deed
 use Rattle.rpm_print.specs.Asked.{deed_of}
@@ -29,7 +28,9 @@ use Rattle.rpm_query.specs.Reach.{argument_reach, reaches_by}
 use Rattle.rpm_report.specs.Reports.{verify}
 use Rattle.rpm_query.specs.Queries.{export}
 pub use Rattle.rpm_change.specs.Endings.{Outputs}
+pub use Rattle.rpm_db.specs.State.{Package, State}
 pub use Rattle.rpm_outside.specs.Logs.{reopened}
+pub use Rattle.rpm_print.specs.declared.answer.Why.{Why}
 pub use Rattle.rpm_qfparse.specs.Tree.{Tree}
 use Rattle.rpm_report.specs.Requirements.{unsatisfied, ordering, IsListed}
 

@@ -13,7 +13,6 @@ use Rattle.rpm_db.specs.Frame.{room}
 use Rattle.rpm_db.specs.State.{packages}
 use Rattle.rpm_db.specs.Lawful.{IsLawful, HasRows, is_current_at}
 use Rattle.rpm_db.specs.Openings.{must_make, units_needed, making_cost}
-use Rattle.rpm_words.specs.declared.switch.Chosen.{Chosen}
 use Rattle.rpm_words.specs.Words.{text_at}
 use Rattle.rpm_words.specs.Ask.{AskParts}
 use Rattle.rpm_qfparse.specs.Tree.{Tree}
@@ -31,6 +30,7 @@ use Rattle.rpm_change.specs.Endings.{Outputs, Through}
 use Rattle.rpm_print.specs.Classes.{is_done, is_done_or_outside, is_foreign, is_refusal}
 use Rattle.rpm_tool.specs.Deeds.{Deeds, Loaded, DoesBy, reaches_of, asked_reaches, blocks_cost}
 pub use Rattle.rpm_commit.specs.Lawful.{AreLawfulGroups, IsLawfulGroup, StandsStill}
+pub use Rattle.rpm_words.specs.declared.switch.Chosen.{Chosen}
 
 -- ---- an index that is ready
 

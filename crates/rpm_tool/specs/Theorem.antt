@@ -10,25 +10,22 @@ use Rattle.rpm_outside.specs.declared.shelf.Shelf as shelf
 use Rattle.rpm_outside.specs.declared.sink.Sink as sink
 use Rattle.rpm_outside.specs.Causes.{HasCauseAt}
 use Rattle.rpm_outside.specs.Shelves.{Paths}
-use Rattle.rpm_db.specs.State.{State, Package}
 use Rattle.rpm_select.specs.Selections.{picks}
 use Rattle.rpm_select.specs.declared.selection.Selection.TheVariants as question
 use Rattle.rpm_words.specs.declared.fault.WordsFault.{WordsFault}
 use Rattle.rpm_words.specs.declared.fault.WordsKind.TheVariants as kind
-use Rattle.rpm_words.specs.declared.switch.Chosen.{Chosen}
 use Rattle.rpm_words.specs.Ask.{AskParts, ask}
 use Rattle.rpm_qfparse.specs.declared.fault.FormatFault.{FormatFault}
 use Rattle.rpm_qfparse.specs.declared.fault.FormatKind.TheVariants as wrong
-use Rattle.rpm_print.specs.declared.answer.Why.{Why}
 use Rattle.rpm_print.specs.declared.answer.Why.TheVariants as why
 use Rattle.rpm_print.specs.Answers.{ComesWhere, Anywhere, Went}
 use Rattle.rpm_print.specs.Asked.{is_query, of_files, by_key, is_changing, asks_change, asks_format, asks}
 use Rattle.rpm_commit.specs.Changing.{DidOn, ChangesWith, EmptyBy}
 use Rattle.rpm_print.specs.Classes.{is_done, is_done_or_outside, is_foreign}
 use Rattle.rpm_print.specs.Texts.{Course, saying, text_of}
-use Rattle.rpm_tool.specs.Deeds.{Outputs, Queried, query_cost, reopened, Tree}
+use Rattle.rpm_tool.specs.Deeds.{Outputs, Package, Queried, query_cost, reopened, State, Tree, Why}
 use Rattle.rpm_print.specs.Frame.{images, pkg_read, Leaves, LeavesIn}
-use Rattle.rpm_tool.specs.Keyed.{AreLawfulGroups, IsLawfulGroup, StandsStill, IsReady, KeyedIs, FullIs, BadIs, HasRoom, keyed_cost}
+use Rattle.rpm_tool.specs.Keyed.{AreLawfulGroups, Chosen, IsLawfulGroup, StandsStill, IsReady, KeyedIs, FullIs, BadIs, HasRoom, keyed_cost}
 use Rattle.rpm_commit.specs.Limits.{LimitsBy, LogBy, FaultIs}
 use Rattle.rpm_query.specs.PackageFiles.{passing, query_files}
 use Rattle.rpm_query.specs.Queries.{picked, argument_part, query_of, AreOfEach, AreQuestions}
@@ -37,10 +34,13 @@ use Rattle.rpm_commit.specs.Tasks.{asked_task, asked_course, reads_shelf, is_ane
 -- One run: its words and its moment, how it ended, what it found and left, what out and err had taken before.
 pub record Run {D S : Type 0} (d : disk.Ghosts D) (s : shelf.Ghosts S) : Type 0 where
   pub words : List (List ℕ)
+  pub moment : ℕ
   pub why : Why
-  pub moment changes : ℕ
-  pub found left : D
-  pub shelf_found shelf_left : S
+  pub changes : ℕ
+  pub found : D
+  pub left : D
+  pub shelf_found : S
+  pub shelf_left : S
   pub before : Outputs
 
 -- what one call of run did, as one record
