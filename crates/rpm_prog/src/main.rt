@@ -84,7 +84,7 @@ fn purpose_of(alloc: Global, words: &Words) -> Purpose {
         Ok(ask) => match kind_of(&ask) {
             Kind::Change => Purpose::Change,
             Kind::Keyed(_) => Purpose::Keyed,
-            Kind::Files | Kind::Plain(_) => Purpose::Plain,
+            Kind::Files | Kind::Plain(_) | Kind::Text(_) => Purpose::Plain,
         },
         Err(_) => Purpose::Plain,
     }
