@@ -15,6 +15,7 @@ use Rattle.rpm_print.specs.Asked.{of_files, by_key, is_changing, asks_change, as
 use Rattle.rpm_commit.specs.Changing.{EmptyBy}
 use Rattle.rpm_print.specs.Classes.{is_done, is_done_or_outside, is_foreign}
 use Rattle.rpm_print.specs.Closing.{status_of, closing}
+use Rattle.rpm_print.specs.Texts.{saying, text_of}
 use Rattle.rpm_tool.specs.Deeds.{Queried}
 use Rattle.rpm_print.specs.Frame.{images, pkg_read, Leaves, LeavesIn}
 use Rattle.rpm_history.specs.Given.{given_on}
@@ -51,8 +52,8 @@ OfChange words shelf Said =
 
 -- how a command line ended, and what it left, where the disk tells what it holds, and of a shelf that may tell it: each field but the last is
 -- what `run` says of it, by its clauses `status` and `unread` and by the page (`rpm_tool`, Theorem.antt). There `changes` is `idle`, `undone_closes` is
--- `unasked` with the closing line, `answers`, `package_files` and `keyed` are the fields `went` of `plain`, `files` and `keyed` with the closing
--- line, `index_full` and `bad_index` are `full` and `bad` of `keyed`, `change` is `changes` with the closing line, and `disk_fault` and the like are
+-- `unasked` with the closing line, `answers`, `package_files`, `text` and `keyed` are the fields `went` of `plain`, `files`, `text` and `keyed` with the
+-- closing line, `index_full` and `bad_index` are `full` and `bad` of `keyed`, `change` is `changes` with the closing line, and `disk_fault` and the like are
 -- `Causes`
 pub record LineIs {D : Type 0} (d : disk.Ghosts D) (shelf : Bool) (paths : Paths) (call : RunCall) (old new : Between D) : Type 0 where
   pub status : call.outcome.status ≡ status_of call.outcome.why
@@ -65,12 +66,14 @@ pub record LineIs {D : Type 0} (d : disk.Ghosts D) (shelf : Bool) (paths : Paths
   pub undone_closes : asks call.words ≡ None
       → Closes (closing call.words call.outcome.why) old.taken new.taken old.err_faults new.err_faults
   -- commands that change nothing
-  pub answers : Of call.words (λ a tree. of_files a ≡ false → by_key a ≡ false → is_changing a ≡ false
+  pub answers : Of call.words (λ a tree. of_files a ≡ false → by_key a ≡ false → is_changing a ≡ false → text_of a.mode ≡ None
       → Ends (λ mid. Queried tree call.words a (d.files old.disk) call.outcome.why old.taken mid (pkg_read d old.disk) (pkg_read d new.disk))
       (closing call.words call.outcome.why) new.taken old.err_faults new.err_faults)
   pub package_files : Of call.words (λ a tree. of_files a ≡ true → IsTrue shelf
       → Ends (λ mid. Went (query_files tree paths call.words a) call.outcome.why old.taken mid Anywhere)
       (closing call.words call.outcome.why) new.taken old.err_faults new.err_faults)
+  pub text : Of call.words (λ a tree. (text : List ℕ) → text_of a.mode ≡ Some text → (new.disk ≡ old.disk)
+      × Ends (λ mid. Went (saying text) call.outcome.why old.taken mid Anywhere) (closing call.words call.outcome.why) new.taken old.err_faults new.err_faults)
   pub looks : Of call.words (λ a tree. by_key a ≡ false → is_changing a ≡ false → Leaves d old.disk new.disk)
   -- questions by key
   pub keyed : Of call.words (λ a tree. by_key a ≡ true

@@ -82,9 +82,9 @@ loop-line-preserved g c =
             undone_closes = λ none.
                 subst (λ (o : Outputs). Closes (closing words c.run-left.result.0.why) o (outs g.O.Sink g.E.Sink c.run-left.new.out c.run-left.new.err)
                 (g.E.Sink.faults c.loop-line.err) (g.E.Sink.faults c.run-left.new.err)) (all.unasked none) did.answers.closes;
-            answers = λ a tree asked files keyed still. record {
+            answers = λ a tree asked files keyed still untold. record {
               mid = did.answers.mid;
-              did = ((does a tree asked).plain files keyed still told).went;
+              did = ((does a tree asked).plain files keyed still untold told).went;
               closes = did.answers.closes;
             };
             package_files = λ a tree asked files shelf. record {
@@ -94,6 +94,10 @@ loop-line-preserved g c =
                   (((does a tree asked).files files).went shelf);
               closes = did.answers.closes;
             };
+            text = λ a tree asked text said. (
+              ((does a tree asked).text text said).unread.0,
+              record { mid = did.answers.mid; did = ((does a tree asked).text text said).went; closes = did.answers.closes },
+            );
             looks = λ a tree asked keyed still. (does a tree asked).looks keyed still;
             keyed = λ a tree asked keyed. record {
               mid = did.answers.mid;
