@@ -17,6 +17,7 @@
 # what was changed since it put it there is kept and told. It takes a second; it wants sh, coreutils or busybox, grep, sed, awk and gzip.
 set -eu
 unset CDPATH
+export LC_ALL=C
 umask 022
 
 here=$(dirname -- "$(readlink -f -- "$0")")
@@ -220,7 +221,7 @@ stage_texts() {
 report() {
     first=$(command -v rpm) || first=
     if [ -z "$lead" ]; then
-        why=
+        why=${other:+"; they hide $other"}
         ! is_in_path || same_folder "${first%/*}" "$prefix/bin" || why="; but PATH leads to $first before"
     fi
     gone=$(sed -n 's/^bin.//p' "$room/removed" | tr '\n' ' ')

@@ -278,12 +278,15 @@ try_roots() {
     begin 'an empty root'
     if grep -qa /ld-linux "$program"; then
         echo 'release/try.sh: an empty root is not tried, since the program here wants libraries'
-    elif ! unshare -r chroot / "$room/tools/cat" < /dev/null 2> /dev/null; then
-        echo 'release/try.sh: an empty root is not tried, since none can be entered here'
     else
         installs
         cp -r "$here/example" "$P/d"
-        unshare -r chroot "$P" /bin/rpm --dbpath /d -q libx > "$room/said" 2>&1 || wrong 'the program fails'
-        printf '%s\n' 'libx-1.0~rc1-1.noarch' 'libx-1.0^git1-1.noarch' | cmp -s - "$room/said" || wrong 'the answer is another'
+        status=0
+        "$here/release/in_root.sh" "$P" /bin/rpm --dbpath /d -q libx > "$room/said" 2>&1 || status=$?
+        if [ "$status" -eq 125 ]; then
+            echo 'release/try.sh: an empty root is not tried, since none can be entered here'
+        else
+            printf '%s\n' 'libx-1.0~rc1-1.noarch' 'libx-1.0^git1-1.noarch' | cmp -s - "$room/said" || wrong "the answer is another, with status $status"
+        fi
     fi
 }

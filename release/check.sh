@@ -24,15 +24,6 @@ digest() {
     sha256sum | cut -d ' ' -f 1
 }
 
-# Runs a command in another root: ROOT COMMAND..
-in_root() {
-    if [ "$(id -u)" = 0 ]; then
-        chroot "$@"
-    else
-        unshare -r chroot "$@"
-    fi
-}
-
 { [ -f release/MANIFEST ] && [ -f release/rpm_prog.gz ]; } || fail "there is no program: run release/make.sh after the gate"
 [ "$(told sources)" = "$(release/digest.sh)" ] || fail "the program is of other sources: run release/make.sh after the gate"
 [ "$(told toolchain)" = "$(rt version)" ] || fail "the program is of another toolchain: run release/make.sh after the gate"
@@ -58,11 +49,14 @@ else
     sed -n '/^linker/,$p' release/MANIFEST | diff - "$room/with" | sed -n 's/^[<>]/release:  &/p'
 fi
 
-if in_root / true 2> /dev/null; then
-    chmod 755 "$room/root/rpm"
-    cp example/Packages.db "$room/root/d"
-    [ "$(in_root "$room/root" /rpm --dbpath /d -qf /usr/bin/sh)" = bash-5.1-2.x86_64 ] || fail "the packed program doesn't answer in a root of its own"
-    echo "release: the packed program answers in a root that has nothing but a database"
-else
+chmod 755 "$room/root/rpm"
+cp example/Packages.db "$room/root/d"
+status=0
+answer=$(release/in_root.sh "$room/root" /rpm --dbpath /d -qf /usr/bin/sh) || status=$?
+if [ "$status" -eq 125 ]; then
     echo "release: no other root can be entered here, so the program wasn't asked in one that is empty"
+elif [ "$status" -ne 0 ] || [ "$answer" != bash-5.1-2.x86_64 ]; then
+    fail "the packed program doesn't answer in a root that has nothing but a database ($status, $answer)"
+else
+    echo "release: the packed program answers in a root that has nothing but a database"
 fi

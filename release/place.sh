@@ -89,7 +89,7 @@ make_folder() {
 }
 
 cant_write() {
-    fail "$prefix/$1 can't be written; what was installed before is as it was"
+    fail "$prefix/$1 can't be written; what was installed before is as it was (--prefix names another folder, such as ~/.local)"
 }
 
 # Sets waits: the path at which what will be moved to a name waits, in a folder beside it.
@@ -134,9 +134,10 @@ keep_changed() {
     done
 }
 
-# Moves what waits for a name there. A link that stands there is replaced, and not followed.
+# Moves what waits for a name there. A link that stands there is replaced, and not followed. (One to a folder goes before: busybox's mv refuses it.)
 place() {
     waits_for "$1"
+    if [ -L "$prefix/$1" ] && [ -d "$prefix/$1" ]; then rm -f -- "$prefix/$1"; fi
     mv -fT -- "$waits" "$prefix/$1" || fail "$prefix/$1 can't be replaced: install again, or --uninstall"
 }
 
@@ -171,7 +172,7 @@ remove_all() {
 
 # Removes the folders that these lines of a list name, where they are empty: the inner ones first.
 remove_folders() {
-    sed -n 's/^folder - //p' "$1" | LC_ALL=C sort -ru | while IFS= read -r name; do
+    sed -n 's/^folder - //p' "$1" | sort -ru | while IFS= read -r name; do
         rmdir -- "$prefix/${name%.}" 2> /dev/null || true
     done
 }
