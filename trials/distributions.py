@@ -212,17 +212,20 @@ def costs_table(systems, is_counted):
     return text
 
 
-def tables(systems, measured, is_counted):
+def told(systems):
+    """When which rpm was asked how much, and how the answers differ."""
     version = subprocess.run(["rpm", "--version"], stdout=subprocess.PIPE, text=True, check=True).stdout.strip()
     asked = sum(system.pair.asked for system in systems)
     digest = hashlib.sha256(Path(systems[0].program).read_bytes()).hexdigest()[:16]
-    text = f"On {datetime.date.today():%d %B %Y}, of the program with the digest `{digest}`, {version}: {asked:,} questions, "
-    text += "answered alike but for these kinds.\n\n" + answers_table(systems)
-    if measured:
-        names = "all systems" if len(measured) == len(systems) else ", ".join(system.name for system in measured)
-        told = f"One run of each command, of {names} together: seconds of the processor. A share is the least and the greatest of a system."
-        text += "\n" + textwrap.fill(told, 158) + "\n\n" + costs_table(measured, is_counted)
-    return text
+    head = f"On {datetime.date.today():%d %B %Y}, of the program with the digest `{digest}`, {version}: {asked:,} questions, "
+    return head + "answered alike but for these kinds.\n\n" + answers_table(systems)
+
+
+def costs_told(systems, measured, is_counted):
+    """Of which systems the costs are, and these."""
+    names = "all systems" if len(measured) == len(systems) else ", ".join(system.name for system in measured)
+    head = f"One run of each command, of {names} together: seconds of the processor. A share is the least and the greatest of a system."
+    return textwrap.fill(head, 158) + "\n\n" + costs_table(measured, is_counted)
 
 
 def options():
@@ -286,14 +289,16 @@ def main():
         measured = sorted(systems, key=lambda system: system.bytes)[:asked.costs]
         for it in [pool.submit(system.measure, command, not asked.quick) for system in measured for command in system.commands()]:
             it.result()
-        text = tables(systems, measured, not asked.quick)
-    progress("")
-    recipes = table_of_recipes([system.pair for system in systems])
-    print(text, "" if asked.ndb else "\n" + recipes, sep="", end="")
-    if asked.write:
-        put_into(PAGE, " --ndb FOLDER" if asked.ndb else "", text)
+        made = [(PAGE, " --ndb FOLDER" if asked.ndb else "", told(systems))]
+        if measured:
+            made.append((PAGE, " --costs", costs_told(systems, measured, not asked.quick)))
         if not asked.ndb:
-            put_into(RECIPES, "", recipes)
+            made.append((RECIPES, "", table_of_recipes([system.pair for system in systems])))
+    progress("")
+    print("\n".join(text for _, _, text in made), end="")
+    if asked.write:
+        for page, option, text in made:
+            put_into(page, option, text)
 
 
 if __name__ == "__main__":
