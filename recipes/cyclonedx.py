@@ -40,7 +40,7 @@ def component(tags, vendor):
 
 def main():
     if len(sys.argv) != 3:
-        sys.exit(__doc__)
+        sys.exit(print(__doc__) if sys.argv[1:] == ["--help"] else __doc__)
     system, vendor = sys.argv[1:]
     json.dump({
         "bomFormat": "CycloneDX", "specVersion": "1.5", "version": 1,

@@ -23,7 +23,7 @@ def header(texts):
 
 def main():
     if sys.argv[1:]:
-        sys.exit(__doc__)
+        sys.exit(print(__doc__) if sys.argv[1:] == ["--help"] else __doc__)
     for number, summary in enumerate(SUMMARIES, 1):
         texts = {NAME: b"odd%d" % number, VERSION: b"1", RELEASE: b"1", SUMMARY: summary, ARCH: b"noarch"}
         sys.stdout.buffer.write(header({tag: text for tag, text in texts.items() if text is not None}))

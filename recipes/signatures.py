@@ -53,7 +53,7 @@ def key_of(packet):
 
 def main():
     if sys.argv[1:] not in ([], ["--unsigned"]):
-        sys.exit(__doc__)
+        sys.exit(print(__doc__) if sys.argv[1:] == ["--help"] else __doc__)
     for tags in headers(sys.stdin.buffer.read()):
         key = next((key_of(tags[tag]) for tag in SIGNATURES if tag in tags), "(none)")
         if key == "(none)" or not sys.argv[1:]:

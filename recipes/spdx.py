@@ -32,7 +32,7 @@ def package(tags, vendor):
 
 def main():
     if len(sys.argv) != 3:
-        sys.exit(__doc__)
+        sys.exit(print(__doc__) if sys.argv[1:] == ["--help"] else __doc__)
     system, vendor = sys.argv[1:]
     text = sys.stdin.read()
     packages = [package(json.loads(line), vendor) for line in text.splitlines()]
