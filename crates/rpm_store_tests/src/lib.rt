@@ -1,6 +1,8 @@
-//! Tests of the storage crates and of those over the database, through their public calls.
+//! Tests of the storage crates, of those over the database and of the objects over real files, through their public calls.
 #![tactic(auto)]
 
+#[cfg(test)]
+mod beside_tests;
 #[cfg(test)]
 mod commit_tests;
 #[cfg(test)]
@@ -26,8 +28,12 @@ mod outside_tests;
 #[cfg(test)]
 mod plain_disk;
 #[cfg(test)]
+mod real_tests;
+#[cfg(test)]
 mod select_tests;
 #[cfg(test)]
 mod store_change_tests;
 #[cfg(test)]
 mod store_stop_tests;
+#[cfg(test)]
+mod watched;

@@ -1,8 +1,6 @@
-//! Tests of the commands that change packages, of whole command lines, and of the objects over real files.
+//! Tests of the commands that change packages, and of whole command lines, in memory and on real files.
 #![tactic(auto)]
 
-#[cfg(test)]
-mod beside;
 #[cfg(test)]
 mod changes;
 #[cfg(test)]
@@ -14,12 +12,8 @@ mod folders;
 #[cfg(test)]
 mod headers;
 #[cfg(test)]
-mod objects;
-#[cfg(test)]
 mod runs;
 #[cfg(test)]
 mod several;
 #[cfg(test)]
 mod stops;
-#[cfg(test)]
-mod watched;
