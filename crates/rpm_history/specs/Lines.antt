@@ -15,7 +15,7 @@ use Rattle.rpm_print.specs.Asked.{of_files, by_key, is_changing, asks_change, as
 use Rattle.rpm_commit.specs.Changing.{EmptyBy}
 use Rattle.rpm_print.specs.Classes.{is_done, is_done_or_outside, is_foreign}
 use Rattle.rpm_print.specs.Closing.{status_of, closing}
-use Rattle.rpm_print.specs.Texts.{saying, text_of}
+use Rattle.rpm_print.specs.Texts.{text_course, text_of}
 use Rattle.rpm_tool.specs.Deeds.{Queried}
 use Rattle.rpm_print.specs.Frame.{images, pkg_read, Leaves, LeavesIn}
 use Rattle.rpm_history.specs.Given.{given_on}
@@ -73,7 +73,7 @@ pub record LineIs {D : Type 0} (d : disk.Ghosts D) (shelf : Bool) (paths : Paths
       → Ends (λ mid. Went (query_files tree paths call.words a) call.outcome.why old.taken mid Anywhere)
       (closing call.words call.outcome.why) new.taken old.err_faults new.err_faults)
   pub text : Of call.words (λ a tree. (text : List ℕ) → text_of a.mode ≡ Some text → (new.disk ≡ old.disk)
-      × Ends (λ mid. Went (saying text) call.outcome.why old.taken mid Anywhere) (closing call.words call.outcome.why) new.taken old.err_faults new.err_faults)
+      × Ends (λ mid. Went (text_course text) call.outcome.why old.taken mid Anywhere) (closing call.words call.outcome.why) new.taken old.err_faults new.err_faults)
   pub looks : Of call.words (λ a tree. by_key a ≡ false → is_changing a ≡ false → Leaves d old.disk new.disk)
   -- questions by key
   pub keyed : Of call.words (λ a tree. by_key a ≡ true

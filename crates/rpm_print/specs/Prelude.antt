@@ -18,4 +18,4 @@ pub use Rattle.rpm_print.specs.Closing.{status_of, usage_line, word_told}
 pub use Rattle.rpm_print.specs.Frame.{ErrTakes, HaltHands, OutTakes, PutsErr, PutsOut, shown}
 pub use Rattle.rpm_print.specs.Printed.{bad_line, printed, step_by}
 pub use Rattle.rpm_print.specs.Steps.{fails}
-pub use Rattle.rpm_print.specs.Texts.{saying}
+pub use Rattle.rpm_print.specs.Texts.{text_course}

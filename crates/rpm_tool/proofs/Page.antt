@@ -7,7 +7,7 @@ use Rattle.rpm_outside.specs.declared.sink.Sink as sink
 use Rattle.rpm_tool.proofs.Vocabulary.{Answers, AnswersByKey, AnswersChange, AnswersKeyed, AnswersOfFiles, AnswersPlain, AnswersText, asked_course, ask, asked_task}
 use Rattle.rpm_tool.proofs.Vocabulary.{AskParts, asks_change, asks_format, Buffered, by_key, changes_in, Does, EmptyBy, is_changing, is_done, is_foreign}
 use Rattle.rpm_tool.proofs.Vocabulary.{HasCauseAt, inner, is_of_words, Leaves, needs_none, of_files, OneChange, Outputs, outputs, Pkg, query_files, ran, reads_shelf, reopened, Run, Streams}
-use Rattle.rpm_tool.proofs.Vocabulary.{saying, task_course, text_of, Tree, Why}
+use Rattle.rpm_tool.proofs.Vocabulary.{task_course, text_course, text_of, Tree, Why}
 use Rattle.rpm_change.specs.Hands.{Hand}
 use Rattle.rpm_print.specs.Frame.{EndHands}
 use Rattle.rpm_print.specs.declared.answer.Why.TheVariants as why
@@ -179,7 +179,7 @@ module _ {D S : Type 0} {d : disk.Ghosts D} {s : shelf.Ghosts S} (words : List (
       disk_unread = refl;
     };
     text = λ text said. record {
-      went = ([], (saying text).steps, refl, through_none {ot = ot} {et = et} o e);
+      went = ([], (text_course text).steps, refl, through_none {ot = ot} {et = et} o e);
       unread = (refl, refl);
     };
     keyed = λ is told. keyed_of (unbegun d tree words a ot et o e it);

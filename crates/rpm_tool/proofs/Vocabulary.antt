@@ -42,7 +42,7 @@ pub use Rattle.rpm_print.specs.Frame.{Leaves, outs, packages_in, Peeks, pkg_read
 pub use Rattle.rpm_print.specs.Printed.{step_of}
 pub use Rattle.rpm_print.specs.Reads.{reach_sum, reached_by}
 pub use Rattle.rpm_print.specs.Steps.{RisesFrom, with_number}
-pub use Rattle.rpm_print.specs.Texts.{saying, text_of}
+pub use Rattle.rpm_print.specs.Texts.{text_course, text_of}
 pub use Rattle.rpm_print.specs.declared.answer.Why.{Why}
 pub use Rattle.rpm_print.specs.declared.reading.Deed.{Deed}
 pub use Rattle.rpm_qfparse.specs.Tree.{Tree}

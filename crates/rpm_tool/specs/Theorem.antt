@@ -22,7 +22,7 @@ use Rattle.rpm_print.specs.Answers.{ComesWhere, Anywhere, Went}
 use Rattle.rpm_print.specs.Asked.{is_query, of_files, by_key, is_changing, asks_change, asks_format, asks}
 use Rattle.rpm_commit.specs.Changing.{DidOn, ChangesWith, EmptyBy}
 use Rattle.rpm_print.specs.Classes.{is_done, is_done_or_outside, is_foreign}
-use Rattle.rpm_print.specs.Texts.{Course, saying, text_of}
+use Rattle.rpm_print.specs.Texts.{Course, text_course, text_of}
 use Rattle.rpm_tool.specs.Deeds.{Outputs, Package, Queried, query_cost, reopened, State, Tree, Why}
 use Rattle.rpm_print.specs.Frame.{images, pkg_read, Leaves, LeavesIn}
 use Rattle.rpm_tool.specs.Keyed.{AreLawfulGroups, Chosen, IsLawfulGroup, StandsStill, IsReady, KeyedIs, FullIs, BadIs, HasRoom, keyed_cost}
@@ -70,7 +70,7 @@ module _ {D S : Type 0} {d : disk.Ghosts D} {s : shelf.Ghosts S} where
 
   -- 4. TEXTS on the program itself, its help and its version, are printed with no call on disk and shelf.
   pub record AnswersText (r : Run d s) (text : List ℕ) (mid : Outputs) : Type 0 where
-    pub went : Went (saying text) r.why r.before mid Anywhere
+    pub went : Went (text_course text) r.why r.before mid Anywhere
     pub unread : (r.left ≡ r.found) × (r.shelf_left ≡ r.shelf_found)
 
   -- 5. QUESTIONS BY KEY, and reports on requirements, finish what a crash left, and make a stale index anew.
