@@ -1,6 +1,7 @@
 pub mod Arguments
 pub mod Bounds
 pub mod Dropped
+pub mod Erased
 pub mod Filed
 pub mod Imported
 pub mod Listed

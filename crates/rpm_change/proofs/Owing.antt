@@ -1,12 +1,12 @@
--- Additions whose rows are gathered: what is left of them, as they begin, from one header to the next, and once they are over.
-use Rattle.std.proofs.Common.{◌≡◌, ◌≤◌, ◌==◌, Bool, true, false, List, [], length, Result, Ok, Err, refl, ap, ◌∙◌, arith}
+-- A batch, whose rows are gathered: what is left of it, as it begins, from one change to the next, and once it is over.
+use Rattle.std.proofs.Common.{◌≡◌, ◌≤◌, ◌==◌, Bool, true, false, length, Result, Ok, Err, refl, ap, ◌∙◌, arith}
 use Rattle.std.proofs.lemmas.Bool.Decides.{nat_tests}
 use Rattle.std.proofs.lemmas.List.{length-replicate}
 use Rattle.std.specs.Prelude.{IsTrue}
 use Rattle.rpm_outside.specs.declared.disk.Disk as disk
 use Rattle.rpm_change.proofs.Vocabulary.{blank, CarriedOn, ChangeFault, Course, Database, due, due_units, generation_of, Halt, halt_of, halted_by}
 use Rattle.rpm_change.proofs.Vocabulary.{has_failed, idx_more, is_indexed, is_limit, IsGathering, IsIndexed, IsOfIndex, IsOfReading, IsOrdered, IsOwing}
-use Rattle.rpm_change.proofs.Vocabulary.{IsReady, IsSettledUp, IsWholeIndex, other_stop, OwesOn, packages, room, Rose, Row, Runs, SameLog}
+use Rattle.rpm_change.proofs.Vocabulary.{IsReady, IsSettledUp, IsWholeIndex, other_stop, OwesOn, nothing, packages, room, Rose, RowChange, Runs, SameLog}
 use Rattle.rpm_change.proofs.Vocabulary.{sealed_in, State, state_in, suspended, Tally, then_by, times, times_none, Went, WentOwing}
 use Rattle.rpm_change.proofs.Vocabulary.{whole_halt, WholeCause}
 use Rattle.rpm_db.specs.declared.change_fault.ChangeFault.TheVariants as fault
@@ -22,18 +22,18 @@ end_limit i fault.NoMemory kind other = refl
 end_limit i others kind other = absurd kind
 
 module _ {D : Type 0} (d : disk.Ghosts D) where
-  pub owing_none : {at : D} {db : Database} {owed : List Row} → IsGathering d at db owed → IsOwing d (OwesOn d at db owed) at db owed
+  pub owing_none : {at : D} {db : Database} {owed : RowChange} → IsGathering d at db owed → IsOwing d (OwesOn d at db owed) at db owed
   owing_none g = record { gathering = g; owes = λ told has. has }
 
-  pub owing_then : {Asked : Type 0} {mid new : D} {before after : Database} {owed more : List Row} → IsOwing d Asked mid before owed
+  pub owing_then : {Asked : Type 0} {mid new : D} {before after : Database} {owed more : RowChange} → IsOwing d Asked mid before owed
       → IsOwing d (OwesOn d mid before owed) new after more → IsOwing d Asked new after more
   owing_then first second =
       record { gathering = second.gathering; owes = λ told asked. second.owes told (first.owes told asked) }
 
--- ---- a list of headers that was gone through, from the additions' begin on
+-- ---- changes that were gone through, from the begin of the batch on
 
-module _ {D : Type 0} (d : disk.Ghosts D) {a : D} {db : Database} {owed : List Row} (ready : IsReady d a db) (going : has_failed db ≡ false)
-    (ordered : IsOrdered db.index) (sealed : sealed_in db.index ≡ generation_of db) (none : owed ≡ []) where
+module _ {D : Type 0} (d : disk.Ghosts D) {a : D} {db : Database} {owed : RowChange} (ready : IsReady d a db) (going : has_failed db ≡ false)
+    (ordered : IsOrdered db.index) (sealed : sealed_in db.index ≡ generation_of db) (none : owed ≡ nothing) where
   pub owing_begun : IsOwing d (IsIndexed d a db) a (suspended db) owed
   owing_begun = record {
     gathering = record {
@@ -48,12 +48,15 @@ module _ {D : Type 0} (d : disk.Ghosts D) {a : D} {db : Database} {owed : List R
     owes = λ told was. record {
       from = packages (d.files a).pkg (room db);
       has = was.rows_are;
-      changed = λ row. (let nothing : times row owed ≡ 0 = ap (times row) none ∙ times_none row in omega (arith, times_none row, nothing));
+      balances = λ row.
+          (let drops : times row owed.drops ≡ 0 = ap (λ (o : RowChange). times row o.drops) none ∙ times_none row in
+          let adds : times row owed.adds ≡ 0 = ap (λ (o : RowChange). times row o.adds) none ∙ times_none row in
+          omega (arith, drops, adds));
       fits = λ other. absurd (other sealed);
     };
   }
 
-  module _ {T : Type 0} (tells : T → IsTrue d.tells) {m : D} {mid : Database} {more : List Row} {E : Course → State → State → Result Tally Halt → Type 0}
+  module _ {T : Type 0} (tells : T → IsTrue d.tells) {m : D} {mid : Database} {more : RowChange} {E : Course → State → State → Result Tally Halt → Type 0}
       {course : Course} where
     -- it was stopped
     pub list_stopped : {h : Halt} → WentOwing d T a m (suspended db) mid owed more (Err h) E course → Went d T a m db mid (Err h) E course

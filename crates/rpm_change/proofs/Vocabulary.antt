@@ -35,16 +35,17 @@ pub use Rattle.rpm_db.specs.Changed.{IsLeft, IsReady, Makes}
 pub use Rattle.rpm_db.specs.Changes.{Add, Change, Erase, next, Put}
 pub use Rattle.rpm_db.specs.Database.{Database, generation_of, has_failed, is_indexed, IsNext, next_number}
 pub use Rattle.rpm_db.specs.Frame.{IsIndexed, packages_in, room, Runs, state_in}
-pub use Rattle.rpm_db.specs.Gathering.{due, due_units, IsGathering, IsOrdered, IsSettledUp, OwesOn, resumed, sealed_in, suspended}
+pub use Rattle.rpm_db.specs.Gathering.{due, due_units, IsGathering, IsOrdered, IsSettledUp, nothing, OwesOn, resumed, sealed_in, suspended}
 pub use Rattle.rpm_db.specs.Lawful.{IsWholeIndex, Remade}
 pub use Rattle.rpm_db.specs.Reaches.{needed}
-pub use Rattle.rpm_db.specs.Refusals.{AddIs, FullCause, IsOfIndex, IsOfReading, WholeCause}
+pub use Rattle.rpm_db.specs.Refusals.{AddIs, EraseCause, FullCause, IsOfIndex, IsOfReading, WholeCause}
 pub use Rattle.rpm_db.specs.Room.{next_store, RoomCause}
 pub use Rattle.rpm_db.specs.RowLaws.{times_none}
 pub use Rattle.rpm_db.specs.Runs.{SameLog}
 pub use Rattle.rpm_db.specs.State.{above, Bad, Good, Package, packages, State}
 pub use Rattle.rpm_db.specs.StateLaws.{next-state}
 pub use Rattle.rpm_db.specs.declared.change_fault.ChangeFault.{ChangeFault}
+pub use Rattle.rpm_db.specs.declared.netting.RowChange.{RowChange}
 pub use Rattle.rpm_file.specs.Answers.{IsListFault}
 pub use Rattle.rpm_file.specs.List.{Found, list_head, size_in, sized, some_found}
 unfoldable pub use Rattle.rpm_file.specs.List.{front_header}
@@ -57,7 +58,7 @@ pub use Rattle.rpm_header.specs.Header.{alignment, Header, header, Item}
 pub use Rattle.rpm_header.specs.Laid.{end_of}
 unfoldable pub use Rattle.rpm_header.specs.Laid.{bytes_in, data_from, offset_of}
 pub use Rattle.rpm_header.specs.declared.form.Form.{Form}
-pub use Rattle.rpm_hindex.specs.Rows.{Row, times}
+pub use Rattle.rpm_hindex.specs.Rows.{times}
 pub use Rattle.rpm_outside.specs.Browses.{left}
 pub use Rattle.rpm_outside.specs.Buffered.{inner}
 pub use Rattle.rpm_outside.specs.Causes.{HasCauseAt, Rose}

@@ -6,7 +6,6 @@ use Rattle.rpm_outside.specs.declared.buffered.Buffered.{Buffered}
 use Rattle.rpm_outside.specs.Buffered.{inner}
 use Rattle.rpm_outside.specs.Files.{Files}
 use Rattle.rpm_outside.specs.Frame.{DiskFault}
-use Rattle.rpm_hindex.specs.Rows.{Row}
 use Rattle.rpm_db.specs.Changed.{IsReady}
 use Rattle.rpm_db.specs.Changes.{Change}
 use Rattle.rpm_db.specs.Database.{Database, is_indexed}
@@ -14,6 +13,7 @@ use Rattle.rpm_db.specs.Frame.{IsIndexed, Runs, Serving, room, state_in}
 use Rattle.rpm_db.specs.Gathering.{IsGathering, OwesOn, due}
 use Rattle.rpm_db.specs.Lawful.{IsWholeIndex}
 use Rattle.rpm_db.specs.State.{State}
+use Rattle.rpm_db.specs.declared.netting.RowChange.{RowChange}
 use Rattle.rpm_db.specs.Runs.{SameLog}
 use Rattle.rpm_change.specs.declared.tally.Tally.{Tally}
 use Rattle.rpm_change.specs.declared.tally.Halt.{Halt}
@@ -100,15 +100,15 @@ module _ {D : Type 0} (d : disk.Ghosts D) where
       WentBy (CarriedOn old new before after) (IsIndexed d old before) Told (d.files old) (d.files new) old new
       before after r Ends course
 
-  -- ---- additions whose rows are gathered
+  -- ---- a batch, whose rows are gathered
 
-  -- they go on, and the index is owed these rows
-  pub record IsOwing (Asked : Type 0) (at : D) (db : Database) (owed : List Row) : Type 0 where
+  -- it goes on, and the index is owed these rows
+  pub record IsOwing (Asked : Type 0) (at : D) (db : Database) (owed : RowChange) : Type 0 where
     pub gathering : IsGathering d at db owed
     pub owes : IsTrue d.tells → Asked → OwesOn d at db owed
 
   -- the changes are written to the store alone; the files reach as far as once the index has their rows
-  abbrev pub WentOwing : Type 0 → D → D → Database → Database → List Row → List Row → Result Tally Halt
+  abbrev pub WentOwing : Type 0 → D → D → Database → Database → RowChange → RowChange → Result Tally Halt
       → (Course → State → State → Result Tally Halt → Type 0) → Course → Type 0
   WentOwing Told old new before after owed more r Ends course =
       WentBy (IsOwing (OwesOn d old before owed) new after more) (OwesOn d old before owed) Told (due (d.files old) before owed)

@@ -6,27 +6,27 @@ ghost use Rattle.rpm_change.specs.Prelude.{bytes_at, EndedOnErr, Hand, KeepsShel
 use crate::lines::put_failing;
 use crate::tally::{Halt, Tally};
 use crate::turn::import_next;
-use rpm_db::{Additions, Db};
+use rpm_db::{Batch, Db};
 use rpm_outside::{Absent, Buffered, Disk, Shelf, Sink};
 use std::alloc::Global;
 
 /// The most headers that one list may have.
 const MAX_HEADERS: u32 = 16_777_215;
 
-/// Imports the list that is open, of at most so many headers, while additions go on. Counts each line that it writes.
+/// Imports the list that is open, of at most so many headers, while a batch goes on. Counts each line that it writes.
 fn import_all<D: Disk, S: Shelf, E: Sink + Drop>(
     alloc: Global,
     db: &mut Db,
     disk: &mut D,
     shelf: &mut S,
-    additions: &mut Additions,
+    batch: &mut Batch,
     most: u32,
     err: &mut Buffered<E>,
 ) -> Result<Tally, Halt>
     requires few { most < 2 ^ 31 }
-    requires gathering { IsGathering D.Disk disk.old db.old additions.old }
-    ensures went { WentOwing D.Disk (IsTrue D.tells × IsTrue S.tells) disk.old disk.new db.old db.new additions.old
-        additions.new result (EndedOnErr E.Sink err.old err.new)
+    requires gathering { IsGathering D.Disk disk.old db.old batch.old }
+    ensures went { WentOwing D.Disk (IsTrue D.tells × IsTrue S.tells) disk.old disk.new db.old db.new batch.old
+        batch.new result (EndedOnErr E.Sink err.old err.new)
         (import_listed most (listed (left (S.rest shelf.old)))) }
     ensures kinds { IfErr result IsOfImporting }
     ensures shelf { KeepsShelf S.Shelf (result ≡ Err Halt.ShelfFault) shelf.old shelf.new }
@@ -38,9 +38,7 @@ fn import_all<D: Disk, S: Shelf, E: Sink + Drop>(
     let mut is_last = false;
     let mut room = Vec::new(alloc);
     while !is_last {
-        let turn = import_next(
-            alloc, db, disk, shelf, additions, &mut room, most, place, err,
-        )?;
+        let turn = import_next(alloc, db, disk, shelf, batch, &mut room, most, place, err)?;
         failed += turn.tally.failed;
         changes += turn.tally.changes;
         place += 1;
@@ -69,9 +67,9 @@ pub fn import_most<D: Disk, S: Shelf, E: Sink + Drop>(
 {
     match shelf.open("-") {
         Ok(()) => {
-            let mut additions = Additions::begin(alloc, db);
-            let tally = import_all(alloc, db, disk, shelf, &mut additions, most, err)?;
-            additions.finish(alloc, db, disk)?;
+            let mut batch = Batch::begin(alloc, db);
+            let tally = import_all(alloc, db, disk, shelf, &mut batch, most, err)?;
+            batch.finish(alloc, db, disk)?;
             let failed = tally.failed.min(1);
             let changes = tally.changes;
             Ok(Tally { failed, changes })

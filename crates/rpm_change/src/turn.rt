@@ -5,7 +5,7 @@ ghost use Rattle.rpm_change.specs.Prelude.{EndedOnErr, Hand, IsGathering, IsOfHe
 
 use crate::places::{list_text, put_bad_header, put_place};
 use crate::tally::{CHANGED, Halt, IDLE, Tally};
-use rpm_db::{Additions, ChangeFault, Db};
+use rpm_db::{Batch, ChangeFault, Db};
 use rpm_file::{ListFault, read_header};
 use rpm_outside::{Buffered, Disk, Shelf, Sink};
 use std::alloc::Global;
@@ -36,14 +36,14 @@ fn import_header<D: Disk, E: Sink + Drop>(
     alloc: Global,
     db: &mut Db,
     disk: &mut D,
-    additions: &mut Additions,
+    batch: &mut Batch,
     most: u32,
     place: u32,
     blob: &[u8],
     err: &mut Buffered<E>,
 ) -> Result<Tally, Halt>
-    requires gathering { IsGathering D.Disk disk.old db.old additions.old }
-    ensures went { WentOwing D.Disk (IsTrue D.tells) disk.old disk.new db.old db.new additions.old additions.new result
+    requires gathering { IsGathering D.Disk disk.old db.old batch.old }
+    ensures went { WentOwing D.Disk (IsTrue D.tells) disk.old disk.new db.old db.new batch.old batch.new result
         (EndedOnErr E.Sink err.old err.new) (turn_found most place blob.now) }
     ensures one { IfOk result (λ tally. tally.failed + tally.changes ≡ 1) }
     ensures kinds { IfErr result IsOfHeaders }
@@ -52,7 +52,7 @@ fn import_header<D: Disk, E: Sink + Drop>(
     if most < place {
         return put_place(alloc, err, place, b"too many headers");
     }
-    match additions.add(alloc, db, disk, blob) {
+    match batch.add(alloc, db, disk, blob) {
         Ok(_) => Ok(CHANGED),
         Err(ChangeFault::BadHeader(fault)) => put_bad_header(alloc, err, place, fault),
         Err(fault) => Err(Halt::from(fault)),
@@ -66,15 +66,15 @@ pub fn import_next<D: Disk, S: Shelf, E: Sink + Drop>(
     db: &mut Db,
     disk: &mut D,
     shelf: &mut S,
-    additions: &mut Additions,
+    batch: &mut Batch,
     room: &mut Vec<u8>,
     most: u32,
     place: u32,
     err: &mut Buffered<E>,
 ) -> Result<Turn, Halt>
-    requires gathering { IsGathering D.Disk disk.old db.old additions.old }
-    ensures went { WentOwing D.Disk (IsTrue D.tells × IsTrue S.tells) disk.old disk.new db.old db.new additions.old
-        additions.new (tally_of result) (EndedOnErr E.Sink err.old err.new)
+    requires gathering { IsGathering D.Disk disk.old db.old batch.old }
+    ensures went { WentOwing D.Disk (IsTrue D.tells × IsTrue S.tells) disk.old disk.new db.old db.new batch.old
+        batch.new (tally_of result) (EndedOnErr E.Sink err.old err.new)
         (turn most place (list_head (left (S.rest shelf.old)))) }
     ensures leaves { IfOk result (λ done. IsTrue S.tells
         → Leaves most place (list_head (left (S.rest shelf.old))) done.is_last (left (S.rest shelf.new))) }
@@ -87,7 +87,7 @@ pub fn import_next<D: Disk, S: Shelf, E: Sink + Drop>(
     match read_header(shelf, room) {
         Ok(Some(size)) => {
             let blob = &room[..size];
-            let tally = import_header(alloc, db, disk, additions, most, place, blob, err)?;
+            let tally = import_header(alloc, db, disk, batch, most, place, blob, err)?;
             let is_last = most < place;
             Ok(Turn { tally, is_last })
         }

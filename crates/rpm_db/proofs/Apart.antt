@@ -1,11 +1,11 @@
 -- Two lists of rows that are gone through side by side: what is taken from one isn't taken from the other.
-use Rattle.std.proofs.Common.{◌≡◌, ◌⊎◌, ℕ, ◌+◌, ◌≤◌, ◌<◌, Bool, false, List, [], ◌∷◌, ◌++◌, take, drop, length, cond, ap, ◌∙◌, inl, inr, arith}
+use Rattle.std.proofs.Common.{◌≡◌, ◌⊎◌, ℕ, ◌+◌, ◌≤◌, ◌<◌, Bool, true, false, List, [], ◌∷◌, ◌++◌, take, drop, length, cond, ap, ◌∙◌, inl, inr, arith}
 use Rattle.std.specs.Prelude.{min}
 use Rattle.std.proofs.lemmas.Bool.{cases_Bool}
 use Rattle.std.proofs.lemmas.List.{drop_all}
-use Rattle.rpm_db.proofs.Vocabulary.{AreByPlace, AreWithout, Row, row_nth, same_row, StandsBefore, StandsNotBehind, times, times-append, times_none}
+use Rattle.rpm_db.proofs.Vocabulary.{AreInOrder, AreWithout, is_before, Row, row_nth, same_row, times, times-append, times_none}
 use Rattle.rpm_db.proofs.Vocabulary.{times_one}
-use Rattle.rpm_db.proofs.Places.{not_same, not_behind, none_from}
+use Rattle.rpm_db.proofs.Ordered.{none_from, turned}
 use Rattle.rpm_hindex.specs.inner.RowLaws.{same_is}
 use Rattle.rpm_db.proofs.Shared.{times_from, times_rest}
 
@@ -50,18 +50,18 @@ module _ (drops adds : List Row) (i j : ℕ) (in_drops : i < length drops) (in_a
       let there = times_from row adds j in_adds in
       (omega (arith, (apart row).0, there), omega (arith, (apart row).1, from))
 
-  pub apart_drop : (gone_then : List Row) → gone_then ≡ gone ++ d ∷ [] → AreByPlace adds → StandsNotBehind d a → same_row d a ≡ false
+  pub apart_drop : (gone_then : List Row) → gone_then ≡ gone ++ d ∷ [] → AreInOrder adds → is_before d a ≡ true
       → NoneIsShared gone new (drop i drops) (drop j adds) → NoneIsShared gone_then new (drop (i + 1) drops) (drop j adds)
-  apart_drop gone_then is by_place at other apart row =
+  apart_drop gone_then is order before apart row =
       moved row d gone gone_then new (drop i drops) (drop (i + 1) drops) (drop j adds) is (times_from row drops i in_drops)
-      (none_from d adds j by_place in_adds at other) (apart row).0 (apart row).1
+      (none_from d adds j order in_adds before) (apart row).0 (apart row).1
 
-  pub apart_add : (new_then : List Row) → new_then ≡ new ++ a ∷ [] → AreByPlace drops → StandsBefore a d
+  pub apart_add : (new_then : List Row) → new_then ≡ new ++ a ∷ [] → AreInOrder drops → is_before d a ≡ false → same_row d a ≡ false
       → NoneIsShared gone new (drop i drops) (drop j adds) → NoneIsShared gone new_then (drop i drops) (drop (j + 1) adds)
-  apart_add new_then is by_place before apart row =
+  apart_add new_then is order behind other apart row =
       let both =
       moved row a new new_then gone (drop j adds) (drop (j + 1) adds) (drop i drops) is (times_from row adds j in_adds)
-      (none_from a drops i by_place in_drops (not_behind a d before) (not_same a d before)) (apart row).1 (apart row).0 in
+      (none_from a drops i order in_drops (turned d a behind other)) (apart row).1 (apart row).0 in
       (both.1, both.0)
 
 -- the lists once one of them was gone through
@@ -94,7 +94,3 @@ module _ (drops adds : List Row) (i j : ℕ) (gone new gone_then new_then : List
     (λ row. omega (arith, balanced_end balanced row, none_left over apart row)),
     (λ row. omega (arith, balanced_end balanced row, none_left over apart row)),
   )
-
-pub none_in : (row : Row) (rows : List Row) → length rows ≡ 0 → times row rows ≡ 0
-none_in row [] none = times_none row
-none_in row (r ∷ rs) none = absurd (omega (arith, none))

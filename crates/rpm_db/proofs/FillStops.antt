@@ -1,21 +1,14 @@
 -- What crashes leave while the index gets the rows that it is owed.
-use Rattle.std.proofs.Common.{◌≡◌, ℕ, ◌≤◌, ◌^◌, List, Ok, Err, sym, ap, ◌∙◌, subst}
-use Rattle.std.specs.Prelude.{IsTrue, Result, OnOk}
+use Rattle.std.proofs.Common.{◌≡◌, ℕ, ◌≤◌, sym, ap, ◌∙◌, subst}
+use Rattle.std.specs.Prelude.{IsTrue}
 use Rattle.std.specs.FinMap as finite
-use Rattle.rpm_db.proofs.Vocabulary.{AreLawful, AreOfRows, CameOf, Changed, ChangeFault, Changes, Files, HasChanged, HasRows, Idx, images, IndexTo, IsLawful}
+use Rattle.rpm_db.proofs.Vocabulary.{AreLawful, AreOfRows, CameOf, Changed, Changes, Files, Idx, images, IndexTo, IsLawful}
 use Rattle.rpm_db.proofs.Vocabulary.{IsLawfulStill, IsQuiet, IsSettled, Keeps, leaves_then, leaves_weaker, LeavesIn, nat_cmp, Package, packages}
-use Rattle.rpm_db.proofs.Vocabulary.{packages-blobs, packages_of, Row, rows, Runs, SameFiles, sealed, Store, TakesRows, unit_at, Units, units_for, Work}
+use Rattle.rpm_db.proofs.Vocabulary.{packages-blobs, packages_of, rows, Runs, SameFiles, sealed, Store, unit_at, Units, Work}
 use Rattle.rpm_db.proofs.Vocabulary.{WritesRows}
 use Rattle.rpm_outside.specs.declared.disk.Disk as disk
 use Rattle.rpm_pkgdb.proofs.ErasesTo.{stands_for}
 use Rattle.rpm_db.proofs.Changed.{filled_lawful}
-
--- an index that took these rows had room for them
-pub taken_ok : {D A : Type 0} (d : disk.Ghosts D) (at : D) (drops adds : List Row) (result : Result A ChangeFault) → TakesRows d at drops adds result
-    → OnOk result (IsTrue d.tells → (before to : finite.FinMap nat_cmp Package) → HasRows before (d.files at).idx
-    → HasChanged drops adds (rows before) (rows to) → units_for (rows to) ≤ 2 ^ 28)
-taken_ok d at drops adds (Ok done) takes = takes.full
-taken_ok d at drops adds (Err fault) takes = tt
 
 -- each image of a quiet store has its rows
 pub rows_quiet : (value : Store) (files : Files) (images : Files → Type 0) → Keeps files.pkg value → 1 ≤ value.pages → IsQuiet value files images

@@ -29,8 +29,9 @@ pub mod Puts
 pub mod Applied
 pub mod Served
 pub mod Shared
-pub mod Places
+pub mod Ordered
 pub mod Reached
+pub mod Units
+pub mod Batched
 pub mod Apart
-pub mod ByPlace
 pub mod Vocabulary

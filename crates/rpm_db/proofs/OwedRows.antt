@@ -1,37 +1,38 @@
--- Rows that are gathered while headers are put into the store, and the index that gets them.
-use Rattle.std.proofs.Common.{◌≡◌, ℕ, ◌+◌, ◌≤◌, ◌++◌, ◌==◌, List, [], eqb, max, length, true, false, Option, None, Some, is_some, Ok, inl, inr, refl, sym, ap, ◌∙◌, subst, arith}
+-- Rows that are gathered while the store changes, and the index that gets them.
+use Rattle.std.proofs.Common.{◌≡◌, ℕ, ◌+◌, ◌≤◌, ◌++◌, ◌==◌, List, eqb, max, length, true, false, Option, None, Some, is_some, inl, inr, refl, ap, ◌∙◌, subst, arith}
 use Rattle.std.proofs.lemmas.Bool.{and_parts, and_from, cases_Bool, eq-eqb}
 use Rattle.std.proofs.lemmas.List.{length-replicate}
 use Rattle.std.proofs.lemmas.Bool.Decides.{nat_tests}
 use Rattle.std.specs.FinMap as finite
-use Rattle.rpm_db.proofs.Vocabulary.{blank, Database, due, due_units, Files, HasChanged, HasRows, Header, header, header_rows, is_current, is_in_order}
-use Rattle.rpm_db.proofs.Vocabulary.{IsInOrder, IsOrdered, live_of, nat_cmp, next_number, Package, packages, packages_of, put_map, Row, rows}
-use Rattle.rpm_db.proofs.Vocabulary.{generation_of, room, sealed, sealed_in, State, Store, times-append, times_none, Units, units_for}
+use Rattle.rpm_db.proofs.Vocabulary.{AreNetted, Balances, blank, Database, due, due_units, Files, HasChanged, HasRows, is_current, is_in_order}
+use Rattle.rpm_db.proofs.Vocabulary.{IsInOrder, IsOrdered, live_of, nat_cmp, nothing, Package, packages, Row, RowChange, rows, times, with_rows}
+use Rattle.rpm_db.proofs.Vocabulary.{generation_of, room, sealed, sealed_in, State, times-append, times_none, Units, units_for}
 use Rattle.rpm_db.proofs.Found.{current_in_order}
-use Rattle.rpm_db.proofs.Edited.{rows_put}
 use Rattle.rpm_db.proofs.Reached.{live_none}
 use Rattle.rpm_hindex.specs.inner.RowLaws.{live-append}
 
--- rows that come after others
-gather_more : (owed more a b c : List Row) → HasChanged [] owed a b → HasChanged [] more b c → HasChanged [] (owed ++ more) a c
-gather_more owed more a b c p q row = omega (arith, p row, q row, times_none row, times-append row owed more)
+-- one more change, which drops rows that are there
+pub balance_more : (owed : RowChange) (drops adds old mid new : List Row) → Balances owed old mid → HasChanged drops adds mid new
+    → ((row : Row) → times row drops ≤ times row mid) → Balances (with_rows owed drops adds) old new
+balance_more owed drops adds old mid new balances changed there row =
+    omega (arith, balances row, changed row, there row, times-append row owed.drops drops, times-append row owed.adds adds)
 
--- those of a header under the next number
-pub gathered_rows : (file : Units) (value : Store) (h : Header) → header h.blob ≡ Ok h → (owed more : List Row)
-    → more ≡ owed ++ header_rows (next_number value) h → (from : List Row) → HasChanged [] owed from (rows (packages file value))
-    → HasChanged [] more from (rows (packages_of (put_map file value None h.blob)))
-gathered_rows file value h own owed more more_is from changed =
-    let after = rows (packages_of (put_map file value None h.blob)) in
-    subst (λ (rs : List Row). HasChanged [] rs from after) (sym more_is)
-    (gather_more owed (header_rows (next_number value) h) from (rows (packages file value)) after changed (rows_put file value None h own))
+-- without the rows that are dropped and added
+pub balance_netted : (owed net : RowChange) (old new : List Row) → AreNetted owed.drops owed.adds net → Balances owed old new
+    → HasChanged net.drops net.adds old new
+balance_netted owed net old new both balances row = omega (arith, balances row, both.0 row, both.1 row)
+
+-- rows that balance are no more than those before with those that are added
+pub balance_most : (owed : RowChange) (old new : List Row) → Balances owed old new → (row : Row) → times row new ≤ times row (old ++ owed.adds)
+balance_most owed old new balances row = omega (arith, balances row, times-append row old owed.adds)
 
 -- an index that is owed nothing
-pub rows_clear : (from to : finite.FinMap nat_cmp Package) (idx : Units) (owed : List Row) → owed ≡ [] → HasRows from idx
-    → HasChanged [] owed (rows from) (rows to) → HasRows to idx
-rows_clear from to idx owed none has changed = record {
+pub rows_clear : (from to : finite.FinMap nat_cmp Package) (idx : Units) (owed : RowChange) → owed ≡ nothing → HasRows from idx
+    → Balances owed (rows from) (rows to) → HasRows to idx
+rows_clear from to idx owed none has balances = record {
   whole = has.whole;
   same = λ row.
-      (let same = subst (λ (rs : List Row). HasChanged [] rs (rows from) (rows to)) none changed row in
+      (let same = subst (λ (o : RowChange). Balances o (rows from) (rows to)) none balances row in
       omega (arith, has.same row, same, times_none row));
 }
 
@@ -49,7 +50,7 @@ other_sealed g s order other same =
     let both = and_from (eqb (sealed s.first) g) (is_in_order s) (eq-eqb (sealed s.first) g same) order in
     absurd cc
 
--- as the additions begin
+-- as the batch begins
 pub ordered_of : (g : ℕ) (o : Option State) → IsInOrder g o → IsOrdered o
 ordered_of g None is = tt
 ordered_of g (Some s) is = current_in_order g s is
@@ -60,28 +61,28 @@ sealed_of g (Some s) some is = current_sealed g s is
 
 -- ---- how far the index is to reach
 
-module _ (pkg idx : Units) (db : Database) (owed : List Row) where
-  due_least : (sealed_in db.index ≡ generation_of db → owed ≡ []) → length idx + live_of owed ≤ due_units pkg idx db owed
+module _ (pkg idx : Units) (db : Database) (owed : RowChange) where
+  due_least : (sealed_in db.index ≡ generation_of db → owed ≡ nothing) → length idx + live_of owed.adds ≤ due_units pkg idx db owed
   due_least clear = elim (cases_Bool (sealed_in db.index == generation_of db)) [
     | inl same ↦
         (let is : sealed_in db.index ≡ generation_of db = grind (arith, nat_tests, same) in
-        let none : live_of owed ≡ 0 = ap live_of (clear is) ∙ live_none in
+        let none : live_of owed.adds ≡ 0 = ap (λ (o : RowChange). live_of o.adds) (clear is) ∙ live_none in
         rw same (omega (arith, none)))
     | inr other ↦ rw other (omega arith)
   ]
 
   due_behind : (sealed_in db.index ≡ generation_of db → ⊥)
-      → due_units pkg idx db owed ≡ max (length idx + live_of owed) (units_for (rows (packages pkg (room db))))
+      → due_units pkg idx db owed ≡ max (length idx + live_of owed.adds) (units_for (rows (packages pkg (room db))))
   due_behind other =
       let test : (sealed_in db.index == generation_of db) ≡ false = grind (arith, nat_tests, other) in
       rw test refl
 
--- with the rows of a header more
-pub due_more : (old new : Files) (before after : Database) (owed more rows_more : List Row) (added needed : ℕ) → new.idx ≡ old.idx
-    → (sealed_in before.index ≡ generation_of before → owed ≡ []) → (sealed_in after.index ≡ generation_of after → ⊥)
-    → more ≡ owed ++ rows_more → added ≡ live_of rows_more → needed ≡ units_for (rows (packages new.pkg (room after)))
+-- with the rows of one more change
+pub due_more : (old new : Files) (before after : Database) (owed more : RowChange) (drops adds : List Row) (added needed : ℕ) → new.idx ≡ old.idx
+    → (sealed_in before.index ≡ generation_of before → owed ≡ nothing) → (sealed_in after.index ≡ generation_of after → ⊥)
+    → more ≡ with_rows owed drops adds → added ≡ live_of adds → needed ≡ units_for (rows (packages new.pkg (room after)))
     → length (due new after more).idx ≤ max (length (due old before owed).idx + added) needed
-due_more old new before after owed more rows_more added needed same clear apart is added_is needed_is =
+due_more old new before after owed more drops adds added needed same clear apart is added_is needed_is =
     omega (
       arith,
       length-replicate (due_units new.pkg new.idx after more) blank,
@@ -89,8 +90,8 @@ due_more old new before after owed more rows_more added needed same clear apart 
       due_behind new.pkg new.idx after more apart,
       due_least old.pkg old.idx before owed clear,
       ap length same,
-      ap live_of is,
-      live-append owed rows_more,
+      ap (λ (o : RowChange). live_of o.adds) is,
+      live-append owed.adds adds,
       added_is,
       needed_is,
     )

@@ -87,14 +87,14 @@ module _ {D : Type 0} (d : disk.Ghosts D) (value planned : Store) (room : planne
 
   -- what crashes leave while a header is put into the store alone
   pub stops_aside : {n : Option ℕ} {plan : Plan} {bytes blob : List ℕ} (a b e : D) (told : IsTrue d.tells) → AreLawful (images d a) → images d a (d.files a)
-      → Runs d SameFiles a b → (index : hindex.State) → CanPutAside d a value index → IsPutPlan value planned n plan bytes blob
+      → Runs d SameFiles a b → CanPutAside d a value → IsPutPlan value planned n plan bytes blob
       → (IsQuiet planned (d.files a) (images d b) → LeavesIn d b e (Stops Pkg (BlobsTo planned.generation planned.field
       (field_edited (edit.Put plan) planned.field) (blobs (d.files a).pkg planned) (edited (edit.Put plan) bytes (blobs (d.files a).pkg planned)))
       (images d b)))
       → LeavesIn d a e (IsChangedStill (state (d.files a).pkg value) (state_of (put_map (d.files a).pkg value n blob) (field_for n value)) (images d a))
-  stops_aside a b e told lawful now run index can p stops =
+  stops_aside a b e told lawful now run can p stops =
       let file = (d.files a).pkg in
       stops_told d a e (images d a) _ _ _ _ (state_same file value planned room) (state_is file p)
-      (half_stops d a b e told lawful now run planned (subst (Keeps file) (sym room) (can.read.keeps told))
+      (half_stops d a b e told lawful now run planned (subst (Keeps file) (sym room) (can.keeps told))
       (subst (λ (v : Store). 1 ≤ v.pages) (sym room) can.made) (subst (λ (v : Store). IsQuiet v (d.files a) (images d a)) (sym room)
       (quiet_room planned.spare value (d.files a) (images d a) (can.quiet told))) (can.settled told) _ _ stops)

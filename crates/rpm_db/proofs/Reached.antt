@@ -6,7 +6,7 @@ use Rattle.std.proofs.lemmas.List.Sums.{sum_by-cons}
 use Rattle.rpm_hindex.specs.inner.RowLaws.{once, times-cons, without}
 
 module _ (f : Row → ℕ) where
-  sum_less : (few many : List Row) → ((r : Row) → times r few ≤ times r many) → sum_by f few ≤ sum_by f many
+  pub sum_less : (few many : List Row) → ((r : Row) → times r few ≤ times r many) → sum_by f few ≤ sum_by f many
   sum_less [] many less = omega arith
   sum_less (r ∷ rows) many less =
       let t = without f r many (omega (arith, less r, times-cons r r rows, once r)) in

@@ -1,9 +1,9 @@
 -- What a fault says.
-use Rattle.std.proofs.Common.{◌≡◌, ℕ, ◌^◌, ◌≤◌, Bool, List, length, true, false, Ok, Err, refl, sym, ◌∙◌, arith}
-use Rattle.std.specs.Prelude.{Result}
-use Rattle.rpm_db.proofs.Vocabulary.{AddIs, BadHeader, BadIndex, ChangeFault, Database, DiskFault, EraseCause, FullCause, Header}
-use Rattle.rpm_db.proofs.Vocabulary.{header, holds, IndexFull, is_stopping, IsFull, IsOfIndex, IsOfReading, IsRefusal, LaterCause, LaterIs}
-use Rattle.rpm_db.proofs.Vocabulary.{generation_of, IsRead, NoMemory, NoSuch, NumbersSpent, PutIs, PutsHeader, room, Stopped}
+use Rattle.std.proofs.Common.{◌≡◌, ℕ, ◌^◌, ◌≤◌, ◌⊎◌, inl, inr, Bool, List, length, true, false, Ok, Err, refl, sym, ◌∙◌, subst, arith}
+use Rattle.std.specs.Prelude.{IfErr, Result}
+use Rattle.rpm_db.proofs.Vocabulary.{AddIs, BadCause, BadHeader, BadIndex, ChangeFault, Database, DiskFault, EraseCause, EraseIs, FullCause, FullIndexIs, Header}
+use Rattle.rpm_db.proofs.Vocabulary.{header, holds, IndexFull, is_stopping, IsFull, IsOfErasing, IsOfIndex, IsOfReading, IsRefusal, LaterCause, LaterIs}
+use Rattle.rpm_db.proofs.Vocabulary.{generation_of, GenerationSpent, IsRead, NoMemory, NoSuch, NumbersSpent, PutIs, PutsHeader, room, Stopped, Units}
 use Rattle.rpm_db.specs.Database.{next_number}
 
 -- after the generation and the room in the store
@@ -44,6 +44,47 @@ reading_of (BadIndex unit) needed is full fits = full
 reading_of DiskFault needed is full fits = tt
 reading_of NoMemory needed is full fits = tt
 reading_of others needed is full fits = is
+
+-- ---- a number that is taken out of the store alone, which reading may refuse
+
+reading_cause : (db : Database) (n : ℕ) (fault : ChangeFault) → db.stopped ≡ false → holds n db ≡ true → (generation_of db ≡ 4294967295 → ⊥)
+    → IsOfReading fault → EraseCause db n fault
+reading_cause db n DiskFault going here left kind = (going, here, left)
+reading_cause db n NoMemory going here left kind = (going, here, left)
+reading_cause db n others going here left kind = absurd kind
+
+pub erase_is : {A : Type 0} (db : Database) (n : ℕ) (result : Result A ChangeFault) → db.stopped ≡ false → holds n db ≡ true
+    → (generation_of db ≡ 4294967295 → ⊥) → IfErr result IsOfReading → EraseIs db n result
+erase_is db n (Ok done) going here left kind = (going, here, (left, λ none. none))
+erase_is db n (Err fault) going here left kind = reading_cause db n fault going here left kind
+
+pub reading_full : (needed : ℕ) (fault : ChangeFault) → IsOfReading fault → FullCause needed fault
+reading_full needed DiskFault kind = tt
+reading_full needed NoMemory kind = tt
+reading_full needed others kind = absurd kind
+
+pub reading_bad : (idx : Units) (fault : ChangeFault) → IsOfReading fault → BadCause idx fault
+reading_bad idx DiskFault kind = tt
+reading_bad idx NoMemory kind = tt
+reading_bad idx others kind = absurd kind
+
+pub index_of_reading : (fault : ChangeFault) → IsOfReading fault → IsOfIndex fault
+index_of_reading DiskFault kind = tt
+index_of_reading NoMemory kind = tt
+index_of_reading others kind = absurd kind
+
+pub erase_full : {A : Type 0} (needed : ℕ) (result : Result A ChangeFault) → IfErr result IsOfReading → needed ≤ 2 ^ 28 → FullIndexIs needed result
+erase_full needed (Ok done) kind fits = fits
+erase_full needed (Err fault) kind fits = reading_full needed fault kind
+
+pub erasing_of : (fault : ChangeFault) → IsOfReading fault → IsOfErasing fault
+erasing_of DiskFault kind = tt
+erasing_of NoMemory kind = tt
+erasing_of others kind = absurd kind
+
+pub not_reading : {A : Type 0} (result : Result A ChangeFault) → IfErr result IsOfReading → (result ≡ Err NoSuch) ⊎ (result ≡ Err GenerationSpent) → ⊥
+not_reading result kind (inl is) = subst (λ r. IfErr r IsOfReading) is kind
+not_reading result kind (inr is) = subst (λ r. IfErr r IsOfReading) is kind
 
 -- a header that is added, to a value that isn't stopped and has a number left
 pub add_cause : (db : Database) (bytes : List ℕ) (own : Header) (fault : ChangeFault) → db.stopped ≡ false → header bytes ≡ Ok own

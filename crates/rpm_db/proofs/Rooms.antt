@@ -1,11 +1,12 @@
 -- Where a change finds room.
 use Rattle.std.proofs.Common.{◌≡◌, ℕ, ◌+◌, List, length, Option, Some, None, is_none, Ok, Err, refl, sym, ap, ◌∙◌, subst}
 use Rattle.std.specs.Prelude.{IfErr, IsSome, OnOk, Result}
-use Rattle.rpm_db.proofs.Vocabulary.{BadIndex, change_for, ChangeFault, erased, HasEdit, IndexFull, IsFull, IsOfIndex, LaterCause, LaterIs}
+use Rattle.rpm_db.proofs.Vocabulary.{BadIndex, change_for, ChangeFault, erased, HasEdit, IndexFull, IsFull, IsOfIndex, IsOfReading, LaterCause, LaterIs}
 use Rattle.rpm_db.proofs.Vocabulary.{next_store, option_map, placed, placed_generation, Placement, placement_of, Plan, put_in}
 use Rattle.rpm_db.proofs.Vocabulary.{raised, RoomCause, Store, StoreFull, with_placed, with_plan, with_spare}
 use Rattle.rpm_db.proofs.Refused.{later_of_index}
 use Rattle.rpm_db.specs.declared.writing.Edit.TheVariants as edit
+use Rattle.rpm_db.specs.Room.{RoomIs}
 use Rattle.rpm_db.specs.inner.Both.{FindsRoom}
 
 some_is : {X : Type 0} (said : Option X) (x : X) → said ≡ Some x → IsSome said
@@ -72,3 +73,12 @@ room_erased generation n value StoreFull later = absurd later.1
 room_erased generation n value (IndexFull needed) later = refl
 room_erased generation n value (BadIndex unit) later = refl
 room_erased generation n value others later = tt
+
+-- so does one that is taken out of the store alone
+pub room_alone : {A : Type 0} (n : ℕ) (st after : Store) (result : Result A ChangeFault) → OnOk result (HasEdit (edit.Erase n) (raised st) after)
+    → IfErr result IsOfReading → RoomIs (Some (erased n (raised st))) st after result
+room_alone n st after (Ok done) is kind = ap Some (sym (ap (with_spare st.spare) is.is))
+room_alone n st after (Err StoreFull) is kind = absurd kind
+room_alone n st after (Err (IndexFull needed)) is kind = absurd kind
+room_alone n st after (Err (BadIndex unit)) is kind = absurd kind
+room_alone n st after (Err others) is kind = tt

@@ -76,6 +76,10 @@ module _ {D : Type 0} (d : disk.Ghosts D) where
   pub looked_at : (n : ℕ) (a b : D) → Looks d Idx n a b → Runs d SameFiles a b
   looked_at n a b = runs_looks d SameFiles (λ f. refl) Idx n a b refl
 
+  -- or the packages alone
+  pub looked_store : (n : ℕ) (a b : D) → Looks d Pkg n a b → Runs d SameFiles a b
+  looked_store n a b = runs_looks d SameFiles (λ f. refl) Pkg n a b refl
+
   pub looked_both : ((a b c : D) → d.follows a b → d.follows b c → d.follows a c) → (m n : ℕ) (a b c : D) → Looks d Pkg m a b → Looks d Idx n b c
       → Runs d SameFiles a c
   looked_both trans m n a b c first second =

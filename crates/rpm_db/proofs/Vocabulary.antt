@@ -7,7 +7,7 @@ pub use Rattle.rpm_db.specs.Database.{Database, database_of, generation_of, has_
 pub use Rattle.rpm_db.specs.Database.{KeepsUnits, room, unindexed}
 pub use Rattle.rpm_db.specs.Frame.{Runs, StaysBetween}
 pub use Rattle.rpm_db.specs.FromOne.{none_stored}
-pub use Rattle.rpm_db.specs.Gathering.{due, due_units, IsOrdered, resumed, sealed_in}
+pub use Rattle.rpm_db.specs.Gathering.{Balances, due, due_units, Gathered, Gathers, IsGathering, IsOrdered, nothing, Owes, OwesOn, resumed, sealed_in}
 pub use Rattle.rpm_db.specs.Inits.{IsEmpty, IsEmptyStill}
 pub use Rattle.rpm_db.specs.Lawful.{Agrees, AreLawful, HasRows, is_current_at, IsIndexOf, IsLawful, IsLawfulStill, IsOfRows, IsUnsealed, IsWholeIndex, Remade}
 pub use Rattle.rpm_db.specs.Lawful.{StaysLawful}
@@ -15,7 +15,8 @@ pub use Rattle.rpm_db.specs.Openings.{IsOpened, IsOpenedOn, must_make, StoreIs, 
 pub use Rattle.rpm_db.specs.Own.{header-own}
 pub use Rattle.rpm_db.specs.PackageLaws.{get-packages, is_there}
 pub use Rattle.rpm_db.specs.Reaches.{added, ReachesMade}
-pub use Rattle.rpm_db.specs.Refusals.{AddIs, BadCause, BadIndexIs, EraseCause, FullCause, FullIndexIs, is_stopping, IsOfIndex, IsOfReading}
+pub use Rattle.rpm_db.specs.Refusals.{AddIs, BadCause, BadIndexIs, EraseCause, EraseIs, FullCause, FullIndexIs, is_stopping, IsOfErasing, IsOfIndex}
+pub use Rattle.rpm_db.specs.Refusals.{IsOfReading}
 pub use Rattle.rpm_db.specs.Refusals.{IsRead, IsRefusal, LaterCause, LaterIs, PutIs, PutsHeader, WholeCause}
 pub use Rattle.rpm_db.specs.Room.{next_store, raised, RoomCause}
 pub use Rattle.rpm_db.specs.RowLaws.{of_at, rows-insert, rows-remove, times-append, times-rows, times_none, times_one}
@@ -28,16 +29,18 @@ unfoldable pub use Rattle.rpm_db.specs.State.{packages}
 pub use Rattle.rpm_db.specs.StateLaws.{next-state, next_is_free, package-own, packages-blobs, packages-insert, packages-remove, state-blobs}
 pub use Rattle.rpm_db.specs.Verdicts.{verdict, verdict_of}
 pub use Rattle.rpm_db.specs.declared.change_fault.ChangeFault.{ChangeFault}
-pub use Rattle.rpm_db.specs.declared.change_fault.ChangeFault.TheVariants.{BadHeader, BadIndex, DiskFault, IndexFull, NoMemory, NoSuch}
+pub use Rattle.rpm_db.specs.declared.change_fault.ChangeFault.TheVariants.{BadHeader, BadIndex, DiskFault, GenerationSpent, IndexFull, NoMemory, NoSuch}
 pub use Rattle.rpm_db.specs.declared.change_fault.ChangeFault.TheVariants.{NumbersSpent, Stopped, StoreFull}
 pub use Rattle.rpm_db.specs.inner.Both.{AreRead, CanChange, IsApplied, IsDone, IsRefused, IsStored}
 pub use Rattle.rpm_db.specs.inner.Edits.{CanEdit, edit_cost, edited, EditReaches, EditsTo, field_edited, HasEdit, IsEdited}
+pub use Rattle.rpm_db.specs.declared.netting.RowChange.{RowChange}
+pub use Rattle.rpm_db.specs.declared.netting.Standing.{Standing}
 pub use Rattle.rpm_db.specs.declared.writing.Edit.{Edit}
 pub use Rattle.rpm_db.specs.inner.Faults.{store_fault}
-pub use Rattle.rpm_db.specs.inner.Filling.{AreOfRows, IsPutAside, TakesRows}
+pub use Rattle.rpm_db.specs.inner.Filling.{AreOfRows, CanPutAside, IsPutAside, TakesRows, with_rows}
 pub use Rattle.rpm_db.specs.inner.LawfulLaws.{remade_lawful, remade_none, remade_then, stops_lawful, void_agrees}
 pub use Rattle.rpm_db.specs.inner.Making.{CanMake, IsEmptyIndex, IsSealedHere}
-pub use Rattle.rpm_db.specs.inner.Places.{AreByPlace, AreParted, AreWithout, Each, StandsBefore, StandsNotBehind}
+pub use Rattle.rpm_db.specs.inner.Order.{AreInOrder, AreNetted, AreWithout, is_before, row_cmp, row_of}
 pub use Rattle.rpm_db.specs.inner.Writes.{BlobsTo, change_for, cost_before, field_for, IndexTo, IsSealedAfter, number_for, old_rows, packages_of, put_map}
 pub use Rattle.rpm_db.specs.inner.Writes.{sealed_after, state_of, state_with, WritesRows, WritesWhole}
 pub use Rattle.rpm_header.specs.Header.{Header, header}

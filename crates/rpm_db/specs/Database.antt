@@ -12,7 +12,7 @@ use Rattle.rpm_pkgdb.specs.Costs as costs
 use Rattle.rpm_db.specs.Lawful.{HasRows, is_current_at}
 use Rattle.rpm_db.specs.State.{packages}
 
--- its store, the first units of the index where it keeps one, and whether it is stopped: a changing call failed at the disk, or additions go on
+-- its store, the first units of the index where it keeps one, and whether it is stopped: a changing call failed at the disk, or a batch goes on
 pub record Database : Type 0 where
   store : Store
   pub index : Option hindex.State

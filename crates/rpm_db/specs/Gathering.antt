@@ -1,14 +1,14 @@
--- Additions to a database whose rows are gathered, and go into the index all at once.
+-- A batch of changes of a database: each changes the store at its turn, and the index gets the rows of all at once.
 use Rattle.std.specs.Prelude.{◌≡◌, ◌≢◌, ℕ, ◌+◌, ◌^◌, ◌≤◌, max, List, [], length, replicate, true, false, ◌==◌, if◌then◌else◌, IsTrue, Option, Some, None, Result, OnOk, OnErr, IfErr}
 use Rattle.std.specs.Ordering.{nat_cmp}
 use Rattle.std.specs.FinMap.{FinMap}
 use Rattle.rpm_outside.specs.declared.disk.Disk as disk
 use Rattle.rpm_outside.specs.Files.{Units, Files, blank}
-use Rattle.rpm_hindex.specs.Plans.{HasChanged}
-use Rattle.rpm_hindex.specs.Rows.{Row}
+use Rattle.rpm_hindex.specs.Rows.{Row, times}
 use Rattle.rpm_hindex.specs.Sizes.{live_of, units_for}
 use Rattle.rpm_hindex.specs.State as hindex
 use Rattle.rpm_db.specs.declared.change_fault.ChangeFault.{ChangeFault}
+use Rattle.rpm_db.specs.declared.netting.RowChange.{RowChange}
 use Rattle.rpm_db.specs.Changes.{Change, IsServing, apply}
 use Rattle.rpm_db.specs.Database.{Database, IsIndexed, database_of, generation_of, has_failed, is_indexed, room}
 use Rattle.rpm_db.specs.Frame.{Runs, StaysBetween, state_in}
@@ -30,48 +30,57 @@ abbrev pub IsOrdered : Option hindex.State → Type 0
 IsOrdered None = Unit {0}
 IsOrdered (Some index) = hindex.is_in_order index ≡ true
 
--- a value as it answers once the additions are over
+-- a value as it answers once the batch is over
 abbrev pub resumed : Database → Database
 resumed db = database_of (room db) db.index false
 
--- while they go on
+-- while it goes on
 abbrev pub suspended : Database → Database
 suspended db = database_of (room db) db.index true
 
--- the index holds the rows of some packages, and with those that it is owed it holds the rows of the packages of now; there is room for these
-pub record Owes (pkg idx : Units) (db : Database) (owed : List Row) : Type 0 where
+-- an index that is owed nothing
+abbrev pub nothing : RowChange
+nothing = record { drops = []; adds = [] }
+
+-- row by row the new rows and those that are to be dropped are the old rows and those that are to be added: a row that a batch adds and drops again
+-- stands on both sides
+abbrev pub Balances : RowChange → List Row → List Row → Type 0
+Balances owed old new = (row : Row) → times row new + times row owed.drops ≡ times row old + times row owed.adds
+
+-- the index holds the rows of some packages, and once it drops and adds what it is owed it holds the rows of the packages of now; there is room for these
+pub record Owes (pkg idx : Units) (db : Database) (owed : RowChange) : Type 0 where
   pub from : FinMap nat_cmp Package
   pub has : HasRows from idx
-  pub changed : HasChanged [] owed (rows from) (rows (packages pkg (room db)))
+  pub balances : Balances owed (rows from) (rows (packages pkg (room db)))
   pub fits : sealed_in db.index ≢ generation_of db → units_for (rows (packages pkg (room db))) ≤ 2 ^ 28
 
 -- the units of Hindex.db once it has them
-abbrev pub due_units : Units → Units → Database → List Row → ℕ
+abbrev pub due_units : Units → Units → Database → RowChange → ℕ
 due_units pkg idx db owed =
     if sealed_in db.index == generation_of db then length idx
-    else max (length idx + live_of owed) (units_for (rows (packages pkg (room db))))
+    else max (length idx + live_of owed.adds) (units_for (rows (packages pkg (room db))))
 
 -- files as long as these are then
-abbrev pub due : Files → Database → List Row → Files
+abbrev pub due : Files → Database → RowChange → Files
 due files db owed = record { pkg = files.pkg; idx = replicate (due_units files.pkg files.idx db owed) blank; log = files.log }
 
 module _ {D : Type 0} (d : disk.Ghosts D) where
-  -- additions go on: the store and the index are what the files say, and the index is sealed at the store's generation only where it is owed nothing
-  pub record IsGathering (at : D) (db : Database) (owed : List Row) : Type 0 where
+  -- a batch goes on: the store and the index are what the files say, and the index is sealed at the store's generation only where it is owed nothing
+  pub record IsGathering (at : D) (db : Database) (owed : RowChange) : Type 0 where
     pub indexed : is_indexed db ≡ true
     pub suspends : db.stopped ≡ true
     pub going : has_failed db ≡ false
     pub ordered : IsOrdered db.index
     pub behind : sealed_in db.index ≤ generation_of db
-    pub clear : sealed_in db.index ≡ generation_of db → owed ≡ []
+    pub clear : sealed_in db.index ≡ generation_of db → owed ≡ nothing
     pub serving : IsTrue d.tells → IsServing (d.files at) (d.left_since at (d.moment at)) db
 
   -- the rows of these files and packages are owed
-  abbrev pub OwesOn : D → Database → List Row → Type 0
+  abbrev pub OwesOn : D → Database → RowChange → Type 0
   OwesOn at db owed = Owes (d.files at).pkg (d.files at).idx db owed
 
   -- a change was made in the store, and its rows were gathered
-  pub record Gathered (old new : D) (change : Change) (before after : Database) (owed more : List Row) : Type 0 where
+  pub record Gathered (old new : D) (change : Change) (before after : Database) (owed more : RowChange) : Type 0 where
     pub gathering : IsGathering new after more
     pub generation : generation_of after ≡ generation_of before + 1
     pub state_is : IsTrue d.tells
@@ -80,8 +89,8 @@ module _ {D : Type 0} (d : disk.Ghosts D) where
     pub reach : IsTrue d.tells → OwesOn old before owed → Reaches (state (d.files old).pkg (room before)) change
         (due (d.files old) before owed).idx (due (d.files new) after more).idx
 
-  -- an addition by its answer: whether it found room in both files, what it made, and what crashes leave meanwhile
-  pub record Gathers {A : Type 0} (old new : D) (change : Change) (before after : Database) (owed more : List Row)
+  -- a change of a batch by its answer: whether it found room in both files, what it made, and what crashes leave meanwhile
+  pub record Gathers {A : Type 0} (old new : D) (change : Change) (before after : Database) (owed more : RowChange)
       (result : Result A ChangeFault) : Type 0 where
     pub room : RoomIs (next_store change (room before)) (room before) (room after) result
     pub gathered : OnOk result (Gathered old new change before after owed more)
@@ -96,8 +105,8 @@ module _ {D : Type 0} (d : disk.Ghosts D) where
     pub refused : IfErr result (λ e. IsRefusal e → after ≡ refused_as)
     pub same : IfErr result (λ e. IsRefusal e → Runs d SameFiles old new)
 
-  -- the additions are over: the index has what it was owed
-  pub record IsSettledUp (old new : D) (before after : Database) (owed : List Row) : Type 0 where
+  -- the batch is over: the index has what it was owed
+  pub record IsSettledUp (old new : D) (before after : Database) (owed : RowChange) : Type 0 where
     pub going : after.stopped ≡ false
     pub serving : IsTrue d.tells → IsServing (d.files new) (d.left_since new (d.moment new)) after
     pub index : IsTrue d.tells → OwesOn old before owed → IsIndexed (d.files new).pkg (d.files new).idx after

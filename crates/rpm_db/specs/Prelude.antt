@@ -8,7 +8,7 @@ pub use Rattle.rpm_hindex.specs.Answers.{AreHits, ChainCosts}
 pub use Rattle.rpm_hindex.specs.Index.{units_at}
 pub use Rattle.rpm_hindex.specs.Plans.{HasChanged}
 pub use Rattle.rpm_hindex.specs.Rewrites.{IsRefused}
-pub use Rattle.rpm_hindex.specs.Rows.{row_nth, same_row}
+pub use Rattle.rpm_hindex.specs.Rows.{SameRows, row_nth, same_row}
 pub use Rattle.rpm_hindex.specs.Sizes.{live_of, units_for}
 pub use Rattle.rpm_outside.specs.Changes.{Stops}
 pub use Rattle.rpm_outside.specs.Files.{Files, Units, unit_at}
@@ -33,7 +33,7 @@ pub use Rattle.rpm_db.specs.Changes.{Add, Erase, IsChangedStill, IsServing, Put,
 pub use Rattle.rpm_db.specs.Database.{IsNext, KeepsIndex, KeepsUnits, OpenIs, cost, generation_of, has_failed, holds}
 pub use Rattle.rpm_db.specs.Database.{is_blank, is_indexed, next_number, room}
 pub use Rattle.rpm_db.specs.Frame.{Runs, RunsOr, state_in}
-pub use Rattle.rpm_db.specs.Gathering.{Gathers, IsGathering, IsLeftSuspended, IsOrdered, IsSettledUp, OwesOn, resumed}
+pub use Rattle.rpm_db.specs.Gathering.{Balances, Gathers, IsGathering, IsLeftSuspended, IsOrdered, IsSettledUp, OwesOn, nothing, resumed}
 pub use Rattle.rpm_db.specs.Gathering.{sealed_in, suspended}
 pub use Rattle.rpm_db.specs.Inits.{IsEmptyStill, IsInit, IsInitFault, IsThere, StopsAs}
 pub use Rattle.rpm_db.specs.Lawful.{AreLawful, HasRows, IsOfRows, IsUnsealed, IsWholeIndex}
@@ -43,7 +43,7 @@ pub use Rattle.rpm_db.specs.Openings.{WritesNothing}
 pub use Rattle.rpm_db.specs.Reaches.{ReachesMade}
 pub use Rattle.rpm_db.specs.Rebuilds.{IsRebuilt, IsRenewed, IsStill, RebuildIs}
 pub use Rattle.rpm_db.specs.Refusals.{AddIs, BadIndexIs, EraseIs, FullCause, FullIndexIs, IsOfIndex, IsOfReading}
-pub use Rattle.rpm_db.specs.Refusals.{IsOfRoom, IsRefusal, LaterIs, PutIs, StaysWhole, WholeCause, is_stopping}
+pub use Rattle.rpm_db.specs.Refusals.{IsOfErasing, IsOfRoom, IsRefusal, LaterIs, PutIs, StaysWhole, WholeCause, is_stopping}
 pub use Rattle.rpm_db.specs.Room.{raised}
 pub use Rattle.rpm_db.specs.Rows.{header_rows, kind_rows, rows, rows_at, rows_read}
 pub use Rattle.rpm_db.specs.State.{Package, package_of, packages, state}
@@ -54,9 +54,9 @@ pub use Rattle.rpm_db.specs.inner.Both.{AreRead, CanApply, CanChange, CanTake, I
 pub use Rattle.rpm_db.specs.inner.Both.{FindsRoom, IsDone, IsPlaced, IsStored, LeadsTo}
 pub use Rattle.rpm_db.specs.inner.Edits.{CanEdit, EditReaches, EditsTo, HasEdit, IsEdited, Suits, edit_cost, edited, field_edited}
 pub use Rattle.rpm_db.specs.inner.Faults.{store_fault}
-pub use Rattle.rpm_db.specs.inner.Filling.{AreOfRows, CanFill, CanPutAside, IsFilled, IsPutAside, TakesRows}
+pub use Rattle.rpm_db.specs.inner.Filling.{AreOfRows, CanFill, CanPutAside, IsFilled, IsPutAside, TakesRows, with_rows}
 pub use Rattle.rpm_db.specs.inner.Making.{CanIndex, CanMake, IsEmptyIndex, IsIndexFor, IsMadeEmpty, IsRemade, IsSealedHere}
-pub use Rattle.rpm_db.specs.inner.Places.{AreByPlace, AreParted, StandsBefore, StandsNotBehind}
+pub use Rattle.rpm_db.specs.inner.Order.{AreInOrder, AreNetted, is_before, row_of}
 pub use Rattle.rpm_db.specs.Runs.{SameFiles, SameLog}
 pub use Rattle.rpm_db.specs.inner.Writes.{BlobsTo, IndexTo, WritesWhole, change_for}
 pub use Rattle.rpm_db.specs.inner.Writes.{cost_before, field_for, number_for, old_rows, packages_of, put_map}

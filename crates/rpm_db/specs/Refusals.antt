@@ -113,6 +113,14 @@ IsOfReading DiskFault = Unit {0}
 IsOfReading NoMemory = Unit {0}
 IsOfReading _ = ⊥
 
+-- a fault of taking a package out of the store alone
+abbrev pub IsOfErasing : ChangeFault → Type 0
+IsOfErasing NoSuch = Unit {0}
+IsOfErasing GenerationSpent = Unit {0}
+IsOfErasing DiskFault = Unit {0}
+IsOfErasing NoMemory = Unit {0}
+IsOfErasing _ = ⊥
+
 -- a fault of working out a change of the index
 abbrev pub IsOfIndex : ChangeFault → Type 0
 IsOfIndex (IndexFull needed) = Unit {0}

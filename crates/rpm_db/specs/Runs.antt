@@ -1,5 +1,5 @@
 -- What a run of calls does that may change both files.
-use Rattle.std.specs.Prelude.{◌≡◌, IsTrue, ℕ, ◌≤◌, Bool}
+use Rattle.std.specs.Prelude.{◌≡◌, IsTrue, ℕ, ◌≤◌}
 use Rattle.rpm_outside.specs.declared.disk.Disk as disk
 use Rattle.rpm_outside.specs.declared.disk.File.{File}
 use Rattle.rpm_outside.specs.declared.disk.File.TheVariants.{Log}

@@ -5,5 +5,5 @@ pub mod Faults
 pub mod Filling
 pub mod LawfulLaws
 pub mod Making
-pub mod Places
+pub mod Order
 pub mod Writes

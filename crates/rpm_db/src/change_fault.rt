@@ -30,7 +30,7 @@ pub enum ChangeFault {
     /// A chain of the index isn't well formed: the unit of its first fault; or unit 1 counts too little.
     #[error("Hindex.db is damaged")]
     BadIndex { unit: u64 },
-    /// An earlier changing call of this value failed at the disk, or additions to it go on.
+    /// An earlier changing call of this value failed at the disk, or a batch of changes of it goes on.
     #[error("the database was stopped")]
     Stopped,
     /// A call of the disk failed.

@@ -2,7 +2,7 @@
 
 ghost use Rattle.std.specs.Prelude.{◌≡◌, ℕ, ◌+◌, ◌≤◌, IsTrue, Err, OnOk, IfErr};
 ghost use Rattle.std.specs.FinMap as finite;
-ghost use Rattle.rpm_db.specs.Prelude.{AreByPlace, AreLawful, blobs, CanChange, CanEdit, cost_before, edit_cost, edited, EditReaches, field_edited, HasChanged, HasEdit, HasRows, images, IndexIs, IsChangedStill, IsDone, IsOfIndex, IsRefusal, LeavesIn, live_of, old_rows, packages, packages_of, Pkg, raised, rows, RunsOr, SameLog, state, state_of, units_for};
+ghost use Rattle.rpm_db.specs.Prelude.{AreLawful, blobs, CanChange, CanEdit, cost_before, edit_cost, edited, EditReaches, field_edited, HasChanged, HasEdit, HasRows, images, IndexIs, IsChangedStill, IsDone, IsOfIndex, IsRefusal, LeavesIn, live_of, old_rows, packages, packages_of, Pkg, raised, rows, RunsOr, SameLog, state, state_of, units_for};
 ghost use Rattle.rpm_db.specs.inner.Both.{IsRefused};
 
 use crate::change_fault::ChangeFault;
@@ -30,7 +30,7 @@ pub fn change_both<D: Disk>(
 ) -> Result<(), ChangeFault>
     requires ready { CanChange D.Disk disk.old store.old index.old }
     requires can { CanEdit edit blob.now store.old }
-    requires rows { AreByPlace adds × HasChanged (old_rows n (packages (D.files disk.old).pkg store.old)) adds
+    requires rows { HasChanged (old_rows n (packages (D.files disk.old).pkg store.old)) adds
         (rows (packages (D.files disk.old).pkg store.old))
         (rows (packages_of (edited edit blob.now (blobs (D.files disk.old).pkg store.old)))) }
     ensures store { (1 ≤ store.new.pages) × OnOk result (HasEdit edit (raised store.old) store.new) }

@@ -160,7 +160,7 @@ impl Db {
         self.index.is_some()
     }
 
-    /// Whether a changing call of this value failed at the disk, or additions go on.
+    /// Whether a changing call of this value failed at the disk, or a batch goes on.
     pub fn is_stopped(&self) -> bool
         ensures { result ≡ self.now.stopped }
     {

@@ -25,7 +25,7 @@ impl Db {
     ///
     /// The first of these that holds:
     ///
-    /// - `Stopped` exactly where an earlier changing call failed at the disk, or additions go on.
+    /// - `Stopped` exactly where an earlier changing call failed at the disk, or a batch goes on.
     /// - `BadHeader` exactly where the bytes are no header: its first fault.
     /// - `NumbersSpent` exactly where the next number is 4294967295.
     /// - `GenerationSpent` exactly where the generation is 4294967295.
@@ -75,7 +75,7 @@ impl Db {
     ///
     /// The first of these that holds:
     ///
-    /// - `Stopped` exactly where an earlier changing call failed at the disk, or additions go on.
+    /// - `Stopped` exactly where an earlier changing call failed at the disk, or a batch goes on.
     /// - `BadHeader` exactly where the bytes are no header: its first fault.
     /// - `NoSuch` exactly where there is no package of this number.
     /// - `GenerationSpent` exactly where the generation is 4294967295.
@@ -125,7 +125,7 @@ impl Db {
     ///
     /// The first of these that holds:
     ///
-    /// - `Stopped` exactly where an earlier changing call failed at the disk, or additions go on.
+    /// - `Stopped` exactly where an earlier changing call failed at the disk, or a batch goes on.
     /// - `NoSuch` exactly where there is no package of this number.
     /// - `GenerationSpent` exactly where the generation is 4294967295.
     /// - `IndexFull`, where the index holds the rows, exactly where those after the change need more than 268435456

@@ -5,7 +5,7 @@
 //! current. Nothing of the layout of the two files shows but how many bytes a call reads.
 #![tactic(auto)]
 
-mod additions;
+mod batch;
 mod change_fault;
 mod changing;
 mod database;
@@ -13,6 +13,7 @@ mod editing;
 mod finding;
 mod gathering;
 mod indexing;
+mod netting;
 mod open_fault;
 mod preparing;
 mod put_view;
@@ -20,12 +21,11 @@ mod putting;
 mod reading;
 mod rebuilding;
 mod rows;
-mod sharing;
 mod starting;
 mod verify;
 mod writing;
 
-pub use additions::Additions;
+pub use batch::Batch;
 pub use change_fault::ChangeFault;
 pub use database::Db;
 pub use open_fault::DbOpenFault;

@@ -1,18 +1,43 @@
 //! Working out what a change makes of the index.
 
-ghost use Rattle.std.specs.Prelude.{◌≡◌, ℕ, ◌+◌, ◌≤◌, [], max, IsTrue, true, Option, None, Err, IfOk, IfErr};
+ghost use Rattle.std.specs.Prelude.{◌≡◌, ℕ, ◌+◌, ◌++◌, ◌≤◌, [], max, IsTrue, true, Option, None, Err, OnOk, IfOk, IfErr};
 ghost use Rattle.std.specs.FinMap as finite;
-ghost use Rattle.rpm_db.specs.Prelude.{AreByPlace, AreRead, BadIndexIs, CanApply, cost_before, DiskFault, FullIndexIs, HasChanged, HasRows, header_rows, Idx, IsOfIndex, IsOfReading, IsOutside, IsWholeIndex, Keeps, LeadsTo, Looks, LooksAt, nat_cmp, old_rows, Package, packages, Pkg, rows, Runs, SameFiles, units_for, WritesWhole};
+ghost use Rattle.rpm_db.specs.Prelude.{AreRead, BadIndexIs, CanApply, cost_before, DiskFault, FullIndexIs, HasChanged, HasRows, header_rows, Idx, IsOfIndex, IsOfReading, IsOutside, IsWholeIndex, Keeps, LeadsTo, Looks, LooksAt, nat_cmp, old_rows, Package, packages, Pkg, rows, Runs, SameFiles, units_for, WritesWhole};
 ghost use Rattle.rpm_hindex.specs.State as hindex;
 
 use crate::change_fault::ChangeFault;
+use crate::netting::{RowChange, netted};
 use crate::rows::{push_header, push_package};
-use crate::sharing::without_shared;
 use rpm_header::View;
 use rpm_hindex::{Hindex, IndexPlan, PrepareFault, RewriteFault, Rows};
 use rpm_outside::Disk;
 use rpm_pkgdb::PkgDb;
 use std::alloc::{AllocError, Global};
+
+/// Adds the rows of the package that a number has, none for a new number. Reads its blocks, each once.
+pub fn push_before<D: Disk>(
+    alloc: Global,
+    disk: &mut D,
+    store: &PkgDb,
+    rows: &mut Rows,
+    n: Option<u32>,
+) -> Result<(), ChangeFault>
+    requires keeps { IsTrue D.tells → Keeps (D.files disk.old).pkg store.now }
+    ensures rows { OnOk result (IsTrue D.tells → rows.new ≡ rows.old ++ old_rows n (packages (D.files disk.old).pkg store.now)) }
+    ensures kinds { IfErr result IsOfReading }
+    ensures looks { Looks D.Disk Pkg (cost_before n store.now) disk.old disk.new }
+    ensures cause { DiskFault D.Disk (result ≡ Err ChangeFault.DiskFault) disk.old disk.new }
+{
+    match n {
+        None => Ok(()),
+        Some(m) => match push_package(alloc, disk, store, rows, m, Vec::new(alloc)) {
+            Ok(_) => Ok(()),
+            Err(RewriteFault::DiskFault) => Err(ChangeFault::DiskFault),
+            Err(RewriteFault::NoMemory) => Err(ChangeFault::NoMemory),
+            Err(RewriteFault::IndexFull { .. }) => unreachable!(),
+        },
+    }
+}
 
 /// The rows of the package that a number has, none for a new number. Reads its blocks, each once.
 fn rows_before<D: Disk>(
@@ -28,14 +53,9 @@ fn rows_before<D: Disk>(
     ensures cause { DiskFault D.Disk (result ≡ Err ChangeFault.DiskFault) disk.old disk.new }
 {
     let mut rows = Rows::new(alloc);
-    match n {
-        None => Ok(rows),
-        Some(m) => match push_package(alloc, disk, store, &mut rows, m, Vec::new(alloc)) {
-            Ok(_) => Ok(rows),
-            Err(RewriteFault::DiskFault) => Err(ChangeFault::DiskFault),
-            Err(RewriteFault::NoMemory) => Err(ChangeFault::NoMemory),
-            Err(RewriteFault::IndexFull { .. }) => unreachable!(),
-        },
+    match push_before(alloc, disk, store, &mut rows, n) {
+        Ok(()) => Ok(rows),
+        Err(fault) => Err(fault),
     }
 }
 
@@ -96,7 +116,6 @@ pub fn prepare_change<D: Disk>(
     adds: Rows,
 ) -> Result<IndexPlan, ChangeFault>
     requires read { AreRead D.Disk disk.old store.now index.now }
-    requires order { AreByPlace adds }
     ensures change { IfOk result (λ plan. CanApply index.now.units plan.work) }
     ensures leads { IfOk result (λ plan. (after : finite.FinMap nat_cmp Package)
         → HasChanged (old_rows n (packages (D.files disk.old).pkg store.now)) adds
@@ -117,7 +136,7 @@ pub fn prepare_change<D: Disk>(
         Ok(drops) => drops,
         Err(fault) => return Err(fault),
     };
-    let Ok(change) = without_shared(alloc, drops, adds) else {
+    let Ok(change) = netted(alloc, RowChange { drops, adds }) else {
         return Err(ChangeFault::NoMemory);
     };
     match prepare_rows(alloc, disk, index, &change.drops, &change.adds) {

@@ -53,7 +53,7 @@ impl Db {
     ///
     /// # Errors
     ///
-    /// - `Stopped` exactly where an earlier changing call failed at the disk, or additions go on.
+    /// - `Stopped` exactly where an earlier changing call failed at the disk, or a batch goes on.
     /// - `IndexFull` exactly where the index needs more than 268435456 units.
     /// - `DiskFault` only where the disk's count of faults rose. The value is stopped then.
     /// - `NoMemory` where a package or the rows find no memory. It answers no other fault.

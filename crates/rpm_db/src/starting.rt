@@ -75,7 +75,7 @@ impl Db {
     ///
     /// # Errors
     ///
-    /// - `Stopped` exactly where an earlier changing call failed at the disk, or additions go on.
+    /// - `Stopped` exactly where an earlier changing call failed at the disk, or a batch goes on.
     /// - `DiskFault` only where the disk's count of faults rose. The value is stopped then.
     /// - `NoMemory` where the index finds no memory. It answers no other fault.
     pub fn init<D: Disk>(&mut self, alloc: Global, disk: &mut D) -> Result<bool, ChangeFault>

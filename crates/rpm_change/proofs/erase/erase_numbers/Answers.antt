@@ -1,51 +1,36 @@
-use Rattle.std.proofs.Common.{◌+◌, get_or, drop, refl, arith}
-use Rattle.rpm_change.proofs.Vocabulary.{apply_all, erase, erase_one, err_is, err_joins, err_none, going_end, going_start, in_turn, inner, on_more, on_stop}
-use Rattle.rpm_change.proofs.Vocabulary.{ready_none, state_in}
-use Rattle.rpm_change.proofs.Arguments.{turn_next, turn_none}
+use Rattle.rpm_change.proofs.Vocabulary.{err_is, err_stopped}
+use Rattle.rpm_change.proofs.Erased.{kind_of_index}
+use Rattle.rpm_change.proofs.Owing.{list_settled, list_stopped, list_unsettled, owing_begun}
 use Rattle.rpm_change.proofs.erase.erase_numbers.Goals as goal
 
-pub loop-number-init : goal.loop-number-init
-loop-number-init g c =
-    let s = state_in g.D.Disk c.args.disk.now c.args.db.now in
-    record {
-      goes = going_start g.D.Disk (erase s c.args.numbers.now)
-          (ready_none g.D.Disk g.met.D.Disk.follows_refl c.requires.ready (err_none g.E.Sink c.args.err.now s));
-      few = refl;
-      err = omega arith;
-      err_rest = g.met.E.Sink.follows_refl (inner c.args.err.now);
-    }
-
-pub loop-number-preserved : goal.loop-number-preserved
-loop-number-preserved g c =
-    let k = c.loop-number.number-index in
-    let xs = c.args.numbers.now in
-    let inv = c.loop-number.invariant in
-    let done = c.in_ok-tally.ensures in
-    let t = state_in g.D.Disk c.loop-number.disk c.loop-number.db in
-    let u = state_in g.D.Disk c.erase_one.new.disk c.erase_one.new.db in
-    let turn = erase_one t k (get_or xs k 0) in
-    record {
-      goes = on_more g.D.Disk g.met.D.Disk.follows_trans (λ told. told) (err_joins g.E.Sink c.args.err.now c.loop-number.err c.erase_one.new.err)
-          turn (in_turn erase_one u (k + 1) (drop (k + 1) xs))
-          inv.goes (λ told after. turn_next erase_one xs k 0 t u (omega arith) after) (done.went k);
-      few = omega (arith, inv.few, done.one);
-      err = omega (arith, inv.err, done.err.cause.later);
-      err_rest = g.met.E.Sink.follows_trans (inner c.args.err.now) (inner c.loop-number.err) (inner c.erase_one.new.err) inv.err_rest done.err.goes_on;
-    }
+pub erase_each-requires-clause-gathering : goal.erase_each-requires-clause-gathering
+erase_each-requires-clause-gathering g c =
+    let b = c.begin-batch.ensures in rw b.same (owing_begun g.D.Disk c.requires.ready b.goes b.order b.sealed b.none).gathering
 
 pub returns-in_err-tally-clause-went : goal.returns-in_err-tally-clause-went
 returns-in_err-tally-clause-went g c =
-    let k = c.loop-number.number-index in
-    let xs = c.args.numbers.now in
-    let t = state_in g.D.Disk c.loop-number.disk c.loop-number.db in
-    let turn = erase_one t k (get_or xs k 0) in
-    let u = apply_all turn.changes t in
+    let b = c.begin-batch.ensures in
     rw (err_is c.from_residual.result c.from_residual.ensures)
-    (on_stop g.D.Disk g.met.D.Disk.follows_trans (λ told. told) (err_joins g.E.Sink c.args.err.now c.loop-number.err c.erase_one.new.err)
-    turn (in_turn erase_one u (k + 1) (drop (k + 1) xs))
-    c.loop-number.invariant.goes (λ told. turn_next erase_one xs k 0 t u (omega arith) refl) (c.in_err-tally.ensures.went k))
+    (list_stopped g.D.Disk c.requires.ready b.goes b.order b.sealed b.none (λ told. told) (rw b.same at c.in_err-tally.ensures.went))
 
 pub returns-clause-went : goal.returns-clause-went
 returns-clause-went g c =
-    going_end g.D.Disk (λ told. turn_none erase_one c.args.numbers.now c.loop-number.number-index
-    (state_in g.D.Disk c.loop-number.disk c.loop-number.db) (omega arith)) c.loop-number.invariant.goes
+    let b = c.begin-batch.ensures in
+    let f = c.in_ok-finish.ensures in
+    list_settled g.D.Disk c.requires.ready b.goes b.order b.sealed b.none (λ told. told) g.met.D.Disk.follows_trans c.finish.new.db
+    (rw b.same at c.in_ok-tally.ensures.went) f.left.indexed f.runs f.cause.later f.store f.packages f.settled f.whole
+
+pub returns-in_err-finish-clause-went : goal.returns-in_err-finish-clause-went
+returns-in_err-finish-clause-went g c =
+    let b = c.begin-batch.ensures in
+    let f = c.in_err-finish.ensures in
+    let fault = c.in_err-finish.field-0.0 in
+    rw (err_is c.from_residual-in_err-finish.result c.from_residual-in_err-finish.ensures)
+    (list_unsettled g.D.Disk c.requires.ready b.goes b.order b.sealed b.none (λ told. told) g.met.D.Disk.follows_trans c.finish.new.db
+    (rw b.same at c.in_ok-tally.ensures.went) f.left.indexed f.runs f.cause.later fault (err_stopped g.E.Sink c.args.err.now c.erase_each.new.err fault)
+    f.kinds f.full f.whole (λ is. f.cause.rose (cc)))
+
+pub returns-in_err-finish-clause-kinds : goal.returns-in_err-finish-clause-kinds
+returns-in_err-finish-clause-kinds g c =
+    rw (err_is c.from_residual-in_err-finish.result c.from_residual-in_err-finish.ensures)
+    (kind_of_index c.in_err-finish.field-0.0 c.in_err-finish.ensures.kinds)

@@ -9,14 +9,14 @@ use Rattle.rpm_change.proofs.import.import_most.Goals as goal
 
 pub import_all-requires-clause-gathering : goal.import_all-requires-clause-gathering
 import_all-requires-clause-gathering g c =
-    let b = c.begin-additions.ensures in rw b.same (owing_begun g.D.Disk c.requires.ready b.goes b.order b.sealed b.none).gathering
+    let b = c.begin-batch.ensures in rw b.same (owing_begun g.D.Disk c.requires.ready b.goes b.order b.sealed b.none).gathering
 
 pub returns-in_err-tally-in-Ok-clause-went : goal.returns-in_err-tally-in-Ok-clause-went
 returns-in_err-tally-in-Ok-clause-went g c =
     let rest = g.S.Shelf.rest c.open.new.self in
     let course = import_listed c.args.most (listed (left rest)) in
     let found = bytes_at (g.S.Shelf.paths c.args.shelf.now) (codes "-") in
-    let b = c.begin-additions.ensures in
+    let b = c.begin-batch.ensures in
     rw (err_is c.from_residual.result c.from_residual.ensures) (went_as g.D.Disk (once course) (import_list c.args.most found) (λ both. both)
     (λ both. let opened = c.in-Ok.ensures.opened both.1 in rw (opened_is found rest opened.0 opened.1) refl) (λ s t e. e)
     (went_once g.D.Disk g.E.Sink c.args.err.now c.import_all.new.err course (Err _)
@@ -27,7 +27,7 @@ returns-in_ok-finish-in-Ok-clause-went g c =
     let rest = g.S.Shelf.rest c.open.new.self in
     let course = import_listed c.args.most (listed (left rest)) in
     let found = bytes_at (g.S.Shelf.paths c.args.shelf.now) (codes "-") in
-    let b = c.begin-additions.ensures in
+    let b = c.begin-batch.ensures in
     let f = c.in_ok-finish-in-Ok.ensures in
     let low : c.min-failed.result ≡ min 1 c.in_ok-tally-in-Ok.tally.failed = omega (arith, c.min-failed.ensures) in
     rw low (went_as g.D.Disk (once course) (import_list c.args.most found) (λ both. both)
@@ -41,7 +41,7 @@ returns-in_err-finish-in-Ok-clause-went g c =
     let rest = g.S.Shelf.rest c.open.new.self in
     let course = import_listed c.args.most (listed (left rest)) in
     let found = bytes_at (g.S.Shelf.paths c.args.shelf.now) (codes "-") in
-    let b = c.begin-additions.ensures in
+    let b = c.begin-batch.ensures in
     let f = c.in_err-finish-in-Ok.ensures in
     let fault = c.in_err-finish-in-Ok.field-0.0 in
     rw (err_is c.from_residual-in_err-finish-in-Ok.result c.from_residual-in_err-finish-in-Ok.ensures)

@@ -9,11 +9,8 @@ use Rattle.rpm_db.proofs.changing.change_both.Goals as goal
 
 -- ---- what the calls ask for
 
-pub prepare_change-requires-clause-read : goal.prepare_change-requires-clause-read
-prepare_change-requires-clause-read g c = read_of g.D.Disk _ _ _ c.requires.ready
-
-pub prepare_change-requires-clause-order : goal.prepare_change-requires-clause-order
-prepare_change-requires-clause-order g c = c.requires.rows.0
+pub prepare_change-requires : goal.prepare_change-requires
+prepare_change-requires g c = record { read = read_of g.D.Disk _ _ _ c.requires.ready }
 
 -- ---- nothing was written
 
@@ -55,7 +52,7 @@ returns-clause-stops g c = λ told lawful has.
     let w = c.in-Ok-edit_raised.ensures in
     both_stop g.D.Disk _ _ _ told lawful (g.met.D.Disk.as_read c.args.disk.now told) e.runs c.args.store.now (r.keeps told) r.made (r.quiet told)
     (r.settled told) _ _ (rw (e.runs.reads_as told) at (w.images told)) _ c.edit_raised.new.store c.in-Ok.change.work _ _
-    ((e.leads _ c.requires.rows.1).makes told has) w.writes.changes w.edit.generation w.edit.field (rw (e.runs.reads_as told) at w.stored)
+    ((e.leads _ c.requires.rows).makes told has) w.writes.changes w.edit.generation w.edit.field (rw (e.runs.reads_as told) at w.stored)
     c.generation.ensures.value c.write_rows.ensures.writes.changes
 
 pub returns-clause-runs : goal.returns-clause-runs
@@ -77,7 +74,7 @@ returns-clause-done g c =
     let index = c.write_rows.new.index in
     let work = c.in-Ok.change.work in
     let to = edited c.args.edit c.args.blob.now (blobs old.pkg st) in
-    let leads = e.leads _ c.requires.rows.1 in
+    let leads = e.leads _ c.requires.rows in
     let stored : IsStored D c.write_rows.new.disk after to = stored_then D after _ to _ 0 _ _ (λ told.
     ap (λ (f : Files). edited c.args.edit c.args.blob.now (blobs f.pkg st)) (e.runs.reads_as told)) c.write_rows.ensures.writes.changes w.stored in
     map_ok c.write_rows.result (λ (done : IsApplied D c.edit_raised.new.disk c.write_rows.new.disk c.args.index.now index c.generation.result work).

@@ -23,7 +23,7 @@ returns-then-is_current-clause-filled g c =
       settled = λ told. c.requires.ready.settled told;
       quiet = λ told value quiet. quiet;
       rows_are = λ told from to has changed.
-          rows_clear from to (g.D.Disk.files c.args.disk.now).idx c.args.owed.now (c.requires.ready.clear at) has changed;
+          rows_clear from to (g.D.Disk.files c.args.disk.now).idx c.args.owed (c.requires.ready.clear at) has changed;
       reach = λ told from to has changed. rw test (omega arith);
     }
 
@@ -33,13 +33,13 @@ pub returns-clause-filled : goal.returns-clause-filled
 returns-clause-filled g c =
     let D = g.D.Disk in
     let a = c.args.disk.now in
-    let b = c.prepare_rows.new.disk in
+    let b = c.prepare_owed.new.disk in
     let e = c.write_rows.new.disk in
     let index = c.args.index.now in
     let n = c.args.generation in
     let work = c.in-Ok.plan.work in
     let run = looked_at D _ _ _ c.in-Ok.ensures.looks in
-    let leads = rw c.new-drops.ensures at c.in-Ok.ensures.leads in
+    let leads = c.in-Ok.ensures.leads in
     let apart = other_sealed n index c.requires.ready.order (sym c.is_current.ensures ∙ c.if-is_current.false) in
     let test : (hindex.sealed index.first == n) ≡ false = grind (arith, nat_tests, apart) in
     map_ok c.write_rows.result (λ (w : IsApplied D b e index c.write_rows.new.index n work). record {
@@ -58,7 +58,7 @@ returns-clause-filled g c =
 pub returns-in-Err-clause-full : goal.returns-in-Err-clause-full
 returns-in-Err-clause-full g c = (
   other_sealed c.args.generation c.args.index.now c.requires.ready.order (sym c.is_current.ensures ∙ c.if-is_current.false),
-  rw c.new-drops.ensures at c.in-Err.ensures.full,
+  c.in-Err.ensures.full,
 )
 
 pub returns-clause-full : goal.returns-clause-full
@@ -85,7 +85,7 @@ returns-clause-runs g c =
 pub returns-clause-stops : goal.returns-clause-stops
 returns-clause-stops g c = λ told lawful from to has changed of.
     let ready = c.requires.ready in
-    let leads = rw c.new-drops.ensures at c.in-Ok.ensures.leads in
+    let leads = c.in-Ok.ensures.leads in
     let apart = other_sealed c.args.generation c.args.index.now ready.order (sym c.is_current.ensures ∙ c.if-is_current.false) in
     stops_filled g.D.Disk _ _ _ told lawful (looked_at g.D.Disk _ _ _ c.in-Ok.ensures.looks) c.args.generation c.in-Ok.plan.work to (ready.settled told)
     (λ at. apart (ap hindex.sealed (ready.keeps told).first ∙ at)) of ((leads from to changed).makes told has) c.write_rows.ensures.writes.changes

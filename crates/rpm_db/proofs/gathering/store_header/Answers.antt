@@ -1,66 +1,74 @@
-use Rattle.std.proofs.Common.{ℕ, ◌+◌, ◌++◌, List, [], None, Ok, Err, refl, sym, ap, ◌∙◌, subst, arith}
-use Rattle.rpm_db.proofs.Vocabulary.{Anything, blobs, CanEdit, edited, Files, header_rows, ReachesTo, Row, runs_none, SameFiles, SameLog, Store}
-use Rattle.rpm_db.proofs.Vocabulary.{store, TakesRows}
+use Rattle.std.proofs.Common.{ℕ, ◌≡◌, ◌+◌, List, Option, Ok, Err, sym, ap, ◌∙◌, subst, arith}
+use Rattle.std.specs.FinMap as finite
+use Rattle.rpm_db.proofs.Vocabulary.{Anything, blobs, CanEdit, edited, Files, Header, header_rows, nat_cmp, number_for, old_rows, Package, packages, ReachesTo}
+use Rattle.rpm_db.proofs.Vocabulary.{RowChange, Store, store, TakesRows, Units, with_rows, with_spare}
 use Rattle.rpm_pkgdb.specs.Store as pkgdb
 use Rattle.rpm_db.proofs.Both.{runs_store}
 use Rattle.rpm_db.proofs.Planning.{field_is, map_is, planned, stops_aside}
-use Rattle.rpm_db.proofs.Puts.{number_same}
-use Rattle.rpm_db.proofs.Results.{cause_as, cause_done, cause_memory}
+use Rattle.rpm_db.proofs.Puts.{number_same, packages_same, reads_put}
+use Rattle.rpm_db.proofs.Results.{cause_as, cause_done}
 use Rattle.rpm_db.proofs.Rooms.{finds_none, finds_room}
 use Rattle.rpm_db.proofs.Unwritten.{log_same, log_then, settled_same, stops_refused}
 use Rattle.rpm_db.specs.declared.writing.Edit.TheVariants as edit
 use Rattle.rpm_db.proofs.gathering.store_header.Goals as goal
 
--- ---- what the write asks for
+-- the rows that go and come, told by the store from before the plan
+rows_told : (file : Units) (n : Option ℕ) (value made : Store) (h : Header) (owed : RowChange) → made ≡ with_spare made.spare value
+    → with_rows owed (old_rows n (packages file made)) (header_rows (number_for n made) h)
+    ≡ with_rows owed (old_rows n (packages file value)) (header_rows (number_for n value) h)
+rows_told file n value made h owed same =
+    ap (λ (ps : finite.FinMap nat_cmp Package). with_rows owed (old_rows n ps) (header_rows (number_for n made) h)) (packages_same file value made same)
+    ∙ ap (λ (k : ℕ). with_rows owed (old_rows n (packages file value)) (header_rows k h)) (number_same n value made same)
+
+-- ---- what gathering its rows and the write ask for
+
+pub gather_rows-requires-clause-store : goal.gather_rows-requires-clause-store
+gather_rows-requires-clause-store g c = λ told.
+    subst (pkgdb.Keeps (g.D.Disk.files c.args.disk.now).pkg) (sym c.in-Ok.ensures.value) (c.requires.ready.keeps told)
 
 pub edit_raised-requires-clause-ready : goal.edit_raised-requires-clause-ready
 edit_raised-requires-clause-ready g c =
     let e = c.in-Ok.ensures in
-    let same = c.in-Ok-expect_room.ensures.runs.reads_as in
+    let same = c.in-Ok-gather_rows.ensures.runs.reads_as in
     record {
       going = ap (λ (v : Store). v.is_stopped) e.value ∙ c.requires.ready.going;
       made = e.made;
-      keeps = λ told. subst (pkgdb.Keeps (g.D.Disk.files c.expect_room.new.disk).pkg) (sym e.value)
-          (ap (λ (f : Files). store f.pkg) (same told) ∙ c.requires.ready.read.keeps told);
+      keeps = λ told. subst (pkgdb.Keeps (g.D.Disk.files c.gather_rows.new.disk).pkg) (sym e.value)
+          (ap (λ (f : Files). store f.pkg) (same told) ∙ c.requires.ready.keeps told);
     }
 
 pub edit_raised-requires-clause-can : goal.edit_raised-requires-clause-can
 edit_raised-requires-clause-can g c =
     subst (λ (b : List ℕ). CanEdit (edit.Put c.in-Ok.plan) b c.plan_blob.new.store) (sym c.blob.ensures.value) c.in-Ok.ensures.plan
 
--- ---- it wasn't planned, or memory was refused
+-- ---- it wasn't planned
 
 pub returns-in-Err-clause-room : goal.returns-in-Err-clause-room
 returns-in-Err-clause-room g c = finds_none _ _ _ _ c.in-Err.fault c.in-Err.ensures.later c.in-Err.ensures.placed
 
-pub returns-in_default-clause-refused : goal.returns-in_default-clause-refused
-returns-in_default-clause-refused g c = λ refusal. (c.in-Ok.ensures.value, runs_none g.D.Disk g.met.D.Disk.follows_refl SameFiles (λ f. refl) c.args.disk.now)
+-- ---- the index has no room, or memory was refused
 
-pub returns-in_default-clause-runs : goal.returns-in_default-clause-runs
-returns-in_default-clause-runs g c = record {
-  files = runs_none g.D.Disk g.met.D.Disk.follows_refl SameLog (λ f. refl) c.args.disk.now;
-  cause = cause_memory;
-}
-
--- ---- the index has no room
-
-pub returns-in-Err-expect_room : goal.returns-in-Err-expect_room
-returns-in-Err-expect_room g c =
+pub returns-in-Err-gather_rows : goal.returns-in-Err-gather_rows
+returns-in-Err-gather_rows g c =
     let e = c.in-Ok.ensures in
-    let x = c.in-Err-expect_room.ensures in
-    let fault = c.in-Err-expect_room.fault in
-    let more = c.in-Ok-push_header.ensures ∙ ap (λ (n : ℕ). c.args.owed.now ++ header_rows n c.args.view.now)
-    (c.next_number-number.ensures ∙ number_same None c.args.store.now c.plan_blob.new.store e.value) in
+    let x = c.in-Err-gather_rows.ensures in
+    let fault = c.in-Err-gather_rows.fault in
+    let file = (g.D.Disk.files c.args.disk.now).pkg in
     record {
       room = finds_room _ _ _ _ _ c.in-Ok.plan e.later e.placed.0 e.value (Err fault) tt x.kinds;
       number = tt;
       made = e.made;
       done = tt;
-      rows = subst (λ (rs : List Row). TakesRows g.D.Disk {A = ℕ} c.args.disk.now [] rs (Err fault)) more
-          (record { full = x.takes.full; bad = x.takes.bad });
+      gathered = tt;
+      takes = λ told.
+          (let takes = subst (λ (o : RowChange). TakesRows g.D.Disk {A = Unit {0}} c.args.disk.now o (Err fault))
+          (rows_told file c.args.n c.args.store.now c.plan_blob.new.store c.args.view.now c.args.owed.now e.value) (x.takes told) in
+          record { full = takes.full; bad = takes.bad });
+      end = tt;
       index = λ told. ap (λ (f : Files). f.idx) (x.runs.reads_as told);
       refused = λ refusal. (e.value, x.runs);
       stops = λ told lawful. stops_refused _ _ g.D.Disk _ _ told lawful x.runs;
+      reads = reads_put c.args.n c.args.store.now _ e.value _ c.in-Ok.plan e.plan.suits.plan_is e.placed.1 _ _ (omega (arith, x.reads));
       runs = record { files = log_same g.D.Disk _ _ x.runs; cause = cause_as fault x.cause };
     }
 
@@ -68,18 +76,24 @@ returns-in-Err-expect_room g c =
 
 pub returns-in-Err-edit_raised-clause-index : goal.returns-in-Err-edit_raised-clause-index
 returns-in-Err-edit_raised-clause-index g c = λ told.
-    c.in-Err-edit_raised.ensures.writes.changes.idx told ∙ ap (λ (f : Files). f.idx) (c.in-Ok-expect_room.ensures.runs.reads_as told)
+    c.in-Err-edit_raised.ensures.writes.changes.idx told ∙ ap (λ (f : Files). f.idx) (c.in-Ok-gather_rows.ensures.runs.reads_as told)
 
 pub returns-in-Err-edit_raised-clause-stops : goal.returns-in-Err-edit_raised-clause-stops
 returns-in-Err-edit_raised-clause-stops g c = λ told lawful.
     let e = c.in-Ok.ensures in
-    let run = c.in-Ok-expect_room.ensures.runs in
-    stops_aside g.D.Disk _ _ e.value _ _ _ told lawful (g.met.D.Disk.as_read c.args.disk.now told) run _ c.requires.ready
+    let run = c.in-Ok-gather_rows.ensures.runs in
+    stops_aside g.D.Disk _ _ e.value _ _ _ told lawful (g.met.D.Disk.as_read c.args.disk.now told) run c.requires.ready
     (planned e.value e.plan.suits.plan_is e.placed.1 c.blob.ensures.value) (rw (run.reads_as told) at (c.in-Err-edit_raised.ensures.images told))
+
+pub returns-in-Err-edit_raised-clause-reads : goal.returns-in-Err-edit_raised-clause-reads
+returns-in-Err-edit_raised-clause-reads g c =
+    let e = c.in-Ok.ensures in
+    reads_put c.args.n c.args.store.now _ e.value _ c.in-Ok.plan e.plan.suits.plan_is e.placed.1 _ _
+    (omega (arith, c.in-Ok-gather_rows.ensures.reads, c.in-Err-edit_raised.ensures.writes.changes.reads.pkg))
 
 pub returns-in-Err-edit_raised-clause-runs : goal.returns-in-Err-edit_raised-clause-runs
 returns-in-Err-edit_raised-clause-runs g c =
-    let x = c.in-Ok-expect_room.ensures in
+    let x = c.in-Ok-gather_rows.ensures in
     let w = c.in-Err-edit_raised.ensures.writes in
     record {
       files = log_then g.D.Disk g.met.D.Disk.follows_trans _ _ _ x.runs (runs_store g.D.Disk Anything _ _ _ w.changes);
@@ -92,22 +106,21 @@ pub returns-in-Ok-edit_raised : goal.returns-in-Ok-edit_raised
 returns-in-Ok-edit_raised g c =
     let e = c.in-Ok.ensures in
     let w = c.in-Ok-edit_raised.ensures in
-    let x = c.in-Ok-expect_room.ensures in
+    let x = c.in-Ok-gather_rows.ensures in
     let run = x.runs in
-    let number = c.next_number-number.result in
+    let number = c.number_of-number.result in
     let file = (g.D.Disk.files c.args.disk.now).pkg in
     let p = planned e.value e.plan.suits.plan_is e.placed.1 c.blob.ensures.value in
-    let number_is = c.next_number-number.ensures ∙ number_same None c.args.store.now c.plan_blob.new.store e.value in
-    let more = c.in-Ok-push_header.ensures ∙ ap (λ (n : ℕ). c.args.owed.now ++ header_rows n c.args.view.now) number_is in
+    let rows = rows_told file c.args.n c.args.store.now c.plan_blob.new.store c.args.view.now c.args.owed.now e.value in
     record {
       room = finds_room _ _ _ _ _ c.in-Ok.plan e.later e.placed.0 e.value (Ok number) w.edit tt;
-      number = number_is;
+      number = c.number_of-number.ensures ∙ number_same c.args.n c.args.store.now c.plan_blob.new.store e.value;
       made = omega (arith, w.edit.pages, e.made);
       done = record {
         going = w.edit.going ∙ ap (λ (v : Store). v.is_stopped) e.value ∙ c.requires.ready.going;
+        made = omega (arith, w.edit.pages, e.made);
         generation_is = w.edit.generation ∙ ap (λ (v : Store). v.generation + 1) e.value;
         field_is = w.edit.field ∙ field_is file p;
-        rows_are = more;
         stored = record {
           kept = w.stored.kept;
           blobs_are = λ told.
@@ -119,15 +132,20 @@ returns-in-Ok-edit_raised g c =
         settled = λ told image here.
             (let moved = w.writes.changes.now told image here in
             moved.idx ∙ settled_same g.D.Disk _ _ told run (c.requires.ready.settled told) moved.from moved.was ∙ sym (w.writes.changes.idx told));
-        end = λ told.
-            subst (λ (old : Files). ReachesTo c.edit_raised.new.store old.pkg (g.D.Disk.files c.edit_raised.new.disk).pkg) (run.reads_as told) (w.end told);
       };
-      rows = subst (λ (rs : List Row). TakesRows g.D.Disk c.args.disk.now [] rs (Ok number)) more (record { full = x.takes.full; bad = λ told. tt });
+      gathered = λ told. x.gathered told ∙ rows;
+      takes = λ told.
+          (let takes = subst (λ (o : RowChange). TakesRows g.D.Disk {A = Unit {0}} c.args.disk.now o (Ok tt)) rows (x.takes told) in
+          record { full = takes.full; bad = λ told'. tt });
+      end = λ told.
+          subst (λ (old : Files). ReachesTo c.edit_raised.new.store old.pkg (g.D.Disk.files c.edit_raised.new.disk).pkg) (run.reads_as told) (w.end told);
       index = λ told. w.writes.changes.idx told ∙ ap (λ (f : Files). f.idx) (run.reads_as told);
       refused = tt;
       stops = λ told lawful.
-          stops_aside g.D.Disk _ _ e.value _ _ _ told lawful (g.met.D.Disk.as_read c.args.disk.now told) run _ c.requires.ready p
+          stops_aside g.D.Disk _ _ e.value _ _ _ told lawful (g.met.D.Disk.as_read c.args.disk.now told) run c.requires.ready p
           (rw (run.reads_as told) at (w.images told));
+      reads = reads_put c.args.n c.args.store.now _ e.value _ c.in-Ok.plan e.plan.suits.plan_is e.placed.1 _ _
+          (omega (arith, x.reads, w.writes.changes.reads.pkg));
       runs = record {
         files = log_then g.D.Disk g.met.D.Disk.follows_trans _ _ _ run (runs_store g.D.Disk Anything _ _ _ w.writes.changes);
         cause = cause_done _ x.cause w.writes.cause.later;

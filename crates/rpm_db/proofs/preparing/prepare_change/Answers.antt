@@ -1,47 +1,43 @@
 use Rattle.std.proofs.Common.{◌≡◌, ℕ, ◌≤◌, List, Option, IsTrue, sym, subst, arith}
 use Rattle.std.specs.FinMap as finite
-use Rattle.rpm_db.proofs.Vocabulary.{AreByPlace, AreParted, AreWithout, Files, HasChanged, HasRows, live_of, nat_cmp, old_rows, Package, packages, Row}
+use Rattle.rpm_db.proofs.Vocabulary.{AreNetted, AreWithout, Files, HasChanged, HasRows, live_of, nat_cmp, old_rows, Package, packages, Row, RowChange}
 use Rattle.rpm_db.proofs.Vocabulary.{rows, WritesRows}
-use Rattle.rpm_db.proofs.ByPlace.{by_place_old}
 use Rattle.rpm_db.proofs.Reached.{live_less}
 use Rattle.rpm_db.proofs.Shared.{changed_still}
 use Rattle.rpm_db.proofs.Unwritten.{looked_both}
 use Rattle.rpm_db.proofs.preparing.prepare_change.Goals as goal
 
 -- the rows that go and come, where those that go were read
-module _ (n : Option ℕ) (packages : finite.FinMap nat_cmp Package) (adds drops gone new : List Row) (is : drops ≡ old_rows n packages)
-    (by : AreByPlace adds) (parts : AreParted drops adds gone new) where
-  both : AreWithout adds drops gone × AreWithout drops adds new
-  both = parts (subst AreByPlace (sym is) (by_place_old n packages)) by
-
-  still : (after : List Row) → HasChanged (old_rows n packages) adds (rows packages) after → HasChanged gone new (rows packages) after
+module _ (n : Option ℕ) (packages : finite.FinMap nat_cmp Package) (adds drops : List Row) (net : RowChange) (is : drops ≡ old_rows n packages)
+    (both : AreNetted drops adds net) where
+  still : (after : List Row) → HasChanged (old_rows n packages) adds (rows packages) after → HasChanged net.drops net.adds (rows packages) after
   still after =
-      changed_still n packages adds gone new after (subst (λ (rs : List Row). AreWithout adds rs gone) is both.0)
-      (subst (λ (rs : List Row). AreWithout rs adds new) is both.1)
+      changed_still n packages adds net.drops net.adds after (subst (λ (rs : List Row). AreWithout adds rs net.drops) is both.0)
+      (subst (λ (rs : List Row). AreWithout rs adds net.adds) is both.1)
 
-  less : live_of new ≤ live_of adds
-  less = live_less new adds (λ r. omega (arith, both.1 r))
+  less : live_of net.adds ≤ live_of adds
+  less = live_less net.adds adds (λ r. omega (arith, both.1 r))
 
 pub returns-in-Ok-prepare_rows-clause-full : goal.returns-in-Ok-prepare_rows-clause-full
 returns-in-Ok-prepare_rows-clause-full g c = λ told new has changed.
     let P = packages (g.D.Disk.files c.args.disk.now).pkg c.args.store.now in
     c.in-Ok-prepare_rows.ensures.full told P new (subst (λ (f : Files). HasRows P f.idx) (sym (c.in-Ok.ensures.looks.untouched told).same) has)
-    (still c.args.n P c.args.adds c.in-Ok.drops c.in-Ok-without_shared.change.drops c.in-Ok-without_shared.change.adds (c.in-Ok.ensures.rows told)
-    c.requires.order c.in-Ok-without_shared.ensures (rows new) changed)
+    (still c.args.n P c.args.adds c.in-Ok.drops c.in-Ok-netted.change (c.in-Ok.ensures.rows told)
+    c.in-Ok-netted.ensures (rows new) changed)
 
 pub returns-clause-full : goal.returns-clause-full
 returns-clause-full g c = λ told new has changed.
     let P = packages (g.D.Disk.files c.args.disk.now).pkg c.args.store.now in
     c.in-Err-prepare_rows.ensures.full told P new (subst (λ (f : Files). HasRows P f.idx) (sym (c.in-Ok.ensures.looks.untouched told).same) has)
-    (still c.args.n P c.args.adds c.in-Ok.drops c.in-Ok-without_shared.change.drops c.in-Ok-without_shared.change.adds (c.in-Ok.ensures.rows told)
-    c.requires.order c.in-Ok-without_shared.ensures (rows new) changed)
+    (still c.args.n P c.args.adds c.in-Ok.drops c.in-Ok-netted.change (c.in-Ok.ensures.rows told)
+    c.in-Ok-netted.ensures (rows new) changed)
 
 pub returns-in-Ok-prepare_rows-clause-leads : goal.returns-in-Ok-prepare_rows-clause-leads
 returns-in-Ok-prepare_rows-clause-leads g c = λ new changed.
     let P = packages (g.D.Disk.files c.args.disk.now).pkg c.args.store.now in
     let change = λ (told : IsTrue g.D.Disk.tells).
-    still c.args.n P c.args.adds c.in-Ok.drops c.in-Ok-without_shared.change.drops c.in-Ok-without_shared.change.adds (c.in-Ok.ensures.rows told)
-    c.requires.order c.in-Ok-without_shared.ensures (rows new) changed in
+    still c.args.n P c.args.adds c.in-Ok.drops c.in-Ok-netted.change (c.in-Ok.ensures.rows told)
+    c.in-Ok-netted.ensures (rows new) changed in
     let here = λ (told : IsTrue g.D.Disk.tells) (has : HasRows P (g.D.Disk.files c.args.disk.now).idx).
     subst (λ (f : Files). HasRows P f.idx) (sym (c.in-Ok.ensures.looks.untouched told).same) has in
     record {
@@ -52,8 +48,8 @@ returns-in-Ok-prepare_rows-clause-leads g c = λ new changed.
           omega (
             arith,
             (c.in-Ok-prepare_rows.ensures.leads P new (change told)).reach told (here told has),
-            less c.args.n P c.args.adds c.in-Ok.drops c.in-Ok-without_shared.change.drops c.in-Ok-without_shared.change.adds (c.in-Ok.ensures.rows told)
-                c.requires.order c.in-Ok-without_shared.ensures,
+            less c.args.n P c.args.adds c.in-Ok.drops c.in-Ok-netted.change (c.in-Ok.ensures.rows told)
+                c.in-Ok-netted.ensures,
           );
     }
 

@@ -1,14 +1,11 @@
-use Rattle.std.proofs.Common.{◌≡◌, ◌+◌, sym, ap, subst, arith}
-use Rattle.rpm_db.proofs.Vocabulary.{AreByPlace, live_of}
+use Rattle.std.proofs.Common.{◌≡◌, ◌+◌, ap, arith}
+use Rattle.rpm_db.proofs.Vocabulary.{live_of}
 use Rattle.rpm_db.proofs.Reached.{live_none}
 use Rattle.rpm_db.proofs.Edited.{rows_erased}
 use Rattle.rpm_db.proofs.putting.erase_number.Goals as goal
 
 pub change_both-requires-clause-rows : goal.change_both-requires-clause-rows
-change_both-requires-clause-rows g c = (
-  subst AreByPlace (sym c.new.ensures) tt,
-  rows_erased (g.D.Disk.files c.args.disk.now).pkg c.args.store.now c.args.n _ c.new.ensures,
-)
+change_both-requires-clause-rows g c = rows_erased (g.D.Disk.files c.args.disk.now).pkg c.args.store.now c.args.n _ c.new.ensures
 
 pub returns-clause-edit : goal.returns-clause-edit
 returns-clause-edit g c = c.change_both.ensures.store.1

@@ -1,8 +1,7 @@
 use Rattle.std.proofs.Common.{◌+◌, ℕ, List, refl, sym, ap, ◌∙◌, subst}
-use Rattle.rpm_db.proofs.Vocabulary.{AreByPlace, BlobMap, CanEdit, HasChanged, header_rows, live_of, old_rows, packages, packages_of, Row, rows, runs_none}
+use Rattle.rpm_db.proofs.Vocabulary.{BlobMap, CanEdit, HasChanged, header_rows, live_of, old_rows, packages, packages_of, Row, rows, runs_none}
 use Rattle.rpm_db.proofs.Vocabulary.{SameFiles, SameLog}
 use Rattle.rpm_db.specs.declared.writing.Edit.TheVariants as edit
-use Rattle.rpm_db.proofs.ByPlace.{by_place_header}
 use Rattle.rpm_db.proofs.Planning.{done_roomed, field_is, index_planned, map_is, planned, rows_roomed, state_is, state_same}
 use Rattle.rpm_db.proofs.Puts.{number_same, reads_put, rows_planned}
 use Rattle.rpm_db.proofs.Results.{cause_memory, map_ok}
@@ -39,13 +38,11 @@ change_both-requires-clause-can g c =
 pub change_both-requires-clause-rows : goal.change_both-requires-clause-rows
 change_both-requires-clause-rows g c =
     let file = (g.D.Disk.files c.args.disk.now).pkg in
-    let e = c.in-Ok.ensures in (
-      subst AreByPlace (sym c.in-Ok-rows_behind.ensures) (by_place_header c.number_of-number.result c.args.view.now),
-      subst (λ (k : BlobMap). HasChanged (old_rows c.args.n (packages file c.plan_blob.new.store)) c.in-Ok-rows_behind.rows
-          (rows (packages file c.plan_blob.new.store)) (rows (packages_of k)))
-          (sym (map_is file (planned e.value e.plan.suits.plan_is e.placed.1 c.blob.ensures.value)))
-          (rows_planned file c.args.store.now c.plan_blob.new.store e.value c.args.n _ c.number_of-number.ensures _ c.in-Ok-rows_behind.ensures e.own),
-    )
+    let e = c.in-Ok.ensures in
+    subst (λ (k : BlobMap). HasChanged (old_rows c.args.n (packages file c.plan_blob.new.store)) c.in-Ok-rows_behind.rows
+    (rows (packages file c.plan_blob.new.store)) (rows (packages_of k)))
+    (sym (map_is file (planned e.value e.plan.suits.plan_is e.placed.1 c.blob.ensures.value)))
+    (rows_planned file c.args.store.now c.plan_blob.new.store e.value c.args.n _ c.number_of-number.ensures _ c.in-Ok-rows_behind.ensures e.own)
 
 -- ---- both were changed, or refused
 

@@ -1,0 +1,24 @@
+-- What a batch says of an erasure.
+use Rattle.rpm_change.proofs.Vocabulary.{ChangeFault, halt_of, IsOfIndex, WholeCause}
+use Rattle.rpm_change.specs.Endings.{IsOfErasing}
+use Rattle.rpm_db.specs.Refusals as db
+use Rattle.rpm_db.specs.declared.change_fault.ChangeFault.TheVariants as fault
+
+pub kind_of_erasing : (f : ChangeFault) → db.IsOfErasing f → IsOfErasing (halt_of f)
+kind_of_erasing fault.NoSuch kind = tt
+kind_of_erasing fault.GenerationSpent kind = tt
+kind_of_erasing fault.DiskFault kind = tt
+kind_of_erasing fault.NoMemory kind = tt
+kind_of_erasing others kind = absurd kind
+
+pub kind_of_index : (f : ChangeFault) → IsOfIndex f → IsOfErasing (halt_of f)
+kind_of_index (fault.IndexFull needed) kind = tt
+kind_of_index (fault.BadIndex unit) kind = tt
+kind_of_index fault.DiskFault kind = tt
+kind_of_index fault.NoMemory kind = tt
+kind_of_index others kind = absurd kind
+
+-- the index isn't asked
+pub erasing_whole : (f : ChangeFault) → db.IsOfErasing f → WholeCause f
+erasing_whole (fault.BadIndex unit) kind = absurd kind
+erasing_whole others kind = tt
