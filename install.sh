@@ -74,7 +74,7 @@ found() {
     (
         set -f
         IFS=:
-        for folder in $PATH; do
+        for folder in ${PATH-}; do
             file=${folder:-.}/$1
             if [ -f "$file" ] && [ -x "$file" ] && ! { same_folder "${folder:-.}" "$prefix/bin" && is_ours "bin/$1"; }; then
                 printf '%s\n' "$file"
@@ -89,7 +89,7 @@ is_in_path() {
     (
         set -f
         IFS=:
-        for folder in $PATH; do
+        for folder in ${PATH-}; do
             ! same_folder "${folder:-.}" "$prefix/bin" || exit 0
         done
         exit 1
@@ -149,8 +149,8 @@ told() {
 # Ends where the sources aren't those that the program of release/ was built from, and says which files differ.
 refuse_other_sources() {
     [ -f "$here/release/MANIFEST" ] && [ -f "$here/release/rpm_prog.gz" ] || fail "release/ has no program; --prove builds one of these sources"
-    [ "$(told sources)" != "$("$here/release/digest.sh")" ] || return 0
-    "$here/release/differs.sh" > "$room/differs"
+    [ "$(told sources)" != "$(sh "$here/release/digest.sh")" ] || return 0
+    sh "$here/release/differs.sh" > "$room/differs"
     head -n 20 "$room/differs" >&2
     fail "these sources aren't those of release/'s program: $(wc -l < "$room/differs") files differ (20 of them above at most); nothing was changed." \
         "A fresh copy has them; --prove proves and builds these, which takes an hour or more"
@@ -161,7 +161,7 @@ prove() {
     command -v rt > /dev/null || fail "there is no rt, which proves and builds ($(told toolchain))"
     say "proving all crates, then building the program: some 50 minutes of one core, 4 GB of memory and 10 GB of disk"
     (cd "$here/crates/rpm_prog" && rt run -- rpm --dbpath "$here/example" -qa > /dev/null) || fail "rt built no program"
-    "$here/release/link.sh" "$room/rpm_prog" || {
+    sh "$here/release/link.sh" "$room/rpm_prog" || {
         cp -- "$here/crates/rpm_prog/out/rpm_prog" "$room/rpm_prog"
         say "so the program is linked with this machine's C library"
     }

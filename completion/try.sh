@@ -7,8 +7,8 @@
 # A line after "$ " is followed by the words that may stand in place of its last one, a line each, or <files>, or <folders>; a line after "> " by
 # what stands there when the tabulator was pressed, after "bash> " and "zsh> " in that shell alone. Each line after "@ " is the name of a package of
 # the database h, begun bare and behind both quotes, completed, and run: the program has to get that very name, and nothing else may happen; "+ "
-# names a package that h has beside. The shell is in a folder with a copy of example/real/68-packages.db in d and with h, and has the program of the gate or of release/ as rpm and rpmdb,
-# and as juzkarg-rpm and juzkarg-rpmdb; without --noindex, which the completion alone has, it says its words in place of an answer.
+# names a package that h has beside. The shell is in a folder with a copy of example/real/68-packages.db in d and with h, and has the program of the
+# gate or of release/ as rpm, rpmdb, juzkarg-rpm and juzkarg-rpmdb; without --noindex, which the completion has, that says its words and answers nothing.
 # It takes four seconds, and fifteen with --typed.
 set -euo pipefail
 unset CDPATH
@@ -19,7 +19,11 @@ trap 'rm -rf "$room"' EXIT
 mkdir "$room/bin" "$room/d" "$room/folder"
 program=$("$here/../release/program.sh" "$room")
 for name in rpm rpmdb; do
-    printf '#!/bin/sh\nfor word; do [ "$word" != --noindex ] || exec "%s" %s "$@"; done\nprintf "%%s\\n" "$@" END >> "%s/out"\n' "$program" $name "$room" > "$room/bin/$name"
+    cat > "$room/bin/$name" <<END
+#!/bin/sh
+for word; do [ "\$word" != --noindex ] || exec "$program" $name "\$@"; done
+printf '%s\\n' "\$@" END >> "$room/out"
+END
     chmod 755 "$room/bin/$name"
     ln -s $name "$room/bin/juzkarg-$name"
 done

@@ -5,7 +5,7 @@ SHELL is bash or zsh, SCRIPT has the completion, and FOLDER is where the shell r
 the words are printed that may stand there, a line each. `> LINE` and `SHELL> LINE` are typed, then the tabulator, and the line is printed that stands
 there then. `@ NAME` is the name of a package of the database in h: four of its letters are typed, bare, behind " and behind ', then the tabulator and
 the end of the line, and where the program doesn't get that name, what it gets is printed. FOLDER/out is where the shell and its programs write.
-It waits for each answer ten seconds at most; a hundred lines take five seconds. completion/try.sh --typed runs it.
+It waits for each answer half a minute at most; a hundred lines take five seconds. completion/try.sh --typed runs it.
 """
 import os
 import pty
@@ -51,7 +51,7 @@ class Shell:
 
     def types(self, keys):
         """Types keys, and gives what the shell or a program wrote meanwhile, up to its mark."""
-        end = time.monotonic() + 10
+        end = time.monotonic() + 30
         # (while it runs a program, the terminal itself reads lines, and takes a key of these for the end of the input)
         while termios.tcgetattr(self.terminal)[3] & termios.ICANON and time.monotonic() < end:
             time.sleep(0.001)

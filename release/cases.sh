@@ -85,7 +85,7 @@ try_lists() {
     cp "$P/libexec/juzkarg/installed" "$room/list"
     digest=$(sha256sum < "$room/another" | cut -d ' ' -f 1)
     cp "$room/another" "$room/victim"
-    for line in "$room/victim" "file $digest $room/victim" "file $digest ../victim" "file $digest share/../../victim" "file ? ../victim" 'folder - ../other' /; do
+    for line in "$room/victim" "file $digest $room/victim" "file $digest ../victim" "file $digest share/../../victim" 'folder - ../other' /; do
         { cat "$room/list"; printf '%s\n' "$line"; } > "$P/libexec/juzkarg/installed"
         refuses tree --prefix "$P" --uninstall
         said "$line"

@@ -11,7 +11,7 @@ cd -P -- "$(dirname -- "$0")/.."
 {
     gzip -d -c release/sources.gz
     echo
-    release/digest.sh --files
+    sh release/digest.sh --files
 } | awk '
     { digest = substr($0, 1, 16); name = substr($0, 19) }
     $0 == "" { here = 1; next }
