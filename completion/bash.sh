@@ -50,7 +50,7 @@ _juzkarg_lines() {
 }
 
 _juzkarg() {
-    local what prefix piece list words quote expands begun
+    local what prefix piece list words quote expands begun lines
     COMPREPLY=()
     _juzkarg_split "${COMP_LINE:0:COMP_POINT}"
     _juzkarg_plan "${words[@]}"
@@ -60,7 +60,8 @@ _juzkarg() {
         format) compopt -o nospace ;;
         words) [[ -z $expands ]] || return 0 ;;
     esac
-    mapfile -t COMPREPLY < <(_juzkarg_lines "$2")
+    lines=$(_juzkarg_lines "$2")
+    [[ -z $lines ]] || mapfile -t COMPREPLY <<< "$lines"
 }
 
 complete -F _juzkarg rpm rpmdb juzkarg-rpm juzkarg-rpmdb
