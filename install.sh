@@ -150,7 +150,7 @@ told() {
 refuse_other_sources() {
     [ -f "$here/release/MANIFEST" ] && [ -f "$here/release/rpm_prog.gz" ] || fail "release/ has no program; --prove builds one of these sources"
     [ "$(told sources)" != "$(sh "$here/release/digest.sh")" ] || return 0
-    sh "$here/release/differs.sh" > "$room/differs"
+    sh "$here/release/differs.sh" > "$room/differs" || fail "these sources aren't those of release/'s program"
     head -n 20 "$room/differs" >&2
     fail "these sources aren't those of release/'s program: $(wc -l < "$room/differs") files differ (20 of them above at most); nothing was changed." \
         "A fresh copy has them; --prove proves and builds these, which takes an hour or more"

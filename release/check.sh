@@ -27,7 +27,7 @@ digest() {
 { [ -f release/MANIFEST ] && [ -f release/rpm_prog.gz ]; } || fail "there is no program: run release/make.sh after the gate"
 [ "$(told sources)" = "$(release/digest.sh)" ] || fail "the program is of other sources: run release/make.sh after the gate"
 [ "$(told toolchain)" = "$(rt version)" ] || fail "the program is of another toolchain: run release/make.sh after the gate"
-[ -z "$(release/differs.sh)" ] || fail "sources.gz is of other sources: run release/make.sh"
+differing=$(release/differs.sh) && [ -z "$differing" ] || fail "sources.gz is of other sources: run release/make.sh"
 
 room=$(mktemp -d)
 trap 'rm -rf "$room"' EXIT

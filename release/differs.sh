@@ -7,6 +7,7 @@ set -eu
 unset CDPATH
 cd -P -- "$(dirname -- "$0")/.."
 [ "${1-}" != --help ] || { sed -n '2,/^set /s/^# \{0,1\}//p' "$0"; exit; }
+gzip -t release/sources.gz
 
 {
     gzip -d -c release/sources.gz
