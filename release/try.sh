@@ -108,7 +108,7 @@ prepare() {
     make_tree tree "$program"
     make_tree newer "$room/newer_program"
     mkdir "$room/tools"
-    for tool in awk basename cat chmod cp cut dirname find grep gzip head ln mkdir mktemp mv readlink rm rmdir sed sha256sum sort tr uname wc xargs; do
+    for tool in awk basename cat chmod cp cut dirname find grep gzip head ln mkdir mktemp mv readlink rm rmdir sed sh sha256sum sort tr uname wc xargs; do
         ln -s "$(command -v "$tool")" "$room/tools/$tool"
     done
     cp "$room/tools/cat" "$room/another"
