@@ -6,6 +6,7 @@
 #
 # Copies are asked, in folders that are removed at the end. Each difference is a line, and it fails.
 set -eu
+[ "${1-}" != --help ] || { sed -n '1d; /^#/!q; s/^# \{0,1\}//p' "$0"; exit; }
 here=$(cd "$(dirname "$0")" && pwd)
 room=$(mktemp -d)
 # (in memory where that can be: there an fsync takes no time)
