@@ -56,10 +56,13 @@ def line_of(digest, kept):
 
 
 def renewed(text):
-    """A page with the lines of all its parts as they have to be."""
+    """A page with the lines of all its parts as they have to be; a part with a digest and no line gets one under its title."""
     parts = re.split(r"(?=^## )", text, flags=re.M)
     for at, part in enumerate(parts):
         written = WRITTEN.findall(part)
+        if written and not LINE.search(part):
+            title, _, rest = part.partition("\n")
+            part = f"{title}\n\n*Of the program `{written[0]}`.*\n{rest}"
         parts[at] = LINE.sub(lambda found: line_of(written[0] if written else found.group(1), found.group(0)), part)
     return "".join(parts)
 
