@@ -54,7 +54,9 @@ impl RealFile {
                 self.is_absent = false;
                 Ok(())
             }
-            Ok(_) => Err(Failed),
+            // Another process put a file there since this one looked.
+            Ok(_) => self.refuse(Obstacle::Busy),
+            Err(error) if error.kind() == ErrorKind::AlreadyExists => self.refuse(Obstacle::Busy),
             Err(error) => self.refuse_writing(error.kind()),
         }
     }
