@@ -8,7 +8,8 @@ end after the last. `shescape` prints a number bare, a text in quotes, and a mis
 package has it: with tabs, line ends, quotes, and the text `(none)` told apart from a missing tag. A missing tag is null in JSON Lines, and an empty
 field without quotes in CSV. Bytes that are no UTF-8 are \\udc80 to \\udcff in JSON, as Python's `surrogateescape` reads them; CSV has the bytes.
 
-The whole input is read first; the 518 packages of a CentOS 8 take 0.1 s. Needs Python 3 alone.
+The whole input is read first. The 518 packages of a CentOS 8 with their descriptions took 0.25 seconds of the processor, together with the question.
+Needs Python 3 alone.
 """
 import argparse
 import json
