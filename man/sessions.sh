@@ -18,8 +18,8 @@ shift
 top=$(cd "$(dirname "$0")/.." && pwd)
 room=$(mktemp -d)
 trap 'rm -rf "$room"' EXIT
-HOME=$room/home LC_ALL=C TZ=UTC
-export HOME LC_ALL TZ
+HOME=$room/home LC_ALL=C TZ=UTC PYTHONDONTWRITEBYTECODE=1
+export HOME LC_ALL TZ PYTHONDONTWRITEBYTECODE
 mkdir "$HOME"
 failed=0
 
