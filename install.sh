@@ -225,7 +225,7 @@ report() {
         ! is_in_path || same_folder "${first%/*}" "$prefix/bin" || why="; but PATH leads to $first before"
     fi
     gone=$(sed -n 's/^bin.//p' "$room/removed" | tr '\n' ' ')
-    say "installed ${lead}rpm and ${lead}rpmdb in $prefix/bin ($version)$why${gone:+"; removed the names $gone"}"
+    say "installed ${lead}rpm and ${lead}rpmdb in $prefix/bin ($version)$why${gone:+"; removed the names ${gone% }"}"
     is_in_path || say "PATH lacks that folder; with this line in ~/.profile it has it: export PATH=$(quoted "$prefix/bin"):\"\$PATH\""
 }
 
