@@ -3,6 +3,7 @@ mod Going
 mod Labels
 mod Lettered
 mod Lines
+mod Passing
 mod Rowed
 mod SoFar
 mod Telling

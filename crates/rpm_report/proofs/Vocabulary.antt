@@ -57,6 +57,7 @@ unfoldable pub use Rattle.rpm_report.specs.Requirements.{cycle_line, unmet_line}
 pub use Rattle.rpm_select.specs.Reach.{Everything}
 pub use Rattle.rpm_tags.specs.Numbers.{ARCH, NAME, RELEASE, VERSION}
 pub use Rattle.rpm_tags.specs.Value.{as_text, label, value}
+pub use Rattle.rpm_tags.specs.Wanted.{Needed}
 unfoldable pub use Rattle.rpm_tags.specs.Value.{first_text}
 pub use Rattle.rpm_tags.specs.declared.tag.Tag.TheVariants.{Nvra}
 pub use Rattle.std.specs.FinMap.{entries, FinMap, get}

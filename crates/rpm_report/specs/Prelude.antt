@@ -2,6 +2,7 @@
 pub use Rattle.rpm_change.specs.Hands.{Hand}
 pub use Rattle.rpm_change.specs.Steps.{bearer, whole}
 pub use Rattle.rpm_check.specs.Unmet.{required}
+pub use Rattle.rpm_check.specs.inner.Needs.{needed_in}
 pub use Rattle.rpm_db.specs.Database.{cost, cost_all}
 pub use Rattle.rpm_db.specs.Frame.{room}
 pub use Rattle.rpm_db.specs.Verdicts.{verdict}
@@ -12,6 +13,7 @@ pub use Rattle.rpm_qfeval.specs.Numbers.{has}
 pub use Rattle.rpm_select.specs.Reach.{Everything}
 pub use Rattle.rpm_version.specs.Range.{is_open}
 pub use Rattle.std.specs.List.{flat_map}
+pub use Rattle.std.specs.Option.{option_map}
 pub use Rattle.rpm_print.specs.Answers.{Anywhere, PartIs, Reached, Went}
 pub use Rattle.rpm_print.specs.Classes.{IsOfPrint, is_foreign, is_of_opening}
 pub use Rattle.rpm_print.specs.Frame.{DiskFault, EndHands, ErrTakes, HaltHands, HasRows, IsAskable, Looks, OutTakes, Peeks, PutsOut}

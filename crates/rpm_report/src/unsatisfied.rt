@@ -1,8 +1,8 @@
 //! `AnswersKeyed` of the theorem: the requirements that no package meets, each with its line.
 
-ghost use Rattle.std.specs.Prelude.{◌≡◌, ◌==◌, ◌<◌, ◌≤◌, [], ◌++◌, length, map, if◌then◌else◌, true, IsTrue, Err, IfOk, IfErr, OnOk, slice_get};
+ghost use Rattle.std.specs.Prelude.{◌≡◌, ◌==◌, ◌<◌, ◌≤◌, [], ◌++◌, drop, length, map, if◌then◌else◌, true, IsTrue, Err, IfOk, IfErr, OnOk, slice_get};
 ghost use Rattle.std.specs.List.{All, prefix_len};
-ghost use Rattle.rpm_report.specs.Prelude.{Anywhere, DiskFault, HaltHands, has, HasRows, header, is_open, IsAskable, IsOfPrint, line_of, OutTakes, packages_in, PartIs, Peeks, range_text, Reached, read_text, required, shown, HaltsOfSome, TellsOut, unmet_lines, unmet_step, unsatisfied_part};
+ghost use Rattle.rpm_report.specs.Prelude.{Anywhere, DiskFault, HaltHands, has, HasRows, header, is_open, IsAskable, IsOfPrint, line_of, needed_in, option_map, OutTakes, packages_in, PartIs, Peeks, range_text, Reached, read_text, required, shown, HaltsOfSome, TellsOut, unmet_lines, unmet_step, unsatisfied_part};
 
 use crate::unreadable::{halt_of_check, read_into, tell_each_bad};
 use rpm_change::Halt;
@@ -12,7 +12,7 @@ use rpm_filecheck::label_of;
 use rpm_header::View;
 use rpm_outside::{Buffered, Disk, Sink};
 use rpm_print::put_text;
-use rpm_tags::{Tags, dependencies, numbers};
+use rpm_tags::{Dependency, DependencyIter, Tags, dependencies, numbers};
 use std::alloc::{AllocError, Global};
 
 const REQUIRES: Tags = Tags {
@@ -59,18 +59,64 @@ fn push_range(text: &mut Vec<u8>, flags: u64, version: &[u8]) -> Result<(), Allo
     text.extend_from_slice(version)
 }
 
+/// The requirements of a header that are still to be passed, and how many were passed. Rising places are found in one
+/// walk over them.
+#[derive(Drop)]
+struct NeedsLeft<'a> {
+    needs: DependencyIter<'a>,
+    passed: usize,
+}
+
+/// All requirements of a header.
+fn all_needs<'a>(view: &View<'a>) -> NeedsLeft<'a>
+    ensures left { result.needs ≡ drop result.passed (required view.now) }
+    ensures passed { result.passed ≡ 0 }
+{
+    NeedsLeft {
+        needs: dependencies(view, REQUIRES),
+        passed: 0,
+    }
+}
+
+/// Begins with all requirements of a header again, where one of this place was passed.
+fn rewind<'a>(view: &View<'a>, left: &mut NeedsLeft<'a>, place: usize)
+    requires left { left.old.needs ≡ drop left.old.passed (required view.now) }
+    ensures left { left.new.needs ≡ drop left.new.passed (required view.now) }
+    ensures reaches { left.new.passed ≤ place }
+{
+    if place < left.passed {
+        *left = all_needs(view);
+    }
+}
+
+/// The requirement at a place of a header, if there is one. Goes on from the place that was asked for last, where this
+/// one stands behind it.
+fn needed_at<'a>(view: &View<'a>, left: &mut NeedsLeft<'a>, place: u32) -> Option<Dependency<'a>>
+    requires left { left.old.needs ≡ drop left.old.passed (required view.now) }
+    ensures value { option_map needed_in result ≡ slice_get (required view.now) place }
+    ensures left { left.new.needs ≡ drop left.new.passed (required view.now) }
+{
+    let place = place as usize;
+    rewind(view, left, place);
+    let needed = left.needs.nth(place - left.passed);
+    left.passed = place + 1;
+    needed
+}
+
 /// Adds the line of the requirement at a place of the header with this label; nothing where there is none.
 #[tactic(auto, unfolding(crate::specs::Requirements::unmet_line))]
-fn push_unmet(
+fn push_unmet<'a>(
     text: &mut Vec<u8>,
-    view: &View<'_>,
+    view: &View<'a>,
+    left: &mut NeedsLeft<'a>,
     label: &[u8],
     place: u32,
 ) -> Result<(), AllocError>
-    ensures { OnOk result (text.new.items ≡ text.old.items ++ line_of label.now (slice_get (required view.now) place)) }
+    requires left { left.old.needs ≡ drop left.old.passed (required view.now) }
+    ensures text { OnOk result (text.new.items ≡ text.old.items ++ line_of label.now (slice_get (required view.now) place)) }
+    ensures left { left.new.needs ≡ drop left.new.passed (required view.now) }
 {
-    let mut left = dependencies(view, REQUIRES);
-    match left.nth(place as usize) {
+    match needed_at(view, left, place) {
         Some(needed) => {
             text.extend_from_slice(label)?;
             text.extend_from_slice(b": unsatisfied: ")?;
@@ -82,7 +128,8 @@ fn push_unmet(
     }
 }
 
-/// The lines of these requirements of the header with which these bytes begin, one after the other.
+/// The lines of these requirements of the header with which these bytes begin, one after the other. Where their places
+/// rise, the requirements of the header are gone over once.
 fn unmet_lines(
     alloc: Global,
     blob: &[u8],
@@ -95,8 +142,9 @@ fn unmet_lines(
     match View::parse(blob) {
         Ok(view) => {
             let label = label_of(alloc, &view, number)?;
+            let mut left = all_needs(&view);
             for unmet in row {
-                push_unmet(&mut lines, &view, &label, unmet.place)?;
+                push_unmet(&mut lines, &view, &mut left, &label, unmet.place)?;
             }
             Ok(lines)
         }
