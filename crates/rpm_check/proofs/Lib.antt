@@ -12,6 +12,7 @@ pub mod Joining
 pub mod Keys
 pub mod Members
 pub mod Numbering
+mod Offering
 pub mod Picking
 pub mod Placing
 pub mod Providing

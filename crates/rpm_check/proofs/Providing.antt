@@ -1,7 +1,7 @@
 -- A requirement is met where its capability is provided.
 use Rattle.std.proofs.Common.{◌≡◌, ℕ, List, map, ◌==◌, ◌||◌, Ok, Err, refl, ap, ◌∙◌}
 use Rattle.std.specs.Prelude.{◌&&◌, Result, slice_index}
-use Rattle.rpm_check.proofs.Vocabulary.{answers, Bad, bytes_eq, CapabilityParts, entries, FinMap, givers, gives, Good, has_file, Header, header, HeaderFault}
+use Rattle.rpm_check.proofs.Vocabulary.{answers, Bad, bytes_eq, CapabilityParts, entries, filter, FinMap, givers, gives, Good, has_file, Header, header, HeaderFault}
 use Rattle.rpm_check.proofs.Vocabulary.{is_file_of, is_met, is_open, is_picked, is_some_of, meets, nat_cmp, Needed, overlaps, Package, picks, provided}
 use Rattle.rpm_check.proofs.Vocabulary.{Provides, read_gives, takes_header, takes_read}
 use Rattle.rpm_select.specs.Selections as select
@@ -37,6 +37,11 @@ module _ (c : CapabilityParts) (need : Needed) (stands : StandsFor c need) where
   met_is packages =
       is_some_of-filter (is_picked (Provides c)) (entries packages)
       ∙ list_any_same (is_picked (Provides c)) (meets need) same_package (entries packages)
+
+  -- it picks those that meet the requirement
+  pub picks_are : (packages : FinMap nat_cmp Package) → picks packages (Provides c) ≡ filter (meets need) (entries packages)
+  unfolding picks
+  picks_are packages = filter_same (is_picked (Provides c)) (meets need) same_package (entries packages)
 
   -- and of the packages that meet it
   pub givers_are : (packages : FinMap nat_cmp Package) → map (λ e. e.0) (picks packages (Provides c)) ≡ givers packages need

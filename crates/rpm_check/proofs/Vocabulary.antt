@@ -10,7 +10,10 @@ pub use Rattle.rpm_check.specs.declared.faults.CheckFault.{CheckFault}
 pub use Rattle.rpm_check.specs.declared.faults.CheckFault.TheVariants.{DiskFault, NoMemory}
 pub use Rattle.rpm_check.specs.declared.list.Unmet.{Unmet}
 pub use Rattle.rpm_check.specs.declared.memo.Requirement.{Requirement}
+pub use Rattle.rpm_check.specs.declared.names.Named.{Named}
 pub use Rattle.rpm_check.specs.declared.nodes.Node.{Node}
+pub use Rattle.rpm_check.specs.declared.offers.Offer.{Offer}
+pub use Rattle.rpm_check.specs.declared.offers.Range.{Range}
 pub use Rattle.rpm_check.specs.inner.Ends.{BeginsBelow, BeginsUpTo, good_if, good_of, is_end, is_good_at, needs_at}
 pub use Rattle.rpm_check.specs.inner.Faults.{fault_in}
 pub use Rattle.rpm_check.specs.inner.GiverMemos.{KnowsGivers, KnowsGiversOn}
@@ -18,6 +21,8 @@ pub use Rattle.rpm_check.specs.inner.Headers.{header_at, header_read}
 pub use Rattle.rpm_check.specs.inner.Memos.{key_order, Knows, KnowsOn, need_of}
 pub use Rattle.rpm_check.specs.inner.Needs.{needed_in}
 pub use Rattle.rpm_check.specs.inner.Nodes.{AreRising, edges_of, numbers_of}
+pub use Rattle.rpm_check.specs.inner.Offers.{AreOffered, given, hits, is_hit, is_named, IsNamed, KnowsNames, KnowsSources, offer_in, offered, range_in, range_of}
+pub use Rattle.rpm_check.specs.inner.Offers.{ranges_given, ranges_in, ranges_read, unranged}
 pub use Rattle.rpm_check.specs.inner.Picking.{is_some_of}
 pub use Rattle.rpm_check.specs.inner.Rounds.{IsFirst, unmet_at}
 pub use Rattle.rpm_db.specs.Above.{all_above_zero, both_true, is_below, next_above, none_below, none_is, nothing_above}
@@ -37,11 +42,12 @@ pub use Rattle.rpm_outside.specs.declared.disk.File.{File}
 pub use Rattle.rpm_outside.specs.declared.disk.File.TheVariants.{Idx, Pkg}
 pub use Rattle.rpm_select.specs.Candidates.{keys_asked}
 pub use Rattle.rpm_select.specs.Frame.{AsksIndex, AsksPackages}
-pub use Rattle.rpm_select.specs.Picks.{NextNumberIs}
-pub use Rattle.rpm_select.specs.Reach.{HasIndexRows, is_in, IsFaultOfOne, Serves}
+pub use Rattle.rpm_select.specs.Picks.{entry_in, NextIs, NextNumberIs, number_in}
+pub use Rattle.rpm_select.specs.Reach.{HasIndexRows, is_in, IsFaultOfOne, Reach, Serves}
 pub use Rattle.rpm_select.specs.Recents.{Recalls}
 pub use Rattle.rpm_select.specs.Selections.{is_picked, takes_read}
 unfoldable pub use Rattle.rpm_select.specs.Selections.{picks, takes_header}
+pub use Rattle.rpm_select.specs.declared.picked.Picked.{Picked}
 pub use Rattle.rpm_select.specs.declared.picked.PickFault.{PickFault}
 pub use Rattle.rpm_select.specs.declared.selection.Selection.{Selection}
 pub use Rattle.rpm_select.specs.declared.selection.Selection.TheVariants.{Provides}
@@ -55,7 +61,7 @@ unfoldable pub use Rattle.rpm_tags.specs.Wanted.{dependencies}
 pub use Rattle.rpm_tags.specs.declared.kind.Kind.{Kind}
 pub use Rattle.rpm_tags.specs.declared.needed.Tags.{Tags}
 pub use Rattle.rpm_version.specs.Capability.{CapabilityParts}
-pub use Rattle.rpm_version.specs.Range.{is_open, overlaps}
+unfoldable pub use Rattle.rpm_version.specs.Range.{is_open, overlaps}
 pub use Rattle.std.specs.BTreeMap.{BTreeMap, get, is_at, Updates}
 pub use Rattle.std.specs.Cmp.{unsigned_tied}
 pub use Rattle.std.specs.Cmp.Lexicographic.{slice_cmp}

@@ -5,6 +5,7 @@ pub use Rattle.std.specs.List.Sorted.{IsStrictlyIncreasing}
 pub use Rattle.std.specs.Ordering.{nat_cmp}
 pub use Rattle.rpm_db.specs.State.{Package}
 pub use Rattle.rpm_graph.specs.Networks.{IsBefore, edge}
+pub use Rattle.rpm_select.specs.Picks.{entry_in}
 pub use Rattle.rpm_select.specs.Reach.{is_in}
 pub use Rattle.rpm_select.specs.Recents.{Recalls}
 pub use Rattle.rpm_select.specs.Selections.{picks}
@@ -20,5 +21,6 @@ pub use Rattle.rpm_check.specs.inner.Headers.{header_at}
 pub use Rattle.rpm_check.specs.inner.Memos.{Knows, KnowsOn, need_of}
 pub use Rattle.rpm_check.specs.inner.Needs.{needed_in}
 pub use Rattle.rpm_check.specs.inner.Nodes.{AreRising, edges_of, numbers_of}
+pub use Rattle.rpm_check.specs.inner.Offers.{AreOffered, given, hits, is_hit, KnowsNames, KnowsSources, offer_in, offered, range_in, ranges_in}
 pub use Rattle.rpm_check.specs.inner.Picking.{is_some_of}
 pub use Rattle.rpm_check.specs.inner.Rounds.{IsFirst, unmet_at}

@@ -6,5 +6,6 @@ pub mod Headers
 pub mod Memos
 pub mod Needs
 pub mod Nodes
+pub mod Offers
 pub mod Picking
 pub mod Rounds

@@ -6,8 +6,8 @@ ghost use Rattle.std.specs.FinMap as finite;
 
 use crate::faults::CheckFault;
 use crate::giver_memo::GiverMemo;
-use crate::giving::givers;
 use crate::lacking::REQUIRES;
+use crate::looking::givers_by_name;
 use crate::memo::Requirement;
 use crate::package::read_header;
 use rpm_db::Db;
@@ -46,7 +46,7 @@ fn push_givers<D: Disk>(
     if let Some(known) = memo.get(&key) {
         return push_all(ends, known);
     }
-    let found = givers(alloc, db, disk, &mut memo.recent, needed)?;
+    let found = givers_by_name(alloc, db, disk, &mut memo.sources, needed)?;
     push_all(ends, &found)?;
     memo.put(key, found)?;
     Ok(())

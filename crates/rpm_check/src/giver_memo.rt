@@ -3,17 +3,16 @@
 ghost use Rattle.std.specs.Prelude.{◌≡◌, IfSome};
 ghost use Rattle.rpm_check.specs.Prelude.{FinMap, givers, KnowsGivers, nat_cmp, need_of, Package};
 
+use crate::looking::Sources;
 use crate::memo::Requirement;
-use rpm_select::Recent;
 use std::alloc::{AllocError, Global};
 use std::collections::BTreeMap;
 
-/// The numbers of the packages that meet requirements that were looked up before, and the package that was read last
-/// for one.
+/// The numbers of the packages that meet requirements that were looked up before, and what is kept for the next one.
 #[derive(Drop)]
 pub struct GiverMemo {
     numbers: BTreeMap<Requirement, Vec<u32>>,
-    pub recent: Recent,
+    pub sources: Sources,
 }
 
 impl GiverMemo {
@@ -22,7 +21,7 @@ impl GiverMemo {
     {
         GiverMemo {
             numbers: BTreeMap::new(alloc),
-            recent: Recent::new(),
+            sources: Sources::new(alloc),
         }
     }
 

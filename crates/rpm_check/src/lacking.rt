@@ -5,7 +5,7 @@ ghost use Rattle.rpm_check.specs.Prelude.{Asks, HasRows, is_met, is_passed_over,
 
 use crate::faults::CheckFault;
 use crate::list::Unmet;
-use crate::meeting::is_met;
+use crate::looking::is_met_by_name;
 use crate::memo::{Memo, Requirement};
 use rpm_db::Db;
 use rpm_header::View;
@@ -45,7 +45,7 @@ fn is_met_once<D: Disk>(
     if let Some(known) = memo.get(&key) {
         return Ok(known);
     }
-    let found = is_met(alloc, db, disk, &mut memo.recent, needed)?;
+    let found = is_met_by_name(alloc, db, disk, &mut memo.sources, needed)?;
     memo.put(key, found)?;
     Ok(found)
 }

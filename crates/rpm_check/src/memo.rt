@@ -3,7 +3,7 @@
 ghost use Rattle.std.specs.Prelude.{◌≡◌, IfOk, IfSome};
 ghost use Rattle.rpm_check.specs.Prelude.{FinMap, is_met, Knows, nat_cmp, need_of, needed_in, Package};
 
-use rpm_select::Recent;
+use crate::looking::Sources;
 use rpm_tags::Dependency;
 use std::alloc::{AllocError, Global};
 use std::collections::BTreeMap;
@@ -28,11 +28,11 @@ impl Requirement {
     }
 }
 
-/// Whether requirements are met that were looked up before, and the package that was read last for one.
+/// Whether requirements are met that were looked up before, and what is kept for the next one.
 #[derive(Drop)]
 pub struct Memo {
     answers: BTreeMap<Requirement, bool>,
-    pub recent: Recent,
+    pub sources: Sources,
 }
 
 impl Memo {
@@ -41,7 +41,7 @@ impl Memo {
     {
         Memo {
             answers: BTreeMap::new(alloc),
-            recent: Recent::new(),
+            sources: Sources::new(alloc),
         }
     }
 

@@ -4,6 +4,8 @@
 #[cfg(test)]
 mod beside_tests;
 #[cfg(test)]
+mod check_tests;
+#[cfg(test)]
 mod commit_tests;
 #[cfg(test)]
 mod db_change_tests;

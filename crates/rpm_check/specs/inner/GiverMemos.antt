@@ -7,21 +7,21 @@ use Rattle.rpm_outside.specs.declared.disk.Disk as disk
 use Rattle.rpm_tags.specs.Wanted.{Needed}
 use Rattle.rpm_db.specs.Database.{Database}
 use Rattle.rpm_db.specs.State.{Package}
-use Rattle.rpm_select.specs.Recents.{Recalls}
 use Rattle.rpm_check.specs.declared.memo.Requirement.{Requirement}
 use Rattle.rpm_check.specs.declared.giver_memo.GiverMemo.{GiverMemo}
 use Rattle.rpm_check.specs.Edges.{givers}
 use Rattle.rpm_check.specs.Frame.{HasRows, packages_in}
 use Rattle.rpm_check.specs.inner.Memos.{need_of, key_order}
+use Rattle.rpm_check.specs.inner.Offers.{KnowsSources}
 
 -- the numbers that are known of a requirement are its own
 abbrev pub RemembersGivers : (Needed → List ℕ) → GiverMemo → Type 0
 RemembersGivers of memo = (key : Requirement) → IfSome (get key_order memo.numbers key) (λ known. known.items ≡ of (need_of key))
 
--- and what is held of the package that was read last
+-- and what is kept for the next one
 pub record KnowsGivers (packages : FinMap nat_cmp Package) (memo : GiverMemo) : Type 0 where
   pub numbers : RemembersGivers (givers packages) memo
-  pub recent : Recalls packages memo.recent
+  pub sources : KnowsSources packages memo.sources
 
 -- the same of the packages of a database whose index has their rows
 abbrev pub KnowsGiversOn : {D : Type 0} → disk.Ghosts D → D → Database → GiverMemo → Type 0

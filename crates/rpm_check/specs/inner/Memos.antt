@@ -9,11 +9,11 @@ use Rattle.rpm_outside.specs.declared.disk.Disk as disk
 use Rattle.rpm_tags.specs.Wanted.{Needed}
 use Rattle.rpm_db.specs.Database.{Database}
 use Rattle.rpm_db.specs.State.{Package}
-use Rattle.rpm_select.specs.Recents.{Recalls}
 use Rattle.rpm_check.specs.declared.memo.Requirement.{Requirement}
 use Rattle.rpm_check.specs.declared.memo.Memo.{Memo}
 use Rattle.rpm_check.specs.Frame.{HasRows, packages_in}
 use Rattle.rpm_check.specs.Unmet.{is_met}
+use Rattle.rpm_check.specs.inner.Offers.{KnowsSources}
 
 -- the requirement that a key stands for
 abbrev pub need_of : Requirement → Needed
@@ -29,10 +29,10 @@ key_order a b =
 abbrev pub Remembers : (Needed → Bool) → Memo → Type 0
 Remembers is_so memo = (key : Requirement) → IfSome (get key_order memo.answers key) (λ known. known ≡ is_so (need_of key))
 
--- and what is held of the package that was read last
+-- and what is kept for the next one
 pub record Knows (packages : FinMap nat_cmp Package) (memo : Memo) : Type 0 where
   pub answers : Remembers (is_met packages) memo
-  pub recent : Recalls packages memo.recent
+  pub sources : KnowsSources packages memo.sources
 
 -- the same of the packages of a database whose index has their rows
 abbrev pub KnowsOn : {D : Type 0} → disk.Ghosts D → D → Database → Memo → Type 0

@@ -15,7 +15,7 @@ pub returns-clause-told : goal.returns-clause-told
 returns-clause-told g c = λ told has.
     let old = c.args.ends.now.items in
     c.in_ok-push_all.ensures.told ∙ ap (λ (ms : List ℕ). old ++ ms) (c.deref-2.ensures.value
-    ∙ c.in_ok-found.ensures.told told has (c.requires.remembers told has).recent)
+    ∙ c.in_ok-found.ensures.told told has (c.requires.remembers told has).sources)
 
 pub returns-in-Some-clause-asks : goal.returns-in-Some-clause-asks
 returns-in-Some-clause-asks g c =
@@ -24,28 +24,28 @@ returns-in-Some-clause-asks g c =
 pub returns-in_err-found-clause-remembered : goal.returns-in_err-found-clause-remembered
 returns-in_err-found-clause-remembered g c = λ told has.
     let knows = c.requires.remembers told has in
-    record { numbers = knows.numbers; recent = c.in_err-found.ensures.recalls told knows.recent }
+    record { numbers = knows.numbers; sources = c.in_err-found.ensures.knows told has knows.sources }
 
 pub returns-in_err-push_all-clause-remembered : goal.returns-in_err-push_all-clause-remembered
 returns-in_err-push_all-clause-remembered g c = λ told has.
     let knows = c.requires.remembers told has in
-    record { numbers = knows.numbers; recent = c.in_ok-found.ensures.recalls told knows.recent }
+    record { numbers = knows.numbers; sources = c.in_ok-found.ensures.knows told has knows.sources }
 
 pub returns-in_err-put-clause-remembered : goal.returns-in_err-put-clause-remembered
 returns-in_err-put-clause-remembered g c = λ told has.
     let all = packages (g.D.Disk.files c.args.disk.now).pkg (room c.args.db.now) in
     let knows = c.requires.remembers told has in
     let found = c.in_ok-found.ensures in
-    c.in_err-put.ensures all (record { numbers = knows.numbers; recent = found.recalls told knows.recent })
-    (found.told told has knows.recent ∙ ap (givers all) (sym c.in_ok-key.ensures))
+    c.in_err-put.ensures all (record { numbers = knows.numbers; sources = found.knows told has knows.sources })
+    (found.told told has knows.sources ∙ ap (givers all) (sym c.in_ok-key.ensures))
 
 pub returns-clause-remembered : goal.returns-clause-remembered
 returns-clause-remembered g c = λ told has.
     let all = packages (g.D.Disk.files c.args.disk.now).pkg (room c.args.db.now) in
     let knows = c.requires.remembers told has in
     let found = c.in_ok-found.ensures in
-    c.in_ok-put.ensures all (record { numbers = knows.numbers; recent = found.recalls told knows.recent })
-    (found.told told has knows.recent ∙ ap (givers all) (sym c.in_ok-key.ensures))
+    c.in_ok-put.ensures all (record { numbers = knows.numbers; sources = found.knows told has knows.sources })
+    (found.told told has knows.sources ∙ ap (givers all) (sym c.in_ok-key.ensures))
 
 pub returns-in_err-key-clause-asks : goal.returns-in_err-key-clause-asks
 returns-in_err-key-clause-asks g c = asks_memory g.D.Disk (asking_none g.D.Disk g.met.D.Disk.follows_refl _ _ c.requires.asked) c.from_residual.ensures.1

@@ -8,5 +8,5 @@ returns c = λ all knows is. record {
   numbers =
       known_more (λ (numbers : Vec ℕ Global). numbers.items) (givers all) c.args.self.now.numbers c.insert.new.self c.args.key c.args.numbers
       c.in_ok-insert.ensures.updates is knows.numbers;
-  recent = knows.recent;
+  sources = knows.sources;
 }

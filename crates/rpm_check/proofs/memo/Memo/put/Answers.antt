@@ -8,5 +8,5 @@ returns c = λ all knows is. record {
   answers =
       known_more (λ (b : Bool). b) (is_met all) c.args.self.now.answers c.insert.new.self c.args.key c.args.met c.in_ok-insert.ensures.updates is
       knows.answers;
-  recent = knows.recent;
+  sources = knows.sources;
 }

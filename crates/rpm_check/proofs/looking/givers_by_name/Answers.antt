@@ -1,0 +1,19 @@
+use Rattle.std.proofs.Common.{◌≡◌, ◌==◌, ℕ, false, List, map, Option, ap, ◌∙◌, subst}
+use Rattle.std.specs.Prelude.{IfSome, slice_index, Vec}
+use Rattle.rpm_check.proofs.Vocabulary.{AreOffered, filter, Global, hits, needed_in, Offer, offer_in, offered, packages, room}
+use Rattle.rpm_check.proofs.Offering.{givers_by_offers, numbers_seen}
+use Rattle.rpm_check.proofs.looking.givers_by_name.Goals as goal
+
+pub returns-in_ok-keep-in-Some-clause-told : goal.returns-in_ok-keep-in-Some-clause-told
+returns-in_ok-keep-in-Some-clause-told g c = λ told has knows.
+    let all = packages (g.D.Disk.files c.args.disk.now).pkg (room c.args.db.now) in
+    let need = needed_in c.args.needed.now in
+    let found = c.in_ok-offers.ensures in
+    let offers : map offer_in c.in-Some.offers.items ≡ offered need.name all =
+    subst (AreOffered all need.name) c.in-Some.is (found.told told has knows.names) in
+    let plain : (slice_index need.name 0 == 47) ≡ false =
+    subst (λ (o : Option (Vec Offer Global)). IfSome o (λ _. (slice_index need.name 0 == 47) ≡ false)) c.in-Some.is found.plain in
+    c.in_ok-numbers-in-Some.ensures
+    ∙ ap (λ (os : List Offer). map (λ (o : Offer). o.number) (filter (λ (o : Offer). hits need (offer_in o)) os)) c.deref.ensures.value
+    ∙ numbers_seen need c.in-Some.offers.items ∙ ap (λ (os : List (ℕ × List (ℕ × List ℕ))). map (λ o. o.0) (filter (hits need) os)) offers
+    ∙ givers_by_offers all need plain

@@ -1,0 +1,15 @@
+use Rattle.rpm_check.proofs.Vocabulary.{entries, filter, given, meets, packages, room, unranged}
+use Rattle.std.proofs.Common.{◌≡◌, map, ap, ◌∙◌}
+use Rattle.rpm_check.proofs.Providing.{StandsFor, picks_are}
+use Rattle.rpm_check.proofs.offers.offers_under.Goals as goal
+use Rattle.rpm_check.proofs.Asking.{told_more}
+
+pub returns-clause-told : goal.returns-clause-told
+returns-clause-told g c =
+    let wanted = c.of_range-wanted in
+    let name = c.args.name.now in
+    let stands : StandsFor wanted.result (unranged name)
+    = record { name = wanted.ensures.name; plain = wanted.ensures.plain; same = wanted.ensures.same } in
+    told_more c.offers_picked.result _ _ (λ found said told has. said told has
+    ∙ ap (map (given name)) (picks_are wanted.result (unranged name) stands (packages (g.D.Disk.files c.args.disk.now).pkg (room c.args.db.now))))
+    c.offers_picked.ensures.told

@@ -1,0 +1,92 @@
+-- What the packages provide under one name.
+use Rattle.std.specs.Prelude.{◌≡◌, ℕ, List, [], map, filter, Bool, IfSome, Option, Result, Ok, Err, Vec}
+use Rattle.std.specs.FinMap.{FinMap, entries}
+use Rattle.std.specs.List.{All, list_any}
+use Rattle.std.specs.Ordering.{nat_cmp}
+use Rattle.std.specs.Str.{bytes_eq}
+use Rattle.std.specs.declared.alloc.Global.{Global}
+use Rattle.rpm_header.specs.declared.form.HeaderFault.{HeaderFault}
+use Rattle.rpm_header.specs.Header.{Header, header}
+use Rattle.rpm_tags.specs.Wanted.{Needed}
+use Rattle.rpm_version.specs.Range.{overlaps}
+use Rattle.rpm_db.specs.State.{Package, Good, Bad}
+use Rattle.rpm_select.specs.Recents.{Recalls}
+use Rattle.rpm_check.specs.declared.looking.Sources.{Sources}
+use Rattle.rpm_check.specs.declared.names.Named.{Named}
+use Rattle.rpm_check.specs.declared.names.Names.{Names}
+use Rattle.rpm_check.specs.declared.offers.Offer.{Offer}
+use Rattle.rpm_check.specs.declared.offers.Range.{Range}
+use Rattle.rpm_check.specs.Unmet.{meets, provided}
+
+-- ---- one package
+
+-- a provide has this name
+abbrev pub is_named : List ℕ → Needed → Bool
+is_named name e = bytes_eq e.name name
+
+-- its range: flags and a version
+abbrev pub range_of : Needed → ℕ × List ℕ
+range_of e = (e.flags, e.version)
+
+-- the ranges that a header provides under a name
+abbrev pub ranges_in : List ℕ → Header → List (ℕ × List ℕ)
+ranges_in name h = map range_of (filter (is_named name) (provided h))
+
+-- the same of bytes that may be no header
+abbrev pub ranges_read : List ℕ → Result Header HeaderFault → List (ℕ × List ℕ)
+ranges_read name (Ok h) = ranges_in name h
+ranges_read name (Err fault) = []
+
+-- the same of a package
+abbrev pub ranges_given : List ℕ → Package → List (ℕ × List ℕ)
+ranges_given name (Good bytes) = ranges_read name (header bytes)
+ranges_given name Bad = []
+
+-- its number beside them
+abbrev pub given : List ℕ → ℕ × Package → ℕ × List (ℕ × List ℕ)
+given name e = (e.0, ranges_given name e.1)
+
+-- ---- all of them
+
+-- a name alone, with every version
+abbrev pub unranged : List ℕ → Needed
+unranged name = record { name = name; flags = 0; version = [] }
+
+-- what each package that provides a name gives under it, by rising number
+abbrev pub offered : List ℕ → FinMap nat_cmp Package → List (ℕ × List (ℕ × List ℕ))
+offered name packages = map (given name) (filter (meets (unranged name)) (entries packages))
+
+-- a range overlaps this one
+abbrev pub is_hit : ℕ → List ℕ → ℕ × List ℕ → Bool
+is_hit flags version r = overlaps r.0 r.1 flags version
+
+-- one of the ranges of a package overlaps that of a requirement
+abbrev pub hits : Needed → ℕ × List (ℕ × List ℕ) → Bool
+hits need o = list_any (is_hit need.flags need.version) o.1
+
+-- ---- what is kept
+
+-- the flags and the version of a range
+abbrev pub range_in : Range → ℕ × List ℕ
+range_in r = (r.flags, r.version.items)
+
+-- the number and the ranges of an offer
+abbrev pub offer_in : Offer → ℕ × List (ℕ × List ℕ)
+offer_in o = (o.number, map range_in o.ranges.items)
+
+-- what was read under a name, if it was, is what the packages provide under it
+abbrev pub AreOffered : FinMap nat_cmp Package → List ℕ → Option (Vec Offer Global) → Type 0
+AreOffered packages name o = IfSome o (λ offers. map offer_in offers.items ≡ offered name packages)
+
+-- the same of a name that is kept
+abbrev pub IsNamed : FinMap nat_cmp Package → Named → Type 0
+IsNamed packages named = AreOffered packages named.name.items named.offers
+
+-- and of each of them
+abbrev pub KnowsNames : FinMap nat_cmp Package → Names → Type 0
+KnowsNames packages names = All (IsNamed packages) names.kept.items
+
+-- and what is held of the package that was read last
+pub record KnowsSources (packages : FinMap nat_cmp Package) (sources : Sources) : Type 0 where
+  pub names : KnowsNames packages sources.names
+  pub recent : Recalls packages sources.recent
