@@ -44,7 +44,8 @@ def pairs(sides):
     def ask(side):
         return Part(side, ["rpm", "-q", "--qf", SHOWN, *(f"package{i}" for i in (1, 40, 52, 61, 80))])
     yield Pair("an import of 20 by rpm, `--addpkg` of 3", imports("rpm"), add())
-    yield Pair("an erasure of 5 by rpm, `--addpkg` of 3", Part("rpm", ["rpm", "-e", "--justdb", "--nodeps", *(f"package{i}" for i in AWAY)], erases=AWAY), add())
+    away = Part("rpm", ["rpm", "-e", "--justdb", "--nodeps", *(f"package{i}" for i in AWAY)], erases=AWAY)
+    yield Pair("an erasure of 5 by rpm, `--addpkg` of 3", away, add())
     yield Pair("an import of 20 by rpm, `--erasepkg` of 3", imports("rpm"), Part("ours", ["rpm", "--erasepkg", "1", "2", "3"], erases=(1, 2, 3)))
     yield Pair("an import of 20 by rpm, `-q` again and again", imports("rpm"), ask("ours"))
     yield Pair("`--importdb` of 20, rpm's `-q` again and again", imports("ours"), ask("rpm"))

@@ -80,8 +80,8 @@ def rights_of_files(table):
             path = path_of(table, side, name)
             with open(path, "ab"):
                 os.chmod(path, 0o444)
-        done(table, Case(f"`{name}`, three are erased by another user", prepare, lambda side: side.erasing(3), REFUSED.format(f"this user may not write {name}") + "; nothing made",
-                         changed, how={"before": NOBODY}))
+        done(table, Case(f"`{name}`, three are erased by another user", prepare, lambda side: side.erasing(3),
+                         REFUSED.format(f"this user may not write {name}") + "; nothing made", changed, how={"before": NOBODY}))
 
 
 def closed(handles):
@@ -89,36 +89,41 @@ def closed(handles):
     return ["sh", "-c", f"exec \"$@\" {' '.join(f'{it}>&-' for it in handles)}", "sh"]
 
 
+def older_index(side):
+    """Makes the index one of an earlier state; of rpm nothing that its file says, but of its shared index."""
+    path = f"{side.database}/{'rpmdb.sqlite-shm' if side.name == 'rpm' else 'Hindex.db'}"
+    with open(path, "rb") as file:
+        index = file.read()
+    side.run(*side.erasing(1))
+    with open(path, "wb") as file:
+        file.write(index)
+
+
+def without_index(side):
+    if side.name != "rpm":
+        os.remove(f"{side.database}/Hindex.db")
+
+
+def files_of(side):
+    """The files that say something, with their bytes."""
+    return {name: data for name, data in side.files().items() if not name.endswith("-shm")}
+
+
 def descriptors(table):
     """Standard input, output and error are closed. The files have to be those that the same command leaves with all of them open."""
     table.title("A closed descriptor")
     wanted_files = {}
 
-    def older(side):
-        path = path_of(table, side, "Hindex.db")
-        with open(path, "rb") as file:
-            index = file.read()
-        side.run(*side.erasing(1))
-        with open(path, "wb") as file:
-            file.write(index)
-
-    def without(side):
-        if side is table.ours:
-            os.remove(f"{side.database}/Hindex.db")
-
-    def files(side):
-        return {name: data for name, data in side.files().items() if not name.endswith("-shm")}
-
-    def case(name, words, handles, wanted, prepare=without, kept=COUNT):
+    def case(name, words, handles, wanted, prepare=without_index, kept=COUNT):
         def first(side):
             prepare(side)
             side.run(*words)
-            wanted_files[side.name] = files(side)
+            wanted_files[side.name] = files_of(side)
             side.fresh()
             prepare(side)
 
         def after(side):
-            return "the files are right" if files(side) == wanted_files[side.name] else "the files are wrong"
+            return "the files are right" if files_of(side) == wanted_files[side.name] else "the files are wrong"
         done(table, Case(name, first, words, wanted + "; the files are right", after, kept=kept, how={"before": closed(handles)}))
     both = ("rpm", "-q", "package7", "nosuch")
     case("input, `--importdb`", IMPORT, (0,), "0, none", nothing)
@@ -126,7 +131,7 @@ def descriptors(table):
     case("error, no index, the same", both, (2,), "1, all")
     case("output and error, no index, `-q`", ONE, (1, 2), "0, none")
     case("all three, no index, `-q`", ONE, (0, 1, 2), "0, none")
-    case("all three, an old index, `-q`", ONE, (0, 1, 2), "0, none", older, COUNT - 1)
+    case("all three, an old index, `-q`", ONE, (0, 1, 2), "0, none", older_index, COUNT - 1)
 
 
 class Links:

@@ -224,8 +224,8 @@ def two_at_once(table, times):
         seen = [(process.communicate()[0] == right, process.returncode) for pair in both for process in pair]
         cells.append("0, all" if set(seen) == {(True, 0)} else f"{sum(it == (True, 0) for it in seen)} of {len(seen)} right")
     table.row("questions beside each other", cells, [len(side.headers()) for side in table.sides], "0, all", 40)
-    for words, stated in ((ALL, r"0(, 252)?, (40|540|40 or 540) packages"), (("rpm", "-q", "package7", "package520"), r"(0|1|0, 1)(, 252)?, (1|2|1 or 2) packages")):
-        beside_an_import(table, words, stated)
+    beside_an_import(table, ALL, r"0(, 252)?, (40|540|40 or 540) packages")
+    beside_an_import(table, ("rpm", "-q", "package7", "package520"), r"(0|1|0, 1)(, 252)?, (1|2|1 or 2) packages")
 
 
 def beside_an_import(table, words, stated):

@@ -3,7 +3,7 @@ import os
 import shutil
 import stat
 
-from hard_edge import NAMES, PLAIN, REFUSED, THEIRS, Case, changed, done, path_of
+from hard_edge import NAMES, PLAIN, REFUSED, Case, changed, done, path_of
 from hard_outside import ALL, IMPORT, ONE, more
 from hard_sides import COUNT, MAGIC
 from make_database import package

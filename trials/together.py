@@ -28,7 +28,7 @@ from pathlib import Path
 sys.dont_write_bytecode = True
 from folders import TOP
 from at_once import Hangs, table
-from crash_runs import Loss, Room
+from crash_room import Loss, Room
 from together_locks import locks
 from together_pairs import Pairs, Try
 

@@ -8,7 +8,7 @@ from pathlib import Path
 
 import crash_states as states
 from at_once import Hangs, Started, table
-from crash_runs import Loss, Room, short
+from crash_room import Loss, Room, short
 from together_pairs import ASKED, FIRST, NAMES, by_key, listing, reached
 
 HEADS = ["A lock that another process holds", "Command", "Held on", "Held for a second"]
@@ -33,7 +33,8 @@ class Held:
 
 
 LOCKS = (Held("the folder's, alone", "", fcntl.LOCK_EX, ("`-qa`",), ("`-q`",)),
-         Held("that of `Packages.db`, shared", "Packages.db", fcntl.LOCK_SH, ("`-q`", "`-qa`")), Held("that of `Packages.db`, alone", "Packages.db", fcntl.LOCK_EX))
+         Held("that of `Packages.db`, shared", "Packages.db", fcntl.LOCK_SH, ("`-q`", "`-qa`")),
+         Held("that of `Packages.db`, alone", "Packages.db", fcntl.LOCK_EX))
 
 
 def right(room, pairs, command, ended):
@@ -96,5 +97,7 @@ def locks(program, folder, pairs, is_quick, faults):
     with ThreadPoolExecutor(len(tasks)) as pool:
         found = dict(zip(cases, pool.map(tried, tasks)))
     faults.update(fault for _, fault in found.values() if fault)
-    rows = [[lock.name, name, *(found.get((lock, name, run), ("not tried", None))[0] for run in (held_on, for_a_second))] for lock in LOCKS for name in commands]
-    return table(HEADS, rows)
+
+    def cells(lock, name):
+        return [found.get((lock, name, run), ("not tried", None))[0] for run in (held_on, for_a_second)]
+    return table(HEADS, [[lock.name, name, *cells(lock, name)] for lock in LOCKS for name in commands])

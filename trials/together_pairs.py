@@ -8,7 +8,7 @@ from pathlib import Path
 import crash_states as states
 from at_once import Started
 from crash_cases import store_of
-from crash_runs import Loss, short
+from crash_room import Loss, short
 from crash_states import Command
 from model_store import TEXTS
 
