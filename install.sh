@@ -221,7 +221,7 @@ stage_texts() {
 report() {
     first=$(command -v rpm) || first=
     if [ -z "$lead" ]; then
-        why=${other:+"; they hide $other"}
+        why=${other:+"; where PATH has that folder first they hide $other"}
         ! is_in_path || same_folder "${first%/*}" "$prefix/bin" || why="; but PATH leads to $first before"
     fi
     gone=$(sed -n 's/^bin.//p' "$room/removed" | tr '\n' ' ')
