@@ -16,7 +16,8 @@ case ${1-} in --help) sed -n '2,/^[^#]/s/^# \{0,1\}//p' "$0"; exit ;; esac
 bin=$(cd "$1" && pwd)
 shift
 top=$(cd "$(dirname "$0")/.." && pwd)
-room=$(mktemp -d)
+# (in memory where that can be: there an fsync takes no time)
+room=$(mktemp -d -p /dev/shm 2> /dev/null || mktemp -d)
 trap 'rm -rf "$room"' EXIT
 HOME=$room/home LC_ALL=C TZ=UTC PYTHONDONTWRITEBYTECODE=1
 export HOME LC_ALL TZ PYTHONDONTWRITEBYTECODE
