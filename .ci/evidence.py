@@ -7,7 +7,7 @@ the SHA-256 of the program that was tried. The rest of the line says that it is 
 
 --write renews these lines; whoever measured again by hand puts the new digest there first. --check fails where a page has no such line, where one isn't
 what --write would make, and where no release had the program. Without a word the lines are printed. It needs Python 3, and git with the commit of the
-release: in a shallow clone, or without git, the numbers of files aren't compared. It takes a second.
+release: in a shallow clone, or without git, the numbers of files aren't compared. It takes two seconds.
 """
 import argparse
 import re
