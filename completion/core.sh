@@ -171,9 +171,9 @@ _juzkarg_value() {
     esac
 }
 
-# What the packages of the database that is asked have by this format.
+# What the packages of the database that is asked have by this format; nothing where there is no such database.
 _juzkarg_ask() {
-    list=$(command "$program" ${folder:+--dbpath "$folder"} -qa --noindex --qf "$1" 2> /dev/null)
+    list=$(command "$program" ${folder:+--dbpath "$folder"} -qa --noindex --qf "$1" 2> /dev/null) || list=
 }
 
 # A tag or a formatter, where the text of a format ends within a tag or at the name of a condition.
