@@ -107,7 +107,7 @@ def main():
             f"{count - wrong} of {count} answers are right.\n\n{tables}\n")
     print(text, end="")
     if asked.write:
-        PAGE.write_text(TABLE.sub(lambda _: text, PAGE.read_text(encoding="utf-8")), encoding="utf-8")
+        PAGE.write_text(TABLE.sub(lambda _: text, PAGE.read_text(encoding="utf-8"), count=1), encoding="utf-8")
     if faults:
         sys.exit("\n".join(f"{count} times {fault}" for fault, count in faults.most_common()))
 

@@ -9,8 +9,8 @@ import crash_files
 import crash_states as states
 from crash_files import LOG
 
-# A fault of the disk has its line, and may have one that says what stood in the way.
-FAILED = re.compile(rb"rpm: the database could not be read or written\n(rpm: [^\n]+\n)?")
+# A fault of the disk has its line, and may have one that says what stood in the way. Where each opening fails, package files have lines before it.
+FAILED = re.compile(rb"(?:error: open of [^\n]+ failed\n)*rpm: the database could not be read or written\n(?:rpm: [^\n]+\n)?")
 NOWHERE = re.compile(rb"rpm: the database could not be read or written\nrpm: [^\n]*folder[^\n]*\n")
 
 

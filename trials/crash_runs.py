@@ -196,8 +196,9 @@ class Bench:
         if answer == wanted:
             now = later = after
         elif is_failed(case.command, answer, wanted) and call.name == "openat":
-            # What can't be opened is known before the log has any of the change: nothing of it is made, now or later.
-            now = later = [plan.before]
+            # What can't be opened is known before the log has any of the change: nothing of it is made, now or later. What was committed before stays.
+            begun = case.disk.commit if case.disk else 0
+            now, later = after if begun else [plan.before], [[plan.before], [plan.before] + after, after][begun]
         elif is_failed(case.command, answer, wanted):
             now, later = after if disk.commit else [plan.before], [[plan.before], [plan.before] + after, after][disk.commit]
         else:

@@ -247,11 +247,17 @@ def beside_an_import(table, words, stated):
     table.row(f"`{words[1]}` during an import of 500", cells, left, stated, 40)
 
 
+def has_loader(program):
+    """Whether a program asks for the system's loader: in front of one that doesn't no library can be put."""
+    with open(program, "rb") as file:
+        return b"/ld-linux" in file.read()
+
+
 def clock(table):
     """The clock is set back."""
     table.title("A clock that is set back")
-    if not shutil.which("faketime"):
-        table.apart("a package is added in 2001", "wants faketime; no number or generation comes from the clock")
+    if not shutil.which("faketime") or not has_loader(table.ours.commands["rpm"][0]):
+        table.apart("a package is added in 2001", "wants faketime, and a program that isn't linked statically; no number or generation comes from the clock")
         return
     blob, cells = package(1000, True), []
     path = f"{table.ours.folder}/added.rpm"

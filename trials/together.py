@@ -97,7 +97,7 @@ def main():
     made = f"\nWith seed {asked.seed}, of the program with the digest `{digest}`:\n\n{table(HEADS, rows)}\n{held}\n"
     print(made, end="")
     if asked.write:
-        PAGE.write_text(TABLE.sub(lambda _: made, PAGE.read_text(encoding="utf-8")), encoding="utf-8")
+        PAGE.write_text(TABLE.sub(lambda _: made, PAGE.read_text(encoding="utf-8"), count=1), encoding="utf-8")
     if faults:
         sys.exit("\n".join(f"{count} times {fault}" for fault, count in faults.most_common()))
 
