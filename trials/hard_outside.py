@@ -257,7 +257,7 @@ def clock(table):
     """The clock is set back."""
     table.title("A clock that is set back")
     if not shutil.which("faketime") or not has_loader(table.ours.commands["rpm"][0]):
-        table.apart("a package is added in 2001", "wants faketime, and a program that isn't linked statically; no number or generation comes from the clock")
+        table.apart("a package is added in 2001", "wants faketime, and no static program; no number or generation comes from the clock")
         return
     blob, cells = package(1000, True), []
     path = f"{table.ours.folder}/added.rpm"

@@ -167,7 +167,7 @@ RULES = {
     "missing tag": ("a bracket whose tag is missing prints nothing in rpm, here `(none)`.", missing_tag),
     "base64": ("rpm ends base64 with a newline of its own.", base64),
     "epoch": ("rpm's report of unmet requirements has the epoch in a package's name.", without_epoch),
-    "unmet features": ("a rpm that is built without a feature reports what requires it; this program's report leaves `rpmlib(..)` out.", without_features),
+    "unmet features": ("rpm built without a feature reports what requires it; this report leaves `rpmlib(..)` out.", without_features),
     "unmet installs": ("that report leaves out what only scripts of an installation require.", unmet_install),
     "unmet twice": ("it lists a requirement once that a package has several times.", unmet_once),
 }
