@@ -192,7 +192,7 @@ def links(table):
             ("`Packages.db` to nowhere, `-qa`", None, ALL, plain)):
         state = "; the target is not made" if content is None else "; the target is as before"
         done(table, Case(name, made.link(name.split("`")[1], content), words, wanted + state, made.left(content), kept=None))
-    done(table, Case("`Packages.db` to nowhere, a log made by hand, `-q`", made.logged, ONE, plain + "; the target is not made", made.left(None), kept=None))
+    done(table, Case("`Packages.db` to nowhere, a hand-made log, `-q`", made.logged, ONE, plain + "; the target is not made", made.left(None), kept=None))
     done(table, Case("`Packages.db` to the packages, `-qa`", made.link("Packages.db", True), ALL, "0, all"))
     done(table, Case("the same, three are erased", made.link("Packages.db", True), lambda side: side.erasing(3), plain + "; nothing made", changed))
 

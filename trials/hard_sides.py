@@ -157,7 +157,7 @@ class Table:
 
     def row(self, name, cells, kept, wanted, kept_wanted=None):
         """A row, where this program's cell has to fit a pattern, and what it kept another."""
-        self.lines.append(f"| {name} | {cells[0]} | {cells[1]} | {kept[0]} / {kept[1]} |")
+        self.lines.append(fitted(f"| {name} | {cells[0]} | {cells[1]} | {kept[0]} / {kept[1]} |"))
         if not re.fullmatch(wanted, cells[1]):
             self.faults.append(f"{name}: {cells[1]}\n  stated: {wanted}")
         if kept_wanted is not None and str(kept[1]) != str(kept_wanted):
@@ -165,6 +165,17 @@ class Table:
 
     def apart(self, name, why):
         self.lines.append(f"| {name} | not tried: {why} | not tried | |")
+
+
+def fitted(line, most=160):
+    """A line of a table within so many columns: messages keep their ends."""
+    for kept in range(34, 10, -2):
+        parts = line.split("`")
+        messages = [k for k in range(3, len(parts), 2) if len(parts[k]) > kept + 2 and not parts[k].startswith("-")] if len(line) > most else []
+        for k in messages:
+            parts[k] = ".." + parts[k].lstrip(".")[-kept:].lstrip()
+        line = "`".join(parts)
+    return line
 
 
 def show(text):
