@@ -169,7 +169,7 @@ class Table:
 
 def fitted(line, most=160):
     """A line of a table within so many columns: messages keep their ends."""
-    for kept in range(34, 10, -2):
+    for kept in range(34, 6, -2):
         parts = line.split("`")
         messages = [k for k in range(3, len(parts), 2) if len(parts[k]) > kept + 2 and not parts[k].startswith("-")] if len(line) > most else []
         for k in messages:
