@@ -5,8 +5,8 @@ PROGRAM is crates/rpm_prog/out/rpm_prog (made by `rt run` there), or what releas
 millions of instructions of the whole program, as callgrind counts them, for each count of packages; and for the greatest count up to 10,000
 the calls of the system, the syncs, and the bytes read and written. --write puts it into docs/FIGURES.md, with the date and the program's digest.
 
-Questions are asked over the packages of make_database.py, which all have the same files, with a current index. Changes and reports are made over
-packages with files of their own (make_database.py --own, make_reports.py mixed), each on a copy of the database.
+Each database was imported by the program. Questions are asked over the packages of make_database.py, which all have the same files, with a current index.
+Changes and reports are made over packages with files of their own (make_database.py --own, make_reports.py mixed), each on a copy of the database.
 """
 import datetime
 import hashlib
@@ -45,12 +45,14 @@ class Bench:
                                   stderr=subprocess.PIPE, check=False).stderr.decode(errors="replace")
 
     def made(self, name, maker, *options):
-        """A database with its index, and the list of its headers where the maker writes one."""
-        folder = self.folder / name
+        """A database with its index, into which this program imported the list that a maker writes, and the list."""
+        folder, unused, listed = self.folder / name, self.folder / f"{name}-unused", self.folder / f"{name}-list"
         folder.mkdir()
-        subprocess.run([sys.executable, HERE / maker, *options, str(folder), *([self.folder / "list"] if name == "own" else [])], check=True)
-        self.run(["rpm", "-q", "none"], folder)
-        return folder
+        unused.mkdir()
+        subprocess.run([sys.executable, HERE / maker, *options, str(unused), listed], check=True)
+        shutil.rmtree(unused)
+        self.run(["rpmdb", "--importdb"], folder, listed)
+        return folder, listed
 
     def copy(self, base):
         shutil.rmtree(self.folder / "copy", ignore_errors=True)
@@ -69,7 +71,7 @@ class Bench:
 
     def costs(self):
         """The rows: a command, and what it costs."""
-        base = self.made("same", "make_database.py", str(self.count))
+        base, _ = self.made("same", "make_database.py", str(self.count))
         for line in QUESTIONS:
             yield f"`rpm {line}`", self.cost(base, ["rpm"] + words_of(line))
         for line in LISTS:
@@ -77,9 +79,9 @@ class Bench:
         (base / "Hindex.db").unlink()
         yield "`rpm -q package500`, the index rebuilt", self.cost(base, ["rpm", "-q", "package500"])
         self.run(["rpm", "-q", "none"], base)
-        base = self.made("own", "make_database.py", "--own", str(self.count))
+        base, listed = self.made("own", "make_database.py", "--own", str(self.count))
         (self.folder / "empty").mkdir()
-        yield "`rpmdb --importdb` of as many", self.cost(self.folder / "empty", ["rpmdb", "--importdb"], self.folder / "list")
+        yield "`rpmdb --importdb` of as many", self.cost(self.folder / "empty", ["rpmdb", "--importdb"], listed)
         subprocess.run([sys.executable, HERE / "make_package.py", "--own", str(self.count + 1), str(self.folder / "file")], check=True)
         yield "`rpm --addpkg`, one", self.cost(base, ["rpm", "--addpkg", str(self.folder / "file")])
         yield "`rpm --replacepkg`, the first", self.cost(base, ["rpm", "--replacepkg", "1", str(self.folder / "file")])
@@ -87,7 +89,7 @@ class Bench:
         yield "`rpm --erasepkg`, the first", self.cost(base, ["rpm", "--erasepkg", "1"])
         yield "`rpm --erasepkg`, the first of packages with the same files", self.cost(self.folder / "same", ["rpm", "--erasepkg", "1"])
         yield "`rpmdb --rebuilddb`", self.cost(base, ["rpmdb", "--rebuilddb"])
-        base = self.made("mixed", "make_reports.py", "mixed", str(self.count))
+        base, _ = self.made("mixed", "make_reports.py", "mixed", str(self.count))
         for line in REPORTS:
             yield f"`{line}`", self.cost(base, line.split())
 
