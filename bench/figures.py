@@ -87,6 +87,7 @@ class Bench:
         yield "`rpm --replacepkg`, the first", self.cost(base, ["rpm", "--replacepkg", "1", str(self.folder / "file")])
         yield "`rpm --erasepkg`, the last", self.cost(base, ["rpm", "--erasepkg", str(self.count)])
         yield "`rpm --erasepkg`, the first", self.cost(base, ["rpm", "--erasepkg", "1"])
+        yield "`rpm --erasepkg 1 .. 50`", self.cost(base, ["rpm", "--erasepkg", *map(str, range(1, 51))])
         yield "`rpm --erasepkg`, the first of packages with the same files", self.cost(self.folder / "same", ["rpm", "--erasepkg", "1"])
         yield "`rpmdb --rebuilddb`", self.cost(base, ["rpmdb", "--rebuilddb"])
         base, _ = self.made("mixed", "make_reports.py", "mixed", str(self.count))

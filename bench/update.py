@@ -126,7 +126,7 @@ def seconds_table(rows, others):
     heads = [cell for name in others for cell in (f"rpm, {name}", "here, of that")]
     text = line("What is done", "By", "Here", *heads) + "|---" * (3 + len(heads)) + "|\n"
     for work, costs in rows:
-        cells = [cell for name in others for cell in (number(costs[name], "seconds", "{:,.2f}"), share(costs["here"], costs[name]))]
+        cells = [cell for name in others for cell in (number(costs[name], "seconds", "{:,.3f}"), share(costs["here"], costs[name]))]
         text += line(work.name, work.shown, number(costs["here"], "seconds", "{:,.3f}"), *cells)
     return text
 

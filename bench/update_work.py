@@ -161,6 +161,8 @@ def questions(bases):
     """What is asked of real packages, and of many."""
     files = bases.ask("real", "[%{FILENAMES}\\n]")
     paths = files[::len(files) // 1000][:1000]
+    for words in (["rpm", "-qa"], ["rpm", "-q", "bash"], ["rpm", "-q", "--whatrequires", "/bin/sh"], ["rpmdb", "--exportdb"], ["rpmdb", "--verifydb"]):
+        yield Work("a question of 396 real packages", "real", [words], [words], f"`{' '.join(words)}`", changes=False)
     words = ["rpm", "-qf", *paths]
     yield Work("whose 1,000 paths are, of 396 real packages", "real", [words], [words], "`rpm -qf PATH..`", changes=False)
     for count in (1_000, 10_000, 50_000):
