@@ -7,8 +7,8 @@ The real packages are the 396 of a CentOS 7, once and six times over, which Debi
 make_database.py --own and make_reports.py. Each side imports them by itself. PROGRAM is crates/rpm_prog/out/rpm_prog, or what release/program.sh names; rpm is
 the distribution's, over sqlite, and with --ndb also the one of FOLDER over its ndb backend, as trials/rpm-with-ndb builds it; --alone leaves both out.
 
-Three tables are printed: what this program does (calls of the system by `strace -c -f`, instructions by callgrind where a run takes less than two seconds), the
-seconds of the processor (the least of N runs, three where no N is given; one run alone of what takes more than ten seconds), and the memory that a process
+Three tables are printed: what this program does (reads as /proc counts them, calls of the system by `strace -c -f`, instructions by callgrind where a run takes
+less than two seconds), the seconds of the processor (the least of N runs, three where no N is given; one run alone of what takes more than ten seconds), and the memory that a process
 holds at most (VmHWM). --only measures the named parts: erasures, updates, questions, reports, lists. --keep notes each cost in FILE, and takes from there what
 an earlier run noted of the same program. --write puts the tables into docs/FIGURES.md. Wants rpm, strace, valgrind, and 3 GB below $TMPDIR; it takes a quarter
 of an hour.
@@ -31,9 +31,9 @@ import update_work
 
 PAGE = update_work.HERE.parent / "docs" / "FIGURES.md"
 MADE = "<!-- made by bench/update.py --write -->\n", "<!-- end of what it made -->\n"
-# A command has to be through in so many seconds of the clock; a work that takes more seconds of the processor than MOST_RUN is run once.
-MOST, MOST_RUN, MOST_COUNTED, MOST_LINES = 400, 10, 2, 3
-READS, SYNCS = ("read", "pread64", "readv", "preadv"), ("fsync", "fdatasync")
+# A command may take so many seconds of the processor; a work that takes more seconds of the processor than MOST_RUN is run once.
+MOST, MOST_RUN, MOST_COUNTED, MOST_LINES, MOST_TRACED = 300, 10, 2, 3, 300_000
+SYNCS = ("fsync", "fdatasync")
 
 
 class Bench:
@@ -65,19 +65,20 @@ class Bench:
         lines, found = work.ours if side.name == "here" else work.theirs, {}
         try:
             taken = []
-            while not taken or len(taken) < self.runs and taken[-1] < MOST_RUN:
-                taken.append(sum(self.on_copy(work, side, lambda *words: update_costs.seconds(*words, MOST), lines)))
+            while not taken or len(taken) < self.runs and sum(it["seconds"] for it in taken[-1]) < MOST_RUN:
+                taken.append(self.on_copy(work, side, lambda *words: update_costs.spent(*words, MOST), lines))
         except update_costs.Failed as failed:
-            print(f"{side.name}: {failed}", file=sys.stderr, flush=True)
+            print(f"{side.name}: failed: {failed}", file=sys.stderr, flush=True)
             return found
         left = work.left if side.name == "here" else work.left_by_rpm or work.left
         if left and self.packages(side) != left:
             sys.exit(f"update.py: {work.name}: {side.name} leaves {self.packages(side)} packages, not {left}")
-        found["seconds"], found["memory"] = min(taken), max(self.on_copy(work, side, update_costs.memory, lines[:MOST_LINES]))
+        found = {"seconds": min(sum(it["seconds"] for it in run) for run in taken), "memory": max(it["memory"] for it in taken[0]),
+                 "reads": sum(it["reads"] for it in taken[0])}
         if side.name == "here":
-            made = self.on_copy(work, side, update_costs.calls, lines)
-            found["reads"], found["syncs"] = (sum(it.get(name, 0) for it in made for name in names) for names in (READS, SYNCS))
-            found["calls"] = sum(sum(it.values()) for it in made)
+            made = self.on_copy(work, side, update_costs.calls, lines) if found["reads"] < MOST_TRACED else []
+            if made:
+                found["calls"], found["syncs"] = sum(sum(it.values()) for it in made), sum(it.get(name, 0) for it in made for name in SYNCS)
             if found["seconds"] < MOST_COUNTED and len(lines) < MOST_LINES:
                 found["instructions"] = sum(self.on_copy(work, side, update_costs.instructions, lines))
         return found
@@ -94,7 +95,7 @@ class Kept:
         whose = self.program if side.name == "here" else f"rpm over {side.name}"
         key = f"{whose}: {work.name}: {work.shown}"
         if key not in self.rows:
-            self.rows[key] = measure(work, side)
+            self.rows[key] = {**measure(work, side), "load": os.getloadavg()[0]}
             print(f"{key}: {self.rows[key]}", file=sys.stderr, flush=True)
             if self.path:
                 self.path.write_text(json.dumps(self.rows, indent=1), encoding="utf-8")
@@ -111,7 +112,7 @@ def number(cost, name, shape, by=1):
 
 
 def share(ours, theirs):
-    return f"{ours['seconds'] / theirs['seconds']:.3f}" if ours and theirs else "-"
+    return f"{ours['seconds'] / theirs['seconds']:.3f}" if "seconds" in ours and "seconds" in theirs else "-"
 
 
 def counts_table(rows):
@@ -138,12 +139,13 @@ def memory_table(rows, others):
     return text
 
 
-def told(rows, others, digest, loads):
+def told(rows, others, digest):
     """The tables, and what was measured of which programs when."""
+    loads = [cost["load"] for _, costs in rows for cost in costs.values() if cost]
     version = subprocess.run(["rpm", "--version"], stdout=subprocess.PIPE, text=True, check=True).stdout.split()[-1]
     beside = f", and of rpm {version} over {' and over '.join(others)}" if others else ""
     head = f"Measured on {datetime.date.today():%-d %B %Y}, of the program with the digest `{digest}`{beside}; "
-    head += f"the machine had a load of {loads[0]:.0f} at the beginning, and of {loads[1]:.0f} at the end."
+    head += f"the load of the machine was {min(loads):.0f} to {max(loads):.0f}."
     text = textwrap.fill(head, 158, break_on_hyphens=False) + "\n\n" + counts_table(rows)
     text += "\nSeconds of the processor, those of the system too:\n\n" + seconds_table(rows, others)
     return text + "\n### Memory\n\nMillions of bytes that a process holds at most:\n\n" + memory_table(rows, others)
@@ -174,7 +176,7 @@ def put_into_page(text):
 
 
 def main():
-    asked, first = options(), os.getloadavg()[0]
+    asked = options()
     program = asked.program.resolve()
     all_sides = list(update_work.sides(program, asked.ndb and asked.ndb.resolve()))[:1 if asked.alone else None]
     kept, rows = Kept(asked.keep, program), []
@@ -184,7 +186,7 @@ def main():
             for work in part(bench.bases) if not asked.only or part.__name__ in asked.only else ():
                 rows.append((work, {side.name: kept.cost(work, side, bench.cost) if side.name == "here" or work.theirs and not work.is_alone else {}
                                     for side in all_sides}))
-    text = told(rows, [side.name for side in all_sides[1:]], kept.program, (first, os.getloadavg()[0]))
+    text = told(rows, [side.name for side in all_sides[1:]], kept.program)
     print(text, end="")
     if asked.write:
         put_into_page(text)

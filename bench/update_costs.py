@@ -1,22 +1,24 @@
-"""What a command costs: seconds of the processor, memory, calls of the system, instructions. A part of bench/update.py.
+"""What a command costs: seconds of the processor, memory, reads, calls of the system, instructions. A part of bench/update.py.
 
 A command is a list of words. Each function runs it once, with an environment and with a file on its standard input.
 """
 import contextlib
-import os
 import re
+import resource
 import subprocess
 import tempfile
 import time
 from pathlib import Path
 
-# strace holds the process so long at its end, in microseconds, so that what it held at most can be read.
-HELD = 1_000_000
+# strace holds the process at its last call, at most so many microseconds; there is read what it took.
+HELD = 60_000_000
+LAST = ["strace", "-f", "--seccomp-bpf", "-qqq", "-o", "/dev/null", "-e", "trace=exit_group", "-e", f"inject=exit_group:delay_enter={HELD}"]
+EXIT_GROUP = 231
 LINE = re.compile(r"^ *[\d.]+ +[\d.]+ +\d+ +(\d+) (?: *\d+)? *(\w+)$", re.M)
 
 
 class Failed(Exception):
-    """A command that ended otherwise than it has to, or wasn't through in time."""
+    """A command that ended otherwise than it has to, or took too long."""
 
 
 @contextlib.contextmanager
@@ -32,45 +34,37 @@ def started(words, environment, feed):
             process.wait()
 
 
-def seconds(words, environment, feed, most):
-    """The seconds of the processor that a command takes, those of the system too; it has to be through in so many seconds of the clock."""
-    with started(words, environment, feed) as process:
-        end = time.monotonic() + most
-        while True:
-            number, status, usage = os.wait4(process.pid, os.WNOHANG)
-            if number:
-                process.returncode = os.waitstatus_to_exitcode(status)
-                break
-            if time.monotonic() > end:
-                raise Failed(f"not through in {most} s: {' '.join(map(str, words))[:200]}")
-            time.sleep(0.01)
-    if process.returncode not in (0, 1):
-        raise Failed(f"status {process.returncode}: {' '.join(map(str, words))[:200]}")
-    return usage.ru_utime + usage.ru_stime
-
-
 def child_of(process):
-    """The process that strace follows, once there is one."""
+    """The folder in /proc of the process that strace follows, once there is one."""
     found = Path(f"/proc/{process.pid}/task/{process.pid}/children").read_text(encoding="ascii").split()
-    return found[0] if found else None
+    return Path("/proc") / found[0]
 
 
-def memory(words, environment, feed):
-    """The bytes that a process held in memory at most: VmHWM of /proc, read when the process wants to end.
+def taken(child):
+    """What a process took until its last call, where it makes that: its status, seconds, the most bytes it held in memory, and how often it read."""
+    number, *arguments = (child / "syscall").read_text(encoding="ascii").split()
+    if number != str(EXIT_GROUP):
+        return None
+    status, reads = (child / "status").read_text(encoding="ascii"), (child / "io").read_text(encoding="ascii")
+    return {"status": int(arguments[0], 16), "seconds": int((child / "schedstat").read_text(encoding="ascii").split()[0]) / 1e9,
+            "memory": int(re.search(r"^VmHWM:\s+(\d+) kB$", status, re.M).group(1)) * 1024, "reads": int(re.search(r"^syscr: (\d+)$", reads, re.M).group(1))}
 
-    (What wait4 gives is no less than this script held itself, when it made the process.)
-    """
-    held = 0
-    around = ["strace", "-f", "--seccomp-bpf", "-qqq", "-o", "/dev/null", "-e", "trace=exit_group", "-e", f"inject=exit_group:delay_enter={HELD}"]
-    with started([*around, *words], environment, feed) as process:
-        while process.poll() is None:
-            with contextlib.suppress(OSError):
+
+def spent(words, environment, feed, most):
+    """What a command takes of the processor, of memory, and of reads; it may take so many seconds of the processor."""
+    found, limited = None, False
+    with started([*LAST, *words], environment, feed) as process:
+        while process.poll() is None and not found:
+            with contextlib.suppress(OSError, IndexError, ValueError):
                 child = child_of(process)
-                found = child and re.search(r"^VmHWM:\s+(\d+) kB$", Path(f"/proc/{child}/status").read_text(encoding="ascii"), re.M)
-                if found and Path(f"/proc/{child}/comm").read_text(encoding="ascii") != "strace\n":
-                    held = int(found.group(1)) * 1024
-            time.sleep(0.02)
-    return held
+                if not limited and (child / "comm").read_text(encoding="ascii") != "strace\n":
+                    resource.prlimit(int(child.name), resource.RLIMIT_CPU, (most, most))
+                    limited = True
+                found = limited and taken(child)
+            time.sleep(0.01)
+    if not found or found.pop("status") > 1:
+        raise Failed(" ".join(map(str, words))[:200])
+    return found
 
 
 def calls(words, environment, feed):
