@@ -7,11 +7,11 @@ The real packages are the 396 of a CentOS 7, once and six times over, which Debi
 make_database.py --own and make_reports.py. Each side imports them by itself. PROGRAM is crates/rpm_prog/out/rpm_prog, or what release/program.sh names; rpm is
 the distribution's, over sqlite, and with --ndb also the one of FOLDER over its ndb backend, as trials/rpm-with-ndb builds it; --alone leaves both out.
 
-Three tables are printed: what this program does (reads as /proc counts them, calls of the system by `strace -c -f`, instructions by callgrind where a run takes
-less than two seconds), the seconds of the processor (the least of N runs, three where no N is given; one run alone of what takes more than ten seconds), and the memory that a process
-holds at most (VmHWM). --only measures the named parts: erasures, updates, questions, reports, lists. --keep notes each cost in FILE, and takes from there what
-an earlier run noted of the same program. --write puts the tables into docs/FIGURES.md. Wants rpm, strace, valgrind, and 3 GB below $TMPDIR; it takes a quarter
-of an hour.
+Three tables are printed: what this program does (reads as /proc counts them, calls of the system by `strace -c -f`, instructions by callgrind where a run
+takes less than two seconds), the seconds of the processor (the least of N runs, three where no N is given; one run alone of what takes more than ten
+seconds), and the memory that a process holds at most (VmHWM). --only measures the named parts: erasures, updates, questions, reports, lists. --keep notes
+each cost in FILE, and takes from there what an earlier run noted of the same program. --write puts the tables into docs/FIGURES.md. Wants rpm, strace,
+valgrind, and 3 GB below $TMPDIR; it takes a quarter of an hour.
 """
 import argparse
 import datetime
