@@ -151,7 +151,7 @@ def updates(bases):
     found = bases.newer_files("real", 200)
     files, gone = [path for _, path in found], [number for number, _ in found]
     update = ["rpm", "-U", *QUIETLY, *UNREAD]
-    yield Work("200 of 396 real packages updated: the new ones added, the old ones erased", "real",
+    yield Work("200 of 396 real packages updated: new ones added, old ones erased", "real",
                [["rpm", "--addpkg", *files], ["rpm", "--erasepkg", *gone]], [[*update, *files]], "`rpm --addpkg FILE..`, `rpm --erasepkg N..`", left=396)
     yield Work("the same, each by a command of its own", "real", [["rpm", "--replacepkg", *pair] for pair in found],
                [[*update, path] for path in files], "`rpm --replacepkg N FILE`, 200 times", left=396)
