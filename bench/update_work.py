@@ -171,13 +171,12 @@ def questions(bases):
 
 
 def reports(_bases):
-    """Reports over what makes them long."""
+    """Reports over what makes them long. (rpm's `-Va --nofiles` says nothing of these packages, so it isn't compared.)"""
     for what, counts, name in (("unmet", (1_000, 2_000, 4_000), "{:,} requirements of one package that nothing meets"),
                                ("givers", (125, 250, 500), "{} packages that provide one name, each required in a version of its own")):
         for count in counts:
             base = f"{what}-{count}"
-            yield Work(name.format(count), base, [["rpm", "-Va", "--nofiles"]], [["rpm", "-Va", "--nofiles", "--noscripts"]],
-                       "`rpm -Va --nofiles`", changes=False)
+            yield Work(name.format(count), base, [["rpm", "-Va", "--nofiles"]], [], "`rpm -Va --nofiles`", changes=False)
             yield Work(name.format(count), base, [["rpmdb", "--order"]], [], "`rpmdb --order`", changes=False)
 
 
