@@ -47,7 +47,7 @@ def row_of(name):
     """What is counted of a crate."""
     folder = TOP / "crates" / name
     source, data = lines_below(folder / "src", ".rt"), lines_below(folder / "data", ".rows")
-    is_code = not name.endswith("_tests") and name != "rpm_rows"
+    is_code = not name.endswith("_tests") and name not in ("rpm_rows", "rpm_row_files")
     items = read_tree(TOP, [name], "src", ".rt", read_source).values()
     code, contracts = split_up(source) if is_code else (0, 0)
     return {

@@ -4,9 +4,9 @@ use crate::difference::{Stop, differs, same_bytes, same_numbers, wrong};
 use crate::ending::ending_text;
 use crate::failing::check_calls;
 use crate::leavings::check_left;
-use crate::row::{Ending, Files, Line, Output, Row, Start, Taken};
 use crate::tool::{Ran, run_once};
 use rpm_outside::File;
+use rpm_row_files::{Ending, Files, Line, Output, Row, Start, Taken};
 use std::alloc::Global;
 
 /// How many line ends there are.

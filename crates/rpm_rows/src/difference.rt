@@ -1,7 +1,7 @@
 //! What differs from what a row expects.
 
-use crate::fault::Fault;
 use hex::encode;
+use rpm_row_files::Fault;
 use std::alloc::{AllocError, AllocFailed, Global};
 use std::fmt::Write;
 

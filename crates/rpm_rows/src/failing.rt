@@ -2,9 +2,9 @@
 
 use crate::difference::{Stop, differs, same_bytes};
 use crate::ending::ending_text;
-use crate::row::{Fails, Files, Line, NOTHING_FAILS, Shown, Start};
 use crate::tool::{Ran, run_once, words_of};
 use rpm_outside::{MemDisk, Pick};
+use rpm_row_files::{Fails, Files, Line, NOTHING_FAILS, Shown, Start};
 use rpm_tool::Why;
 use std::alloc::Global;
 

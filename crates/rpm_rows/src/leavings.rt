@@ -1,11 +1,10 @@
 //! What a row's lines left.
 
 use crate::difference::{Stop, differs, same_bytes, same_file, same_numbers};
-use crate::records::{Record, records_of};
-use crate::row::{Files, Left, LeftAt, NOTHING_FAILS, Row, Start};
 use crate::tool::{run_once, words_of};
 use hex::encode;
 use rpm_outside::File;
+use rpm_row_files::{Files, Left, LeftAt, NOTHING_FAILS, Record, Row, Start, records_of};
 use sha2::{Digest, Sha256};
 use std::alloc::{AllocError, Global};
 

@@ -2,31 +2,16 @@
 //! of them.
 #![tactic(auto)]
 
-mod ahead;
 mod checking;
 mod difference;
 mod ending;
-mod expected;
 mod failing;
-mod fault;
-mod fixtures;
-mod keyword;
-mod leaving;
 mod leavings;
-mod pieces;
-mod reader;
-mod records;
-mod row;
-mod statement;
-mod token;
 mod tool;
 
 use checking::check_row;
 use difference::Stop;
-use fixtures::Fixtures;
-use reader::rows_of;
-use row::Row;
-use statement::statements_of;
+use rpm_row_files::{Fixtures, Row, rows_of, statements_of};
 use std::process::ExitCode;
 use std::rt::{Env, Files};
 use std::{env, fs, io};

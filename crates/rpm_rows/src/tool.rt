@@ -1,7 +1,7 @@
 //! A command line, run on files and a shelf in memory.
 
-use crate::row::{Fails, Files, Start};
 use rpm_outside::{MemDisk, MemShelf, MemSink};
+use rpm_row_files::{Fails, Files, Start};
 use rpm_tool::{Outcome, run};
 use rpm_words::Words;
 use std::alloc::{AllocError, Global};
