@@ -52,4 +52,5 @@ pub use Rattle.rpm_pkgdb.specs.inner.Rising.{ArePages, Awaits, IsInOrder}
 pub use Rattle.rpm_pkgdb.specs.inner.Settings.{CanMove, NoShorter, WhileMoved}
 pub use Rattle.rpm_pkgdb.specs.inner.Still.{StandsStill}
 pub use Rattle.rpm_pkgdb.specs.inner.Tables.{AreNumbered, AreRight, IsIndexed}
+pub use Rattle.rpm_pkgdb.specs.inner.TwoRuns.{ComesBehind}
 pub use Rattle.rpm_pkgdb.specs.inner.Weights.{weights}

@@ -1,6 +1,7 @@
 -- Invariants and steps of the crate's own calls: nothing that a reader of its public calls must believe.
 pub mod Keys
 pub mod Rising
+pub mod TwoRuns
 pub mod Maps
 pub mod Tables
 pub mod Meetings
