@@ -43,7 +43,7 @@ pub record IsNetwork (g : Network) : Type 0 where
 abbrev pub HasEdge : Network → ℕ → ℕ → Type 0
 HasEdge g n m = Contains g.edges (edge n m)
 
--- from n over these to m, each step by an edge
+-- a walk goes from n over these nodes to m, each step by an edge
 abbrev pub IsWalk : (ℕ → ℕ → Type 0) → ℕ → List ℕ → ℕ → Type 0
 IsWalk E n [] m = n ≡ m
 IsWalk E n (k ∷ ks) m = E n k × IsWalk E k ks m

@@ -22,7 +22,7 @@ pub record IsAvailable (g : Network) (listed : List (List ℕ)) (class : List �
 abbrev pub least : List ℕ → ℕ
 least class = slice_index class 0
 
--- among the available classes the one with the least number
+-- the next class is the available one with the least number
 pub record IsNext (g : Network) (listed : List (List ℕ)) (class : List ℕ) : Type 0 where
   pub available : IsAvailable g listed class
   pub first : (other : List ℕ) → IsAvailable g listed other → least class ≤ least other

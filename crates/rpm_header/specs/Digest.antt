@@ -40,6 +40,7 @@ abbrev pub begins_with : ℕ → List Item → Bool
 begins_with tag [] = false
 begins_with tag (e ∷ es) = e.tag == tag
 
--- in a header without a fault a first entry of a main header's region tag is a region
+-- a header that begins with a main header's region has the digest of that region: without a fault, a first entry of
+-- this tag is a region
 unfoldable pub immutable_digest : Header → Option (List ℕ)
 immutable_digest h = if begins_with main_region h.entries then Some (sha256 (region_in_file h)) else None

@@ -8,7 +8,7 @@ use Rattle.rpm_header.specs.Parts.{own_index, own_data}
 abbrev pub dribbled_data : Header → List Item → List ℕ
 dribbled_data h more = own_data h ++ data_from (length (own_data h)) more
 
--- and they stand after its index
+-- the dribbled items stand in the index after a header's own entries
 abbrev pub dribbled_index : Header → List Item → List ℕ
 dribbled_index h more = own_index h ++ index_from (length (own_data h)) more
 

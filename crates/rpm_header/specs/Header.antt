@@ -40,7 +40,7 @@ pub record Item : Type 0 where
   pub count : ℕ
   pub values : Values
 
--- its elements, where they are of that class
+-- an entry's values have these numbers, and none where the values are of another class
 abbrev pub numbers_of : Values → List ℕ
 numbers_of (Numbers ns) = ns
 numbers_of _ = []
@@ -119,17 +119,17 @@ values form.Texts count bytes = Texts (texts count bytes)
 values form.I18n count bytes = Texts (texts count bytes)
 values f count bytes = Numbers (numbers (width f) count bytes)
 
--- so many numbers
+-- the values are a count of numbers
 abbrev pub AreNumbers : ℕ → Values → Type 0
 AreNumbers count (Numbers ns) = length ns ≡ count
 AreNumbers count _ = ⊥
 
--- so many texts
+-- the values are a count of texts
 abbrev pub AreTexts : ℕ → Values → Type 0
 AreTexts count (Texts ts) = length ts ≡ count
 AreTexts count _ = ⊥
 
--- so many bytes
+-- the values are a count of bytes
 abbrev pub AreBytes : ℕ → Values → Type 0
 AreBytes count (Bytes bs) = length bs ≡ count
 AreBytes count _ = ⊥
@@ -160,7 +160,7 @@ element_fault f i count bytes =
     else if has_texts f && not (are_ended count bytes) then Some (NoEnd i)
     else None
 
--- of a Null nothing but the type is looked at
+-- an entry of this form has this first fault; nothing but its type is looked at where the form is Null
 abbrev pub form_fault : Option Form → ℕ → IndexEntry → List ℕ → Option HeaderFault
 form_fault None i e section = Some (BadType i)
 form_fault (Some form.Null) i e section = None
@@ -178,12 +178,12 @@ signature_region = 62
 abbrev pub main_region : ℕ
 main_region = 63
 
--- either of the two
+-- a tag is that of a region in a signature header or in a main header
 abbrev pub is_region_tag : ℕ → Bool
 is_region_tag tag = tag == signature_region || tag == main_region
 
--- for some r from 1 to il the number is 2 ^ 32 - 16 × r, which is -16 × r where it is read as
--- signed
+-- a region's trailer counts back by some r from 1 to il: the number is 2 ^ 32 - 16 × r, which is -16 × r where it is
+-- read as signed
 abbrev pub counts_back : ℕ → ℕ → Bool
 counts_back il n = list_any (λ r. n + 16 * r == 2 ^ 32) (range_with_len 1 il)
 

@@ -110,7 +110,7 @@ blob_of n index section = to_be_bytes w32 n ++ to_be_bytes w32 (length section) 
 unfoldable pub laid : Bool → List Item → List ℕ
 laid region es = blob_of (length (with_region region es)) (index_of region es) (data_of region es)
 
--- so many entries and bytes of data, or the first limit that they pass
+-- a header has a count of entries and a size of data, or passes a limit: the first of the two
 abbrev pub lengths_of : ℕ → ℕ → Result Lengths BuildFault
 lengths_of n size =
     if nat_lt max_entries n then Err TooManyEntries

@@ -19,7 +19,7 @@ times_hit hit hits = count_by (same_hit hit) hits
 abbrev pub hit_at : List Hit → ℕ → Hit
 hit_at hits k = slice_index_or hits k (record { number = 0; place = 0 })
 
--- by number, and by place within a number
+-- one hit comes before another by its number, and within a number by its place
 abbrev pub IsBefore : Hit → Hit → Type 0
 IsBefore a b = (a.number < b.number) ⊎ ((a.number ≡ b.number) × (a.place ≤ b.place))
 
@@ -40,11 +40,11 @@ is_wanted kind key (Some hit) = same_row (row_of_hit kind key hit)
 abbrev pub AsOften : ℕ → List ℕ → List Row → List Hit → Type 0
 AsOften kind key rows hits = (hit : Hit) → times_hit hit hits ≡ times (row_of_hit kind key hit) rows
 
--- hits rise by number and place, and no two are equal
+-- hits rise by number and by place within one, and equal ones follow one another
 abbrev pub IsRising : List Hit → Type 0
 IsRising hits = (k : ℕ) → k + 1 < length hits → IsBefore (hit_at hits k) (hit_at hits (k + 1))
 
--- and rising
+-- the hits are those of a key's rows, each as often, and rise
 pub record AreHits (kind : ℕ) (key : List ℕ) (rows : List Row) (hits : List Hit) : Type 0 where
   pub rising : IsRising hits
   pub each : AsOften kind key rows hits

@@ -12,7 +12,7 @@ use Rattle.rpm_hindex.specs.Plans.{HasChanged}
 abbrev pub chain_bytes : Index → ℕ → ℕ
 chain_bytes x bucket = 16 + 16 * sum_by (units_at x.unit) (places_of x bucket)
 
--- those of each row's bucket
+-- a list of rows costs the chains of the bucket of each row
 abbrev pub chains_bytes : Index → List Row → ℕ
 chains_bytes x rows = sum_by (λ (r : Row). chain_bytes x (bucket_of x.buckets r)) rows
 
@@ -24,6 +24,6 @@ pub record StaysWithin (limit : ℕ) (drops adds : List Row) (buckets : ℕ) (fi
   pub room : word 0 (unit_at file 1) + live_of adds ≤ limit
   pub half : word 0 (unit_at file 1) + live_of adds ≤ first_record buckets + 2 * live_of rows
 
--- at most as many units as a file has
+-- a change stays in place when the file has as many units as it may have
 abbrev pub StaysInPlace : List Row → List Row → ℕ → Units → Type 0
 StaysInPlace = StaysWithin (2 ^ 28)

@@ -27,7 +27,7 @@ length_at unit at = word 1 (unit at) % 2 ^ 28
 abbrev pub units_at : (ℕ → List ℕ) → ℕ → ℕ
 units_at unit at = record_units (length_at unit at)
 
--- so many units from this one on
+-- a count of units from this one on
 abbrev pub run : (ℕ → List ℕ) → ℕ → ℕ → Units
 run unit from zero = []
 run unit from (suc n) = unit from ∷ run unit (from + 1) n
@@ -62,7 +62,7 @@ is_placed x at = is_link x (next_at x.unit at) && (nat_lt (next_at x.unit at) at
 unfoldable pub is_sound : Index → ℕ → ℕ → Bool
 is_sound x bucket at = is_placed x at && (bucket_of x.buckets (row_at x.unit at) == bucket)
 
--- the same chain with one more place in front
+-- a chain with one more place in front
 abbrev pub behind : ℕ → Result (List ℕ) ℕ → Result (List ℕ) ℕ
 behind at (Ok places) = Ok (at ∷ places)
 behind at (Err unit) = Err unit

@@ -13,7 +13,7 @@ past_key unit at = drop (length_at unit at) (bytes_of (run unit (at + 1) (key_un
 abbrev pub IsPadded : (ℕ → List ℕ) → ℕ → Type 0
 IsPadded unit at = All (λ (b : ℕ). b ≡ 0) (past_key unit at)
 
--- in each record of an index the bytes after the key are zeros
+-- each record of an index has zeros after its key
 abbrev pub ArePadded : Index → Type 0
 ArePadded x = (at : ℕ) → Contains (all_places x) at → IsPadded x.unit at
 

@@ -41,7 +41,7 @@ IsFaulty buckets file (IndexFull needed) = Unit {0}
 IsFaulty buckets file DiskFault = Unit {0}
 IsFaulty buckets file NoMemory = Unit {0}
 
--- or unit 1, where the change drops more than that counts
+-- a refusal blames a unit for a fault in a chain, or unit 1 where the change drops more than that counts
 abbrev pub IsBadFor : List Row → ℕ → Units → PrepareFault → Type 0
 IsBadFor drops buckets file (BadIndex unit) = IsFaulty buckets file (BadIndex unit) ⊎ ((unit ≡ 1) × DropsMore drops buckets file)
 IsBadFor drops buckets file (IndexFull needed) = Unit {0}

@@ -26,7 +26,7 @@ same_row a b = (a.kind == b.kind) && (bytes_eq a.key b.key && ((a.number == b.nu
 unfoldable pub times : Row → List Row → ℕ
 times row rows = count_by (same_row row) rows
 
--- these lists have the same rows, each as often
+-- two lists have the same rows, each as often
 abbrev pub SameRows : List Row → List Row → Type 0
 SameRows old new = (row : Row) → times row new ≡ times row old
 

@@ -7,7 +7,7 @@ abbrev pub left : Option (List ℕ) → List ℕ
 left None = []
 left (Some bytes) = bytes
 
--- these bytes were taken from the front of what was left; an open item stays open, and none is opened
+-- the item gave these bytes from the front of what was left of it; an open item stays open, and none is opened
 pub record Takes (old new : Option (List ℕ)) (taken : List ℕ) : Type 0 where
   pub front : left old ≡ taken ++ left new
   pub opened : is_some new ≡ is_some old

@@ -22,7 +22,8 @@ module _ {S : Type 0} (s : sink.Ghosts S) where
   abbrev pub GoesOn : Buffered S → Buffered S → Type 0
   GoesOn old new = s.follows (inner old) (inner new) × (IsTrue s.tells → Begins (all_taken old) (all_taken new))
 
-  -- of what a buffer held the sink behind took the first, and the others are held: none, where the call didn't fail
+  -- the sink behind a buffer took the first bytes that the buffer held, and the buffer holds the others: none, where
+  -- the call didn't fail
   pub record Flushes {T E : Type 0} (old new : Buffered S) (result : Result T E) : Type 0 where
     pub out : List ℕ
     pub gained : Gained s.tells (s.taken (inner old)) (s.taken (inner new)) out

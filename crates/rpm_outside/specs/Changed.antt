@@ -12,7 +12,7 @@ pub record ChangedIn (file : File) (first end : ℕ) (old new : Files) : Type 0 
   pub no_shorter : length (file_of file old) ≤ length (file_of file new)
   pub no_longer : length (file_of file new) ≤ max (length (file_of file old)) end
 
--- it is one of these images but for a range of a file
+-- one of these images became this one by a change within a range of a file
 abbrev pub WasChanged : File → ℕ → ℕ → (Files → Type 0) → Files → Type 0
 WasChanged file first end images image = (from : Files) × images from × ChangedIn file first end from image
 

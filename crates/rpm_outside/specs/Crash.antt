@@ -11,7 +11,7 @@ pub record Torn (at : ℕ) (units old new : Units) : Type 0 where
   pub no_shorter : length old ≤ length new
   pub no_longer : length new ≤ length (put at units old)
 
--- the same of one of three files
+-- one of three files became this by a write that was cut short, and the other two stay
 pub record TornFile (file : File) (at : ℕ) (units : Units) (old new : Files) : Type 0 where
   pub torn : Torn at units (file_of file old) (file_of file new)
   pub others : new ≡ with_file file (file_of file new) old
@@ -25,7 +25,7 @@ pub record Elapses (before now : ℕ) (past since : ℕ → Files → Type 0) : 
   pub later : before ≤ now
   pub nothing_else : (t : ℕ) (image : Files) → t ≤ before → since t image → past t image ⊎ since now image
 
--- neither the files nor their images change
+-- nothing changes, neither the files nor their images
 pub record Untouched (old new : Files) (past since : ℕ → Files → Type 0) : Type 0 where
   pub same : new ≡ old
   pub images : (t : ℕ) (image : Files) → since t image → past t image
@@ -35,11 +35,11 @@ pub record Untouched (old new : Files) (past since : ℕ → Files → Type 0) :
 abbrev pub RisesOrStays : ℕ → ℕ → Files → Files → (ℕ → Files → Type 0) → (ℕ → Files → Type 0) → Type 0
 RisesOrStays before now old new past since = Rose before now ⊎ ((now ≡ before) × Untouched old new past since)
 
--- it is one of these images after a write that was cut short
+-- one of these images became this one by a write that was cut short
 abbrev pub WasTorn : File → ℕ → Units → (Files → Type 0) → Files → Type 0
 WasTorn file at units images image = (from : Files) × images from × TornFile file at units from image
 
--- so many bytes for this file, and none for another
+-- a count of bytes is that number for this file, and none for another
 abbrev pub bytes_for : File → File → ℕ → ℕ
 bytes_for Pkg Pkg n = n
 bytes_for Idx Idx n = n

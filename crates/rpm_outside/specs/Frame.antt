@@ -18,7 +18,7 @@ module _ {D : Type 0} (d : disk.Ghosts D) where
   abbrev pub IsSettled : File → D → Type 0
   IsSettled file it = changes.IsSettled file (d.files it) (d.left_since it (d.moment it))
 
-  -- at most so many bytes of a file were read, and nothing else happened
+  -- a call read at most so many bytes of a file, and did nothing else
   abbrev pub Looks : File → ℕ → D → D → Type 0
   Looks = looks.Looks d
 
@@ -34,7 +34,7 @@ module _ {D : Type 0} (d : disk.Ghosts D) where
   abbrev pub LeavesIn : D → D → (Files → Type 0) → Type 0
   LeavesIn = leaves.LeavesOnly d
 
-  -- or the files of before, changed in this range of one of them
+  -- each image is one from before, or one from before that changed within this range of a file
   abbrev pub LeavesChanged : File → ℕ → ℕ → D → D → Type 0
   LeavesChanged = changed.LeavesChanged d
 
@@ -46,12 +46,14 @@ module _ {D : Type 0} (d : disk.Ghosts D) where
   abbrev pub DiskCause : {T E : Type 0} → Result T E → D → D → Type 0
   DiskCause result old new = HasCause (d.faults old) (d.faults new) result
 
-  -- at most so many bytes of a file were read, nothing else happened, and an error comes only where the disk counted a fault
+  -- a call read at most so many bytes of a file and did nothing else, and an error comes only where the disk counted
+  -- a fault
   pub record Reads {T E : Type 0} (file : File) (most : ℕ) (result : Result T E) (old new : D) : Type 0 where
     pub looks : Looks file most old new
     pub cause : DiskCause result old new
 
-  -- the same for an answer of several errors, of which this comes only where the disk counted a fault
+  -- a call read at most so many bytes of a file and did nothing else, and this answer comes only where the disk
+  -- counted a fault
   pub record ReadsOr (file : File) (most : ℕ) (what : Type 0) (old new : D) : Type 0 where
     pub looks : Looks file most old new
     pub cause : DiskFault what old new
@@ -60,7 +62,7 @@ module _ {D : Type 0} (d : disk.Ghosts D) where
   abbrev pub ReadsAt : {T E : Type 0} → File → Result T E → D → D → Type 0
   ReadsAt file result old new = Reads file (d.bytes_read new file - d.bytes_read old file) result old new
 
-  -- the same for an answer of several errors
+  -- a call read of one file alone, any number of bytes, and this answer comes only where the disk counted a fault
   abbrev pub ReadsAtOr : File → Type 0 → D → D → Type 0
   ReadsAtOr file what old new = ReadsOr file (d.bytes_read new file - d.bytes_read old file) what old new
 
@@ -69,7 +71,7 @@ module _ {D : Type 0} (d : disk.Ghosts D) where
     pub changes : Changes file by most old new
     pub cause : DiskCause result old new
 
-  -- the same for an answer of several errors
+  -- a call changed a file by this relation, and this answer comes only where the disk counted a fault
   pub record WritesOr (file : File) (by : Units → Units → Type 0) (most : ℕ) (what : Type 0) (old new : D) : Type 0 where
     pub changes : Changes file by most old new
     pub cause : DiskFault what old new

@@ -19,7 +19,8 @@ pub record HadSince (steps : List Step) (first : Files) (file : File) (P : Units
   pub not_synced : NotSynced file (drop k steps)
   pub had : P (file_of file (after_steps (take k steps) first))
 
--- in an image each unit has one of the contents that it had since its file's last sync, and the length is one between
+-- each unit of an image has one of the contents that it had since its file's last sync, and the image's length is one
+-- between
 pub record IsImage (steps : List Step) (first image : Files) : Type 0 where
   pub units : (file : File) (i : ℕ) → HadSince steps first file (λ had. unit_at (file_of file image) i ≡ unit_at had i)
   pub no_shorter : (file : File) → HadSince steps first file (λ had. length had ≤ length (file_of file image))

@@ -67,7 +67,7 @@ log_state units =
 abbrev pub with_entry : Entry → Files → Files
 with_entry entry files = with_file entry.file (put entry.first entry.units (file_of entry.file files)) files
 
--- with several, in order
+-- several entries are written in order
 abbrev pub with_entries : List Entry → Files → Files
 with_entries [] files = files
 with_entries (entry ∷ entries) files = with_entries entries (with_entry entry files)

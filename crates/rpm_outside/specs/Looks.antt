@@ -5,7 +5,7 @@ use Rattle.rpm_outside.specs.declared.disk.File.{File}
 use Rattle.rpm_outside.specs.declared.disk.File.TheVariants.{Pkg, Idx, Log}
 use Rattle.rpm_outside.specs.Crash.{Untouched, bytes_for}
 
--- of this file at most so many bytes more were read, and of another none
+-- a call read at most so many bytes more of this file, and none of another
 pub record ReadAtMost (file : File) (most : ℕ) (old new : File → ℕ) : Type 0 where
   pub no_less : (f : File) → old f ≤ new f
   pub pkg : new Pkg ≤ old Pkg + bytes_for file Pkg most
@@ -20,6 +20,6 @@ pub record Looks {D : Type 0} (g : disk.Ghosts D) (file : File) (most : ℕ) (ol
   pub goes_on : g.follows old new
 
 module _ {D : Type 0} (g : disk.Ghosts D) where
-  -- the same, no matter how much of this file is read
+  -- a call read of this file alone, no matter how much, and did nothing else
   abbrev pub LooksAt : File → D → D → Type 0
   LooksAt file old new = Looks g file (g.bytes_read new file - g.bytes_read old file) old new

@@ -12,7 +12,7 @@ use Rattle.rpm_outside.specs.Shelves.{Paths, ShelfCall, Open, Take}
 abbrev pub entry_of : Item → List ℕ × List ℕ
 entry_of item = (string_bytes item.path, item.bytes.items)
 
--- of two items under one path the first counts
+-- a shelf has the items by path; where two have one path the first counts
 abbrev pub paths_of : List Item → Paths
 paths_of items = from_entries (map entry_of items)
 

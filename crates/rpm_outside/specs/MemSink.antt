@@ -23,7 +23,7 @@ sink_faults sink = sink.faults
 abbrev pub sink_starved : MemSink → ℕ
 sink_starved sink = sink.starved
 
--- as many bytes were taken as may be
+-- a sink is full when it took as many bytes as it may take
 abbrev pub IsFull : MemSink → Type 0
 IsFull sink = IsSomeAnd (sink_limit sink) (λ most. most ≤ length (sink_bytes sink))
 

@@ -22,12 +22,12 @@ picked Old at units file = file
 picked New at units file = put at units file
 picked (Mixed seed) at units file = map (mixed_unit seed file (put at units file)) (range_with_len 0 (length (put at units file)))
 
--- of an image after a step, where these files are read before it
+-- a step makes this of an image, where these files are read before the step
 abbrev pub picked_step : Pick → Step → Files → Files → Files
 picked_step pick (Wrote file at units) files image = with_file file (picked pick at units.items (file_of file image)) image
 picked_step pick (Synced file) files image = with_file file (file_of file files) image
 
--- and after several
+-- several steps make this of an image
 abbrev pub picked_image : Pick → List Step → Files → Files → Files
 picked_image pick [] files image = image
 picked_image pick (step ∷ steps) files image = picked_image pick steps (after_step step files) (picked_step pick step files image)

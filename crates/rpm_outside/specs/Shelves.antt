@@ -23,7 +23,7 @@ abbrev pub Opens : {T : Type 0} → Option (List ℕ) → Option (List ℕ) → 
 Opens found rest (Ok done) = (rest ≡ found) × (found ≡ None → ⊥)
 Opens found rest (Err absent) = (rest ≡ None) × (found ≡ None)
 
--- these bytes were taken from the front of what was left, and at least one where something was left
+-- an item gave these bytes from the front of what was left of it, and at least one where something was left
 abbrev pub TakesFront : Option (List ℕ) → Option (List ℕ) → List ℕ → Type 0
 TakesFront None rest taken = (rest ≡ None) × (taken ≡ [])
 TakesFront (Some left) None taken = ⊥

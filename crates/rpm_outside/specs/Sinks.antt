@@ -5,7 +5,7 @@ use Rattle.std.specs.Prelude.{◌≡◌, ℕ, ◌≤◌, Bool, IsTrue, List, ◌
 abbrev pub Gained : Bool → List ℕ → List ℕ → List ℕ → Type 0
 Gained tells old new bytes = IsTrue tells → new ≡ old ++ bytes
 
--- or the first of them alone
+-- a sink that tells gained these bytes, or the first of them alone
 abbrev pub GainedPart : Bool → List ℕ → List ℕ → List ℕ → Type 0
 GainedPart tells old new bytes = (n : ℕ) × (n ≤ length bytes) × Gained tells old new (take n bytes)
 

@@ -77,7 +77,7 @@ mutual
         → Gives context.Branch ib (d + 1) u (Ok (second, v)) → close v ≡ Err e
         → Branches ib d s (Err e)
 
--- The same as a function, which reads with another one what stands further on.
+-- The two branches of a condition, read by a function that reads what stands further on.
 abbrev pub branches_by : (Context → Bool → ℕ → List ℕ → Reading Tree) → Bool → ℕ → List ℕ → Reading (Tree × Tree)
 branches_by read ib d s = do
   first ← read context.Branch ib (d + 1) s

@@ -8,11 +8,11 @@ use Rattle.rpm_qfparse.specs.declared.moves.Context.TheVariants as context
 use Rattle.rpm_qfparse.specs.Tree.{Tree, End, Text, Tagged, Bracket, Condition}
 use Rattle.rpm_qfparse.specs.Format.{Gives}
 
--- up to the end of a context a text is this tree, with these bytes after it
+-- A text is read as this tree up to the end of a context, with these bytes after it.
 abbrev pub Reads : Context → Bool → ℕ → List ℕ → Tree → List ℕ → Type 0
 Reads c in_bracket depth s tree rest = Gives c in_bracket depth s (Ok (tree, rest))
 
--- or it has this fault first, from whose place on it has these bytes
+-- A text has this fault first, from whose place on it has these bytes.
 abbrev pub Fails : Context → Bool → ℕ → List ℕ → FormatKind → List ℕ → Type 0
 Fails c in_bracket depth s kind rest = Gives c in_bracket depth s (Err (kind, rest))
 
@@ -34,8 +34,8 @@ abbrev pub BeginsApart : Tree → Type 0
 BeginsApart (Text b rest) = ⊥
 BeginsApart _ = Unit {0}
 
--- within a bracket or not, and within so many conditions: texts are longest runs, widths at most 4,096, brackets don't nest,
--- and conditions do so at most 16 deep
+-- A tree is proper, within a bracket or not and within so many conditions: texts are longest runs, widths at most
+-- 4,096, brackets don't nest, and conditions do so at most 16 deep.
 abbrev pub IsProper : Bool → ℕ → Tree → Type 0
 IsProper in_bracket depth End = Unit {0}
 IsProper in_bracket depth (Text bytes rest) = (0 < length bytes) × BeginsApart rest × IsProper in_bracket depth rest

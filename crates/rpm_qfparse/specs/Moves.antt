@@ -25,7 +25,7 @@ asked s = do
   tag ← named cut.0 s
   if begins 123 cut.1 then Ok (tag, drop 1 cut.1) else Err (BraceExpected, cut.1)
 
--- the same where so many conditions are around it: from its percent on, and after its bar
+-- A condition is read where so many conditions are around it: from its percent on, and after its bar.
 unfoldable pub condition : ℕ → List ℕ → List ℕ → Reading Tag
 condition depth here s = if nat_le 16 depth then Err (TooDeep, here) else asked s
 
@@ -86,8 +86,8 @@ abbrev pub is_branch : Context → Bool
 is_branch context.Branch = true
 is_branch _ = false
 
--- in a context, within a bracket or not, and within so many conditions: a backslash (92), `[` (91), `]` (93), `}` (125),
--- a percent (37), or any other byte
+-- A byte makes this move, in a context, within a bracket or not, and within so many conditions: a backslash (92), `[`
+-- (91), `]` (93), `}` (125), a percent (37), or any other byte.
 unfoldable pub move_of : Context → Bool → ℕ → List ℕ → Move
 move_of c in_bracket depth [] = at_end c
 move_of c in_bracket depth (b ∷ s) =

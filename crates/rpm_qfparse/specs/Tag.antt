@@ -36,7 +36,7 @@ abbrev pub or_fault : {X : Type 0} → Option X → Faulty → Result X Faulty
 or_fault None e = Err e
 or_fault (Some x) e = Ok x
 
--- this byte stands in front
+-- a text begins with this byte
 abbrev pub begins : ℕ → List ℕ → Bool
 begins byte [] = false
 begins byte (b ∷ s) = b == byte

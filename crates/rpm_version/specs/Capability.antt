@@ -14,7 +14,7 @@ pub record CapabilityParts : Type 0 where
 abbrev pub is_blank : ℕ → Bool
 is_blank b = (b == 32) || (b == 9)
 
--- it isn't empty
+-- a part of a capability is a word when it isn't empty
 abbrev pub is_word : List ℕ → Bool
 is_word part = not (length part == 0)
 

@@ -21,7 +21,7 @@ unfoldable pub is_open : ℕ → List ℕ → Bool
 is_open flags text =
     not (has_less flags || has_greater flags || has_equal flags) || (length text == 0)
 
--- both have equal, both less, or both greater
+-- two ranges share a sense when both have equal, both less, or both greater
 unfoldable pub share_sense : ℕ → ℕ → Bool
 share_sense fa fb =
     (has_equal fa && has_equal fb) || (has_less fa && has_less fb) || (has_greater fa && has_greater fb)
@@ -32,7 +32,7 @@ equal_but_release fa (Some release) fb None = has_equal fb
 equal_but_release fa None fb (Some release) = has_equal fa
 equal_but_release fa a fb b = false
 
--- by the version of A against that of B: below, above, or equal
+-- two ranges meet according to how the version of A stands to that of B: below, above, or equal
 unfoldable pub meets : Ordering → ℕ → EvrParts → ℕ → EvrParts → Bool
 meets Less fa a fb b = has_greater fa || has_less fb
 meets Greater fa a fb b = has_less fa || has_greater fb

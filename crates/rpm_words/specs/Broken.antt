@@ -49,7 +49,7 @@ token_fault words command chosen token =
     else if is_bad_number words token then Some (fault BadNumber token.word)
     else None
 
--- of the tokens that are at fault by themselves the one at the least word
+-- the token at the least word is the first that is at fault by itself
 unfoldable pub early_fault : List (List ℕ) → Option Command → Option Chosen → List Token → Option WordsFault
 early_fault words command chosen tokens = earliest (filter_map (token_fault words command chosen) tokens)
 
@@ -58,7 +58,7 @@ abbrev pub awaiting_said : Said → Bool
 awaiting_said (Sets switch) = takes_value switch
 awaiting_said others = false
 
--- the same of a token
+-- a token is awaiting its value
 abbrev pub is_awaiting : Token → Bool
 is_awaiting token = awaiting_said token.said
 
@@ -98,7 +98,7 @@ abbrev pub misplaced_said : Command → ℕ → Said → Option WordsFault
 misplaced_said command word (Sets switch) = if is_misplaced switch command then Some (fault Misplaced word) else None
 misplaced_said command word others = None
 
--- the same of a token
+-- a token has this misplaced option
 abbrev pub misplaced_in : Command → Token → Option WordsFault
 misplaced_in command token = misplaced_said command token.word token.said
 

@@ -75,7 +75,7 @@ is_same_command a b = command_number a == command_number b
 abbrev pub is_same_chosen : Chosen → Chosen → Bool
 is_same_chosen a b = chosen_number a == chosen_number b
 
--- both are there, and they aren't the same
+-- two values differ when both are there and they aren't the same
 abbrev pub differs : {X : Type 0} → (X → X → Bool) → Option X → Option X → Bool
 differs is_same (Some a) (Some b) = not (is_same a b)
 differs is_same a b = false

@@ -9,7 +9,7 @@ use Rattle.rpm_words.specs.declared.fault.WordsFault.{WordsFault}
 abbrev pub fault : WordsKind → ℕ → WordsFault
 fault kind word = record { kind = kind; word = word }
 
--- of the faults of one word an unknown option comes first, then a second mode
+-- an unknown option comes first among the faults of one word, then a second mode
 abbrev pub rank : WordsKind → ℕ
 rank UnknownOption = 0
 rank TwoModes = 1

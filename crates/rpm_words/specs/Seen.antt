@@ -46,7 +46,7 @@ abbrev pub noindex_said : Said → Bool
 noindex_said (Sets Noindex) = true
 noindex_said others = false
 
--- the same of a token
+-- a token says that no index is used
 abbrev pub is_noindex : Token → Bool
 is_noindex token = noindex_said token.said
 
@@ -55,7 +55,7 @@ abbrev pub nofiles_said : Said → Bool
 nofiles_said (Sets Nofiles) = true
 nofiles_said others = false
 
--- the same of a token
+-- a token says that no files are looked at
 abbrev pub is_nofiles : Token → Bool
 is_nofiles token = nofiles_said token.said
 

@@ -65,7 +65,7 @@ expected (Any kind) = kind
 expected (Several kind) = kind
 expected NumberAndText = Number
 
--- those that have to be so: of a number and a text the first alone
+-- a rule checks these of the arguments: the first alone where it wants a number and a text
 abbrev pub checked : ArgumentRule → List ℕ → List ℕ
 checked Nothing arguments = arguments
 checked (Any kind) arguments = arguments

@@ -15,7 +15,7 @@ pub record IsGap (low high : ℕ) (l : List Range) (r : Range) (at : ℕ) : Type
   pub below : (i : ℕ) → i < at → end_of (range_at l i) + low ≤ r.start
   pub above : (i : ℕ) → at ≤ i → i < length l → end_of r + high ≤ (range_at l i).start
 
--- the same blocks lie in a range of either list
+-- two lists of ranges have the same blocks
 pub record HaveSameBlocks (l m : List Range) : Type 0 where
   pub there : (block : ℕ) → IsUnused l block → IsUnused m block
   pub back : (block : ℕ) → IsUnused m block → IsUnused l block

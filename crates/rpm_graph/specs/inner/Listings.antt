@@ -13,7 +13,7 @@ pub record IsReady (ends : List (List ℕ)) (listed : List ℕ) (c : ℕ) : Type
   pub unlisted : Contains listed c → ⊥
   pub ends_listed : (d : ℕ) → Goes ends c d → Contains listed d
 
--- among the classes that are ready the one with the least number
+-- the next class is the one with the least number among those that are ready
 pub record IsLeastReady (ends : List (List ℕ)) (leasts listed : List ℕ) (c : ℕ) : Type 0 where
   pub ready : IsReady ends listed c
   pub first : (d : ℕ) → IsReady ends listed d → slice_index leasts c ≤ slice_index leasts d
@@ -22,7 +22,7 @@ pub record IsLeastReady (ends : List (List ℕ)) (leasts listed : List ℕ) (c :
 abbrev pub AreLeast : List (List ℕ) → List ℕ → List ℕ → Type 0
 AreLeast ends leasts order = (k : ℕ) → k < length order → IsLeastReady ends leasts (take k order) (slice_index order k)
 
--- and in which each class stands
+-- a listing has each class, and each is the least that is ready
 pub record IsListing (ends : List (List ℕ)) (leasts order : List ℕ) : Type 0 where
   pub each : AreLeast ends leasts order
   pub all : (c : ℕ) → c < length ends → Contains order c

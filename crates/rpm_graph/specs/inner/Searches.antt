@@ -124,7 +124,7 @@ pub record IsClosed (root : ℕ) (s t : Search) : Type 0 where
   pub pending : t.pending.items ≡ s.pending.items
   pub closed : t.closed ≡ s.closed + 1
 
--- the same of the lists of a search
+-- a search has these lists, as a search of the graph has them
 abbrev pub Searches : List (List ℕ) → Search → Type 0
 Searches rows s = IsSearch rows s.ranks.items s.path.items s.roots.items s.pending.items s.closed
 

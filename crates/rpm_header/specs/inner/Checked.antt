@@ -14,7 +14,7 @@ HasRoom form.Texts count bytes = (0 < count) × (are_ended count bytes ≡ true)
 HasRoom form.I18n count bytes = (0 < count) × (are_ended count bytes ≡ true)
 HasRoom f count bytes = (0 < count) × (count * alignment f ≤ length bytes)
 
--- and no more bytes are left there than a header has of data
+-- an entry's elements have room in these bytes, which are no more than a header has of data
 pub record IsInside (f : Form) (count : ℕ) (bytes : List ℕ) : Type 0 where
   pub room : HasRoom f count bytes
   pub few : length bytes ≤ max_data
@@ -26,7 +26,7 @@ pub record IsCut (il : ℕ) (blob : List ℕ) : Type 0 where
   pub few : il ≤ max_entries
   pub small : number_at w32 blob 4 ≤ max_data
 
--- and no entry has a fault
+-- a blob is cut as its index says, and none of its entries has a fault
 pub record IsSound (il : ℕ) (blob : List ℕ) : Type 0 where
   pub cut : IsCut il blob
   pub faultless : (k : ℕ) → k < il → fault_at il blob k ≡ None

@@ -8,11 +8,11 @@ use Rattle.rpm_header.specs.Header.{max_data}
 unfoldable pub zeros : List ℕ → ℕ
 zeros bytes = count_by is_zero bytes
 
--- from each place in front of this one on, one of the bytes is zero
+-- one byte at least is zero from each place in front of this one on
 abbrev pub HasZeroFrom : List ℕ → ℕ → Type 0
 HasZeroFrom bytes behind = (k : ℕ) → k < behind → 0 < zeros (drop k bytes)
 
--- from each stride on, how many of the bytes are zero; 4,095 strides pass the end
+-- a table of sums has for each stride how many bytes from there on are zero; 4,095 strides pass the end
 pub record IsSummed (bytes : List ℕ) (stride : ℕ) (sums : List ℕ) : Type 0 where
   pub wide : length bytes < 4095 * stride
   pub narrow : stride ≤ 16389
@@ -25,7 +25,7 @@ unfoldable pub skipped : ℕ → List ℕ → List ℕ
 skipped zero bytes = bytes
 skipped (suc n) bytes = skipped n (after_first is_zero bytes)
 
--- in front of each stride, how many of the bytes are zero
+-- a table of sums has for each stride how many bytes in front of it are zero
 pub record AreCounted (bytes : List ℕ) (stride : ℕ) (sums : List ℕ) : Type 0 where
   pub some : 0 < length sums
   pub reach : (k : ℕ) → k < length sums → k * stride ≤ length bytes

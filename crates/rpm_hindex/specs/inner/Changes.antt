@@ -41,7 +41,7 @@ pub record Puts {X : Type 0} (old new : ℕ → Option X) (key : ℕ) (value : X
   pub here : new key ≡ Some value
   pub others : (k : ℕ) → (k ≡ key → ⊥) → new k ≡ old k
 
--- or with some value there
+-- a map has some value at this key, and the others as before
 abbrev pub PutsOne : {X : Type 0} → (ℕ → Option X) → (ℕ → Option X) → ℕ → Type 0
 PutsOne {X} old new key = (value : X) × Puts old new key value
 
@@ -73,7 +73,7 @@ pub record SetsNext (old new : ℕ → Option (List ℕ)) (h : Head) (n : ℕ) :
 abbrev pub PutsWithin : {X : Type 0} → ℕ → (ℕ → Option X) → (ℕ → Option X) → Type 0
 PutsWithin {X} used old new = (key : ℕ) × (1 ≤ key) × (key < used) × PutsOne old new key
 
--- this record, or the word of the bucket where there is none, names this unit
+-- a unit is named by this record, or by the word of the bucket where there is no record
 abbrev pub Unlinks : Units → (ℕ → Option (List ℕ)) → (ℕ → Option (List ℕ)) → ℕ → Option Head → ℕ → Type 0
 Unlinks file old new bucket None n = SetsBucket file old new bucket n
 Unlinks file old new bucket (Some h) n = SetsNext old new h n

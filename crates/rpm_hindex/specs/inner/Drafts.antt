@@ -17,7 +17,7 @@ draft_index heads bytes = record {
   unit = λ i. unit_at (units_of bytes) (i - 1);
 }
 
--- it has these rows
+-- a draft has these rows
 pub record IsDraft (rows : List Row) (heads bytes : List ℕ) : Type 0 where
   pub whole_units : length bytes % 16 ≡ 0
   pub front : first_record (length heads) ≤ 1 + length bytes / 16
@@ -35,7 +35,7 @@ pub record IsMade (rows : List Row) (buckets : ℕ) (file : Units) : Type 0 wher
   pub same : SameRows rows (records buckets file)
   pub padded : ArePadded (index_in buckets file)
 
--- these bytes are units 1 to the end of an index of these rows
+-- units 1 to the end of an index of these rows are these bytes
 pub record IsImage (rows : List Row) (buckets : ℕ) (bytes : List ℕ) : Type 0 where
   pub whole_units : length bytes % 16 ≡ 0
   pub long : 1 + length bytes / 16 ≡ first_record buckets + live_of rows

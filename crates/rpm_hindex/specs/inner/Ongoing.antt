@@ -33,7 +33,7 @@ pub record Grows (old new : Change) (count units : ℕ) : Type 0 where
 abbrev pub row_with : ℕ → List ℕ → ℕ → ℕ → Row
 row_with kind key number place = record { kind = kind; key = key; number = number; place = place }
 
--- that one alone
+-- a list of one row alone
 abbrev pub one_row : ℕ → List ℕ → ℕ → ℕ → List Row
 one_row kind key number place = row_with kind key number place ∷ []
 

@@ -27,7 +27,7 @@ module _ {D : Type 0} (d : disk.Ghosts D) where
   abbrev pub index_at : D → Extent → Index
   index_at at extent = index_in extent.buckets (d.files at).idx
 
-  -- of a bucket whose chain is well formed the unit of its word and the chain's records are read, and no more
+  -- a call read the unit of a bucket's word and the records of its chain, where that is well formed, and no more
   abbrev pub ReadsChain : Extent → ℕ → D → D → Type 0
   ReadsChain extent bucket old new = IsTrue d.tells → ChainCosts (chain (index_at old extent) bucket)
       (units_at (unit_at (d.files old).idx)) (d.bytes_read old Idx + 16) (d.bytes_read new Idx)

@@ -94,7 +94,7 @@ abbrev pub IsSoundSpot : Index → ℕ → Option Spot → Type 0
 IsSoundSpot x bucket None = Unit {0}
 IsSoundSpot x bucket (Some s) = is_sound x bucket s.at ≡ true
 
--- in a bucket's chain, where it is well formed
+-- a row was found in a bucket's chain, where that is well formed
 pub record IsFound (x : Index) (bucket : ℕ) (kept : ℕ → Bool) (row : Row) (o : Option Spot) : Type 0 where
   pub link : is_link x (x.head bucket) ≡ true
   pub found : (places : List ℕ) → chain x bucket ≡ Ok places → IsFoundFrom x bucket (x.head bucket) 0 kept row o

@@ -17,7 +17,7 @@ abbrev pub AreStarts : Index → (ℕ → Bool) → (ℕ → Option Start) → T
 AreStarts x kept starts = (bucket : ℕ) (s : Start) → starts bucket ≡ Some s → (places : List ℕ) → chain x bucket ≡ Ok places
     → IsStart x bucket (x.head bucket) kept s
 
--- it names units among the records
+-- a start names units among the records
 pub record StandsWithin (buckets used : ℕ) (s : Start) : Type 0 where
   pub linked : IsNext buckets used s.at
   pub within : IsHeadWithin used s.before

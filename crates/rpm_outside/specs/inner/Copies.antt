@@ -36,7 +36,7 @@ pub record AddsCopy (old new : List Copy) (at : ℕ) (files : Files) : Type 0 wh
   pub moment : copy.at ≡ at
   pub files_are : held_files copy.files ≡ files
 
--- the same copies, or one more
+-- a disk has the same copies, or one more
 abbrev pub KeepsCopy : List Copy → List Copy → ℕ → Files → Type 0
 KeepsCopy old new at files = (new ≡ old) ⊎ AddsCopy old new at files
 

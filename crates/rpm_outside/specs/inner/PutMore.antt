@@ -6,7 +6,7 @@ use Rattle.rpm_outside.specs.Files.{Units, unit_at, blank, put}
 use Rattle.rpm_outside.specs.inner.Puts.{length-put, put_before, put_inside, put_after}
 use Rattle.rpm_outside.specs.inner.PutLaws.{same_units}
 
--- as `put`, but where there are no units the file stays
+-- units are put as by `put`, but no units leave a file as it is
 abbrev pub put_some : ℕ → Units → Units → Units
 put_some at [] file = file
 put_some at (unit ∷ units) file = put at (unit ∷ units) file

@@ -31,7 +31,7 @@ abbrev pub IsNoText : Part → Type 0
 IsNoText (part.Text b) = ⊥
 IsNoText _ = Unit {0}
 
--- the same draft with no literal bytes after its parts
+-- a draft is the same with no literal bytes after its parts
 pub record IsFlushed (old new : Draft) : Type 0 where
   pub text : new.text.items ≡ []
   pub same : (rest : Tree) → BeginsApart rest → after new rest ≡ after old rest
