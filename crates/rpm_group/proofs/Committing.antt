@@ -1,5 +1,5 @@
 -- The stages of a commit.
-use Rattle.std.proofs.Common.{◌≡◌, inl, inr, ⊎_elim, ℕ, ◌+◌, ◌<◌, ◌≤◌, ◌^◌, List, [], ◌∷◌, ◌++◌, length, refl, sym, ap, subst, ◌∙◌, arith, length-append}
+use Rattle.std.proofs.Common.{◌≡◌, inl, inr, ⊎_elim, ℕ, ◌+◌, ◌<◌, ◌≤◌, List, [], ◌∷◌, ◌++◌, length, refl, sym, ap, subst, ◌∙◌, arith, length-append}
 use Rattle.rpm_outside.specs.declared.disk.Disk as disk
 use Rattle.rpm_group.proofs.Vocabulary.{BeforeOrAfter, changed_leaves_more, changed_leaves_then, ChangedIn, Closed, Elapses, entries_kept, entries_then}
 use Rattle.rpm_group.proofs.Vocabulary.{EntriesIn, Entry, Files, HeadsEndInZeros, Idx, IsGate, IsGroup, laid, Layers, LeavesChanged, LeavesOnly, Log}
@@ -35,15 +35,15 @@ group_of held es fs pkg idx = record {
 }
 
 -- and stand in the log one after the other
-pub tail_of : (es fs : List Entry) (middle end : ℕ) (first last : Files) → EntriesIn es 1 middle first.log → EntriesIn fs middle end last.log
-    → ChangedIn Log middle (2 ^ 28) first last → EntriesIn (es ++ fs) 1 end last.log
-tail_of es fs middle end first last one two changed =
+pub tail_of : (es fs : List Entry) (middle end upto : ℕ) (first last : Files) → EntriesIn es 1 middle first.log → EntriesIn fs middle end last.log
+    → ChangedIn Log middle upto first last → EntriesIn (es ++ fs) 1 end last.log
+tail_of es fs middle end upto first last one two changed =
     entries_then es fs 1 middle end last.log (entries_kept es 1 middle first.log last.log (λ i low high. changed.each i (inl high)) changed.no_shorter one) two
 
 -- with heads that end in zeros
-pub heads_of : (es fs : List Entry) (middle : ℕ) (first last : Files) → EntriesIn es 1 middle first.log → HeadsEndInZeros es 1 first.log
-    → HeadsEndInZeros fs middle last.log → ChangedIn Log middle (2 ^ 28) first last → HeadsEndInZeros (es ++ fs) 1 last.log
-heads_of es fs middle first last placed one two changed =
+pub heads_of : (es fs : List Entry) (middle upto : ℕ) (first last : Files) → EntriesIn es 1 middle first.log → HeadsEndInZeros es 1 first.log
+    → HeadsEndInZeros fs middle last.log → ChangedIn Log middle upto first last → HeadsEndInZeros (es ++ fs) 1 last.log
+heads_of es fs middle upto first last placed one two changed =
     let same = λ (i : ℕ) (low : 1 ≤ i) (high : i < middle). changed.each i (inl high) in
     heads_then es fs 1 middle last.log (entries_kept es 1 middle first.log last.log same changed.no_shorter placed)
     (heads_kept es 1 middle first.log last.log same placed one) two
@@ -70,21 +70,22 @@ opening_reopens gate entries last from image g some below is closed torn = ⊎_e
 
 module _ {D : Type 0} (g : disk.Ghosts D) where
   -- two runs of writes to the log
-  pub log_leaves : (middle : ℕ) (old mid new : D) → 1 ≤ middle
+  pub log_leaves : (one_end middle two_end end : ℕ) (old mid new : D) → 1 ≤ middle → one_end ≤ end → two_end ≤ end
       → ((image : Files) → g.left_since mid (g.moment mid) image → g.left_since mid (g.moment old) image)
-      → LeavesChanged g Log 1 (2 ^ 28) old mid → LeavesChanged g Log middle (2 ^ 28) mid new
-      → LeavesChanged g Log 1 (2 ^ 28) old new
-  log_leaves middle old mid new low earlier one two =
-      changed_leaves_then g Log 1 (2 ^ 28) old mid new earlier one
-      (changed_leaves_more g Log middle (2 ^ 28) 1 (2 ^ 28) mid new low (omega arith) two)
+      → LeavesChanged g Log 1 one_end old mid → LeavesChanged g Log middle two_end mid new
+      → LeavesChanged g Log 1 end old new
+  log_leaves one_end middle two_end end old mid new low one_high two_high earlier one two =
+      changed_leaves_then g Log 1 end old mid new earlier
+      (changed_leaves_more g Log 1 one_end 1 end old mid (omega arith) one_high one)
+      (changed_leaves_more g Log middle two_end 1 end mid new low two_high two)
 
   -- the log was written and settled
-  pub log_settled : (old new : D) (files now : Files) → ((image : Files) → g.left_since old (g.moment old) image → image ≡ files)
-      → ChangedIn Log 1 (2 ^ 28) files now
-      → LeavesChanged g Log 1 (2 ^ 28) old new → ((image : Files) → g.left_since new (g.moment new) image → g.left_since new (g.moment old) image)
+  pub log_settled : (end : ℕ) (old new : D) (files now : Files) → ((image : Files) → g.left_since old (g.moment old) image → image ≡ files)
+      → ChangedIn Log 1 end files now
+      → LeavesChanged g Log 1 end old new → ((image : Files) → g.left_since new (g.moment new) image → g.left_since new (g.moment old) image)
       → ((image : Files) → g.left_since new (g.moment new) image → image.log ≡ now.log)
       → (image : Files) → g.left_since new (g.moment new) image → image ≡ now
-  log_settled old new files now settled changed run earlier log image left =
+  log_settled end old new files now settled changed run earlier log image left =
       let was = run.each image (earlier image left) in
       let same : was.0 ≡ files = settled was.0 was.1 in
       three_files image now

@@ -21,5 +21,6 @@ pub mod LoggedLaws
 pub mod Entering
 pub mod Orders
 pub mod Committing
+pub mod Behinds
 pub mod Longest
 pub mod Vocabulary

@@ -15,19 +15,21 @@ runs_push file from a b (e ∷ es) entry (one, first, rest) same low high =
 
 -- a commit record that is written leaves what is after it
 pub gate_keeps : (unit : List ℕ) (units : Units) (files mid new : Files) → units ≡ unit ∷ [] → mid ≡ with_file Log (put 0 units files.log) files
-    → new ≡ mid → KeepsBehind files.log new.log
+    → new ≡ mid → KeepsBehind 1 files.log new.log
 gate_keeps unit units files mid new one written same = record {
-  long = omega (arith, ap length is, length-put 0 (unit ∷ []) files.log);
   same = λ i low. ap (λ (us : Units). unit_at us i) is ∙ put_after 0 (unit ∷ []) files.log i low;
+  no_shorter = omega (arith, ap length is, length-put 0 (unit ∷ []) files.log);
+  no_longer = omega (arith, ap length is, length-put 0 (unit ∷ []) files.log);
 }
   where
     is : new.log ≡ put 0 (unit ∷ []) files.log
     is = ap (λ (f : Files). f.log) (same ∙ written) ∙ ap (λ (us : Units). put 0 us files.log) one
 
-pub keeps_then : (a b c : Units) → KeepsBehind a b → KeepsBehind b c → KeepsBehind a c
-keeps_then a b c one two = record {
-  long = omega (arith, one.long, two.long);
+pub keeps_then : (end : ℕ) (a b c : Units) → KeepsBehind end a b → KeepsBehind end b c → KeepsBehind end a c
+keeps_then end a b c one two = record {
   same = λ i low. two.same i low ∙ one.same i low;
+  no_shorter = omega (arith, one.no_shorter, two.no_shorter);
+  no_longer = omega (arith, one.no_longer, two.no_longer);
 }
 
 -- ---- heads that end in zeros
@@ -57,11 +59,11 @@ heads_then (e ∷ es) fs p q log (one, more) (zero_here, heads) rest = (zero_her
 
 -- the entries of a group stay after the commit record
 pub group_logged : (held : Layers) (entries : List Entry) (end : ℕ) (old new : Units) → IsGroup entries held → EntriesIn entries 1 end old
-    → HeadsEndInZeros entries 1 old → end ≡ needed held → KeepsBehind old new → IsLogged held new
+    → HeadsEndInZeros entries 1 old → end ≡ needed held → KeepsBehind 1 old new → IsLogged held new
 group_logged held entries end old new group placed heads is keeps = record {
   entries = entries;
   placed = subst (λ (n : ℕ). EntriesIn entries 1 n new) is
-      (entries_kept entries 1 end old new (λ i low high. keeps.same i low) keeps.long placed);
+      (entries_kept entries 1 end old new (λ i low high. keeps.same i low) keeps.no_shorter placed);
   heads = heads_kept entries 1 end old new (λ i low high. keeps.same i low) placed heads;
   order = group.order;
   whole = λ files. ap (λ (f : Files). record { pkg = f.pkg; idx = f.idx; log = [] }) (group.whole files);

@@ -1,5 +1,5 @@
 -- One stage of a commit after another.
-use Rattle.std.proofs.Common.{◌≡◌, inl, inr, ⊎_elim, ℕ, ◌≤◌, ◌^◌, List, refl, ap, subst, ◌∙◌, arith}
+use Rattle.std.proofs.Common.{◌≡◌, inl, inr, ⊎_elim, ℕ, ◌≤◌, List, refl, ap, subst, ◌∙◌, arith}
 use Rattle.rpm_outside.specs.declared.disk.Disk as disk
 use Rattle.rpm_group.proofs.Vocabulary.{BeforeOrAfter, blank_closed, ChangedIn, Closed, closed_blank, Entry, Files, is_blank, IsGroup, Layers, leaves_then}
 use Rattle.rpm_group.proofs.Vocabulary.{leaves_weaker, LeavesChanged, LeavesOnly, Log, log_state, Open, reopened, reopened_closed, reopened_open, ReopensAs}
@@ -11,14 +11,14 @@ still_closed old new first end low closed changed = blank_closed new.log (ap is_
 
 module _ {D : Type 0} (g : disk.Ghosts D) (before after : Files) where
   -- the entries after the commit record change nothing
-  pub logged_leaves : (old new : D) (files : Files) → unlogged files ≡ before → log_state files.log ≡ Closed
+  pub logged_leaves : (end : ℕ) (old new : D) (files : Files) → unlogged files ≡ before → log_state files.log ≡ Closed
       → ((image : Files) → g.left_since old (g.moment old) image → image ≡ files)
-      → LeavesChanged g Log 1 (2 ^ 28) old new → LeavesOnly g old new (BeforeOrAfter before after)
-  logged_leaves old new files is closed settled run =
-      leaves_weaker g old new (WasChanged Log 1 (2 ^ 28) (g.left_since old (g.moment old))) (BeforeOrAfter before after)
+      → LeavesChanged g Log 1 end old new → LeavesOnly g old new (BeforeOrAfter before after)
+  logged_leaves end old new files is closed settled run =
+      leaves_weaker g old new (WasChanged Log 1 end (g.left_since old (g.moment old))) (BeforeOrAfter before after)
       (λ image was.
-      let changed : ChangedIn Log 1 (2 ^ 28) files image = subst (λ (f : Files). ChangedIn Log 1 (2 ^ 28) f image) (settled was.0 was.1) was.2 in
-      let shut : log_state image.log ≡ Closed = still_closed files image 1 (2 ^ 28) (omega arith) closed changed in
+      let changed : ChangedIn Log 1 end files image = subst (λ (f : Files). ChangedIn Log 1 end f image) (settled was.0 was.1) was.2 in
+      let shut : log_state image.log ≡ Closed = still_closed files image 1 end (omega arith) closed changed in
       inl (record { same = reopened_closed image shut ∙ ap unlogged changed.others ∙ is; sound = closed_sound image.log shut }))
       run
 
@@ -54,9 +54,9 @@ module _ {D : Type 0} (g : disk.Ghosts D) (held : Layers) (files : Files) where
   abbrev BOA : Files → Type 0
   BOA = BeforeOrAfter (unlogged files) (unlogged (with_held held files))
 
-  pub stage_one : (old new : D) → log_state files.log ≡ Closed → ((image : Files) → g.left_since old (g.moment old) image → image ≡ files)
-      → LeavesChanged g Log 1 (2 ^ 28) old new → LeavesOnly g old new BOA
-  stage_one old new closed settled run = logged_leaves g (unlogged files) (unlogged (with_held held files)) old new files refl closed
+  pub stage_one : (end : ℕ) (old new : D) → log_state files.log ≡ Closed → ((image : Files) → g.left_since old (g.moment old) image → image ≡ files)
+      → LeavesChanged g Log 1 end old new → LeavesOnly g old new BOA
+  stage_one end old new closed settled run = logged_leaves g (unlogged files) (unlogged (with_held held files)) end old new files refl closed
       settled run
 
   pub stage_two : (old mid new : D) (first : Files) (entries : List Entry) → LeavesOnly g old mid BOA

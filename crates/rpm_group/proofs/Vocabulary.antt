@@ -1,7 +1,7 @@
 -- The words of proofs, from one place.
 pub use Rattle.rpm_group.specs.Counts.{is_held, log_units}
 unfoldable pub use Rattle.rpm_group.specs.Counts.{begins_run, count_below}
-pub use Rattle.rpm_group.specs.Groups.{BeforeOrAfter, longest_log, needed, runs_of, units_of_log}
+pub use Rattle.rpm_group.specs.Groups.{BeforeOrAfter, KeepsBehind, longest_log, needed, runs_of, units_of_log}
 pub use Rattle.rpm_group.specs.Held.{EndsAt, in_page, in_paged, Leaf, page_at, page_in, Table, unit_in, unit_over}
 unfoldable pub use Rattle.rpm_group.specs.Held.{held_at, laid}
 pub use Rattle.rpm_group.specs.Layers.{file_of-laid, laid_file, laid_files, pages_of}
@@ -21,7 +21,6 @@ pub use Rattle.rpm_group.specs.declared.pages.Pages.{Pages}
 pub use Rattle.rpm_group.specs.declared.recovery.RecoverFault.{RecoverFault}
 pub use Rattle.rpm_group.specs.declared.recovery.RecoverFault.TheVariants.{BadLog, DiskFault}
 pub use Rattle.rpm_group.specs.declared.spared.Spared.{Spared}
-pub use Rattle.rpm_group.specs.inner.Behind.{KeepsBehind}
 pub use Rattle.rpm_group.specs.inner.Grouped.{IsGroup, IsTail, with_held}
 pub use Rattle.rpm_group.specs.inner.HeldUnits.{AreHeld}
 unfoldable pub use Rattle.rpm_group.specs.inner.HeldUnits.{units_held}

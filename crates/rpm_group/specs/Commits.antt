@@ -5,7 +5,7 @@ use Rattle.rpm_outside.specs.Frame as frame
 use Rattle.rpm_outside.specs.Logs.{Closed, log_state, unlogged}
 use Rattle.rpm_outside.specs.declared.disk.Disk as disk
 use Rattle.rpm_group.specs.Frame.{ReadsLog, Unwritten}
-use Rattle.rpm_group.specs.Groups.{needed, longest_log, BeforeOrAfter}
+use Rattle.rpm_group.specs.Groups.{needed, longest_log, BeforeOrAfter, KeepsBehind}
 use Rattle.rpm_group.specs.Layers.{laid_files}
 use Rattle.rpm_group.specs.Orders.{IsLogged}
 use Rattle.rpm_group.specs.declared.commit.CommitFault.{CommitFault}
@@ -31,6 +31,7 @@ module _ {D : Type 0} (d : disk.Ghosts D) where
     pub settled : OnOk result (IsTrue d.tells → AreSettled (d.files new) (frame.images d new))
     pub images : IsTrue d.tells → frame.LeavesIn d old new
         (BeforeOrAfter (unlogged (d.files old)) (unlogged (laid_files held (d.files old))))
+    pub behind : IsTrue d.tells → frame.LeavesIn d old new (λ image. KeepsBehind (needed held) (d.files old).log image.log)
     pub says : CommitSays (2 ^ 28) (needed held) result
     pub full : 2 ^ 28 < needed held → IsFull (needed held) result
     pub longest : needed held ≤ longest_log (laid_files held (d.files old))

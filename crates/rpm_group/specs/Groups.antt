@@ -1,9 +1,9 @@
 -- A group of changes: what is held of the two files.
-use Rattle.std.specs.Prelude.{◌≡◌, ◌⊎◌, ℕ, ◌+◌, ◌*◌, Bool, IsTrue, length}
+use Rattle.std.specs.Prelude.{◌≡◌, ◌⊎◌, ℕ, ◌+◌, ◌*◌, ◌≤◌, Bool, IsTrue, length, max}
 use Rattle.rpm_outside.specs.declared.disk.Disk as disk
 use Rattle.rpm_outside.specs.Crash.{Untouched}
 use Rattle.rpm_outside.specs.declared.disk.File.{File}
-use Rattle.rpm_outside.specs.Files.{Files}
+use Rattle.rpm_outside.specs.Files.{Files, Units, unit_at}
 use Rattle.rpm_group.specs.Settled.{ReopensAs}
 use Rattle.rpm_group.specs.declared.layers.Layers.{Layers}
 use Rattle.rpm_group.specs.declared.pages.Pages.{Pages}
@@ -36,6 +36,12 @@ longest_log files = 1 + 2 * length files.pkg + 2 * length files.idx
 -- an image stands for the files before or after, and its log isn't malformed
 abbrev pub BeforeOrAfter : Files → Files → Files → Type 0
 BeforeOrAfter before after image = ReopensAs before image ⊎ ReopensAs after image
+
+-- the units of a log from this one on are as they were, and it is no longer than before or ends by that unit
+pub record KeepsBehind (end : ℕ) (old new : Units) : Type 0 where
+  pub same : (i : ℕ) → end ≤ i → unit_at new i ≡ unit_at old i
+  pub no_shorter : length old ≤ length new
+  pub no_longer : length new ≤ max (length old) end
 
 -- a call that changed nothing at all
 pub record Unwritten {D : Type 0} (g : disk.Ghosts D) (old new : D) : Type 0 where

@@ -44,10 +44,11 @@ HoldsWrite file unit bytes old new =
     (files : Files) → laid_files new.held files ≡ with_file file (put unit (units_of bytes) (file_of file (laid_files old.held files)))
     (laid_files old.held files)
 
--- a write that fails is counted as starved, and leaves the units as they were; only one that doesn't changes them
+-- a write that fails counts as starved and leaves the units as they were, a sync never fails, and both leave the disk below
 abbrev pub StarvesOrHolds : {D : Type 0} → Overlay D → Call → Bool → Overlay D → Type 0
-StarvesOrHolds old (Write file unit bytes) true new = Rose old.starved new.starved × HoldsSame old new
-StarvesOrHolds old (Write file unit bytes) false new = (new.starved ≡ old.starved) × HoldsWrite file unit bytes old new
+StarvesOrHolds old (Write file unit bytes) true new = Rose old.starved new.starved × HoldsSame old new × (new.below ≡ old.below)
+StarvesOrHolds old (Write file unit bytes) false new =
+    (new.starved ≡ old.starved) × HoldsWrite file unit bytes old new × (new.below ≡ old.below)
 StarvesOrHolds old (Len file) failed new = (new.starved ≡ old.starved) × HoldsSame old new
 StarvesOrHolds old (Read file unit count) failed new = (new.starved ≡ old.starved) × HoldsSame old new
-StarvesOrHolds old (Sync file) failed new = (new.starved ≡ old.starved) × HoldsSame old new
+StarvesOrHolds old (Sync file) failed new = (failed ≡ false) × (new.starved ≡ old.starved) × HoldsSame old new × (new.below ≡ old.below)

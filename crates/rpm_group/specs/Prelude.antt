@@ -3,7 +3,7 @@ pub use Rattle.rpm_group.specs.Below.{KeepsBelow, keeps_refl, keeps_trans}
 pub use Rattle.rpm_group.specs.Commits.{CommitSays, IsCommit, IsFull}
 pub use Rattle.rpm_group.specs.Counts.{IsNext, begins_run, count_below, is_held, log_units}
 pub use Rattle.rpm_group.specs.Frame.{OnlyReadsLog, OnlyReadsLogOr, ReadsLog, ReadsNothing, Unwritten}
-pub use Rattle.rpm_group.specs.Groups.{BeforeOrAfter, held_units, needed, runs_of, units_of_log}
+pub use Rattle.rpm_group.specs.Groups.{BeforeOrAfter, KeepsBehind, held_units, needed, runs_of, units_of_log}
 pub use Rattle.rpm_group.specs.Held.{held_at, in_page, laid, page_at, page_in, unit_in}
 pub use Rattle.rpm_group.specs.Layers.{laid_files, pages_of}
 pub use Rattle.rpm_group.specs.Loaded.{IsDiskFault, IsLoaded, LoadedSays, disk_after}
@@ -13,7 +13,6 @@ pub use Rattle.rpm_group.specs.Overlay.{IsOver, StarvesOrHolds, overlay_below, o
 pub use Rattle.rpm_group.specs.Readings.{IsOpen, entries_of}
 pub use Rattle.rpm_group.specs.Settled.{RecoverKeeps, RecoverSays, ReopensAs, ReopensAsOneOf}
 pub use Rattle.rpm_group.specs.Spared.{CountsRead, spared_of}
-pub use Rattle.rpm_group.specs.inner.Behind.{KeepsBehind}
 pub use Rattle.rpm_group.specs.inner.Grouped.{IsGroup, IsTail, with_held}
 pub use Rattle.rpm_group.specs.inner.HeldUnits.{AreHeld, units_held}
 pub use Rattle.rpm_group.specs.inner.Holding.{AreThere, Holds, KeepsPages, LaysOver, LeafKeeps, LeafSame, LeafWrote, PageWrote, SameHeld, SamePages}

@@ -3,7 +3,6 @@ pub mod Holding
 pub mod LogReadings
 pub mod HeldUnits
 pub mod Leavings
-pub mod Behind
 pub mod Logged
 pub mod Over
 pub mod Grouped

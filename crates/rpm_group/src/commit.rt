@@ -19,9 +19,9 @@ fn log_held<D: Disk>(disk: &mut D, held: &Layers, buffer: &mut Buffer) -> Result
     ensures at { IfOk result (λ tail. tail.at ≡ needed held.now) }
     ensures logged { IfOk result (λ tail. IsTrue D.tells
         → (entries : List Entry) × IsGroup entries held.now × IsTail entries tail (D.files disk.new).log) }
-    ensures changed { OnOk result (IsTrue D.tells → ChangedIn File.Log 1 (2 ^ 28) (D.files disk.old) (D.files disk.new)) }
+    ensures changed { OnOk result (IsTrue D.tells → ChangedIn File.Log 1 (needed held.now) (D.files disk.old) (D.files disk.new)) }
     ensures settled { OnOk result (IsTrue D.tells → AreSettled (D.files disk.new) (images D.Disk disk.new)) }
-    ensures images { IsTrue D.tells → LeavesChanged D.Disk File.Log 1 (2 ^ 28) disk.old disk.new }
+    ensures images { IsTrue D.tells → LeavesChanged D.Disk File.Log 1 (needed held.now) disk.old disk.new }
     ensures reads { ReadsNothing D.Disk result disk.old disk.new }
 {
     let start = Tail { at: 1, entries: 0 };
@@ -45,11 +45,12 @@ fn open_log<D: Disk>(disk: &mut D, tail: Tail) -> Result<(), Failed>
         → log_state (D.files disk.new).log ≡ Open entries) }
     ensures same { IsTrue D.tells → unlogged (D.files disk.new) ≡ unlogged (D.files disk.old) }
     ensures long { IsTrue D.tells → length (D.files disk.old).log ≤ length (D.files disk.new).log }
-    ensures behind { OnOk result (IsTrue D.tells → KeepsBehind (D.files disk.old).log (D.files disk.new).log) }
+    ensures behind { OnOk result (IsTrue D.tells → KeepsBehind 1 (D.files disk.old).log (D.files disk.new).log) }
     ensures settled { OnOk result (IsTrue D.tells → AreSettled (D.files disk.new) (images D.Disk disk.new)) }
     ensures images { IsTrue D.tells → (entries : List Entry) → IsTail entries tail (D.files disk.old).log
         → LeavesIn D.Disk disk.old disk.new (BeforeOrAfter (unlogged (D.files disk.old))
         (with_entries entries (unlogged (D.files disk.old)))) }
+    ensures gate { IsTrue D.tells → LeavesChanged D.Disk File.Log 0 1 disk.old disk.new }
     ensures reads { ReadsNothing D.Disk result disk.old disk.new }
 {
     let gate = unit_of_words(MAGIC, 1, tail.entries, (tail.at - 1) as u32);
@@ -84,6 +85,8 @@ fn write_group<D: Disk>(disk: &mut D, held: &Layers) -> Result<(), Failed>
     ensures settled { OnOk result (IsTrue D.tells → AreSettled (D.files disk.new) (images D.Disk disk.new)) }
     ensures images { IsTrue D.tells → LeavesIn D.Disk disk.old disk.new
         (BeforeOrAfter (unlogged (D.files disk.old)) (unlogged (with_held held.now (D.files disk.old)))) }
+    ensures behind { IsTrue D.tells → LeavesIn D.Disk disk.old disk.new
+        (λ image. KeepsBehind (needed held.now) (D.files disk.old).log image.log) }
     ensures reads { OnlyReadsLog D.Disk result disk.old disk.new }
 {
     let mut buffer = [0u8; 65_536];
@@ -115,6 +118,8 @@ fn write_held<D: Disk>(disk: &mut D, held: &Layers) -> Result<(), CommitFault>
     ensures settled { OnOk result (IsTrue D.tells → AreSettled (D.files disk.new) (images D.Disk disk.new)) }
     ensures images { IsTrue D.tells → LeavesIn D.Disk disk.old disk.new
         (BeforeOrAfter (unlogged (D.files disk.old)) (unlogged (with_held held.now (D.files disk.old)))) }
+    ensures behind { IsTrue D.tells → LeavesIn D.Disk disk.old disk.new
+        (λ image. KeepsBehind (needed held.now) (D.files disk.old).log image.log) }
     ensures says { CommitSays (2 ^ 28) (needed held.now) result }
     ensures full { 2 ^ 28 < needed held.now → IsFull (needed held.now) result }
     ensures idle { needed held.now ≡ 1 → Unwritten D.Disk disk.old disk.new }

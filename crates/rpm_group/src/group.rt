@@ -32,8 +32,10 @@ pub fn log_runs<D: Disk>(
         → (entries : List Entry) × Logged entries file pages.now.table.items pages.now.end
         × EntriesIn entries tail.at next.at (D.files disk.new).log
         × HeadsEndInZeros entries tail.at (D.files disk.new).log) }
-    ensures changed { OnOk result (IsTrue D.tells → ChangedIn File.Log tail.at (2 ^ 28) (D.files disk.old) (D.files disk.new)) }
-    ensures images { IsTrue D.tells → LeavesChanged D.Disk File.Log tail.at (2 ^ 28) disk.old disk.new }
+    ensures changed { OnOk result (IsTrue D.tells → ChangedIn File.Log tail.at
+        (tail.at + log_units pages.now.table.items pages.now.end) (D.files disk.old) (D.files disk.new)) }
+    ensures images { IsTrue D.tells → LeavesChanged D.Disk File.Log tail.at
+        (tail.at + log_units pages.now.table.items pages.now.end) disk.old disk.new }
     ensures reads { ReadsNothing D.Disk result disk.old disk.new }
 {
     let end = pages.end as usize;

@@ -139,10 +139,11 @@ pub fn close_log<D: Disk>(disk: &mut D) -> Result<(), Failed>
     requires done { IsTrue D.tells → with_entries (entries_of (log_state (D.files disk.old).log))
         (unlogged (D.files disk.old)) ≡ unlogged (D.files disk.old) }
     ensures closed { OnOk result (IsTrue D.tells → log_state (D.files disk.new).log ≡ Closed) }
-    ensures behind { OnOk result (IsTrue D.tells → KeepsBehind (D.files disk.old).log (D.files disk.new).log) }
+    ensures behind { OnOk result (IsTrue D.tells → KeepsBehind 1 (D.files disk.old).log (D.files disk.new).log) }
     ensures same { IsTrue D.tells → unlogged (D.files disk.new) ≡ unlogged (D.files disk.old) }
     ensures settled { OnOk result (IsTrue D.tells → AreSettled (D.files disk.new) (images D.Disk disk.new)) }
     ensures images { IsTrue D.tells → LeavesIn D.Disk disk.old disk.new (ReopensAs (unlogged (D.files disk.old))) }
+    ensures gate { IsTrue D.tells → LeavesChanged D.Disk File.Log 0 1 disk.old disk.new }
     ensures reads { OnlyReadsLog D.Disk result disk.old disk.new }
 {
     disk.write_at(File::Log, 0, &[0u8; 16])?;

@@ -1,5 +1,6 @@
 use Rattle.std.proofs.Common.{length, ap, ◌∙◌, arith}
-use Rattle.rpm_group.proofs.Vocabulary.{BeforeOrAfter, cut_up_one, Files, length-unit, sync_leaves, units_of, unlogged, with_entries}
+use Rattle.rpm_group.proofs.Vocabulary.{BeforeOrAfter, cut_up_one, Files, length-unit, Log, sync_leaves, units_of, unlogged, WasChanged, with_entries}
+use Rattle.rpm_group.proofs.Vocabulary.{write_leaves}
 use Rattle.rpm_group.proofs.Orders.{gate_keeps}
 use Rattle.rpm_group.proofs.GateOpens.{opens, gate_leaves, gate_opened}
 use Rattle.rpm_group.proofs.commit.open_log.Goals as goal
@@ -64,3 +65,33 @@ returns-clause-behind g c = λ told.
     let gate = c.unit_of_words-gate.result in
     gate_keeps gate (units_of gate) (D.files c.args.disk.now) (D.files c.write_at.new.self) (D.files c.sync.new.self)
     (cut_up_one gate (ap length c.unit_of_words-gate.ensures ∙ length-unit _ _ _ _)) (c.in_ok-write_at.ensures.written told) (c.sync.ensures.same told)
+
+pub returns-in_err-write_at-clause-gate : goal.returns-in_err-write_at-clause-gate
+returns-in_err-write_at-clause-gate g c = λ told.
+    write_leaves g.D.Disk Log 0 (units_of c.unit_of_words-gate.result) 1 c.args.disk.now c.write_at.new.self
+    (omega (arith, ap length (cut_up_one c.unit_of_words-gate.result (ap length c.unit_of_words-gate.ensures ∙ length-unit _ _ _ _))))
+    (c.write_at.ensures.images told) (c.write_at.ensures.time told)
+
+pub returns-in_err-sync-clause-gate : goal.returns-in_err-sync-clause-gate
+returns-in_err-sync-clause-gate g c = λ told.
+    let D = g.D.Disk in
+    let old = c.args.disk.now in
+    let mid = c.write_at.new.self in
+    sync_leaves D old mid c.sync.new.self (WasChanged Log 0 1 (D.left_since old (D.moment old)))
+    (write_leaves D Log 0 (units_of c.unit_of_words-gate.result) 1 old mid
+    (omega (arith, ap length (cut_up_one c.unit_of_words-gate.result (ap length c.unit_of_words-gate.ensures ∙ length-unit _ _ _ _))))
+    (c.write_at.ensures.images told) (c.write_at.ensures.time told))
+    (c.sync.ensures.time told) (c.sync.ensures.images told)
+    (λ image left. g.met.D.Disk.earlier mid (D.moment old) (D.moment mid) image told c.write_at.ensures.later (omega arith) left)
+
+pub returns-clause-gate : goal.returns-clause-gate
+returns-clause-gate g c = λ told.
+    let D = g.D.Disk in
+    let old = c.args.disk.now in
+    let mid = c.write_at.new.self in
+    sync_leaves D old mid c.sync.new.self (WasChanged Log 0 1 (D.left_since old (D.moment old)))
+    (write_leaves D Log 0 (units_of c.unit_of_words-gate.result) 1 old mid
+    (omega (arith, ap length (cut_up_one c.unit_of_words-gate.result (ap length c.unit_of_words-gate.ensures ∙ length-unit _ _ _ _))))
+    (c.write_at.ensures.images told) (c.write_at.ensures.time told))
+    (c.sync.ensures.time told) (c.sync.ensures.images told)
+    (λ image left. g.met.D.Disk.earlier mid (D.moment old) (D.moment mid) image told c.write_at.ensures.later (omega arith) left)

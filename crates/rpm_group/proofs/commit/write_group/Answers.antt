@@ -1,7 +1,8 @@
-use Rattle.std.proofs.Common.{inl, inr, ◌+◌, sym, ap, subst, ◌∙◌, arith}
+use Rattle.std.proofs.Common.{inl, inr, refl, ◌+◌, sym, ap, subst, ◌∙◌, arith}
 use Rattle.std.proofs.lemmas.Result.{on_ok_weaker}
 use Rattle.std.proofs.lemmas.Bool.{cases_lt}
-use Rattle.rpm_group.proofs.Vocabulary.{entries_of, Files, KeepsBehind, log_not_log, LogState, runs_of, Units, unlogged, with_entries}
+use Rattle.rpm_group.proofs.Vocabulary.{entries_of, Files, KeepsBehind, log_not_log, LogState, needed, runs_of, Units, unlogged, with_entries}
+use Rattle.rpm_group.proofs.Behinds.{entries_behind, first_behind, then_behind}
 use Rattle.rpm_group.proofs.Orders.{keeps_then, group_logged}
 use Rattle.rpm_group.proofs.Countings.{no_runs}
 use Rattle.rpm_group.proofs.Closes.{applied_settled, mid_open, mid_done}
@@ -11,7 +12,7 @@ use Rattle.rpm_group.proofs.commit.write_group.Goals as goal
 pub returns-in_err-tail-clause-images : goal.returns-in_err-tail-clause-images
 returns-in_err-tail-clause-images g c = λ told.
     let D = g.D.Disk in
-    stage_one D c.args.held.now (D.files c.args.disk.now) c.args.disk.now c.log_held.new.disk (c.requires.closed told)
+    stage_one D c.args.held.now (D.files c.args.disk.now) (needed c.args.held.now) c.args.disk.now c.log_held.new.disk (c.requires.closed told)
     (c.requires.settled told) (c.log_held.ensures.images told)
 
 pub open_log-requires-clause-some : goal.open_log-requires-clause-some
@@ -32,7 +33,7 @@ open_log-requires-clause-some g c =
 pub open_log-requires-clause-closed : goal.open_log-requires-clause-closed
 open_log-requires-clause-closed g c = λ told.
     let D = g.D.Disk in
-    still_closed (D.files c.args.disk.now) (D.files c.log_held.new.disk) 1 268_435_456 (omega arith) (c.requires.closed told)
+    still_closed (D.files c.args.disk.now) (D.files c.log_held.new.disk) 1 (needed c.args.held.now) (omega arith) (c.requires.closed told)
     (c.in_ok-tail.ensures.changed told)
 
 pub returns-in_err-open_log-clause-images : goal.returns-in_err-open_log-clause-images
@@ -44,8 +45,8 @@ returns-in_err-open_log-clause-images g c = λ told.
     let held = c.args.held.now in
     let logged = c.in_ok-tail.ensures.logged told in
     stage_two D held files old first c.open_log.new.disk (D.files first) logged.0
-    (stage_one D held files old first (c.requires.closed told) (c.requires.settled told) (c.log_held.ensures.images told))
-    (unlogged_changed files (D.files first) 1 268_435_456 (c.in_ok-tail.ensures.changed told)) logged.1 (c.open_log.ensures.images told logged.0 logged.2)
+    (stage_one D held files (needed held) old first (c.requires.closed told) (c.requires.settled told) (c.log_held.ensures.images told))
+    (unlogged_changed files (D.files first) 1 (needed held) (c.in_ok-tail.ensures.changed told)) logged.1 (c.open_log.ensures.images told logged.0 logged.2)
 
 pub returns-in_err-apply_held-clause-images : goal.returns-in_err-apply_held-clause-images
 returns-in_err-apply_held-clause-images g c = λ told.
@@ -56,10 +57,10 @@ returns-in_err-apply_held-clause-images g c = λ told.
     let files : Files = D.files old in
     let held = c.args.held.now in
     let logged = c.in_ok-tail.ensures.logged told in
-    let same_first = unlogged_changed files (D.files first) 1 268_435_456 (c.in_ok-tail.ensures.changed told) in
+    let same_first = unlogged_changed files (D.files first) 1 (needed held) (c.in_ok-tail.ensures.changed told) in
     stage_three D held files old second c.apply_held.new.disk (D.files second) logged.0
     (stage_two D held files old first second (D.files first) logged.0
-    (stage_one D held files old first (c.requires.closed told) (c.requires.settled told) (c.log_held.ensures.images told))
+    (stage_one D held files (needed held) old first (c.requires.closed told) (c.requires.settled told) (c.log_held.ensures.images told))
     same_first logged.1 (c.open_log.ensures.images told logged.0 logged.2))
     (c.open_log.ensures.same told ∙ same_first) logged.1 (c.in_ok-open_log.ensures.open told logged.0 logged.2)
     (c.in_ok-open_log.ensures.settled told) (c.apply_held.ensures.images told logged.0 logged.1)
@@ -98,12 +99,12 @@ returns-clause-images g c = λ told.
     let files : Files = D.files old in
     let held = c.args.held.now in
     let logged = c.in_ok-tail.ensures.logged told in
-    let same_first = unlogged_changed files (D.files first) 1 268_435_456 (c.in_ok-tail.ensures.changed told) in
+    let same_first = unlogged_changed files (D.files first) 1 (needed held) (c.in_ok-tail.ensures.changed told) in
     let same_second = c.open_log.ensures.same told ∙ same_first in
     stage_four D held files old third c.close_log.new.disk (D.files second) (D.files third)
     (stage_three D held files old second third (D.files second) logged.0
     (stage_two D held files old first second (D.files first) logged.0
-    (stage_one D held files old first (c.requires.closed told) (c.requires.settled told) (c.log_held.ensures.images told))
+    (stage_one D held files (needed held) old first (c.requires.closed told) (c.requires.settled told) (c.log_held.ensures.images told))
     same_first logged.1 (c.open_log.ensures.images told logged.0 logged.2))
     same_second logged.1 (c.in_ok-open_log.ensures.open told logged.0 logged.2) (c.in_ok-open_log.ensures.settled told)
     (c.apply_held.ensures.images told logged.0 logged.1))
@@ -116,7 +117,59 @@ returns-clause-logged g c = on_ok_weaker c.close_log.result (λ behind told.
     let third : Files = D.files c.apply_held.new.disk in
     let last : Files = D.files c.close_log.new.disk in
     let logged = c.in_ok-tail.ensures.logged told in
-    let applied : KeepsBehind first.log third.log = subst (λ (us : Units). KeepsBehind first.log us)
+    let applied : KeepsBehind 1 first.log third.log = subst (λ (us : Units). KeepsBehind 1 first.log us)
     (sym (ap (λ (f : Files). f.log) (c.in_ok-apply_held.ensures.written told))) (c.in_ok-open_log.ensures.behind told) in
     group_logged c.args.held.now logged.0 c.in_ok-tail.tail.at first.log last.log logged.1 logged.2.placed logged.2.heads c.in_ok-tail.ensures.at
-    (keeps_then first.log third.log last.log applied (behind told))) c.close_log.ensures.behind
+    (keeps_then 1 first.log third.log last.log applied (behind told))) c.close_log.ensures.behind
+
+pub returns-in_err-tail-clause-behind : goal.returns-in_err-tail-clause-behind
+returns-in_err-tail-clause-behind g c = λ told.
+    let D = g.D.Disk in
+    let earlier = g.met.D.Disk.earlier in
+    let end = needed c.args.held.now in
+    let old = c.args.disk.now in
+    let files : Files = D.files old in
+    first_behind D told earlier end files.log old c.log_held.new.disk files 1 end refl (omega arith) (c.requires.settled told) (c.log_held.ensures.images told)
+
+pub returns-in_err-open_log-clause-behind : goal.returns-in_err-open_log-clause-behind
+returns-in_err-open_log-clause-behind g c = λ told.
+    let D = g.D.Disk in
+    let earlier = g.met.D.Disk.earlier in
+    let end = needed c.args.held.now in
+    let old = c.args.disk.now in
+    let files : Files = D.files old in
+    let one = first_behind D told earlier end files.log old c.log_held.new.disk files 1 end refl (omega arith) (c.requires.settled told)
+    (c.log_held.ensures.images told) in
+    then_behind D told earlier end files.log old c.log_held.new.disk c.open_log.new.disk 0 1 (omega arith) one (c.open_log.ensures.gate told)
+
+pub returns-in_err-apply_held-clause-behind : goal.returns-in_err-apply_held-clause-behind
+returns-in_err-apply_held-clause-behind g c = λ told.
+    let D = g.D.Disk in
+    let earlier = g.met.D.Disk.earlier in
+    let end = needed c.args.held.now in
+    let old = c.args.disk.now in
+    let files : Files = D.files old in
+    let one = first_behind D told earlier end files.log old c.log_held.new.disk files 1 end refl (omega arith) (c.requires.settled told)
+    (c.log_held.ensures.images told) in
+    let two = then_behind D told earlier end files.log old c.log_held.new.disk c.open_log.new.disk 0 1 (omega arith) one (c.open_log.ensures.gate told) in
+    let logged = c.in_ok-tail.ensures.logged told in
+    let second = c.open_log.new.disk in
+    entries_behind D told earlier end files.log old second c.apply_held.new.disk logged.0
+    (log_not_log (D.files second).log logged.0 (c.in_ok-open_log.ensures.open told logged.0 logged.2)) two (c.apply_held.ensures.images told logged.0 logged.1)
+
+pub returns-clause-behind : goal.returns-clause-behind
+returns-clause-behind g c = λ told.
+    let D = g.D.Disk in
+    let earlier = g.met.D.Disk.earlier in
+    let end = needed c.args.held.now in
+    let old = c.args.disk.now in
+    let files : Files = D.files old in
+    let one = first_behind D told earlier end files.log old c.log_held.new.disk files 1 end refl (omega arith) (c.requires.settled told)
+    (c.log_held.ensures.images told) in
+    let two = then_behind D told earlier end files.log old c.log_held.new.disk c.open_log.new.disk 0 1 (omega arith) one (c.open_log.ensures.gate told) in
+    let logged = c.in_ok-tail.ensures.logged told in
+    let second = c.open_log.new.disk in
+    let three = entries_behind D told earlier end files.log old second c.apply_held.new.disk logged.0
+    (log_not_log (D.files second).log logged.0 (c.in_ok-open_log.ensures.open told logged.0 logged.2)) two
+    (c.apply_held.ensures.images told logged.0 logged.1) in
+    then_behind D told earlier end files.log old c.apply_held.new.disk c.close_log.new.disk 0 1 (omega arith) three (c.close_log.ensures.gate told)

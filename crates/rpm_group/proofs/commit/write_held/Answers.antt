@@ -1,6 +1,7 @@
 use Rattle.std.proofs.Common.{◌≡◌, inl, inr, ℕ, ◌-◌, ◌<◌, [], refl, sym, ap, subst, ◌∙◌, arith}
 use Rattle.std.proofs.lemmas.Bool.{cases_lt}
-use Rattle.rpm_group.proofs.Vocabulary.{EndsAt, Files, held_at, laid, laid_file, log_units, Pages, Units}
+use Rattle.rpm_group.proofs.Vocabulary.{EndsAt, Files, held_at, KeepsBehind, laid, laid_file, log_units, needed, Pages, started, Units}
+use Rattle.rpm_group.proofs.Behinds.{keeps_none}
 use Rattle.rpm_group.proofs.Countings.{nothing_held}
 use Rattle.rpm_group.proofs.LoggedLaws.{unheld_is}
 use Rattle.rpm_group.proofs.Laids.{laid_none}
@@ -49,3 +50,19 @@ returns-then-units-eq0-clause-logged g c = λ told.
           ap (λ (us : Units). record { pkg = us; idx = files.idx; log = [] }) (unheld_file held.pkg files.pkg pkg)
           ∙ ap (λ (us : Units). record { pkg = laid_file held.pkg files.pkg; idx = us; log = [] }) (unheld_file held.idx files.idx idx);
     }
+
+pub returns-then-units-eq0-clause-behind : goal.returns-then-units-eq0-clause-behind
+returns-then-units-eq0-clause-behind g c = λ told.
+    let D = g.D.Disk in
+    let old = c.args.disk.now in
+    started D old (λ image. KeepsBehind (needed c.args.held.now) (D.files old).log image.log)
+    (λ image left. subst (λ (f : Files). KeepsBehind (needed c.args.held.now) (D.files old).log f.log) (sym (c.requires.settled told image left))
+    (keeps_none (needed c.args.held.now) (D.files old).log))
+
+pub returns-then-units-ge-MOST-clause-behind : goal.returns-then-units-ge-MOST-clause-behind
+returns-then-units-ge-MOST-clause-behind g c = λ told.
+    let D = g.D.Disk in
+    let old = c.args.disk.now in
+    started D old (λ image. KeepsBehind (needed c.args.held.now) (D.files old).log image.log)
+    (λ image left. subst (λ (f : Files). KeepsBehind (needed c.args.held.now) (D.files old).log f.log) (sym (c.requires.settled told image left))
+    (keeps_none (needed c.args.held.now) (D.files old).log))

@@ -1,5 +1,5 @@
 mod Places
-use Rattle.std.proofs.Common.{IsTrue, ◌≡◌, ℕ, ◌+◌, ◌-◌, ◌<◌, ◌^◌, ◌++◌, ◌∷◌, [], length, refl, sym, ap, subst, arith}
+use Rattle.std.proofs.Common.{IsTrue, ◌≡◌, ℕ, ◌+◌, ◌-◌, ◌<◌, ◌++◌, ◌∷◌, [], length, refl, sym, ap, subst, arith}
 use Rattle.rpm_group.proofs.Vocabulary.{begins_run, changed_none, changed_then, count_below, Files, leaves_none, Log, log_units, Logged, nothing_none}
 use Rattle.rpm_group.proofs.Vocabulary.{nothing_then, number_of, put, run_entry, unit_of_words, with_file}
 use Rattle.rpm_group.proofs.Runs.{length-units_held}
@@ -21,8 +21,8 @@ loop-at-init g c =
       place = omega (arith, log_units_none table);
       count = omega (arith, none_begun table);
       logged = λ told. ([], logged_none c.args.file table (none_begun table), refl, tt);
-      changed = λ told. changed_none Log c.args.tail.at (2 ^ 28) (D.files old);
-      images = λ told. leaves_none D Log c.args.tail.at (2 ^ 28) old;
+      changed = λ told. changed_none Log c.args.tail.at (c.args.tail.at + log_units table c.args.pages.now.end) (D.files old);
+      images = λ told. leaves_none D Log c.args.tail.at (c.args.tail.at + log_units table c.args.pages.now.end) old;
       reads = nothing_none _ g.met.D.Disk.follows_refl old;
       faults = omega arith;
     }
@@ -48,10 +48,11 @@ returns-in_err-log_run-clause-images g c = λ told.
     let table = c.args.pages.now.table.items in
     let first = c.next_unit-first in
     let stop = c.next_unit-stop in
-    let room = room_here table c.loop-at.next.at c.args.tail.at c.loop-at.at first.result stop.result c.args.pages.now.end inv.place
+    let upto = c.args.tail.at + log_units table c.args.pages.now.end in
+    let room = room_here {most = upto} table c.loop-at.next.at c.args.tail.at c.loop-at.at first.result stop.result c.args.pages.now.end inv.place
     (run_counted table c.loop-at.at first.result first.ensures.from first.ensures.between stop.result c.if-first-stop.true stop.ensures.between
-    (λ some. inv.starts some c.loop-at-test.true)) stop.ensures.end c.requires.room in
-    run_leaves D c.args.tail.at c.loop-at.next.at (c.loop-at.next.at + 1 + (stop.result - first.result)) old now
+    (λ some. inv.starts some c.loop-at-test.true)) stop.ensures.end (omega arith) in
+    run_leaves D c.args.tail.at c.loop-at.next.at (c.loop-at.next.at + 1 + (stop.result - first.result)) upto old now
     c.log_run.new.disk (omega (arith, inv.place)) room
     (λ image left. g.met.D.Disk.earlier now (D.moment old) (D.moment now) image told inv.reads.later (omega arith) left)
     (inv.images told) (c.log_run.ensures.images told)
@@ -70,8 +71,9 @@ loop-at-preserved-in_ok-log_run g c =
     stop.ensures.between starts in
     let begun = run_begins table c.loop-at.at first.result first.ensures.from first.ensures.between stop.result c.if-first-stop.true
     stop.ensures.between starts in
-    let room = room_here table c.loop-at.next.at c.args.tail.at c.loop-at.at first.result stop.result c.args.pages.now.end inv.place counted
-    stop.ensures.end c.requires.room in
+    let upto = c.args.tail.at + log_units table c.args.pages.now.end in
+    let room = room_here {most = upto} table c.loop-at.next.at c.args.tail.at c.loop-at.at first.result stop.result c.args.pages.now.end inv.place
+    counted stop.ensures.end (omega arith) in
     let entry = run_entry c.args.file table first.result stop.result in
     let long : length entry.units ≡ stop.result - first.result = length-units_held table first.result (stop.result - first.result) in
     let place = c.loop-at.next.at in
@@ -97,11 +99,11 @@ loop-at-preserved-in_ok-log_run g c =
                 (omega (arith, long, c.if-first-stop.true, stop.ensures.end, c.args.pages.now.small)) so_far.0 c.args.tail.at so_far.2 so_far.3,
           );
       changed = λ told.
-          changed_then Log c.args.tail.at (2 ^ 28) (D.files old) (D.files now) (D.files c.log_run.new.disk) (inv.changed told)
-          (put_changed place (place + 1 + (stop.result - first.result)) c.args.tail.at (2 ^ 28) (head_unit entry ∷ entry.units) (D.files now)
+          changed_then Log c.args.tail.at upto (D.files old) (D.files now) (D.files c.log_run.new.disk) (inv.changed told)
+          (put_changed place (place + 1 + (stop.result - first.result)) c.args.tail.at upto (head_unit entry ∷ entry.units) (D.files now)
           (D.files c.log_run.new.disk) (omega (arith, long)) (omega (arith, inv.place)) room (written told));
       images = λ told.
-          run_leaves D c.args.tail.at place (place + 1 + (stop.result - first.result)) old now c.log_run.new.disk
+          run_leaves D c.args.tail.at place (place + 1 + (stop.result - first.result)) upto old now c.log_run.new.disk
           (omega (arith, inv.place)) room
           (λ image left. g.met.D.Disk.earlier now (D.moment old) (D.moment now) image told inv.reads.later (omega arith) left)
           (inv.images told) (c.log_run.ensures.images told);

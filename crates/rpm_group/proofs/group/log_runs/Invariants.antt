@@ -1,4 +1,4 @@
-use Rattle.std.proofs.Common.{◌≡◌, ◌+◌, ◌-◌, ◌<◌, ◌≤◌, ◌^◌, false, List, IsTrue}
+use Rattle.std.proofs.Common.{◌≡◌, ◌+◌, ◌-◌, ◌<◌, ◌≤◌, false, List, IsTrue}
 use Rattle.rpm_group.proofs.Vocabulary.{begins_run, ChangedIn, count_below, EntriesIn, Entry, HeadsEndInZeros, is_held, LeavesChanged, Log, log_units, Logged}
 use Rattle.rpm_group.proofs.Vocabulary.{ReadsNothing}
 use Rattle.rpm_group.proofs.group.log_runs.Given as goal
@@ -14,8 +14,8 @@ invariant-loop-at g l =
       count : l.next.entries ≡ l.fn.tail.entries + count_below (begins_run table) l.at;
       logged : IsTrue D.tells → (entries : List Entry) × Logged entries l.file table l.at × EntriesIn entries l.fn.tail.at l.next.at (D.files l.disk).log
           × HeadsEndInZeros entries l.fn.tail.at (D.files l.disk).log;
-      changed : IsTrue D.tells → ChangedIn Log l.fn.tail.at (2 ^ 28) (D.files l.initial.disk) (D.files l.disk);
-      images : IsTrue D.tells → LeavesChanged D Log l.fn.tail.at (2 ^ 28) l.initial.disk l.disk;
+      changed : IsTrue D.tells → ChangedIn Log l.fn.tail.at (l.fn.tail.at + log_units table l.pages.end) (D.files l.initial.disk) (D.files l.disk);
+      images : IsTrue D.tells → LeavesChanged D Log l.fn.tail.at (l.fn.tail.at + log_units table l.pages.end) l.initial.disk l.disk;
       reads : ReadsNothing D l.initial.disk l.disk;
       faults : D.faults l.initial.disk ≤ D.faults l.disk;
     }

@@ -1,5 +1,5 @@
 use Rattle.std.proofs.Common.{refl, ap, ◌∙◌, arith}
-use Rattle.rpm_group.proofs.Vocabulary.{entries_of, Files, log_state, ReopensAs, sync_leaves, unlogged}
+use Rattle.rpm_group.proofs.Vocabulary.{entries_of, Files, Log, log_state, ReopensAs, sync_leaves, unlogged, WasChanged, write_leaves}
 use Rattle.rpm_group.proofs.Orders.{gate_keeps}
 use Rattle.rpm_group.proofs.Closes.{closing_leaves, closed_after}
 use Rattle.rpm_group.proofs.recovery.close_log.Goals as goal
@@ -44,3 +44,27 @@ returns-clause-behind g c = λ told.
     let D = g.D.Disk in
     gate_keeps _ _ (D.files c.args.disk.now) (D.files c.write_at.new.self) (D.files c.sync.new.self) refl (c.in_ok-write_at.ensures.written told)
     (c.in_ok-sync.ensures.same told)
+
+pub returns-in_err-write_at-clause-gate : goal.returns-in_err-write_at-clause-gate
+returns-in_err-write_at-clause-gate g c = λ told.
+    write_leaves g.D.Disk Log 0 _ 1 c.args.disk.now c.write_at.new.self refl (c.in_err-write_at.ensures.images told) (c.in_err-write_at.ensures.time told)
+
+pub returns-in_err-sync-clause-gate : goal.returns-in_err-sync-clause-gate
+returns-in_err-sync-clause-gate g c = λ told.
+    let D = g.D.Disk in
+    let old = c.args.disk.now in
+    let mid = c.write_at.new.self in
+    sync_leaves D old mid c.sync.new.self (WasChanged Log 0 1 (D.left_since old (D.moment old)))
+    (write_leaves D Log 0 _ 1 old mid refl (c.in_ok-write_at.ensures.images told) (c.in_ok-write_at.ensures.time told))
+    (c.sync.ensures.time told) (c.sync.ensures.images told)
+    (λ image left. g.met.D.Disk.earlier mid (D.moment old) (D.moment mid) image told c.write_at.ensures.later (omega arith) left)
+
+pub returns-clause-gate : goal.returns-clause-gate
+returns-clause-gate g c = λ told.
+    let D = g.D.Disk in
+    let old = c.args.disk.now in
+    let mid = c.write_at.new.self in
+    sync_leaves D old mid c.sync.new.self (WasChanged Log 0 1 (D.left_since old (D.moment old)))
+    (write_leaves D Log 0 _ 1 old mid refl (c.in_ok-write_at.ensures.images told) (c.in_ok-write_at.ensures.time told))
+    (c.sync.ensures.time told) (c.sync.ensures.images told)
+    (λ image left. g.met.D.Disk.earlier mid (D.moment old) (D.moment mid) image told c.write_at.ensures.later (omega arith) left)

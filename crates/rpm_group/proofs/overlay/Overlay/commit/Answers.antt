@@ -10,6 +10,7 @@ returns g c =
       logged = w.logged;
       settled = w.settled;
       images = w.images;
+      behind = w.behind;
       says = w.says;
       full = w.full;
       longest = needed_most c.into_parts-below.result.1 (g.D.Disk.files c.into_parts-below.result.0);
