@@ -39,6 +39,12 @@ blob_blank field units end at n a b low long was =
       | inr above ↦ put_after at units a i (omega (arith, long, above)) ∙ before
     ]) (field_blank field end at n was.mid b low was.field_put)
 
+-- where a blob is written alone, the number field stays
+pub blob_aside : (field : Option ℕ) (units : Units) (at : ℕ) (a b : Units) → field ≡ None → 2 ≤ at → BlobPut at units field a b → unit_at b 1 ≡ unit_at a 1
+blob_aside None units at a b none low was =
+    ap (λ (u : Units). unit_at u 1) was.field_put ∙ ap (λ (u : Units). unit_at u 1) was.blocks ∙ put_before at units a 1 (omega (arith, low))
+blob_aside (Some next) units at a b none low was = absurd (let e : Some next ≡ None = none in cc)
+
 -- blocks are copied, their slot is written, and the old ones become zeros
 pub moved_blank : (place to count at n : ℕ) (unit : List ℕ) (a b c d : Units) → SameOutside to count a b → c ≡ put (2 + place) (unit ∷ []) b
     → SameOutside at n c d → ((i : ℕ) → at ≤ i → i < at + n → unit_at d i ≡ blank) → KeepsBlank (place + 3) to count a d
@@ -105,12 +111,16 @@ module _ (slots : List Slot) (place : ℕ) (below : place < length slots) (s : S
     ]
   ]
 
+-- nothing was done
+pub freed_none : (end : ℕ) (slots : List Slot) (file : Units) → AreFreed end slots file slots file
+freed_none end slots file i had from not = elim had [ inl has ↦ absurd (not has) | inr zero_before ↦ zero_before ]
+
 -- one move more
-pub freed_more : (end : ℕ) (slots now : List Slot) (m : Move) (old : Slot) (F1 F2 : Units) → slot_at now m.place ≡ old → m.place < length now
-    → is_used (moved old m.to) ≡ true → m.place + 3 ≤ end → AreFreed end slots now F1
+pub freed_more : (end : ℕ) (slots now : List Slot) (m : Move) (old : Slot) (F0 F1 F2 : Units) → slot_at now m.place ≡ old → m.place < length now
+    → is_used (moved old m.to) ≡ true → m.place + 3 ≤ end → AreFreed end slots F0 now F1
     → ((i : ℕ) → old.offset ≤ i → end ≤ i → i < end_of old → unit_at F2 i ≡ blank)
-    → KeepsBlank (m.place + 3) m.to old.count F1 F2 → AreFreed end slots (set now m.place (moved old m.to)) F2
-freed_more end slots now m old F1 F2 is below used low freed zeros keeps i had from not =
+    → KeepsBlank (m.place + 3) m.to old.count F1 F2 → AreFreed end slots F0 (set now m.place (moved old m.to)) F2
+freed_more end slots now m old F0 F1 F2 is below used low freed zeros keeps i had from not =
     elim (cases_lt i old.offset) [
       | inl before ↦ stays (λ x. omega (arith, before, x.0))
       | inr at ↦ elim (cases_lt i (end_of old)) [
@@ -139,11 +149,11 @@ behind_has slots i has =
 -- ---- the slot of a blob
 
 -- once a blob is put, in slots in which those from before are free
-pub freed_put : (end : ℕ) (slots now : List Slot) (place : ℕ) (s old : Slot) (F1 F2 : Units) → place < length now → is_used s ≡ true
-    → (is_used (slot_at now place) ≡ true → slot_at now place ≡ old) → place + 3 ≤ end → AreFreed end slots now F1
+pub freed_put : (end : ℕ) (slots now : List Slot) (place : ℕ) (s old : Slot) (F0 F1 F2 : Units) → place < length now → is_used s ≡ true
+    → (is_used (slot_at now place) ≡ true → slot_at now place ≡ old) → place + 3 ≤ end → AreFreed end slots F0 now F1
     → ((i : ℕ) → old.offset ≤ i → i < end_of old → unit_at F2 i ≡ blank) → KeepsBlank (place + 3) s.offset s.count F1 F2
-    → ((i : ℕ) → HasBlock now i ⊎ (HasBlock now i → ⊥)) → AreFreed end slots (set now place s) F2
-freed_put end slots now place s old F1 F2 below used held low freed zeros keeps decide i had from not = elim (decide i) [
+    → ((i : ℕ) → HasBlock now i ⊎ (HasBlock now i → ⊥)) → AreFreed end slots F0 (set now place s) F2
+freed_put end slots now place s old F0 F1 F2 below used held low freed zeros keeps decide i had from not = elim (decide i) [
   | inl has ↦
       (let there = was_there now place below s i has not in
       let here : has.at ≡ place = at_place has in
@@ -197,7 +207,7 @@ decide_block (s ∷ slots) i = elim (cases_Bool (is_used s)) [
     later not_first (inr none) = inr (λ has. first_or not_first none has has.at refl)
 
 -- a slot page more
-pub freed_page : (end : ℕ) (slots now : List Slot) (F1 F2 : Units) → AreFreed end slots now F1 → KeepsBlank end 0 0 F1 F2
-    → AreFreed end slots (now ++ replicate 256 free) F2
-freed_page end slots now F1 F2 freed keeps i had from not =
+pub freed_page : (end : ℕ) (slots now : List Slot) (F0 F1 F2 : Units) → AreFreed end slots F0 now F1 → KeepsBlank end 0 0 F1 F2
+    → AreFreed end slots F0 (now ++ replicate 256 free) F2
+freed_page end slots now F0 F1 F2 freed keeps i had from not =
     keeps i from (inr (omega arith)) (freed i had from (λ has. not (behind_has now i has)))

@@ -20,9 +20,9 @@ module _ (value : Store) (slots : List Slot) (moves : List Move) (k : ℕ) (some
   was = slot_at slots m.place
 
   pub freed_then : (zeros_from : ℕ) → zeros_from ≡ next_end value → (F0 F1 F2 : Units) → Keeps F0 value
-      → AreFreed (next_end value) value.slots (with_moves value (take k moves)).slots F1
+      → AreFreed (next_end value) value.slots F0 (with_moves value (take k moves)).slots F1
       → ((i : ℕ) → was.offset ≤ i → zeros_from ≤ i → i < end_of was → unit_at F2 i ≡ blank)
-      → KeepsBlank (m.place + 3) m.to was.count F1 F2 → AreFreed (next_end value) value.slots (with_moves value (take (k + 1) moves)).slots F2
+      → KeepsBlank (m.place + 3) m.to was.count F1 F2 → AreFreed (next_end value) value.slots F0 (with_moves value (take (k + 1) moves)).slots F2
   freed_then zeros_from from_is F0 F1 F2 keeps freed zeros blanks =
       let now = current value slots moves k some same are below in
       let can = can_move value slots moves k some same are below in
@@ -30,6 +30,6 @@ module _ (value : Store) (slots : List Slot) (moves : List Move) (k : ℕ) (some
       let place = can.slot.below in
       let end : m.place + 3 ≤ next_end value = omega (arith, place, count, count_after value.slots (take k moves)) in
       let used = moved_used was m.to now.pages can.slot.made can.behind in
-      subst (λ (v : Store). AreFreed (next_end value) value.slots v.slots F2) (sym (then_after value slots moves k some same are below))
-      (freed_more (next_end value) value.slots now.slots m was F1 F2 can.slot.is place used end freed
+      subst (λ (v : Store). AreFreed (next_end value) value.slots F0 v.slots F2) (sym (then_after value slots moves k some same are below))
+      (freed_more (next_end value) value.slots now.slots m was F0 F1 F2 can.slot.is place used end freed
       (λ i at from inside. zeros i at (omega (arith, from_is, from)) inside) blanks)

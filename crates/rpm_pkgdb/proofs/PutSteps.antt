@@ -68,13 +68,13 @@ module _ (v : Store) (plan : Plan) (is : IsPlan v plan) (made : 1 ≤ v.pages) w
   ]
 
   pub put_freed : (numbers : Pairs) → IsKept numbers v.pages v.slots → (old : Slot) → (plan.target.is_new ≡ false → old ≡ slot_at v.slots plan.target.place)
-      → (F1 F2 : Units) → AreFreed (256 * after.pages) v.slots after.slots F1
+      → (F0 F1 F2 : Units) → AreFreed (256 * after.pages) v.slots F0 after.slots F1
       → ((i : ℕ) → old.offset ≤ i → i < end_of old → unit_at F2 i ≡ blank)
       → KeepsBlank (plan.target.place + 3) plan.target.start (blocks_for plan.target.length) F1 F2
-      → AreFreed (256 * after.pages) v.slots (set after.slots plan.target.place (slot_for plan.target)) F2
-  put_freed numbers kept old held F1 F2 freed zeros blanks =
+      → AreFreed (256 * after.pages) v.slots F0 (set after.slots plan.target.place (slot_for plan.target)) F2
+  put_freed numbers kept old held F0 F1 F2 freed zeros blanks =
       let k = grown_kept numbers v kept made (moves_of plan.page) (may_grow v plan.target.is_new (moves_of plan.page) is.page) in
       let some = grown_made v (moves_of plan.page) made in
-      freed_put (256 * after.pages) v.slots after.slots plan.target.place (slot_for plan.target) old F1 F2 is.target.below
+      freed_put (256 * after.pages) v.slots after.slots plan.target.place (slot_for plan.target) old F0 F1 F2 is.target.below
       (far_used (slot_for plan.target) after.pages some is.target.start.from_on) (at_place old held) (omega (arith, is.target.below, k.count, some)) freed zeros
       blanks (decide_block after.slots)

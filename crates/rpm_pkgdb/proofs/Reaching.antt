@@ -139,6 +139,15 @@ module _ (numbers : Pairs) (v : Store) (kept : IsKept numbers v.pages v.slots) (
         omega (arith, ap end_of (held not_new), (file_within file v keeps some).used plan.target.place used))
   ]
 
+  -- neither what is replaced nor what is put stands in the first units
+  pub old_far : plan.target.is_new ≡ false → 2 ≤ old.offset
+  old_far not_new =
+      let used = (number_facts plan.target.number (slot_at v.slots plan.target.place) (was_held v plan is some not_new)).used in
+      omega (arith, ap (λ (s : Slot). s.offset) (held not_new), ((made file v keeps some).sound.placed plan.target.place used).behind)
+
+  pub start_far : 2 ≤ plan.target.start
+  start_far = omega (arith, is.target.start.from_on, grown_made v (moves_of plan.page) some)
+
   pub place_ends : plan.target.place + 3 ≤ limit
   place_ends =
       let k = grown_kept numbers v kept some (moves_of plan.page) (may_grow v plan.target.is_new (moves_of plan.page) is.page) in

@@ -28,6 +28,7 @@ module _ {D : Type 0} (d : disk.Ghosts D) where
     others = p.others;
     framed_in = p.framed_in;
     next = p.next;
+    stays = p.stays;
     zeros = p.zeros;
     freed = p.freed;
     reach = p.reach;

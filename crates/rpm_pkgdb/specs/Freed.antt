@@ -11,9 +11,9 @@ pub record HasBlock (slots : List Slot) (i : ℕ) : Type 0 where
   pub from : (slot_at slots at).offset ≤ i
   pub below : i < end_of (slot_at slots at)
 
--- from this block on, those that slots had and no slot has any more are zeros
-abbrev pub AreFreed : ℕ → List Slot → List Slot → Units → Type 0
-AreFreed end old new file = (i : ℕ) → HasBlock old i → end ≤ i → ¬ HasBlock new i → unit_at file i ≡ blank
+-- free blocks from this one on that were zeros or a slot's are zeros
+abbrev pub AreFreed : ℕ → List Slot → Units → List Slot → Units → Type 0
+AreFreed end old before new after = (i : ℕ) → HasBlock old i ⊎ (unit_at before i ≡ blank) → end ≤ i → ¬ HasBlock new i → unit_at after i ≡ blank
 
 -- from this block on, zeros outside of a range stay zeros
 abbrev pub KeepsBlank : ℕ → ℕ → ℕ → Units → Units → Type 0

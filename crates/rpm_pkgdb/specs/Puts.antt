@@ -1,5 +1,5 @@
 -- A package that is put, as one thing: what a put makes, and what stops leave meanwhile.
-use Rattle.std.specs.Prelude.{◌≡◌, ℕ, ◌+◌, ◌*◌, List, length, take, drop, true, Some}
+use Rattle.std.specs.Prelude.{◌≡◌, ℕ, ◌+◌, ◌*◌, List, length, take, drop, true, false, Some}
 use Rattle.std.specs.FinMap as finite
 use Rattle.rpm_outside.specs.declared.disk.Disk as disk
 use Rattle.rpm_outside.specs.Files.{units_of, unit_at}
@@ -39,10 +39,12 @@ module _ {D : Type 0} (d : disk.Ghosts D) where
         ≡ units_of (framed target.number before.generation blob)
     -- the number field says the number after a new one
     pub next : target.is_new ≡ true → unit_at (pkg d new) 1 ≡ next_unit (target.number + 1)
+    -- and stays where the number isn't new
+    pub stays : target.is_new ≡ false → unit_at (pkg d new) 1 ≡ unit_at (pkg d old) 1
     -- the blocks that it replaces are zeros
     pub zeros : AreZeros (slot_with target.number before.slots) (pkg d new)
-    -- and those that moved blobs had
-    pub freed : AreFreed (256 * after.pages) before.slots after.slots (pkg d new)
+    -- and those that moved blobs had, or that were zeros
+    pub freed : AreFreed (256 * after.pages) before.slots (pkg d old) after.slots (pkg d new)
     -- the file ends where it did, or with the store
     pub reach : ReachesTo after (pkg d old) (pkg d new)
 

@@ -1,11 +1,12 @@
 -- A package that is erased, a generation that is raised, and a database that is made: what each makes.
-use Rattle.std.specs.Prelude.{◌≡◌, ℕ, ◌≤◌, length, None}
+use Rattle.std.specs.Prelude.{◌≡◌, ℕ, ◌*◌, ◌≤◌, length, None}
 use Rattle.std.specs.FinMap as finite
 use Rattle.rpm_outside.specs.declared.disk.Disk as disk
 use Rattle.rpm_outside.specs.Files.{unit_at}
 use Rattle.rpm_pkgdb.specs.Blobs.{blobs}
 use Rattle.rpm_pkgdb.specs.Frame.{pkg, StopsIn, IsWritten}
 use Rattle.rpm_pkgdb.specs.Framing.{next_unit}
+use Rattle.rpm_pkgdb.specs.Freed.{KeepsBlank}
 use Rattle.rpm_pkgdb.specs.Reaches.{ReachesTo}
 use Rattle.rpm_pkgdb.specs.Slots.{slot_with}
 use Rattle.rpm_pkgdb.specs.Stays.{AllStay, OthersStay, StaysBut}
@@ -21,6 +22,10 @@ module _ {D : Type 0} (d : disk.Ghosts D) where
     pub others : OthersStay n before (pkg d old) after (pkg d new)
     -- and its own are zeros
     pub zeros : AreZeros (slot_with n before.slots) (pkg d new)
+    -- as are blocks behind the pages that were zeros
+    pub blanks : KeepsBlank (256 * after.pages) 0 0 (pkg d old) (pkg d new)
+    -- the number field stays
+    pub next : unit_at (pkg d new) 1 ≡ unit_at (pkg d old) 1
     -- the file got no longer
     pub reach : length (pkg d new) ≤ length (pkg d old)
 

@@ -1,5 +1,5 @@
 -- What a slot that is set free, moved blocks and a slot page more make of each value that the file may say.
-use Rattle.std.specs.Prelude.{◌≡◌, ℕ, ◌+◌, ◌*◌, ◌<◌, ◌≤◌, List, length, Option}
+use Rattle.std.specs.Prelude.{◌≡◌, ℕ, ◌+◌, ◌*◌, ◌<◌, ◌≤◌, List, length, Option, None}
 use Rattle.rpm_outside.specs.declared.disk.Disk as disk
 use Rattle.rpm_outside.specs.Files.{unit_at, blank}
 use Rattle.rpm_pkgdb.specs.declared.added_page.Move.{Move}
@@ -37,6 +37,8 @@ module _ {D : Type 0} (d : disk.Ghosts D) where
     pub quiet : (value : Store) → HasSlot value place s → Keeps (pkg d old) value
         → Quiet d new (with_free place value)
     pub zeros : (i : ℕ) → s.offset ≤ i → i < end_of s → unit_at (pkg d new) i ≡ blank
+    pub blanks : KeepsBlank (place + 3) 0 0 (pkg d old) (pkg d new)
+    pub next : 2 ≤ s.offset → unit_at (pkg d new) 1 ≡ unit_at (pkg d old) 1
     pub reach : (limit : ℕ) → place + 3 ≤ limit → end_of s ≤ limit
         → EndsBy limit (pkg d old) (pkg d new)
 
@@ -64,7 +66,8 @@ module _ {D : Type 0} (d : disk.Ghosts D) where
         → AllStay value (pkg d old) (with_moves value done) (pkg d new)
     pub zeros : (value : Store) → CanMoveAll slots moves value → Keeps (pkg d old) value
         → zeros_from ≡ next_end value
-        → AreFreed (next_end value) value.slots (with_moves value done).slots (pkg d new)
+        → AreFreed (next_end value) value.slots (pkg d old) (with_moves value done).slots
+        (pkg d new)
     pub quiet : (value : Store) → CanMoveAll slots moves value → Quiet d old value
         → Quiet d new (with_moves value done)
     pub reach : (limit : ℕ)
@@ -86,7 +89,8 @@ module _ {D : Type 0} (d : disk.Ghosts D) where
     pub quiet : Quiet d old value → Quiet d new (grown moves value)
     pub blobs_are : blobs (pkg d new) (grown moves value) ≡ blobs (pkg d old) value
     pub others : AllStay value (pkg d old) (grown moves value) (pkg d new)
-    pub freed : AreFreed (256 * (grown moves value).pages) value.slots (grown moves value).slots
-        (pkg d new)
+    pub freed : AreFreed (256 * (grown moves value).pages) value.slots (pkg d old)
+        (grown moves value).slots (pkg d new)
+    pub stays : moves ≡ None → pkg d new ≡ pkg d old
     pub reach : (limit : ℕ) → IsWithin limit (grown moves value)
         → EndsBy limit (pkg d old) (pkg d new)

@@ -40,6 +40,8 @@ module _ {D : Type 0} (d : disk.Ghosts D) where
         → Keeps (pkg d old) value → Quiet d new (with_blob target value)
     pub next : replaced ≡ free
         → IfSome (next_field target) (λ n. unit_at (pkg d new) 1 ≡ next_unit n)
+    pub stays : 2 ≤ target.start → 2 ≤ replaced.offset → target.is_new ≡ false
+        → unit_at (pkg d new) 1 ≡ unit_at (pkg d old) 1
     pub zeros : (i : ℕ) → replaced.offset ≤ i → i < end_of replaced
         → unit_at (pkg d new) i ≡ blank
     pub blanks : KeepsBlank (target.place + 3) target.start (blocks_for (length blob)) (pkg d old)

@@ -1,4 +1,4 @@
-use Rattle.rpm_pkgdb.proofs.Vocabulary.{AreMoved, blobs, blocks_with, CanMove, CanMoveAll, Keeps, Move, move_at, NoShorter, Pkg, pkg, Quiet, Slot}
+use Rattle.rpm_pkgdb.proofs.Vocabulary.{AreMoved, blobs, blocks_with, CanMove, CanMoveAll, Keeps, Move, move_at, next_end, NoShorter, Pkg, pkg, Quiet, Slot}
 use Rattle.rpm_pkgdb.proofs.Vocabulary.{StandsStill, started, Stops, StopsIn, Store, WhileMoved, Writes}
 use Rattle.std.proofs.Common.{◌≡◌, ℕ, ◌+◌, ◌<◌, IsTrue, List, length, take, sym, ap, ◌∙◌, subst, arith, refl}
 use Rattle.std.proofs.lemmas.List.{take_all}
@@ -7,6 +7,7 @@ use Rattle.rpm_pkgdb.proofs.Changing.{done, stops_weaker, writes_none, writes_th
 use Rattle.rpm_pkgdb.proofs.LeftLaws.{stands_still, still_then, moves_to}
 use Rattle.rpm_pkgdb.proofs.Moves.{moved_map}
 use Rattle.rpm_pkgdb.proofs.MoveSteps.{old_slot, cost_to, cost_more, cost_few, current, next, old, kept, can_move, then_after}
+use Rattle.rpm_pkgdb.proofs.FreedLaws.{freed_none}
 use Rattle.rpm_pkgdb.proofs.FreedMoves.{freed_then}
 use Rattle.rpm_pkgdb.proofs.StayLaws.{moved_stay}
 use Rattle.rpm_pkgdb.proofs.added_page.move_all.Goals as goal
@@ -20,7 +21,7 @@ loop-k-init g c =
         keeps = λ value all keeps. keeps;
         blobs_are = λ value all keeps. refl;
         others = λ value all keeps n. refl;
-        zeros = λ value all keeps from_is i has from not. absurd (not has);
+        zeros = λ value all keeps from_is. freed_none (next_end value) value.slots (D.files d).pkg;
         quiet = λ value all quiet. quiet;
         reach = λ limit each short. short;
       };

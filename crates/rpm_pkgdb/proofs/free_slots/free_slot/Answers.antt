@@ -1,5 +1,7 @@
-use Rattle.std.proofs.Common.{◌≡◌, ℕ, ◌+◌, ◌<◌, ◌≤◌, IsTrue, refl, inr, arith}
-use Rattle.rpm_pkgdb.proofs.Vocabulary.{BeforeOrAfter, blank, end_of, Keeps, unit_at, with_free}
+use Rattle.std.proofs.Common.{◌≡◌, ℕ, ◌+◌, ◌<◌, ◌≤◌, IsTrue, refl, inr, ap, ◌∙◌, arith}
+use Rattle.rpm_pkgdb.proofs.Vocabulary.{BeforeOrAfter, blank, end_of, Keeps, unit_at, Units, with_free}
+use Rattle.rpm_pkgdb.proofs.ClearLaws.{put_elsewhere}
+use Rattle.rpm_pkgdb.proofs.FreedLaws.{blank_then, put_blank, zeros_blank}
 use Rattle.rpm_pkgdb.proofs.Changing.{map_ok, writes_then, stops_while, stops_next}
 use Rattle.rpm_pkgdb.proofs.Reaching.{unit_ends, outside_ends}
 use Rattle.rpm_pkgdb.proofs.Erases.{while_freed, freed, zeroed, stands_by}
@@ -53,6 +55,10 @@ returns-clause-freed g c =
           stands_by (with_free k value) F0 F2 image.pkg (zeroed value k s has F0 F1 F1 F2 was refl same)
           (zeroed value k s has F0 F1 r.from.pkg image.pkg was (c.in_ok-write_one.ensures.settled told r.from r.was) r.pkg);
       zeros = zeros told;
+      blanks =
+          blank_then (k + 3) 0 0 F0 F1 F2 (put_blank (2 + k) unit (k + 3) 0 0 F0 F1 (omega arith) first)
+          (zeros_blank (k + 3) s.offset s.count 0 0 F1 F2 same (zeros told));
+      next = λ far. same.below 1 (omega (arith, far)) ∙ ap (λ (u : Units). unit_at u 1) first ∙ put_elsewhere (2 + k) unit F0 1 (omega arith);
       reach = λ limit place_ends slot_ends short.
           outside_ends limit s.offset s.count F1 F2 slot_ends same (unit_ends limit (2 + k) unit F0 F1 (omega arith) first short);
     }) c.write_zeros.ensures.zeros

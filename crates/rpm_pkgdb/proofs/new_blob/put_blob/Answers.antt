@@ -1,9 +1,9 @@
-use Rattle.std.proofs.Common.{◌≡◌, ℕ, IsTrue, IfSome, ◌<◌, ◌≤◌, ◌+◌, [], ◌∷◌, List, length, refl, sym, ap, ◌∙◌, subst, arith}
+use Rattle.std.proofs.Common.{◌≡◌, ℕ, Bool, if◌then◌else◌, None, Some, IsTrue, IfSome, ◌<◌, ◌≤◌, ◌+◌, [], ◌∷◌, List, length, refl, sym, ap, ◌∙◌, subst, arith}
 use Rattle.rpm_pkgdb.proofs.Vocabulary.{After, Anything, blank, blocks_for, end_of, framed, IsSlotUnit, Keeps, next_field, next_unit, Slot, slot_for, Target}
 use Rattle.rpm_pkgdb.proofs.Vocabulary.{Torn, unit_at, Units, units_of, WhilePut}
 use Rattle.rpm_pkgdb.proofs.ClearLaws.{put_elsewhere}
 use Rattle.rpm_pkgdb.proofs.FramingLaws.{count-framed}
-use Rattle.rpm_pkgdb.proofs.FreedLaws.{put_blank_all}
+use Rattle.rpm_pkgdb.proofs.FreedLaws.{blob_aside, put_blank_all}
 use Rattle.rpm_pkgdb.proofs.Changing.{map_ok, writes_then, writes_failed, stops_while, stops_next}
 use Rattle.rpm_pkgdb.proofs.Reaching.{unit_ends, outside_ends, blob_ends}
 use Rattle.rpm_pkgdb.proofs.PutsLaws.{while_blob, second_phase, third_phase, stand_alike}
@@ -109,6 +109,9 @@ returns-clause-put g c =
           same.above 1 (omega (arith, ap (λ (s : Slot). s.offset) none, ap (λ (s : Slot). s.count) none))
           ∙ ap (λ (u : Units). unit_at u 1) second ∙ put_elsewhere (2 + target.place) unit F1 1 (omega arith) in
           subst (λ (u : List ℕ). IfSome (next_field target) (λ n. u ≡ next_unit n)) (sym stays) (c.in_ok-write_first.ensures.next told);
+      stays = λ start_far old_far not_new.
+          same.below 1 (omega (arith, old_far)) ∙ ap (λ (u : Units). unit_at u 1) second ∙ put_elsewhere (2 + target.place) unit F1 1 (omega arith)
+          ∙ blob_aside (next_field target) us target.start F0 F1 (ap (λ (b : Bool). if b then Some (target.number + 1) else None) not_new) start_far first;
       zeros = zeros told;
       blanks =
           put_blank_all (next_field target) us target.place target.start (blocks_for (length blob)) old.offset old.count unit F0 F1 F2 F3

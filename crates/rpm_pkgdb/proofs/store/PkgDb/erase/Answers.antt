@@ -82,5 +82,7 @@ returns-clause-erased g c = λ told.
           (freed_map st k n s has slot.number F0 keeps F1 stands);
       others = freed_stay st k n s has slot.number F0 F1 keeps stands;
       zeros = subst (λ (o : Option Slot). AreZeros o F1) (sym slot.found) e.zeros;
+      blanks = λ i low aside was. e.blanks i (omega (arith, has.below, is.count, low, has.made)) aside was;
+      next = e.next (omega (arith, placed.behind, has.made));
       reach = e.reach (length F0) (omega (arith, has.below, is.count, is.lawful.inside)) placed.inside (omega arith);
     })

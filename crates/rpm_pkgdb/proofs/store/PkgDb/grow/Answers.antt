@@ -1,6 +1,7 @@
 use Rattle.rpm_pkgdb.proofs.Vocabulary.{Anything, CanGrowBy, IsGrown, Move, moves_of, moving_cost, Page, Pkg, StandsStill, started, Stops, Writes}
-use Rattle.std.proofs.Common.{◌≡◌, List, Option, Some, OnOk, refl, sym, ap, ◌∙◌, subst, IsTrue}
+use Rattle.std.proofs.Common.{◌≡◌, ◌*◌, List, Option, Some, OnOk, refl, sym, ap, ◌∙◌, subst, IsTrue}
 use Rattle.rpm_pkgdb.proofs.Changing.{done, writes_none}
+use Rattle.rpm_pkgdb.proofs.FreedLaws.{freed_none}
 use Rattle.rpm_pkgdb.proofs.LeftLaws.{stands_still}
 use Rattle.rpm_pkgdb.proofs.store.PkgDb.grow.Goals as goal
 
@@ -46,7 +47,8 @@ returns-in-None-clause-grown g c = λ told.
       quiet = λ quiet. quiet;
       blobs_are = refl;
       others = λ n. refl;
-      freed = λ i has from not. absurd (not has);
+      freed = freed_none (256 * v.pages) v.slots (D.files d).pkg;
+      stays = λ none. refl;
       reach = λ limit within short. short;
     })
 

@@ -1,4 +1,4 @@
-use Rattle.std.proofs.Common.{◌≡◌, ℕ, ◌+◌, ◌*◌, ◌≤◌, List, length, Some, refl, sym, ap, ◌∙◌, subst, arith, IsTrue}
+use Rattle.std.proofs.Common.{◌≡◌, ℕ, ◌+◌, ◌*◌, ◌≤◌, List, length, None, Some, refl, sym, ap, ◌∙◌, subst, arith, IsTrue}
 use Rattle.rpm_pkgdb.proofs.Vocabulary.{BeforeOrAfter, CanGrow, CanGrowFrom, CanMoveAll, end_of, IsKept, IsMovable, IsPageAdded, KeepsBlank, move_at}
 use Rattle.rpm_pkgdb.proofs.Vocabulary.{MovesWithin, moving_cost, next_end, Slot, slot_at, StandsStill, Store, with_moves, with_page}
 use Rattle.rpm_pkgdb.proofs.FreedLaws.{freed_page}
@@ -103,7 +103,8 @@ returns-clause-grown g c =
       blobs_are = grown_map mid can F1 F2 keeps stands ∙ m.blobs_are v all before;
       others = λ n. grown_stay mid can F1 F2 keeps stands n ∙ m.others v all before n;
       freed =
-          freed_page (next_end v) v.slots mid.slots F1 F2 (m.zeros v all before end_is) (subst (λ (n : ℕ). KeepsBlank n 0 0 F1 F2) end_is p.blanks);
+          freed_page (next_end v) v.slots mid.slots F0 F1 F2 (m.zeros v all before end_is) (subst (λ (n : ℕ). KeepsBlank n 0 0 F1 F2) end_is p.blanks);
+      stays = λ none. absurd (let e : Some moves ≡ None = none in cc);
       reach = λ limit within short.
           p.reach limit (omega (arith, within.pages, pages)) (m.reach limit
           (λ i below. subst (λ (l : List Slot). MovesWithin limit l (move_at moves i)) same

@@ -4,10 +4,10 @@ use Rattle.rpm_pkgdb.proofs.Vocabulary.{BlobMap, blobs, blocks_for, framed, IsBl
 use Rattle.rpm_pkgdb.proofs.Vocabulary.{StandsStill, StaysBut, Store, store_end, unit_at, Units, units_of, WhilePut, with_plan}
 use Rattle.rpm_pkgdb.proofs.Changing.{map_ok, stops_weaker, writes_then, stops_next}
 use Rattle.rpm_pkgdb.proofs.FramingLaws.{count-framed}
-use Rattle.rpm_pkgdb.proofs.PlannedLaws.{may_grow}
+use Rattle.rpm_pkgdb.proofs.PlannedLaws.{may_grow, none_for}
 use Rattle.rpm_pkgdb.proofs.PutEnds.{whole_part, replaced_zeros}
 use Rattle.rpm_pkgdb.proofs.PutSteps.{after, was_held, place_fits, few_bytes, room, can_put, puts_from, put_freed}
-use Rattle.rpm_pkgdb.proofs.Reaching.{end_within, old_ends, place_ends, grown_within, target_ends}
+use Rattle.rpm_pkgdb.proofs.Reaching.{end_within, old_ends, old_far, place_ends, grown_within, start_far, target_ends}
 use Rattle.rpm_pkgdb.proofs.PutsTo.{puts_to, put_map}
 use Rattle.rpm_pkgdb.proofs.StayLaws.{put_stay}
 use Rattle.rpm_pkgdb.proofs.LeftLaws.{still_but, puts_but}
@@ -136,9 +136,13 @@ returns-clause-put g c =
           whole_part F2 target.start (blocks_for (length blob)) (units_of (framed target.number gen blob)) (count-framed target.number gen blob) stands.holds
           ∙ ap (λ (n : ℕ). units_of (framed target.number n blob)) gen_is;
       next = λ is_new. subst (λ (o : Option ℕ). IfSome o (λ n. unit_at F2 1 ≡ next_unit n)) (is_next is_new) (p.next (new is_new));
+      stays = λ not_new.
+          p.stays (start_far _ v own some plan is old new held F0 keeps limit short within)
+          (old_far _ v own some plan is old new held F0 keeps limit short within not_new) not_new
+          ∙ ap (λ (u : Units). unit_at u 1) (page.stays (none_for v target.is_new (moves_of plan.page) is.page not_new));
       zeros = replaced_zeros v target is.number (was_held v plan is some) F0 F2 old some keeps held p.zeros;
       freed =
-          put_freed v plan is some _ own old held F1 F2 page.freed p.zeros
+          put_freed v plan is some _ own old held F0 F1 F2 page.freed p.zeros
           (subst (λ (n : ℕ). KeepsBlank (target.place + 3) target.start (blocks_for n) F1 F2) (sym c.requires.length) p.blanks);
       reach =
           p.reach limit (subst (λ (n : ℕ). target.start + blocks_for n ≤ limit) c.requires.length ends)
