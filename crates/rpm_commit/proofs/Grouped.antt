@@ -14,10 +14,11 @@ use Rattle.rpm_commit.specs.inner.ByEnding.{by_ends, by_uncommitted}
 use Rattle.rpm_commit.specs.inner.Outcomes.{by_done_why, done_did, fault_done_why, is_done_why, lawful_ending, leaves_done, some_all, stopped_did}
 use Rattle.rpm_commit.proofs.Ends.{halt_undone}
 use Rattle.rpm_commit.specs.inner.Limited.{none_done}
-use Rattle.rpm_commit.specs.inner.Regrouped.{recovered_fits, recovered_still}
+use Rattle.rpm_commit.specs.inner.Regrouped.{recovered_fits, recovered_sound, recovered_still}
 use Rattle.rpm_commit.specs.inner.Standing.{begins, current_lawful, if_ok, if_ok_at, lawful_store, may_begin, ok_is, shut_lawful, shut_stands, stands_lawful}
 use Rattle.rpm_commit.specs.inner.Unmade.{still_one}
 use Rattle.std.proofs.lemmas.Bool.Decides.{nat_tests}
+use Rattle.rpm_group.specs.inner.KeptLogs.{sound_kept}
 use Rattle.rpm_outside.specs.declared.disk.Disk as disk
 use Rattle.rpm_print.specs.declared.answer.Why.TheVariants as why
 use Rattle.rpm_change.specs.declared.tally.Halt.TheVariants as halt
@@ -115,7 +116,14 @@ module _ {D : Type 0} (d : disk.Ghosts D) (task : TaskParts) (course : State →
   -- ---- stopped, or not committed
 
   still_before : (image : Files) → ReopensAs (unlogged (d.files last)) image → ReopensAsOneOf past image
-  still_before image stands = (d.files old, here, record { same = stands.same ∙ same; sound = λ _. stands.sound })
+  still_before image stands = (
+    d.files old,
+    here,
+    record {
+      same = stands.same ∙ same;
+      log = sound_kept (d.files old) image (recovered_sound (log_state (d.files old).log) finished says) stands.sound;
+    },
+  )
 
   module _ (left : LeavesIn d last final (ReopensAs (unlogged (d.files last)))) where
     still_final : reopened (d.files final) ≡ r

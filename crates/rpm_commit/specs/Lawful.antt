@@ -4,6 +4,7 @@ use Rattle.rpm_outside.specs.Frame.{images}
 use Rattle.rpm_outside.specs.Files.{Files}
 use Rattle.rpm_outside.specs.Logs.{log_state, reopened}
 use Rattle.rpm_group.specs.Loads.{IsSound}
+use Rattle.rpm_group.specs.Settled.{KeepsLog}
 use Rattle.rpm_db.specs.Lawful.{IsLawful}
 
 -- files that stand for a lawful database: their log is closed, or a group that makes it of them
@@ -14,6 +15,13 @@ pub record IsLawfulGroup (files : Files) : Type 0 where
 -- each of these images is
 abbrev pub AreLawfulGroups : (Files → Type 0) → Type 0
 AreLawfulGroups images = (image : Files) → images image → IsLawfulGroup image
+
+-- an image, lawful or not, that stands for the packages that one of these stands for, and keeps that one's log
+pub record KeepsPackages (images : Files → Type 0) (image : Files) : Type 0 where
+  pub from : Files
+  pub was : images from
+  pub pkg : (reopened image).pkg ≡ (reopened from).pkg
+  pub log : KeepsLog from image
 
 -- a lawful image, that stands for the packages that one of these stands for
 pub record StandsStill (images : Files → Type 0) (image : Files) : Type 0 where

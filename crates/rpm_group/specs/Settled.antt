@@ -1,7 +1,7 @@
 -- What a crash may leave of a disk, seen by what its files stand for.
 use Rattle.std.specs.Prelude.{◌≡◌, Bool, Result, Ok, Err, true, false}
 use Rattle.rpm_outside.specs.Files.{Files}
-use Rattle.rpm_outside.specs.Logs.{LogState, Closed, Malformed, log_state, reopened}
+use Rattle.rpm_outside.specs.Logs.{LogState, Closed, Malformed, Open, log_state, reopened}
 use Rattle.rpm_group.specs.Loads.{IsSound}
 use Rattle.rpm_group.specs.Readings.{IsOpen}
 use Rattle.rpm_group.specs.declared.recovery.RecoverFault.{RecoverFault}
@@ -12,12 +12,21 @@ pub record ReopensAs (files image : Files) : Type 0 where
   pub same : reopened image ≡ files
   pub sound : IsSound (log_state image.log)
 
--- it stands for what another stands for, and its log isn't malformed unless that one's is
+-- by what a log said: where it was malformed the files stay as they were, and any other isn't malformed afterwards
+abbrev pub KeepsLogOf : LogState → Files → Files → Type 0
+KeepsLogOf (Malformed unit) old new = new ≡ old
+KeepsLogOf others old new = IsSound (log_state new.log)
+
+-- files that came of others: a malformed log stays with the files beside it, and no other log becomes malformed
+abbrev pub KeepsLog : Files → Files → Type 0
+KeepsLog old new = KeepsLogOf (log_state old.log) old new
+
+-- it stands for what another stands for, and keeps that one's log
 pub record StandsAs (from image : Files) : Type 0 where
   pub same : reopened image ≡ reopened from
-  pub sound : IsSound (log_state from.log) → IsSound (log_state image.log)
+  pub log : KeepsLog from image
 
--- it stands for what one of these images stands for, and its log isn't malformed unless that one's is
+-- it stands for what one of these images stands for, and keeps that one's log
 abbrev pub ReopensAsOneOf : (Files → Type 0) → Files → Type 0
 ReopensAsOneOf images image = (from : Files) × images from × StandsAs from image
 
@@ -28,9 +37,7 @@ RecoverSays state (Ok false) = state ≡ Closed
 RecoverSays state (Err (BadLog unit)) = state ≡ Malformed unit
 RecoverSays state (Err DiskFault) = Unit {0}
 
--- the files stay as they read where there was nothing to finish, or nothing that could be
-abbrev pub RecoverKeeps : Files → Files → Result Bool RecoverFault → Type 0
-RecoverKeeps old new (Ok true) = Unit {0}
-RecoverKeeps old new (Ok false) = new ≡ old
-RecoverKeeps old new (Err (BadLog unit)) = new ≡ old
-RecoverKeeps old new (Err DiskFault) = Unit {0}
+-- unless the log holds a change to finish, the files stay as they read; with one, the log isn't malformed afterwards
+abbrev pub RecoverKeeps : LogState → Files → Files → Type 0
+RecoverKeeps (Open entries) old new = IsSound (log_state new.log)
+RecoverKeeps others old new = new ≡ old

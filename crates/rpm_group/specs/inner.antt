@@ -6,3 +6,4 @@ pub mod Leavings
 pub mod Logged
 pub mod Over
 pub mod Grouped
+pub mod KeptLogs

@@ -184,11 +184,11 @@ fn finish<D: Disk>(disk: &mut D, gate: Gate) -> Result<bool, RecoverFault>
 ///
 /// `BadLog` where the log is malformed, with the unit. `DiskFault` only where the count of faults rose. Whatever the
 /// answer, the disk stands for what it stood for at the start, and each image that a crash since the start may leave
-/// for what one of the start stood for; its log is malformed only where that one's was. A malformed log is left as it
-/// is.
+/// for what one of the start stood for; its log is malformed only where that one is left with all its files as it was.
+/// Where the log is closed or malformed, no file changes.
 pub fn recover<D: Disk>(disk: &mut D) -> Result<bool, RecoverFault>
     ensures says { IsTrue D.tells → RecoverSays (log_state (D.files disk.old).log) result }
-    ensures kept { IsTrue D.tells → RecoverKeeps (D.files disk.old) (D.files disk.new) result }
+    ensures kept { IsTrue D.tells → RecoverKeeps (log_state (D.files disk.old).log) (D.files disk.old) (D.files disk.new) }
     ensures closed { OnOk result (IsTrue D.tells → log_state (D.files disk.new).log ≡ Closed) }
     ensures files { OnOk result (IsTrue D.tells → unlogged (D.files disk.new) ≡ reopened (D.files disk.old)) }
     ensures settled { OnOk result (IsTrue D.tells → AreSettled (D.files disk.new) (images D.Disk disk.new)) }

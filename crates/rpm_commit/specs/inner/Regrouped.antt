@@ -1,16 +1,28 @@
 -- What a crash leaves meanwhile of a disk that stands for what it stood for.
-use Rattle.std.proofs.Common.{◌≡◌, ℕ, ◌^◌, ◌≤◌, sym, ap, subst, inl, arith}
+use Rattle.std.proofs.Common.{◌≡◌, ℕ, ◌^◌, ◌≤◌, Bool, true, false, Ok, sym, ap, subst, inl, arith}
 use Rattle.rpm_outside.specs.declared.disk.Disk as disk
 use Rattle.rpm_db.specs.Lawful.{IsLawful}
-use Rattle.rpm_group.specs.Settled.{ReopensAsOneOf}
+use Rattle.rpm_group.specs.Loads.{IsSound}
+use Rattle.rpm_group.specs.Settled.{RecoverSays, ReopensAsOneOf}
+use Rattle.rpm_group.specs.inner.KeptLogs.{kept_sound}
 use Rattle.rpm_outside.specs.Files.{Files, Units}
 use Rattle.rpm_outside.specs.Frame.{images, LeavesIn}
+use Rattle.rpm_outside.specs.Logs.{LogState}
 use Rattle.rpm_outside.specs.inner.Moments.{leaves_weaker}
 use Rattle.rpm_commit.specs.Changing.{AllFit, RowsFit, StandsStillOr}
-use Rattle.rpm_commit.specs.Lawful.{AreLawfulGroups, StandsStill}
+use Rattle.rpm_commit.specs.Lawful.{AreLawfulGroups, KeepsPackages, StandsStill}
 use Rattle.rpm_db.specs.Openings.{units_needed}
 use Rattle.rpm_db.specs.State.{State}
 use Rattle.rpm_pkgdb.specs.Store.{store}
+
+-- a log that was recovered wasn't malformed
+pub recovered_sound : (log : LogState) (finished : Bool) → RecoverSays log (Ok finished) → IsSound log
+recovered_sound log true says = subst IsSound (sym says) tt
+recovered_sound log false says = subst IsSound (sym says) tt
+
+-- an image that stands for what one of these stands for keeps its packages
+pub recovered_packages : (images : Files → Type 0) (image : Files) → ReopensAsOneOf images image → KeepsPackages images image
+recovered_packages images image (from, was, stands) = record { from = from; was = was; pkg = ap (λ (f : Files). f.pkg) stands.same; log = stands.log }
 
 -- an image stands still that stands for what one of these stands for
 pub recovered_still : (images : Files → Type 0) → AreLawfulGroups images → (image : Files) → ReopensAsOneOf images image → StandsStill images image
@@ -19,7 +31,7 @@ recovered_still images lawful image (from, was, stands) = record {
   was = was;
   pkg = ap (λ (f : Files). f.pkg) stands.same;
   lawful = record {
-    sound = stands.sound (lawful from was).sound;
+    sound = kept_sound from image stands.log (lawful from was).sound;
     lawful = subst (λ (f : Files). IsLawful f.pkg f.idx) (sym stands.same) (lawful from was).lawful;
   };
 }
@@ -43,6 +55,9 @@ module _ {D : Type 0} (d : disk.Ghosts D) (old mid : D) where
   }
 
   module _ (run : LeavesIn d old mid (ReopensAsOneOf (images d old))) where
+    pub recovering_packages : LeavesIn d old mid (KeepsPackages (images d old))
+    recovering_packages = leaves_weaker d old mid (ReopensAsOneOf (images d old)) (KeepsPackages (images d old)) (recovered_packages (images d old)) run
+
     pub recovering_still : AreLawfulGroups (images d old) → LeavesIn d old mid (StandsStill (images d old))
     recovering_still lawful = leaves_weaker d old mid (ReopensAsOneOf (images d old)) (StandsStill (images d old))
         (recovered_still (images d old) lawful) run

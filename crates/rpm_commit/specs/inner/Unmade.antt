@@ -25,6 +25,7 @@ use Rattle.rpm_commit.specs.Endings.{why_of_load, why_of_recover}
 use Rattle.rpm_print.specs.declared.answer.Why.{Why}
 use Rattle.rpm_group.specs.declared.load.LoadFault.TheVariants as load
 use Rattle.rpm_group.specs.declared.recovery.RecoverFault.TheVariants as recover
+use Rattle.rpm_group.specs.inner.KeptLogs.{same_kept}
 use Rattle.rpm_print.specs.declared.answer.Why.TheVariants as why
 use Rattle.rpm_commit.specs.inner.Outcomes.{leaves_start}
 use Rattle.rpm_commit.specs.inner.Regrouped.{recovering, recovering_fits, recovering_still}
@@ -112,4 +113,4 @@ module _ {D : Type 0} (d : disk.Ghosts D) (task : TaskParts) (course : State →
 -- no call at all
 pub idle_run : {D : Type 0} (d : disk.Ghosts D) (it : D) → LeavesIn d it it (ReopensAsOneOf (images d it))
 idle_run d it = started d it (ReopensAsOneOf (images d it))
-    (λ image left. (image, left, record { same = refl; sound = λ sound. sound }))
+    (λ image left. (image, left, record { same = refl; log = same_kept image }))

@@ -1,19 +1,15 @@
-use Rattle.std.specs.Prelude.{Bool, true, false, Result, Ok, Err, IfOk, IfErr, IsTrue}
-use Rattle.std.proofs.Common.{◌≡◌, refl, ap, ◌∙◌}
-use Rattle.rpm_group.proofs.Vocabulary.{BadLog, DiskFault, Files, leaves_then, leaves_weaker, RecoverFault, RecoverKeeps, reopened, ReopensAs, ReopensAsOneOf}
-use Rattle.rpm_group.proofs.Vocabulary.{then_look}
+use Rattle.std.specs.Prelude.{IsTrue}
+use Rattle.std.proofs.Common.{◌≡◌, refl, ap, ◌∙◌, subst}
+use Rattle.rpm_group.proofs.Vocabulary.{Closed, Files, IsOpen, IsSound, leaves_then, leaves_weaker, log_state, LogSays, LogState, Malformed, Open, Reading}
+use Rattle.rpm_group.proofs.Vocabulary.{reopened, ReopensAs, ReopensAsOneOf, then_look}
+use Rattle.rpm_group.specs.inner.KeptLogs.{same_kept, sound_kept}
 use Rattle.rpm_group.proofs.recovery.recover.Goals as goal
 
--- where a change was finished, or the disk failed, nothing has to be kept
-keeps_finished : (told : Type 0) (here : told) (old new : Files) (result : Result Bool RecoverFault) → IfOk result (λ was_open. was_open ≡ true)
-    → IfErr result (λ fault. told → fault ≡ DiskFault) → RecoverKeeps old new result
-keeps_finished told here old new (Ok true) done fault = tt
-keeps_finished told here old new (Ok false) done fault = let e : false ≡ true = done in absurd cc
-keeps_finished told here old new (Err (BadLog unit)) done fault = let e : BadLog unit ≡ DiskFault = fault here in absurd cc
-keeps_finished told here old new (Err DiskFault) done fault = tt
-
-pub returns-in-Opened-clause-kept : goal.returns-in-Opened-clause-kept
-returns-in-Opened-clause-kept g c = λ told. keeps_finished (IsTrue g.D.Disk.tells) told _ _ _ c.finish.ensures.done c.finish.ensures.fault
+-- an open log isn't malformed
+open_sound : (s : LogState) → IsOpen s → IsSound s
+open_sound (Open entries) is = tt
+open_sound Closed is = absurd cc
+open_sound (Malformed unit) is = absurd cc
 
 pub returns-in-Opened-clause-images : goal.returns-in-Opened-clause-images
 returns-in-Opened-clause-images g c = λ told.
@@ -24,12 +20,19 @@ returns-in-Opened-clause-images g c = λ told.
     let new = c.finish.new.disk in
     let one_of : Files → Type 0 = ReopensAsOneOf (D.left_since old (D.moment old)) in
     let looks = c.read_log.ensures.reads.looks in
-    let same : D.files mid ≡ D.files old = (looks.untouched told).same ∙ c.settle.ensures.same told in
+    let settled = c.settle.ensures.same told in
+    let same : D.files mid ≡ D.files old = (looks.untouched told).same ∙ settled in
+    let says = subst (λ (r : Reading). LogSays r (D.files first).log) c.in-Opened.is (c.in-Ok.ensures.says told) in
+    let was = subst (λ (f : Files). IsSound (log_state f.log)) settled (open_sound (log_state (D.files first).log) says.2) in
     leaves_then D old mid new one_of
     (then_look D old first mid one_of _ _
     (leaves_weaker D old first (D.left_since old (D.moment old)) one_of
-    (λ image left. (image, left, record { same = refl; sound = λ was. was })) (c.settle.ensures.images told))
+    (λ image left. (image, left, record { same = refl; log = same_kept image })) (c.settle.ensures.images told))
     (looks.untouched told) looks.moment_stays)
     (leaves_weaker D mid new (ReopensAs (reopened (D.files mid))) one_of
-    (λ image is. (D.files old, g.met.D.Disk.as_read old told, record { same = is.same ∙ ap reopened same; sound = λ was. is.sound }))
+    (λ image is. (
+      D.files old,
+      g.met.D.Disk.as_read old told,
+      record { same = is.same ∙ ap reopened same; log = sound_kept (D.files old) image was is.sound },
+    ))
     (c.finish.ensures.images told))
