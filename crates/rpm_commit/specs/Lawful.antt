@@ -16,7 +16,7 @@ pub record IsLawfulGroup (files : Files) : Type 0 where
 abbrev pub AreLawfulGroups : (Files → Type 0) → Type 0
 AreLawfulGroups images = (image : Files) → images image → IsLawfulGroup image
 
--- an image, lawful or not, that stands for the packages that one of these stands for, and keeps that one's log
+-- an image, lawful or not, stands for the packages that one of these stands for, and keeps that one's log
 pub record KeepsPackages (images : Files → Type 0) (image : Files) : Type 0 where
   pub from : Files
   pub was : images from

@@ -12,7 +12,7 @@ pub record ReopensAs (files image : Files) : Type 0 where
   pub same : reopened image ≡ files
   pub sound : IsSound (log_state image.log)
 
--- by what a log said: where it was malformed the files stay as they were, and any other isn't malformed afterwards
+-- where a log was malformed the files stay as they were, and any other isn't malformed afterwards
 abbrev pub KeepsLogOf : LogState → Files → Files → Type 0
 KeepsLogOf (Malformed unit) old new = new ≡ old
 KeepsLogOf others old new = IsSound (log_state new.log)
@@ -21,12 +21,12 @@ KeepsLogOf others old new = IsSound (log_state new.log)
 abbrev pub KeepsLog : Files → Files → Type 0
 KeepsLog old new = KeepsLogOf (log_state old.log) old new
 
--- it stands for what another stands for, and keeps that one's log
+-- an image stands for what another stands for, and keeps that one's log
 pub record StandsAs (from image : Files) : Type 0 where
   pub same : reopened image ≡ reopened from
   pub log : KeepsLog from image
 
--- it stands for what one of these images stands for, and keeps that one's log
+-- an image stands for what one of these stands for, and keeps that one's log
 abbrev pub ReopensAsOneOf : (Files → Type 0) → Files → Type 0
 ReopensAsOneOf images image = (from : Files) × images from × StandsAs from image
 

@@ -20,8 +20,8 @@ use Rattle.rpm_tool.specs.Deeds.{Queried}
 use Rattle.rpm_print.specs.Frame.{images, pkg_read, Leaves, LeavesIn}
 use Rattle.rpm_history.specs.Given.{given_on}
 use Rattle.rpm_history.specs.History.{RunCall, course_of}
-use Rattle.rpm_tool.specs.Keyed.{IsReady, KeyedIs, FullIs, BadIs, HasRoom}
-use Rattle.rpm_commit.specs.Lawful.{AreLawfulGroups, IsLawfulGroup, StandsStill}
+use Rattle.rpm_tool.specs.Keyed.{IsReady, IsUsableGroup, KeyedIs, FullIs, BadIs, HasRoom}
+use Rattle.rpm_commit.specs.Lawful.{AreLawfulGroups, StandsStill}
 use Rattle.rpm_commit.specs.Limits.{OneChange}
 use Rattle.rpm_query.specs.PackageFiles.{query_files}
 use Rattle.rpm_commit.specs.Tasks.{asked_task, asked_course, needs_none, reads_shelf}
@@ -82,9 +82,9 @@ pub record LineIs {D : Type 0} (d : disk.Ghosts D) (shelf : Bool) (paths : Paths
   pub kind : Of call.words (λ a tree. by_key a ≡ true → is_foreign call.outcome.why ≡ false)
   pub index_full : Of call.words (λ a tree. by_key a ≡ true → FullIs (reopened (d.files old.disk)) call.outcome.why)
   pub bad_index : Of call.words (λ a tree. by_key a ≡ true → BadIs call.words a (reopened (d.files old.disk)) call.outcome.why)
-  pub complete : Of call.words (λ a tree. by_key a ≡ true → IsLawfulGroup (d.files old.disk) → HasRoom (reopened (d.files old.disk))
+  pub complete : Of call.words (λ a tree. by_key a ≡ true → IsUsableGroup (d.files old.disk) → HasRoom (reopened (d.files old.disk))
       → is_done_or_outside call.outcome.why ≡ true)
-  pub index : Of call.words (λ a tree. by_key a ≡ true → IsLawfulGroup (d.files old.disk) → is_done call.outcome.why ≡ true → IsReady (d.files new.disk))
+  pub index : Of call.words (λ a tree. by_key a ≡ true → IsUsableGroup (d.files old.disk) → is_done call.outcome.why ≡ true → IsReady (d.files new.disk))
   pub packages : Of call.words (λ a tree. by_key a ≡ true → (reopened (d.files new.disk)).pkg ≡ (reopened (d.files old.disk)).pkg)
   pub stops : Of call.words (λ a tree. by_key a ≡ true → AreLawfulGroups (images d old.disk)
       → LeavesIn d old.disk new.disk (StandsStill (images d old.disk)))

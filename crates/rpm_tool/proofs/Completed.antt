@@ -1,21 +1,16 @@
 -- Where nothing in the files keeps a question from being answered, it is answered.
-use Rattle.std.proofs.Common.{◌≡◌, ℕ, ◌+◌, ◌^◌, ◌≤◌, Bool, true, false, List, Result, Ok, subst, inl, inr, arith}
-use Rattle.rpm_tool.proofs.Vocabulary.{AskParts, blank_store, Damage, deed_of, Deeds, DidByKey, Files, FullByUnits, FullIs, HasRoom, is_done_or_outside}
-use Rattle.rpm_tool.proofs.Vocabulary.{is_foreign, IsLawful, IsLawfulGroup, IsSound, keyed_to, KeyedIs, Loaded, log_state, LogState, Malformed, OnLawful}
-use Rattle.rpm_tool.proofs.Vocabulary.{Opened, Outputs, reopened, Store, store, Tree, Units, WentBy, Why}
+use Rattle.std.proofs.Common.{◌≡◌, ℕ, ◌+◌, ◌^◌, ◌≤◌, Bool, true, false, List, Result, Ok, subst, arith}
+use Rattle.rpm_tool.proofs.Vocabulary.{AskParts, Damage, deed_of, Deeds, DidByKey, Files, FullByUnits, FullIs, HasRoom, is_done_or_outside}
+use Rattle.rpm_tool.proofs.Vocabulary.{is_foreign, IsSound, IsUsable, IsUsableGroup, keyed_to, KeyedIs, Loaded, log_state, LogState, Malformed, OnUsable}
+use Rattle.rpm_tool.proofs.Vocabulary.{Opened, Outputs, reopened, Store, store, Tree, WentBy, Why}
 use Rattle.rpm_print.specs.declared.answer.Why.TheVariants as why
 use Rattle.rpm_tool.proofs.Deeds.{does_outside}
 
--- a lawful database has a store
-store_of : (pkg idx : Units) → IsLawful pkg idx → (s : Store) × (store pkg ≡ Ok s)
-store_of pkg idx (inl blank) = (blank_store, blank)
-store_of pkg idx (inr value) = (value.0, value.1)
-
-module _ (Lawful : Type 0) (Do : Deeds) (s : Store) (w : Why) (old new : Outputs) where
-  loaded_in : (log : LogState) (r : Result Store Damage) → IsSound log → r ≡ Ok s → Loaded (OnLawful Lawful Do) r log w old new
-      → OnLawful Lawful Do s w old new
+module _ (Usable : Type 0) (Do : Deeds) (s : Store) (w : Why) (old new : Outputs) where
+  loaded_in : (log : LogState) (r : Result Store Damage) → IsSound log → r ≡ Ok s → Loaded (OnUsable Usable Do) r log w old new
+      → OnUsable Usable Do s w old new
   loaded_in (Malformed unit) r sound is loaded = absurd sound
-  loaded_in others r sound is loaded = subst (λ (q : Result Store Damage). Opened (OnLawful Lawful Do) q w old new) is loaded
+  loaded_in others r sound is loaded = subst (λ (q : Result Store Damage). Opened (OnUsable Usable Do) q w old new) is loaded
 
 -- the endings that are left
 left : (Do : Why → Outputs → Outputs → Type 0) (making : Bool) (needed : ℕ) (w : Why) (old new : Outputs) → (Do w old new → is_done_or_outside w ≡ true)
@@ -24,13 +19,13 @@ left Do making needed (why.IndexFull u) old new outside went full room = absurd 
 left Do making needed others old new outside went full room = outside went
 
 pub completes : (tree : Tree) (words : List (List ℕ)) (a : AskParts) (files : Files) (w : Why) (old new : Outputs) (before now : ℕ) → is_foreign w ≡ false
-    → KeyedIs tree words a files w old new before now → FullIs (reopened files) w → IsLawfulGroup files → HasRoom (reopened files)
+    → KeyedIs tree words a files w old new before now → FullIs (reopened files) w → IsUsableGroup files → HasRoom (reopened files)
     → is_done_or_outside w ≡ true
-completes tree words a files w old new before now own went full lawful room =
+completes tree words a files w old new before now own went full group room =
     let r = reopened files in
-    let s = store_of r.pkg r.idx lawful.lawful in
+    let s = group.usable.value in
     let Do = DidByKey tree words a r before now in
-    let is = loaded_in (IsLawful r.pkg r.idx) Do s.0 w old new (log_state files.log) (store r.pkg) lawful.sound s.1 went in
-    left (Do s.0) _ _ w old new
-    (λ does. does_outside tree r.pkg s.0 words a (λ for. now ≤ before + keyed_to r words a s.0 for) old new (deed_of a.mode) w own does)
-    (is.1 lawful.lawful) full room
+    let is = loaded_in (IsUsable r.pkg r.idx) Do s w old new (log_state files.log) (store r.pkg) group.sound group.usable.undamaged went in
+    left (Do s) _ _ w old new
+    (λ does. does_outside tree r.pkg s words a (λ for. now ≤ before + keyed_to r words a s for) old new (deed_of a.mode) w own does)
+    (is.1 group.usable) full room

@@ -1,11 +1,13 @@
 -- A database that is opened with its index, and then asked.
 use Rattle.rpm_tool.proofs.Vocabulary.{asked_reaches, AskParts, BadIs, Bearer, blank_unpaged, CauseIs, Database, Files, has_index, HasIndex}
-use Rattle.rpm_tool.proofs.Vocabulary.{HasIndexRows, is_blank, is_indexed, IsLawful, IsOpened, kept_current, must_make, no_index_rows}
-use Rattle.rpm_tool.proofs.Vocabulary.{Peeks, Reach, reach_sum, reached_by, room, Runs, store, unindexed, Units, Why}
+use Rattle.rpm_tool.proofs.Vocabulary.{HasIndexRows, is_blank, is_indexed, IsOpened, IsUsable, kept_current, made_paged, must_make, no_index_rows}
+use Rattle.rpm_tool.proofs.Vocabulary.{packages, Peeks, Reach, reach_sum, reached_by, room, Runs, Store, store, unindexed, Units, Why}
+use Rattle.rpm_db.specs.Database.{IsIndexed}
+use Rattle.rpm_db.specs.Lawful.{HasRows, is_current_at}
 use Rattle.rpm_outside.specs.declared.disk.Disk as disk
 use Rattle.rpm_outside.specs.Frame.{LeavesIn}
 use Rattle.std.proofs.Common.{◌≡◌, ℕ, ◌≤◌, Bool, true, false, not, List, Ok, refl, sym, ap, ◌∙◌, subst, inl, inr, arith}
-use Rattle.std.specs.Prelude.{IsTrue}
+use Rattle.std.specs.Prelude.{IsTrue, ◌⊎◌}
 use Rattle.std.proofs.lemmas.Bool.{cases_Bool}
 use Rattle.rpm_print.specs.declared.answer.Why.TheVariants as why
 use Rattle.rpm_query.specs.inner.Sums.{store_by, store_sum}
@@ -53,17 +55,41 @@ module _ (old new : Files) (db : Database) (opened : IsOpened old new (Ok db)) (
   not_blank : is_indexed db ≡ true → is_blank db ≡ false
   not_blank some = not_not (is_blank db) (sym indexed ∙ some)
 
-  pub opened_rows : IsLawful old.pkg old.idx → HasIndexRows db new.pkg new.idx
-  opened_rows lawful = λ some. (opened.index (not_blank some) lawful).rows_are
+  -- an index that is kept has the rows
+  module _ (some : is_blank db ≡ false) (usable : IsUsable old.pkg old.idx) where
+    room_is : usable.value ≡ room db
+    room_is = let both : Ok usable.value ≡ Ok (room db) = sym usable.undamaged ∙ opened.store_is in cc
+
+    paged_rows : ((room db).pages ≡ 0) ⊎ HasRows (packages old.pkg (room db)) old.idx → HasRows (packages old.pkg (room db)) old.idx
+    paged_rows (inl none) = absurd (omega (arith, made_paged db some, none))
+    paged_rows (inr rows) = rows
+
+    kept_indexed : must_make old.idx (store old.pkg) ≡ false → IsIndexed new.pkg new.idx db
+    kept_indexed kept =
+        let current = kept_current old.idx (store old.pkg) db opened.store_is some kept in
+        subst (λ (f : Files). IsIndexed f.pkg f.idx db) (sym (opened.same kept)) (record {
+          current = current;
+          rows_are = paged_rows (subst (λ (s : Store). is_current_at s.generation old.idx ≡ true
+              → (s.pages ≡ 0) ⊎ HasRows (packages old.pkg s) old.idx) room_is usable.index current);
+        })
+
+    opened_indexed : IsIndexed new.pkg new.idx db
+    opened_indexed = elim (cases_Bool (must_make old.idx (store old.pkg))) [
+      | inl making ↦ opened.made making
+      | inr kept ↦ kept_indexed kept
+    ]
+
+  pub opened_rows : IsUsable old.pkg old.idx → HasIndexRows db new.pkg new.idx
+  opened_rows usable = λ some. (opened_indexed (not_blank some) usable).rows_are
 
   -- it is there, and holds the rows
-  pub opened_index : IsLawful old.pkg old.idx → HasIndex new.pkg new.idx
-  opened_index lawful = record {
+  pub opened_index : IsUsable old.pkg old.idx → HasIndex new.pkg new.idx
+  opened_index usable = record {
     value = (room db);
     undamaged = ap store pkg ∙ opened.store_is;
     index = elim (cases_Bool (is_blank db)) [
       | inl blank ↦ inl (blank_unpaged db blank)
-      | inr some ↦ (let is = opened.index some lawful in inr (is.current, is.rows_are))
+      | inr some ↦ (let is = opened_indexed some usable in inr (is.current, is.rows_are))
     ];
   }
 

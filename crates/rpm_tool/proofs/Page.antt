@@ -42,6 +42,9 @@ module _ {D S : Type 0} {d : disk.Ghosts D} {s : shelf.Ghosts S} {r : Run d s} {
     complete = k.complete;
     index = k.index;
     packages = k.packages;
+    kept = k.kept;
+    still = k.still;
+    leaves = k.leaves;
     stops = k.stops;
   }
 

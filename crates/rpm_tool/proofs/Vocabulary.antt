@@ -4,7 +4,7 @@ pub use Rattle.rpm_change.specs.Steps.{Bearer, Course}
 pub use Rattle.rpm_check.specs.Edges.{graph_of}
 pub use Rattle.rpm_commit.specs.Changing.{EmptyBy}
 pub use Rattle.rpm_commit.specs.Endings.{unless_starved, why_of_recover}
-pub use Rattle.rpm_commit.specs.Lawful.{AreLawfulGroups, IsLawfulGroup, StandsStill}
+pub use Rattle.rpm_commit.specs.Lawful.{AreLawfulGroups, KeepsPackages, StandsStill}
 pub use Rattle.rpm_commit.specs.Limits.{OneChange}
 pub use Rattle.rpm_commit.specs.Tasks.{asked_course, asked_task, needs_none, reads_shelf, task_course}
 pub use Rattle.rpm_commit.specs.OneChange.{Streams}
@@ -12,12 +12,12 @@ pub use Rattle.rpm_db.specs.Database.{Database, is_blank, is_indexed, unindexed}
 pub use Rattle.rpm_db.specs.Frame.{room}
 pub use Rattle.rpm_db.specs.Lawful.{AreLawful, IsLawful, IsLawfulStill, Remade}
 pub use Rattle.rpm_db.specs.Openings.{IsOpened, must_make, units_needed}
-pub use Rattle.rpm_db.specs.RoomLaws.{blank_unpaged, kept_current}
+pub use Rattle.rpm_db.specs.RoomLaws.{blank_unpaged, kept_current, made_paged}
 pub use Rattle.rpm_db.specs.State.{above, Package}
 unfoldable pub use Rattle.rpm_db.specs.State.{packages}
 pub use Rattle.rpm_group.specs.Layers.{laid_files}
 pub use Rattle.rpm_group.specs.Loads.{IsSound}
-pub use Rattle.rpm_group.specs.Settled.{RecoverSays, ReopensAsOneOf}
+pub use Rattle.rpm_group.specs.Settled.{KeepsLog, RecoverKeeps, RecoverSays, ReopensAsOneOf}
 pub use Rattle.rpm_group.specs.declared.recovery.RecoverFault.{RecoverFault}
 pub use Rattle.rpm_outside.specs.Buffered.{inner}
 pub use Rattle.rpm_outside.specs.Causes.{HasCauseAt, Rose}
@@ -30,7 +30,7 @@ pub use Rattle.rpm_outside.specs.declared.buffered.Buffered.{Buffered}
 pub use Rattle.rpm_outside.specs.declared.disk.File.TheVariants.{Idx, Pkg}
 pub use Rattle.rpm_outside.specs.inner.Looking.{looks_then}
 pub use Rattle.rpm_outside.specs.inner.Moments.{leaves_then, leaves_weaker, started}
-pub use Rattle.rpm_pkgdb.specs.Store.{blank_store, Store, store}
+pub use Rattle.rpm_pkgdb.specs.Store.{Store, store}
 pub use Rattle.rpm_pkgdb.specs.declared.slot.Damage.{Damage}
 pub use Rattle.rpm_print.specs.Answers.{Anywhere, Closes, Ends, Refused, Undone, Went}
 pub use Rattle.rpm_print.specs.Asked.{always_keyed, by_key, changes_in, command_in, deed_of, format_in, is_changing, is_changing_in, is_package}
@@ -61,8 +61,8 @@ unfoldable pub use Rattle.rpm_select.specs.Selections.{picks}
 pub use Rattle.rpm_select.specs.declared.selection.Selection.{Selection}
 pub use Rattle.rpm_select.specs.inner.Unindexed.{no_index_rows}
 pub use Rattle.rpm_tool.specs.Deeds.{asked_reaches, blocks_cost, Deeds, DidPlain, DoesBy, Loaded, Opened, Queried, query_cost, read_to}
-pub use Rattle.rpm_tool.specs.Keyed.{AnswersByKey, BadIs, CauseIs, DidByKey, FullByUnits, FullIs, has_index, HasIndex, HasRoom, keyed_cost, keyed_to}
-pub use Rattle.rpm_tool.specs.Keyed.{KeyedIs, OnLawful, WentBy}
+pub use Rattle.rpm_tool.specs.Keyed.{AnswersByKey, BadIs, CauseIs, DidByKey, FullByUnits, FullIs, has_index, HasIndex, HasRoom, IsAtRest, IsUsable}
+pub use Rattle.rpm_tool.specs.Keyed.{IsUsableGroup, keyed_cost, keyed_to, KeyedIs, OnUsable, WentBy}
 pub use Rattle.rpm_tool.specs.Theorem.{Answers, AnswersChange, AnswersKeyed, AnswersOfFiles, AnswersPlain, AnswersText, Does, ran, Run}
 pub use Rattle.rpm_version.specs.Capability.{capability, CapabilityParts}
 pub use Rattle.rpm_version.specs.declared.capability.BadCapability.{BadCapability}

@@ -1,17 +1,19 @@
 -- Questions by key and the reports on requirements, which open the database with its index and change no package: what they answer and leave.
 -- On it rests `keyed` of the page (Theorem.antt).
 use Rattle.std.specs.Prelude.{◌≡◌, ◌⊎◌, ℕ, ◌+◌, ◌^◌, ◌<◌, ◌≤◌, List, [], map, Bool, true, false, not, ◌==◌, ◌||◌, Ok, IsTrue}
+use Rattle.std.proofs.Common.{inl, inr, refl}
 use Rattle.rpm_outside.specs.Frame.{LeavesIn, images}
 use Rattle.rpm_outside.specs.declared.disk.Disk as disk
 use Rattle.rpm_outside.specs.declared.disk.File.TheVariants.{Pkg}
 use Rattle.rpm_outside.specs.Files.{Units, Files}
 use Rattle.rpm_outside.specs.Logs.{Closed, log_state, reopened}
-use Rattle.rpm_pkgdb.specs.Store.{Store, store}
+use Rattle.rpm_group.specs.Loads.{IsSound}
+use Rattle.rpm_pkgdb.specs.Store.{Store, blank_store, store}
 use Rattle.rpm_pkgdb.specs.Costs.{opening_cost}
 use Rattle.rpm_db.specs.Database.{Database, is_indexed, unindexed}
 use Rattle.rpm_db.specs.Frame.{room}
 use Rattle.rpm_db.specs.State.{packages}
-use Rattle.rpm_db.specs.Lawful.{IsLawful, HasRows, is_current_at}
+use Rattle.rpm_db.specs.Lawful.{HasRows, IsLawful, is_current_at}
 use Rattle.rpm_db.specs.Openings.{must_make, units_needed, making_cost}
 use Rattle.rpm_words.specs.Words.{text_at}
 use Rattle.rpm_words.specs.Ask.{AskParts}
@@ -29,7 +31,8 @@ use Rattle.rpm_query.specs.Reach.{IsOfChains}
 use Rattle.rpm_change.specs.Endings.{Outputs, Through}
 use Rattle.rpm_print.specs.Classes.{is_done, is_done_or_outside, is_foreign, is_refusal}
 use Rattle.rpm_tool.specs.Deeds.{Deeds, Loaded, DoesBy, reaches_of, asked_reaches, blocks_cost}
-pub use Rattle.rpm_commit.specs.Lawful.{AreLawfulGroups, IsLawfulGroup, StandsStill}
+pub use Rattle.rpm_commit.specs.Lawful.{AreLawfulGroups, IsLawfulGroup, KeepsPackages, StandsStill}
+pub use Rattle.rpm_group.specs.Settled.{KeepsLog}
 pub use Rattle.rpm_words.specs.declared.switch.Chosen.{Chosen}
 
 -- ---- an index that is ready
@@ -45,6 +48,27 @@ pub record IsReady (files : Files) : Type 0 where
   pub closed : log_state files.log ≡ Closed
   pub indexed : HasIndex files.pkg files.idx
 
+-- nothing is left of a change, and no index must be made, whatever the one that is there holds
+pub record IsAtRest (files : Files) : Type 0 where
+  pub closed : log_state files.log ≡ Closed
+  pub made : must_make files.idx (store files.pkg) ≡ false
+
+-- the store isn't damaged, and the index has the rows of the packages where it is current; a database that is blank needs none
+pub record IsUsable (pkg idx : Units) : Type 0 where
+  pub value : Store
+  pub undamaged : store pkg ≡ Ok value
+  pub index : is_current_at value.generation idx ≡ true → (value.pages ≡ 0) ⊎ HasRows (packages pkg value) idx
+
+-- a lawful database is usable
+pub lawful_usable : (pkg idx : Units) → IsLawful pkg idx → IsUsable pkg idx
+lawful_usable pkg idx (inl blank) = record { value = blank_store; undamaged = blank; index = λ current. inl refl }
+lawful_usable pkg idx (inr made) = record { value = made.0; undamaged = made.1; index = λ current. inr (made.2.rows_are current) }
+
+-- files stand for a usable database: their log is closed, or a group that makes it of them
+pub record IsUsableGroup (files : Files) : Type 0 where
+  pub sound : IsSound (log_state files.log)
+  pub usable : IsUsable (reopened files).pkg (reopened files).idx
+
 -- ---- the endings
 
 -- its index may have to be made, and be too large, and then nothing is done
@@ -52,9 +76,9 @@ abbrev pub WentBy : (Why → Outputs → Outputs → Type 0) → Why → Outputs
 WentBy Do (why.IndexFull needed) old new = Through [] old new
 WentBy Do others old new = Do others old new
 
--- on a lawful database; of any that can be read no damage is told
-abbrev pub OnLawful : Type 0 → Deeds → Deeds
-OnLawful Lawful Do s given old new = (is_refusal given ≡ false) × (Lawful → WentBy (Do s) given old new)
+-- on a usable database; of any that can be read no damage is told
+abbrev pub OnUsable : Type 0 → Deeds → Deeds
+OnUsable Usable Do s given old new = (is_refusal given ≡ false) × (Usable → WentBy (Do s) given old new)
 
 -- what is said where an index must be made, or needn't, that needs so many units
 abbrev pub FullByUnits : Bool → ℕ → Why → Type 0
@@ -124,18 +148,21 @@ DidByKey tree words a r before now s given old new =
 abbrev pub KeyedIs : Tree → List (List ℕ) → AskParts → Files → Why → Outputs → Outputs → ℕ → ℕ → Type 0
 KeyedIs tree words a files given old new before now =
     let r = reopened files in
-    Loaded (OnLawful (IsLawful r.pkg r.idx) (DidByKey tree words a r before now)) (store r.pkg) (log_state files.log) given old new
+    Loaded (OnUsable (IsUsable r.pkg r.idx) (DidByKey tree words a r before now)) (store r.pkg) (log_state files.log) given old new
 
 -- all that is said of it on a disk that tells its contents
 pub record AnswersByKey {D : Type 0} (d : disk.Ghosts D) (tree : Tree) (words : List (List ℕ)) (a : AskParts) (given : Why) (before now : Outputs)
     (old new : D) : Type 0 where
   pub went : KeyedIs tree words a (d.files old) given before now (d.bytes_read old Pkg) (d.bytes_read new Pkg)
-  pub reads : is_query a.mode ≡ true → IsLawfulGroup (d.files old)
+  pub reads : is_query a.mode ≡ true → IsUsableGroup (d.files old)
       → d.bytes_read new Pkg ≤ d.bytes_read old Pkg + keyed_cost (reopened (d.files old)) words a
   pub kind : is_foreign given ≡ false
   pub full : FullIs (reopened (d.files old)) given
   pub bad : BadIs words a (reopened (d.files old)) given
-  pub complete : IsLawfulGroup (d.files old) → HasRoom (reopened (d.files old)) → is_done_or_outside given ≡ true
-  pub index : IsLawfulGroup (d.files old) → is_done given ≡ true → IsReady (d.files new)
+  pub complete : IsUsableGroup (d.files old) → HasRoom (reopened (d.files old)) → is_done_or_outside given ≡ true
+  pub index : IsUsableGroup (d.files old) → is_done given ≡ true → IsReady (d.files new)
   pub packages : (reopened (d.files new)).pkg ≡ (reopened (d.files old)).pkg
+  pub kept : KeepsLog (d.files old) (d.files new)
+  pub still : IsAtRest (d.files old) → d.files new ≡ d.files old
+  pub leaves : LeavesIn d old new (KeepsPackages (images d old))
   pub stops : AreLawfulGroups (images d old) → LeavesIn d old new (StandsStill (images d old))

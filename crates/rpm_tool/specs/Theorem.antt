@@ -1,7 +1,7 @@
--- The theorem, on one page. `run` (src/command.rt) is proved to have what stands here: each record is a clause
--- of it or a field of one, and each field says one thing. It requires nothing. What a disk or a shelf holds is
--- said where its kind tells it (`tells`). A database is lawful that isn't damaged, whose log isn't malformed, and
--- whose index is of no later generation, and holds the rows of the packages where it is of this one.
+-- The theorem, on one page. `run` (src/command.rt) keeps all that stands here, and asks nothing of its caller: each record is a clause of it, or a
+-- field of one, and each field is one promise. Of what files hold it speaks only for disks and shelves that tell it (`tells`), as those in memory do.
+-- A database is usable where `Packages.db` isn't damaged, the log isn't malformed, and the index has the rows of the packages if it is of their
+-- generation. A usable database is lawful where its index isn't of a later generation. A blank database needs no index.
 use Rattle.std.specs.Prelude.{◌≡◌, ◌≢◌, ℕ, ◌+◌, ◌≤◌, List, [], true, false, IsTrue, Some, None, Err, Ok}
 use Rattle.std.specs.Ordering.{nat_cmp}
 use Rattle.std.specs.FinMap.{FinMap}
@@ -25,7 +25,8 @@ use Rattle.rpm_print.specs.Classes.{is_done, is_done_or_outside, is_foreign}
 use Rattle.rpm_print.specs.Texts.{Course, text_course, text_of}
 use Rattle.rpm_tool.specs.Deeds.{Outputs, Package, Queried, query_cost, reopened, State, Tree, Why}
 use Rattle.rpm_print.specs.Frame.{images, pkg_read, Leaves, LeavesIn}
-use Rattle.rpm_tool.specs.Keyed.{AreLawfulGroups, Chosen, IsLawfulGroup, StandsStill, IsReady, KeyedIs, FullIs, BadIs, HasRoom, keyed_cost}
+use Rattle.rpm_tool.specs.Keyed.{AreLawfulGroups, Chosen, IsLawfulGroup, IsUsableGroup, KeepsLog, KeepsPackages, StandsStill}
+use Rattle.rpm_tool.specs.Keyed.{IsAtRest, IsReady, KeyedIs, FullIs, BadIs, HasRoom, keyed_cost}
 use Rattle.rpm_commit.specs.Limits.{LimitsBy, LogBy, FaultIs}
 use Rattle.rpm_query.specs.PackageFiles.{passing, query_files}
 use Rattle.rpm_query.specs.Queries.{picked, argument_part, query_of, AreOfEach, AreQuestions}
@@ -58,14 +59,12 @@ pub record AnswersWords (words : List (List ℕ)) (given : Why) : Type 0 where
 module _ {D S : Type 0} {d : disk.Ghosts D} {s : shelf.Ghosts S} where
   -- 2. PLAIN QUESTIONS ask no index. `mid` is what out and err took by the end, before the closing line.
   pub record AnswersPlain (r : Run d s) (a : AskParts) (tree : Tree) (mid : Outputs) : Type 0 where
-    pub went : Queried tree r.words a (d.files r.found) r.why r.before mid
-        (pkg_read d r.found) (pkg_read d r.left)
+    pub went : Queried tree r.words a (d.files r.found) r.why r.before mid (pkg_read d r.found) (pkg_read d r.left)
     pub reads : pkg_read d r.left ≤ pkg_read d r.found + query_cost r.words a (reopened (d.files r.found)).pkg
 
   -- 3. PACKAGE FILES are queried with no call on the disk.
   pub record AnswersOfFiles (r : Run d s) (a : AskParts) (tree : Tree) (mid : Outputs) : Type 0 where
-    pub went : IsTrue s.tells
-        → Went (query_files tree (s.paths r.shelf_found) r.words a) r.why r.before mid Anywhere
+    pub went : IsTrue s.tells → Went (query_files tree (s.paths r.shelf_found) r.words a) r.why r.before mid Anywhere
     pub disk_unread : r.left ≡ r.found
 
   -- 4. TEXTS on the program itself, its help and its version, are printed with no call on disk and shelf.
@@ -73,21 +72,23 @@ module _ {D S : Type 0} {d : disk.Ghosts D} {s : shelf.Ghosts S} where
     pub went : Went (text_course text) r.why r.before mid Anywhere
     pub unread : (r.left ≡ r.found) × (r.shelf_left ≡ r.shelf_found)
 
-  -- 5. QUESTIONS BY KEY, and reports on requirements, finish what a crash left, and make a stale index anew.
+  -- 5. QUESTIONS BY KEY, and reports on requirements, finish what a crash left, and make a stale index anew. Whatever they answer, a malformed log
+  -- stays with the files beside it, and no other becomes malformed (`kept`). Where there is nothing to finish or to make, no file changes (`still`).
+  -- A crash leaves the packages, and the log in the same way, whatever the index holds (`leaves`).
   pub record AnswersKeyed (r : Run d s) (a : AskParts) (tree : Tree) (mid : Outputs) : Type 0 where
-    pub went : KeyedIs tree r.words a (d.files r.found) r.why r.before mid
-        (pkg_read d r.found) (pkg_read d r.left)
-    pub reads : is_query a.mode ≡ true → IsLawfulGroup (d.files r.found)
+    pub went : KeyedIs tree r.words a (d.files r.found) r.why r.before mid (pkg_read d r.found) (pkg_read d r.left)
+    pub reads : is_query a.mode ≡ true → IsUsableGroup (d.files r.found)
         → pkg_read d r.left ≤ pkg_read d r.found + keyed_cost (reopened (d.files r.found)) r.words a
     pub kind : is_foreign r.why ≡ false
     pub full : FullIs (reopened (d.files r.found)) r.why
     pub bad : BadIs r.words a (reopened (d.files r.found)) r.why
-    pub complete : IsLawfulGroup (d.files r.found) → HasRoom (reopened (d.files r.found))
-        → is_done_or_outside r.why ≡ true
-    pub index : IsLawfulGroup (d.files r.found) → is_done r.why ≡ true → IsReady (d.files r.left)
+    pub complete : IsUsableGroup (d.files r.found) → HasRoom (reopened (d.files r.found)) → is_done_or_outside r.why ≡ true
+    pub index : IsUsableGroup (d.files r.found) → is_done r.why ≡ true → IsReady (d.files r.left)
     pub packages : (reopened (d.files r.left)).pkg ≡ (reopened (d.files r.found)).pkg
-    pub stops : AreLawfulGroups (images d r.found)
-        → LeavesIn d r.found r.left (StandsStill (images d r.found))
+    pub kept : KeepsLog (d.files r.found) (d.files r.left)
+    pub still : IsAtRest (d.files r.found) → d.files r.left ≡ d.files r.found
+    pub leaves : LeavesIn d r.found r.left (KeepsPackages (images d r.found))
+    pub stops : AreLawfulGroups (images d r.found) → LeavesIn d r.found r.left (StandsStill (images d r.found))
 
   -- 6. CHANGES of a command are one group: all made and counted, or none; each ending leaves `ChangesWith`.
   pub record AnswersChange (r : Run d s) (a : AskParts) (course : State → Course) (mid : Outputs) : Type 0 where
@@ -113,8 +114,7 @@ module _ {D S : Type 0} {d : disk.Ghosts D} {s : shelf.Ghosts S} where
     pub empty : is_changing a ≡ true → IsTrue d.tells
         → EmptyBy (needs_none (asked_task r.words a)) (reopened (d.files r.found)) r.why
     pub looks : by_key a ≡ false → is_changing a ≡ false → Leaves d r.found r.left
-    pub shelf_unread : of_files a ≡ false → reads_shelf (asked_task r.words a) ≡ false
-        → r.shelf_left ≡ r.shelf_found
+    pub shelf_unread : of_files a ≡ false → reads_shelf (asked_task r.words a) ≡ false → r.shelf_left ≡ r.shelf_found
 
   -- And for all words.
   pub record Answers (r : Run d s) (mid : Outputs) : Type 0 where
@@ -136,8 +136,7 @@ pub record Causes {D S O E : Type 0} (d : disk.Ghosts D) (s : shelf.Ghosts S) (o
 -- 8. LAWS of the words and of what is picked.
 pub record Laws (words : List (List ℕ)) : Type 0 where
   -- with package files no number is passed over
-  pub files_after : (tree : Tree) (paths : Paths) (n : ℕ) (a : AskParts)
-      → query_files tree paths words (passing n a) ≡ query_files tree paths words a
+  pub files_after : (tree : Tree) (paths : Paths) (n : ℕ) (a : AskParts) → query_files tree paths words (passing n a) ≡ query_files tree paths words a
   -- an argument's packages are those that it picks above `--after`, each once and rising
   pub numbers : (tree : Tree) (packages : FinMap nat_cmp Package) (chosen : Chosen) (after j : ℕ)
       (text : List ℕ) → AreOfEach after (picked packages chosen text)
@@ -146,5 +145,4 @@ pub record Laws (words : List (List ℕ)) : Type 0 where
   pub all_numbers : (tree : Tree) (packages : FinMap nat_cmp Package) (chosen : Chosen) (after : ℕ)
       → AreOfEach after (picks packages question.All) (query_of tree packages chosen after []).steps
   -- no argument of a query goes unasked
-  pub questions : (a : AskParts) → ask words ≡ Ok a → is_query a.mode ≡ true → of_files a ≡ false
-      → AreQuestions words a
+  pub questions : (a : AskParts) → ask words ≡ Ok a → is_query a.mode ≡ true → of_files a ≡ false → AreQuestions words a

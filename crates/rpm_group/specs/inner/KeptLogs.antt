@@ -1,4 +1,4 @@
--- Files that keep a log: themselves, through one step and then another, and after recovery.
+-- Which files keep a log: those that keep all, and those that recovery leaves.
 use Rattle.std.proofs.Common.{◌≡◌, refl, sym, subst}
 use Rattle.rpm_outside.specs.Files.{Files}
 use Rattle.rpm_outside.specs.Logs.{Closed, Open, Malformed, LogState, log_state}
@@ -18,11 +18,6 @@ same_of (Malformed unit) files is = refl
 same_of Closed files is = subst IsSound (sym is) tt
 same_of (Open entries) files is = subst IsSound (sym is) tt
 
-then_of : (s : LogState) (a b c : Files) → log_state a.log ≡ s → KeepsLogOf s a b → KeepsLog b c → KeepsLogOf s a c
-then_of (Malformed unit) a b c is first second = subst (λ (l : LogState). KeepsLogOf l a c) is (subst (λ (f : Files). KeepsLog f c) first second)
-then_of Closed a b c is first second = sound_of (log_state b.log) b c second first
-then_of (Open entries) a b c is first second = sound_of (log_state b.log) b c second first
-
 recovered_of : (s : LogState) (old new : Files) → log_state old.log ≡ s → RecoverKeeps s old new → KeepsLogOf s old new
 recovered_of (Malformed unit) old new is keeps = keeps
 recovered_of Closed old new is keeps = subst (λ (f : Files). IsSound (log_state f.log)) (sym keeps) (subst IsSound (sym is) tt)
@@ -37,9 +32,6 @@ sound_kept old new = kept_of (log_state old.log) old new
 
 pub same_kept : (files : Files) → KeepsLog files files
 same_kept files = same_of (log_state files.log) files refl
-
-pub kept_then : (a b c : Files) → KeepsLog a b → KeepsLog b c → KeepsLog a c
-kept_then a b c = then_of (log_state a.log) a b c refl
 
 pub recovered_kept : (old new : Files) → RecoverKeeps (log_state old.log) old new → KeepsLog old new
 recovered_kept old new = recovered_of (log_state old.log) old new refl

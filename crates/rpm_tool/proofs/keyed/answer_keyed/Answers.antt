@@ -3,8 +3,9 @@ use Rattle.rpm_tool.proofs.Vocabulary.{Files, inner, is_foreign, is_of_streams, 
 use Rattle.rpm_tool.proofs.Faults.{cause_then, hands_none}
 use Rattle.rpm_tool.proofs.OpeningLaws.{leaves_peeks, runs_peeks}
 use Rattle.rpm_print.specs.inner.Reaching.{through_none}
-use Rattle.rpm_tool.proofs.Recovered.{deeds, did_opened, did_unopened, recovered, undone_fault}
-use Rattle.rpm_commit.specs.inner.Regrouped.{recovering_still}
+use Rattle.rpm_tool.proofs.Recovered.{deeds, did_opened, did_unopened, recovered, rest_same, undone_fault, unwritten}
+use Rattle.rpm_commit.specs.inner.Regrouped.{recovering_packages, recovering_still}
+use Rattle.rpm_group.specs.inner.KeptLogs.{recovered_kept}
 use Rattle.rpm_tool.proofs.Unloaded.{open_own, open_streams}
 use Rattle.rpm_tool.proofs.Unrecovered.{unrecovered, unrecovered_bad, unrecovered_complete, unrecovered_full, unrecovered_kind, unrecovered_streams}
 use Rattle.rpm_tool.proofs.Unrecovered.{unrecovered_undone}
@@ -29,10 +30,11 @@ returns-in-Ok-open_settled-clause-keyed g c = λ told.
     let last = c.answer_opened-why.ensures in
     let old = shown g.O.Sink g.E.Sink c.args.out.now c.args.err.now in
     let new = shown g.O.Sink g.E.Sink c.answer_opened-why.new.out c.answer_opened-why.new.err in
-    recovered g.D.Disk (first.images told) (g.met.D.Disk.as_read c.args.disk told) (first.closed told) (first.files told) (first.settled told)
-    c.args.format.now c.args.words.now c.args.ask.now c.answer_opened-why.new.disk c.answer_opened-why.result old new _ (first.says told) first.reads.pkg
-    ((runs_peeks g.D.Disk last.does.looks g.met.D.Disk.follows_trans then.runs).reads_as told)
-    (λ lawful. leaves_peeks g.D.Disk last.does.looks told (then.stops told lawful))
+    let runs = runs_peeks g.D.Disk last.does.looks g.met.D.Disk.follows_trans then.runs in
+    recovered g.D.Disk (first.images told) (g.met.D.Disk.as_read c.args.disk told) _ (first.says told) (first.kept told) (first.closed told)
+    (first.files told) (first.settled told) c.args.format.now c.args.words.now c.args.ask.now c.answer_opened-why.new.disk c.answer_opened-why.result
+    old new first.reads.pkg (runs.reads_as told) (runs.any_moment told) (λ lawful. leaves_peeks g.D.Disk last.does.looks told (then.stops told lawful))
+    (λ kept. (last.does.looks.untouched told).same ∙ (then.opened told).same kept)
     (did_opened c.args.format.now c.args.words.now c.args.ask.now g.D.Disk c.recover.new.disk c.open_settled.new.disk c.answer_opened-why.new.disk
     c.in-Ok-open_settled.db c.answer_opened-why.result old new told (then.opened told) (then.runs.reads_as told) then.served.fresh.indexed (then.reads told)
     last.does last.done last.opened)
@@ -63,9 +65,10 @@ returns-in-Err-open_settled-clause-keyed g c = λ told.
     let x = shown g.O.Sink g.E.Sink c.args.out.now c.args.err.now in
     let none : Through [] x x = through_none {ot = g.O.Sink.tells} {et = g.E.Sink.tells} (g.O.Sink.taken (inner c.args.out.now))
     (g.E.Sink.taken (inner c.args.err.now)) in
-    rw c.why_of_open.ensures (recovered g.D.Disk (first.images told) (g.met.D.Disk.as_read c.args.disk told) (first.closed told) (first.files told)
-    (first.settled told) c.args.format.now c.args.words.now c.args.ask.now c.open_settled.new.disk _ x x _ (first.says told) first.reads.pkg
-    (then.runs.reads_as told) (then.stops told)
+    rw c.why_of_open.ensures (recovered g.D.Disk (first.images told) (g.met.D.Disk.as_read c.args.disk told) _ (first.says told) (first.kept told)
+    (first.closed told) (first.files told) (first.settled told) c.args.format.now c.args.words.now c.args.ask.now c.open_settled.new.disk _ x x
+    first.reads.pkg (then.runs.reads_as told) (then.runs.any_moment told) (then.stops told)
+    (λ kept. (then.opened told).same (unwritten _ c.in-Err-open_settled.fault kept))
     (did_unopened c.args.format.now c.args.words.now c.args.ask.now x none (g.D.Disk.files c.recover.new.disk) (pkg_read g.D.Disk c.recover.new.disk)
     (pkg_read g.D.Disk c.open_settled.new.disk) (g.D.Disk.files c.open_settled.new.disk) c.in-Err-open_settled.fault (then.opened told) (then.reads told)))
 
@@ -85,13 +88,16 @@ returns-in-Err-clause-keyed g c = λ told.
     rw c.why_of_recover.ensures (record {
       went = unrecovered (deeds c.args.format.now words a r start now) (store r.pkg) x none (undone_fault c.args.format.now words a x none r start now)
           (log_state files.log) fault (first.says told);
-      reads = λ query lawful. omega (arith, first.reads.pkg);
+      reads = λ query group. omega (arith, first.reads.pkg);
       kind = unrecovered_kind fault;
       full = unrecovered_full r fault;
       bad = unrecovered_bad words a r fault;
-      complete = λ lawful room. unrecovered_complete (log_state files.log) fault (first.says told) lawful.sound;
-      index = λ lawful done. absurd (unrecovered_undone fault done);
+      complete = λ group room. unrecovered_complete (log_state files.log) fault (first.says told) group.sound;
+      index = λ group done. absurd (unrecovered_undone fault done);
       packages = ap (λ (f : Files). f.pkg) (first.stands told);
+      kept = recovered_kept files (g.D.Disk.files c.recover.new.disk) (first.kept told);
+      still = rest_same files (g.D.Disk.files c.recover.new.disk) (first.kept told);
+      leaves = recovering_packages g.D.Disk c.args.disk c.recover.new.disk (first.images told);
       stops = λ lawful. recovering_still g.D.Disk c.args.disk c.recover.new.disk (first.images told) lawful;
     })
 
