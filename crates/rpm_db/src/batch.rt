@@ -1,13 +1,12 @@
 //! A batch of changes of a database: the store changes at each, and the index once for all.
 
-ghost use Rattle.std.specs.Prelude.{◌≡◌, ◌⊎◌, ◌+◌, ◌≤◌, length, IsTrue, true, false, None, Ok, Err, OnOk, IfOk, IfErr};
-ghost use Rattle.rpm_db.specs.Prelude.{Add, AddIs, AreLawful, cost, DiskFault, Erase, EraseIs, Gathers, generation_of, has_failed, Header, header, HeaderFault, images, is_indexed, IsGathering, IsLawfulStill, IsLeftSuspended, IsOfErasing, IsOfIndex, IsOfReading, IsOrdered, IsSettledUp, IsWholeIndex, LeavesIn, next_number, nothing, OwesOn, Pkg, ReachesTo, resumed, room, Runs, SameLog, sealed_in, StaysWhole, suspended, WholeCause, with_room};
+ghost use Rattle.std.specs.Prelude.{◌≡◌, ◌⊎◌, ◌+◌, ◌≤◌, length, IsTrue, true, false, Err, OnOk, IfErr};
+ghost use Rattle.rpm_db.specs.Prelude.{AreLawful, cost, DiskFault, Erase, EraseIs, Gathers, generation_of, has_failed, images, is_indexed, IsGathering, IsLawfulStill, IsLeftSuspended, IsOfErasing, IsOfIndex, IsOfReading, IsOrdered, IsSettledUp, IsWholeIndex, LeavesIn, nothing, OwesOn, Pkg, resumed, room, Runs, SameLog, sealed_in, StaysWhole, suspended};
 
 use crate::change_fault::ChangeFault;
 use crate::database::Db;
-use crate::gathering::{erase_aside, fill_index, store_header};
+use crate::gathering::{erase_aside, fill_index};
 use crate::netting::RowChange;
-use rpm_header::View;
 use rpm_hindex::Rows;
 use rpm_outside::Disk;
 use std::alloc::Global;
@@ -18,14 +17,14 @@ use std::marker::Model;
 ///
 /// The store's part of each change is made at its turn, and refused at its turn. The index gets the rows of all at the
 /// end: it is changed once, and sealed once. What it drops comes by rising number, so a chain in which the packages stand
-/// by number is walked once, however many of its rows go. Rows of a package that is added and erased within the batch
-/// are never written.
+/// by number is walked once, however many of its rows go. Rows of a package that is added, and replaced or erased, within
+/// the batch are never written.
 ///
 /// Where each image at the start is lawful, a crash at any moment of a change leaves a database that is lawful, with
 /// the packages from before it or after it.
 #[derive(Drop)]
 pub struct Batch {
-    owed: RowChange,
+    pub(crate) owed: RowChange,
 }
 
 impl Model for Batch {
@@ -54,53 +53,6 @@ impl Batch {
                 adds: Rows::new(alloc),
             },
         }
-    }
-
-    /// Adds a header under the next number, and answers it: writes it to the store, under a raised generation, and
-    /// gathers its rows. Bytes after the header aren't kept. The index isn't written, and is read only where its counts
-    /// leave it open whether it has room for the rows.
-    ///
-    /// # Errors
-    ///
-    /// Those of [`Db::add`], in the same order, and `IndexFull` exactly so where the index held the rows as the batch
-    /// began. After `BadHeader` all is as it was; after any other but `DiskFault` the files are, and the batch isn't to
-    /// be used further.
-    pub fn add<D: Disk>(
-        &mut self,
-        alloc: Global,
-        db: &mut Db,
-        disk: &mut D,
-        blob: &[u8],
-    ) -> Result<u32, ChangeFault>
-        requires gathering { IsGathering D.Disk disk.old db.old self.old }
-        ensures causes { AddIs (resumed db.old) blob.now result }
-        ensures number { IfOk result (λ n. n ≡ next_number db.old) }
-        ensures gathers { (h : Header) → header blob.now ≡ Ok h → Gathers D.Disk disk.old disk.new (Add h.blob) db.old db.new self.old self.new result }
-        ensures whole { IsTrue D.tells → IsWholeIndex (D.files disk.old).idx → IfErr result WholeCause }
-        ensures refused { (fault : HeaderFault) → result ≡ Err (ChangeFault.BadHeader fault)
-            → (disk.new ≡ disk.old) × (db.new ≡ db.old) × (self.new ≡ self.old) }
-        ensures left { IsLeftSuspended D.Disk disk.old disk.new db.new (with_room (room db.new).spare db.old) result }
-        ensures index { IsTrue D.tells → (D.files disk.new).idx ≡ (D.files disk.old).idx }
-        ensures end { OnOk result (IsTrue D.tells → ReachesTo (room db.new) (D.files disk.old).pkg (D.files disk.new).pkg) }
-        ensures runs { Runs D.Disk SameLog disk.old disk.new }
-        ensures cause { DiskFault D.Disk (result ≡ Err ChangeFault.DiskFault) disk.old disk.new }
-    {
-        let view = View::parse(blob)?;
-        if db.store.next_number() == u32::MAX {
-            return Err(ChangeFault::NumbersSpent);
-        }
-        let Some(index) = &db.index else {
-            unreachable!()
-        };
-        store_header(
-            alloc,
-            disk,
-            &mut db.store,
-            index,
-            &mut self.owed,
-            None,
-            &view,
-        )
     }
 
     /// Takes the package that a number has out, Good or Bad: out of the store, under a raised generation, and gathers

@@ -6,6 +6,7 @@
 #![tactic(auto)]
 
 mod batch;
+mod batch_headers;
 mod change_fault;
 mod changing;
 mod database;

@@ -1,72 +1,31 @@
-use Rattle.std.proofs.Common.{rules, ◌≡◌, ℕ, None, Ok, true, false, is_some, refl, sym, ap, ◌∙◌, subst, arith}
-use Rattle.std.proofs.lemmas.Bool.Decides.{nat_tests}
-use Rattle.rpm_db.proofs.Vocabulary.{AddIs, ChangeFault, Database, database_of, header, header-own, IsOrdered, IsRefusal, KeepsUnits, resumed, Runs}
-use Rattle.rpm_db.proofs.Vocabulary.{SameFiles, Store, with_spare}
-use Rattle.rpm_db.proofs.Batched.{gathers_put}
-use Rattle.rpm_db.proofs.Refused.{add_is}
-use Rattle.rpm_db.proofs.Results.{if_err, map_if_err, on_err}
-use Rattle.rpm_db.proofs.Wholes.{whole_err}
+use Rattle.std.proofs.Common.{rules, ◌≡◌, ℕ, Result, Ok, Err, refl, sym, ◌∙◌, subst}
+use Rattle.rpm_db.proofs.Vocabulary.{Add, AddIs, ChangeFault, Gathers, Header, header, header-own, resumed}
+use Rattle.rpm_db.proofs.Refused.{add_same}
+use Rattle.rpm_db.proofs.Results.{if_err, on_err}
 use Rattle.rpm_db.proofs.batch.Batch.add.Goals as goal
 
--- ---- what putting it aside asks for
-
-pub store_header-requires-clause-ready : goal.store_header-requires-clause-ready
-store_header-requires-clause-ready g c =
-    let was = rw (sym c.db.view_is, sym c.self.view_is) at c.requires.gathering in
-    record {
-      going = was.going;
-      made = c.db.invariant.made (ap is_some c.in-Some.is);
-      keeps = λ told. (was.serving told).keeps;
-      quiet = λ told. (was.serving told).quiet;
-      settled = λ told. (was.serving told).settled;
-    }
-
-pub store_header-requires-clause-order : goal.store_header-requires-clause-order
-store_header-requires-clause-order g c =
-    let was = rw (sym c.db.view_is) at c.requires.gathering in subst IsOrdered c.in-Some.is was.ordered
-
-pub store_header-requires-clause-units : goal.store_header-requires-clause-units
-store_header-requires-clause-units g c =
-    let was = rw (sym c.db.view_is) at c.requires.gathering in
-    λ told. subst (KeepsUnits (g.D.Disk.files c.args.disk.now).idx) c.in-Some.is (was.serving told).index
-
--- ---- it was put aside, or refused
+pub add_view-requires-clause-own : goal.add_view-requires-clause-own
+add_view-requires-clause-own g c = header-own c.args.blob.now c.in_ok-view.view (sym c.in_ok-view.ensures.value)
 
 pub returns-clause-gathers : goal.returns-clause-gathers
 returns-clause-gathers g c = λ h is.
-    let v = c.in_ok-view.view in
-    let own = header-own c.args.blob.now v (sym c.in_ok-view.ensures.value) in
-    let first : header c.args.blob.now ≡ Ok v = sym c.in_ok-view.ensures.value in
-    let same : v ≡ h = cc in
-    let e = c.store_header.ensures in
-    let was = rw (sym c.db.view_is, sym c.self.view_is) at c.requires.gathering in
-    rw (sym c.db.view_is, sym c.self.view_is, sym same) (gathers_put g.D.Disk c.args.disk.now c.store_header.new.disk c.db.inside.store
-    c.store_header.new.store c.db.inside.index c.db.inside.is_stopped c.self.inside.owed c.store_header.new.owed was e.index c.store_header.result None v own
-    e.room.placed e.done e.gathered (λ told. (e.takes told).full told) e.stops)
+    let first : header c.args.blob.now ≡ Ok c.in_ok-view.view = sym c.in_ok-view.ensures.value in
+    let same : c.in_ok-view.view ≡ h = cc in
+    subst (λ (v : Header). Gathers g.D.Disk c.args.disk.now c.add_view.new.disk (Add v.blob) c.args.db.now c.add_view.new.db c.args.self.now
+    c.add_view.new.self c.add_view.result) same c.add_view.ensures.gathers
 
 pub returns-clause-causes : goal.returns-clause-causes
 returns-clause-causes g c =
-    subst (λ (d : Database). AddIs {A = ℕ} (resumed d) c.args.blob.now c.store_header.result) c.db.view_is
-    (add_is (database_of c.db.inside.store c.db.inside.index false) c.args.blob.now c.in_ok-view.view c.store_header.result refl
-    (sym c.in_ok-view.ensures.value) (λ is. grind (arith, nat_tests, is)) c.store_header.ensures.room.later)
+    let first : header c.args.blob.now ≡ Ok c.in_ok-view.view = sym c.in_ok-view.ensures.value in
+    add_same (resumed c.args.db.now) _ c.args.blob.now (header-own c.args.blob.now c.in_ok-view.view first ∙ sym first) c.add_view.result
+    c.add_view.ensures.causes
 
-pub returns-clause-whole : goal.returns-clause-whole
-returns-clause-whole g c = λ told whole. whole_err _ c.store_header.result whole ((c.store_header.ensures.takes told).bad told)
-
-pub returns-clause-left : goal.returns-clause-left
-returns-clause-left g c =
-    let was = rw (sym c.db.view_is) at c.requires.gathering in
-    let st = c.db.inside.store in
-    let after = c.store_header.new.store in
-    let Refused = λ (e : ChangeFault). IsRefusal e → (after ≡ with_spare after.spare st) × Runs g.D.Disk SameFiles c.args.disk.now c.store_header.new.disk in
-    rw (sym c.db.view_is) (record {
-      indexed = was.indexed;
-      stopped = on_err c.store_header.result was.suspends;
-      refused = map_if_err c.store_header.result (λ e (p : Refused e) refusal. ap (λ (v : Store). database_of v c.db.inside.index c.db.inside.is_stopped) (p
-          refusal).0)
-          c.store_header.ensures.refused;
-      same = map_if_err c.store_header.result (λ e (p : Refused e) refusal. (p refusal).1) c.store_header.ensures.refused;
-    })
+pub returns-clause-refused : goal.returns-clause-refused
+returns-clause-refused g c = λ fault is.
+    let v = c.in_ok-view.view in
+    let own : header v.blob ≡ Ok v = header-own c.args.blob.now v (sym c.in_ok-view.ensures.value) in
+    let bad = subst (λ (r : Result ℕ ChangeFault). AddIs (resumed c.args.db.now) v.blob r) is c.add_view.ensures.causes in
+    absurd (let none : header v.blob ≡ Err fault = bad.1 in cc)
 
 pub returns-in_err-view-clause-left : goal.returns-in_err-view-clause-left
 returns-in_err-view-clause-left g c = record {
@@ -75,14 +34,3 @@ returns-in_err-view-clause-left g c = record {
   refused = if_err c.from_residual.result (λ e refusal. refl);
   same = search rules;
 }
-
--- ---- the value holds together
-
-pub invariant_of-db : goal.invariant_of-db
-invariant_of-db g c =
-    let was = rw (sym c.db.view_is) at c.requires.gathering in
-    record {
-      made = λ some. c.store_header.ensures.made;
-      going = λ is. absurd (let both : true ≡ false = sym was.suspends ∙ is in cc);
-      order = λ is. absurd (let both : true ≡ false = sym was.suspends ∙ is in cc);
-    }
