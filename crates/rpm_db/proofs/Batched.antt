@@ -8,8 +8,8 @@ use Rattle.std.specs.FinMap as finite
 use Rattle.rpm_outside.specs.declared.disk.Disk as disk
 use Rattle.rpm_db.proofs.Vocabulary.{AreLawful, BadIndexIs, blobs, change_for, ChangeFault, Erase, erased, field_for, FullIndexIs, Gathers, Header, header, header_rows}
 use Rattle.rpm_db.proofs.Vocabulary.{IsChangedStill, LeavesOnly, number_for, old_rows, put_in, put_map, raised, TakesRows, times_none}
-use Rattle.rpm_db.proofs.Vocabulary.{added, apply, Balances, BlobMap, Change, database_of, Files, Gathered, HasChanged, HasRows}
-use Rattle.rpm_db.proofs.Vocabulary.{IsGathering, IsPutAside, KeepsUnits, live_of, nat_cmp, nothing, Owes, OwesOn, Package, packages, packages-blobs}
+use Rattle.rpm_db.proofs.Vocabulary.{added, apply, Balances, BlobMap, Change, changed_number, database_of, Files, Gathered, HasChanged, HasRows}
+use Rattle.rpm_db.proofs.Vocabulary.{IsGathering, IsPutAside, KeepsSums, KeepsUnits, live_of, nat_cmp, nothing, Owes, OwesOn, Package, packages, packages-blobs}
 use Rattle.rpm_db.proofs.Vocabulary.{packages_of, Row, RowChange, rows, room, sealed_in, state, state_of, Store, times, Units, units_for, with_rows}
 use Rattle.rpm_db.specs.Gathering.{IsOrdered}
 use Rattle.rpm_db.specs.Room.{RoomIs}
@@ -20,9 +20,10 @@ use Rattle.rpm_db.proofs.Edited.{rows_erased, rows_put}
 use Rattle.rpm_db.proofs.Halves.{state_written}
 use Rattle.rpm_db.proofs.OwedRows.{balance_more, due_more, rows_clear}
 use Rattle.rpm_db.proofs.Reached.{added_is, live_none}
-use Rattle.rpm_db.proofs.Results.{both_ok, three_ok}
+use Rattle.rpm_db.proofs.Results.{four_ok, three_ok}
 use Rattle.rpm_db.proofs.Rooms.{put_next}
 use Rattle.rpm_db.proofs.Shared.{rows_held}
+use Rattle.rpm_db.proofs.Sums.{changed_is, verdicts_are}
 use Rattle.rpm_db.proofs.Units.{units_less, units_ordered}
 
 -- the packages of now have room, where the index is owed their rows
@@ -45,7 +46,7 @@ takes_at d a b owed all result told same is takes =
     let here = subst (λ (o : RowChange). TakesRows d b o result) is takes in
     record {
       full = λ told' before after has balances. here.full told' before after (subst (λ (f : Files). HasRows before f.idx) (sym same) has) balances;
-      bad = λ told'. subst (λ (f : Files). BadIndexIs f.idx result) same (here.bad told');
+      bad = λ told'. subst (λ (f : Files). BadIndexIs all.drops f.idx result) same (here.bad told');
     }
 
 -- a change that was made had room
@@ -68,8 +69,10 @@ module _ {D : Type 0} (d : disk.Ghosts D) (a : D) (st : Store) (index : Option h
       → state_of to field ≡ apply change (state (d.files a).pkg st) → (IsTrue d.tells → more ≡ with_rows owed drops adds)
       → added (state (d.files a).pkg st) change ≡ live_of adds
       → (IsTrue d.tells → OwesOn d a (database_of st index stopped) owed → units_for (rows (packages_of to)) ≤ 2 ^ 28)
+      → (number : ℕ) → changed_number change (state (d.files a).pkg st) ≡ number
+      → (IsTrue d.tells → KeepsSums number (d.files a).pkg (d.files b).pkg st after)
       → Gathered d a b change (database_of st index stopped) (database_of after index stopped) owed more
-  gathered b after change more field was done idx goes is few fits =
+  gathered b after change more field was done idx goes is few fits number at_number sums =
       let state_is : IsTrue d.tells → state (d.files b).pkg after ≡ apply change (state (d.files a).pkg st) =
       λ told. state_written (d.files b).pkg after to field (done.stored.blobs_are told) done.field_is ∙ goes in
       let packages_are : IsTrue d.tells → packages (d.files b).pkg after ≡ packages_of to =
@@ -91,6 +94,8 @@ module _ {D : Type 0} (d : disk.Ghosts D) (a : D) (st : Store) (index : Option h
         };
         generation = done.generation_is;
         state_is = state_is;
+        verdicts = λ told.
+            verdicts_are change (d.files a).pkg (d.files b).pkg st after index index stopped stopped (state_is told) number at_number (sums told);
         owes = λ told o. record {
           from = o.from;
           has = subst (HasRows o.from) (sym (idx told)) o.has;
@@ -111,6 +116,7 @@ module _ {D A : Type 0} (d : disk.Ghosts D) (a b : D) (st after : Store) (index 
     -- a header under a new number, or one that is there
     pub gathers_put : (n : Option ℕ) (h : Header) → header h.blob ≡ Ok h → RoomIs (put_in n (length h.blob) (raised st)) st after result
         → OnOk result (IsPutAside d b st after (put_map (d.files a).pkg st n h.blob) (field_for n st))
+        → OnOk result (IsTrue d.tells → KeepsSums (number_for n st) (d.files a).pkg (d.files b).pkg st after)
         → OnOk result (IsTrue d.tells → more ≡ with_rows owed (old_rows n (packages (d.files a).pkg st)) (header_rows (number_for n st) h))
         → (IsTrue d.tells → (from to : finite.FinMap nat_cmp Package) → HasRows from (d.files a).idx
         → Balances (with_rows owed (old_rows n (packages (d.files a).pkg st)) (header_rows (number_for n st) h)) (rows from) (rows to)
@@ -118,7 +124,7 @@ module _ {D A : Type 0} (d : disk.Ghosts D) (a b : D) (st after : Store) (index 
         → (IsTrue d.tells → AreLawful (d.left_since a (d.moment a)) → LeavesOnly d a b (IsChangedStill (state (d.files a).pkg st)
         (state_of (put_map (d.files a).pkg st n h.blob) (field_for n st)) (d.left_since a (d.moment a))))
         → Gathers d a b (change_for n h.blob) (database_of st index stopped) (database_of after index stopped) owed more result
-    gathers_put n h own room done is full stops =
+    gathers_put n h own room done sums is full stops =
         let file = (d.files a).pkg in
         let drops = old_rows n (packages file st) in
         let adds = header_rows (number_for n st) h in
@@ -131,9 +137,10 @@ module _ {D A : Type 0} (d : disk.Ghosts D) (a b : D) (st after : Store) (index 
         λ told o. full told o.from (packages_of to) o.has (balanced_on d a st index stopped owed drops adds to changed there o) in
         record {
           room = subst (λ (s : Option Store). RoomIs s st after result) (put_next n h.blob st) room;
-          gathered = three_ok result (λ put gathers room_left.
+          gathered = four_ok result (λ put kept gathers room_left.
               gathered d a st index stopped owed drops adds to changed there b after (change_for n h.blob) more (field_for n st) was put idx goes gathers
-              (added_is file st n h own) room_left) done is (fits_ok (units_for (rows (packages_of to))) result fits);
+              (added_is file st n h own) room_left
+              (number_for n st) (changed_is file st n h.blob) kept) done sums is (fits_ok (units_for (rows (packages_of to))) result fits);
           full = λ told o. subst (λ (s : State). FullIndexIs (units_for (rows s.packages)) result) goes (fits told o);
           stops = λ told lawful. subst (λ (s : State). LeavesOnly d a b (IsChangedStill (state file st) s images)) goes (stops told lawful);
         }
@@ -141,12 +148,13 @@ module _ {D A : Type 0} (d : disk.Ghosts D) (a b : D) (st after : Store) (index 
     -- a number that is taken out
     pub gathers_erase : (n : ℕ) → RoomIs (Some (erased n (raised st))) st after result
         → OnOk result (IsPutAside d b st after (finite.remove (blobs (d.files a).pkg st) n) st.field)
+        → OnOk result (IsTrue d.tells → KeepsSums n (d.files a).pkg (d.files b).pkg st after)
         → OnOk result (IsTrue d.tells → more ≡ record { drops = owed.drops ++ old_rows (Some n) (packages (d.files a).pkg st); adds = owed.adds })
         → ((needed : ℕ) → needed ≤ 2 ^ 28 → FullIndexIs needed result)
         → (IsTrue d.tells → AreLawful (d.left_since a (d.moment a)) → LeavesOnly d a b (IsChangedStill (state (d.files a).pkg st)
         (state_of (finite.remove (blobs (d.files a).pkg st) n) st.field) (d.left_since a (d.moment a))))
         → Gathers d a b (Erase n) (database_of st index stopped) (database_of after index stopped) owed more result
-    gathers_erase n room done is full stops =
+    gathers_erase n room done sums is full stops =
         let file = (d.files a).pkg in
         let gone = old_rows (Some n) (packages file st) in
         let left = finite.remove (blobs file st) n in
@@ -159,10 +167,10 @@ module _ {D A : Type 0} (d : disk.Ghosts D) (a b : D) (st after : Store) (index 
         omega (arith, most, less)) in
         record {
           room = room;
-          gathered = both_ok result (λ put gathers.
+          gathered = three_ok result (λ put kept gathers.
               gathered d a st index stopped owed gone [] left lost (rows_held (Some n) (packages file st)) b after (Erase n) more st.field was put idx goes
               (λ told. gathers told ∙ ap (λ (rs : List Row). record { drops = owed.drops ++ gone; adds = rs }) (sym (append-nil owed.adds))) (sym live_none)
-              fits) done is;
+              fits n refl kept) done sums is;
           full = λ told o. subst (λ (s : State). FullIndexIs (units_for (rows s.packages)) result) goes (full _ (fits told o));
           stops = λ told lawful. subst (λ (s : State). LeavesOnly d a b (IsChangedStill (state file st) s images)) goes (stops told lawful);
         }

@@ -1,17 +1,18 @@
 -- What a changing call leaves of a value, told by the store and the index inside it.
-use Rattle.std.proofs.Common.{◌≡◌, ℕ, ◌+◌, ◌≤◌, ◌^◌, ◌==◌, Bool, false, Some, Ok, Err, refl, sym, ap, ◌∙◌, subst, inl, inr, arith}
+use Rattle.std.proofs.Common.{◌≡◌, ℕ, ◌+◌, ◌≤◌, ◌^◌, ◌==◌, Bool, List, false, Some, Ok, Err, refl, sym, ap, ◌∙◌, subst, inl, inr, arith}
 use Rattle.std.specs.Prelude.{IsTrue}
 use Rattle.std.proofs.lemmas.Bool.Decides.{nat_tests}
 use Rattle.rpm_outside.specs.declared.disk.Disk as disk
-use Rattle.rpm_db.proofs.Vocabulary.{added, apply, AreLawful, BadCause, BlobMap, CanChange, Change, ChangeFault, Database, database_of, DiskFault, FullCause}
-use Rattle.rpm_db.proofs.Vocabulary.{HasRows, images, is_stopping, IsChangedStill, IsConsistent, IsDone, IsLeft, IsRefusal, IsRefused, IsServing, LeavesIn}
-use Rattle.rpm_db.proofs.Vocabulary.{Makes, next_store, packages, packages_of, RoomCause, rows, state, state_of, StaysBetween, Store, units_for, with_spare}
+use Rattle.rpm_db.proofs.Vocabulary.{added, apply, AreLawful, BadCause, BlobMap, CanChange, Change, changed_number, ChangeFault, Database, database_of}
+use Rattle.rpm_db.proofs.Vocabulary.{DiskFault, FullCause, HasRows, images, is_stopping, KeepsSums, IsChangedStill, IsConsistent, IsDone, IsLeft, IsRefusal, IsRefused, IsServing, LeavesIn}
+use Rattle.rpm_db.proofs.Vocabulary.{Makes, next_store, packages, packages_of, RoomCause, Row, rows, state, state_of, StaysBetween, Store, units_for, with_spare}
 use Rattle.rpm_hindex.specs.State as hindex
 use Rattle.rpm_db.specs.State.{State}
 use Rattle.rpm_db.proofs.Applied.{held_by}
 use Rattle.rpm_db.proofs.Unwritten.{stops_told}
 use Rattle.rpm_db.proofs.Refused.{is_refusal, stopping_is}
 use Rattle.rpm_db.proofs.Served.{indexed_as, rows_of_disk, serving_same}
+use Rattle.rpm_db.proofs.Sums.{verdicts_are}
 use Rattle.rpm_db.proofs.Wholes.{whole_cause}
 
 -- a store with pages isn't blank
@@ -54,26 +55,28 @@ module _ {D : Type 0} (d : disk.Ghosts D) where
       };
       refused = tt;
       same = tt;
+      moment = tt;
       stopped = (λ on. inl on, λ other. absurd cc);
     }
 
     -- it stopped at a fault
-    pub left_fault : {A : Type 0} (kept : Store) (refused_as : Database) (fault : ChangeFault) → 1 ≤ after.pages → now ≡ is_stopping fault
-        → (IsTrue d.tells → BadCause (d.files a).idx fault) → (stopped ≡ false → IsTrue d.tells → IsServing (d.files a) (images d a) before)
+    pub left_fault : {A : Type 0} (drops : List Row) (kept : Store) (refused_as : Database) (fault : ChangeFault) → 1 ≤ after.pages → now ≡ is_stopping fault
+        → (IsTrue d.tells → BadCause drops (d.files a).idx fault) → (stopped ≡ false → IsTrue d.tells → IsServing (d.files a) (images d a) before)
         → (IsRefusal fault → IsRefused d a b kept after index changed) → (after ≡ kept → after ≡ with_spare after.spare value)
         → (IsRefusal fault → database_of after (Some changed) now ≡ refused_as)
         → IsLeft d {A = A} a b before (database_of after (Some changed) now) refused_as (Err fault)
-    left_fault kept refused_as fault own now_is bad s refusal roomed refused = record {
+    left_fault drops kept refused_as fault own now_is bad s refusal roomed refused = record {
       indexed = refl;
       not_blank = not_blank_as after own;
       generation = tt;
       index = tt;
-      whole = λ told whole. whole_cause (d.files a).idx fault whole (bad told);
+      whole = λ told whole. whole_cause drops (d.files a).idx fault whole (bad told);
       serving = λ other going told.
           (let r = refusal (is_refusal fault (λ at. other (ap Err at))) in
           serving_same d a b told r.runs value after index changed stopped now (roomed r.store_is) r.index_is (s going told));
       refused = refused;
       same = λ r. (refusal r).runs;
+      moment = λ r. (refusal r).moment;
       stopped = (λ on. inr (ap Err (stopping_is fault (sym now_is ∙ on))), λ at. (let what : fault ≡ DiskFault = cc in now_is ∙ ap is_stopping what));
     }
 
@@ -98,12 +101,17 @@ module _ {D : Type 0} (d : disk.Ghosts D) where
         → next_store change value ≡ Some (with_spare value.spare after) → IsDone d a b value after changed to field least
         → least ≤ index.units + added (state (d.files a).pkg value) change
         → (IsTrue d.tells → HasRows (packages (d.files a).pkg value) (d.files a).idx → units_for (rows (packages_of to)) ≤ 2 ^ 28)
+        → (number : ℕ) → changed_number change (state (d.files a).pkg value) ≡ number
+        → (IsTrue d.tells → KeepsSums number (d.files a).pkg (d.files b).pkg value after)
         → Makes d a b change old (database_of after (Some changed) stopped) (Ok done)
-    makes_done after changed least done room is_done few full = record {
+    makes_done after changed least done room is_done few full number is sums = record {
       room = room;
       changed = record {
         state_is = λ told. is_done.state_is told ∙ goes;
         held = λ told image left. held_by (d.files b).pkg image.pkg after _ (is_done.state_is told ∙ goes) (is_done.stands told image left);
+        verdicts = λ told.
+            verdicts_are change (d.files a).pkg (d.files b).pkg value after (Some index) (Some changed) stopped stopped (is_done.state_is told ∙ goes) number is
+            (sums told);
         reach = λ told was.
             omega (
               arith,

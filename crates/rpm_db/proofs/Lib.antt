@@ -10,6 +10,7 @@ pub mod Emptied
 pub mod EmptyStops
 pub mod Results
 pub mod Stays
+pub mod Sums
 pub mod Raised
 pub mod SealedRows
 pub mod Changed
@@ -34,4 +35,5 @@ pub mod Reached
 pub mod Units
 pub mod Batched
 pub mod Apart
+pub mod VerdictLaws
 pub mod Vocabulary

@@ -3,16 +3,17 @@ use Rattle.std.proofs.Common.{◌≡◌, ℕ, ◌+◌, ◌≤◌, List, Option, 
 use Rattle.std.specs.Prelude.{IsTrue, Result}
 use Rattle.std.specs.FinMap as finite
 use Rattle.rpm_outside.specs.declared.disk.Disk as disk
-use Rattle.rpm_db.proofs.Vocabulary.{BlobMap, blobs, CanChange, ChangeFault, edited, field_edited, field_for, FullIndexIs, HasRows, images, IsDone, IsFor, IsPlan}
-use Rattle.rpm_db.proofs.Vocabulary.{nat_cmp, Package, packages, packages_of, Plan, put_map, rows, state, state_of, Store, Units, units_for, with_spare}
-use Rattle.rpm_db.proofs.Edited.{quiet_room}
+use Rattle.rpm_db.proofs.Vocabulary.{BadIndexIs, BlobMap, blobs, CanChange, ChangeFault, edited, field_edited, field_for, FullIndexIs, HasRows, images, IsDone, IsFor, IsPlan}
+use Rattle.rpm_db.proofs.Vocabulary.{nat_cmp, old_rows, Package, packages, packages_of, Plan, put_map, rows, state, state_of, Store, Units, units_for, with_spare}
+use Rattle.rpm_db.proofs.Edited.{number_is, quiet_room}
 use Rattle.rpm_db.proofs.Puts.{field_planned, map_planned, packages_same}
 use Rattle.rpm_hindex.specs.State as hindex
 use Rattle.rpm_db.specs.inner.Both.{IndexIs}
 use Rattle.rpm_db.specs.inner.Filling.{CanPutAside}
 use Rattle.rpm_db.proofs.Halves.{half_stops}
 use Rattle.rpm_db.proofs.Unwritten.{stops_told}
-use Rattle.rpm_db.proofs.Vocabulary.{AreLawful, BlobsTo, IsChangedStill, IsQuiet, Keeps, LeavesIn, Pkg, Runs, SameFiles, Stops}
+use Rattle.rpm_db.proofs.Sums.{sums_room}
+use Rattle.rpm_db.proofs.Vocabulary.{AreLawful, BlobsTo, IsChangedStill, IsQuiet, Keeps, KeepsSums, LeavesIn, number_for, Pkg, Runs, SameFiles, Stops}
 use Rattle.rpm_db.specs.declared.writing.Edit.TheVariants as edit
 
 -- room in memory changes no state
@@ -39,6 +40,12 @@ module _ {value planned : Store} {n : Option ℕ} {plan : Plan} {bytes blob : Li
   pub map_is : edited (edit.Put plan) bytes (blobs file planned) ≡ put_map file value n blob
   map_is = map_planned file value planned p.room n (length blob) plan p.plan_is p.asked bytes blob p.own
 
+  -- and what verifying says then
+  pub sums_are : (to : Units) (after : Store) → KeepsSums plan.target.number file to planned after → KeepsSums (number_for n value) file to value after
+  sums_are to after sums =
+      let number = number_is n (length blob) planned.spare value plan (subst (λ (v : Store). IsPlan v plan) p.room p.plan_is) p.asked in
+      subst (λ (k : ℕ). KeepsSums k file to value after) number (sums_room plan.target.number file to value planned after p.room sums)
+
   pub field_is : field_edited (edit.Put plan) planned.field ≡ field_for n value
   field_is = field_planned value planned p.room n (length blob) plan p.plan_is p.asked
 
@@ -63,12 +70,14 @@ module _ {D : Type 0} (d : disk.Ghosts D) (value planned : Store) (room : planne
   rows_roomed at has =
       subst (λ (ps : finite.FinMap nat_cmp Package). HasRows ps (d.files at).idx) (sym (packages_same (d.files at).pkg value planned room)) has
 
-  pub index_planned : {A : Type 0} (at : D) (to goes : BlobMap) (result : Result A ChangeFault) → to ≡ goes
-      → IndexIs d at (packages (d.files at).pkg planned) (units_for (rows (packages_of to))) result
-      → IndexIs d at (packages (d.files at).pkg value) (units_for (rows (packages_of goes))) result
-  index_planned at to goes result to_is is = record {
+  pub index_planned : {A : Type 0} (n : Option ℕ) (at : D) (to goes : BlobMap) (result : Result A ChangeFault) → to ≡ goes
+      → IndexIs d at (packages (d.files at).pkg planned) (old_rows n (packages (d.files at).pkg planned)) (units_for (rows (packages_of to))) result
+      → IndexIs d at (packages (d.files at).pkg value) (old_rows n (packages (d.files at).pkg value)) (units_for (rows (packages_of goes))) result
+  index_planned n at to goes result to_is is = record {
     full = λ told has. subst (λ (k : BlobMap). FullIndexIs (units_for (rows (packages_of k))) result) to_is (is.full told (rows_roomed at has));
-    bad = is.bad;
+    bad = λ told.
+        subst (λ (ps : finite.FinMap nat_cmp Package). BadIndexIs (old_rows n ps) (d.files at).idx result) (packages_same (d.files at).pkg value planned room)
+        (is.bad told);
   }
 
   -- and what was done to it was done to that before

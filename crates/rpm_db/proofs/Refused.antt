@@ -1,9 +1,9 @@
 -- What a fault says.
 use Rattle.std.proofs.Common.{◌≡◌, ℕ, ◌^◌, ◌≤◌, ◌⊎◌, inl, inr, Bool, List, length, true, false, Ok, Err, refl, sym, ◌∙◌, subst, arith}
 use Rattle.std.specs.Prelude.{IfErr, Result}
-use Rattle.rpm_db.proofs.Vocabulary.{AddIs, BadCause, BadHeader, BadIndex, ChangeFault, Database, DiskFault, EraseCause, EraseIs, FullCause, FullIndexIs, Header}
+use Rattle.rpm_db.proofs.Vocabulary.{AddIs, BadCause, BadHeader, BadIndex, BadIndexIs, ChangeFault, Database, DiskFault, EraseCause, EraseIs, FullCause, FullIndexIs, Header}
 use Rattle.rpm_db.proofs.Vocabulary.{header, holds, IndexFull, is_stopping, IsFull, IsOfErasing, IsOfIndex, IsOfReading, IsRefusal, LaterCause, LaterIs}
-use Rattle.rpm_db.proofs.Vocabulary.{generation_of, GenerationSpent, IsRead, NoMemory, NoSuch, NumbersSpent, PutIs, PutsHeader, room, Stopped, Units}
+use Rattle.rpm_db.proofs.Vocabulary.{generation_of, GenerationSpent, IsRead, NoMemory, NoSuch, NumbersSpent, PutIs, PutsHeader, room, Row, Stopped, Units}
 use Rattle.rpm_db.specs.Database.{next_number}
 
 -- after the generation and the room in the store
@@ -63,10 +63,19 @@ reading_full needed DiskFault kind = tt
 reading_full needed NoMemory kind = tt
 reading_full needed others kind = absurd kind
 
-pub reading_bad : (idx : Units) (fault : ChangeFault) → IsOfReading fault → BadCause idx fault
-reading_bad idx DiskFault kind = tt
-reading_bad idx NoMemory kind = tt
-reading_bad idx others kind = absurd kind
+pub reading_bad : (drops : List Row) (idx : Units) (fault : ChangeFault) → IsOfReading fault → BadCause drops idx fault
+reading_bad drops idx DiskFault kind = tt
+reading_bad drops idx NoMemory kind = tt
+reading_bad drops idx others kind = absurd kind
+
+pub never_of_index : {A : Type 0} (drops : List Row) (idx : Units) (result : Result A ChangeFault) → IfErr result IsOfReading → BadIndexIs drops idx result
+never_of_index drops idx (Ok done) kind = tt
+never_of_index drops idx (Err fault) kind = reading_bad drops idx fault kind
+
+pub never_of_disk : {A : Type 0} (drops : List Row) (idx : Units) (result : Result A ChangeFault) → IfErr result (λ e. e ≡ DiskFault)
+    → BadIndexIs drops idx result
+never_of_disk drops idx (Ok done) is = tt
+never_of_disk drops idx (Err fault) is = subst (BadCause drops idx) (sym is) tt
 
 pub index_of_reading : (fault : ChangeFault) → IsOfReading fault → IsOfIndex fault
 index_of_reading DiskFault kind = tt

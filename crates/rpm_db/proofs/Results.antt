@@ -15,6 +15,10 @@ pub three_ok : {A E P Q R S : Type 0} (r : Result A E) → (P → Q → R → S)
 three_ok (Ok a) f p q x = f p q x
 three_ok (Err e) f p q x = tt
 
+pub four_ok : {A E P Q R S T : Type 0} (r : Result A E) → (P → Q → R → S → T) → OnOk r P → OnOk r Q → OnOk r R → OnOk r S → OnOk r T
+four_ok (Ok a) f p q x y = f p q x y
+four_ok (Err e) f p q x y = tt
+
 pub map_if_err : {A E : Type 0} {P Q : E → Type 0} (r : Result A E) → ((e : E) → P e → Q e) → IfErr r P → IfErr r Q
 map_if_err (Ok a) f p = tt
 map_if_err (Err e) f p = f e p

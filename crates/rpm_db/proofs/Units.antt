@@ -45,7 +45,7 @@ ones : (rows : List Row) → sum_by (λ (r : Row). 1) rows ≡ length rows
 ones [] = omega arith
 ones (r ∷ rows) = omega (arith, sum_by-cons (λ (q : Row). 1) r rows, ones rows)
 
-length_less : (few many : List Row) → ((r : Row) → times r few ≤ times r many) → length few ≤ length many
+pub length_less : (few many : List Row) → ((r : Row) → times r few ≤ times r many) → length few ≤ length many
 length_less few many less = omega (arith, ones few, ones many, sum_less (λ (r : Row). 1) few many less)
 
 pub units_less : (few many : List Row) → ((r : Row) → times r few ≤ times r many) → units_for few ≤ units_for many

@@ -2,7 +2,7 @@
 pub use Rattle.rpm_db.specs.Above.{all_above_zero, next_above, nothing_above}
 pub use Rattle.rpm_db.specs.Answers.{ReadIs}
 pub use Rattle.rpm_db.specs.Changed.{IsLeft, Makes}
-pub use Rattle.rpm_db.specs.Changes.{Add, apply, Change, Erase, IsBetween, IsChangedStill, IsServing, next, Put, ReadsAtMost, Says, with_room}
+pub use Rattle.rpm_db.specs.Changes.{Add, apply, Change, changed_number, Erase, IsBetween, IsChangedStill, IsServing, next, Put, ReadsAtMost, Says, with_room}
 pub use Rattle.rpm_db.specs.Database.{Database, database_of, generation_of, has_failed, holds, IsConsistent, IsIndexed, IsInOrder, IsNext}
 pub use Rattle.rpm_db.specs.Database.{KeepsUnits, room, unindexed}
 pub use Rattle.rpm_db.specs.Frame.{Runs, StaysBetween}
@@ -27,12 +27,12 @@ pub use Rattle.rpm_db.specs.Runs.{CameOf, SameFiles, SameLog}
 pub use Rattle.rpm_db.specs.State.{above, Bad, Good, Package, package_of, read_as, state}
 unfoldable pub use Rattle.rpm_db.specs.State.{packages}
 pub use Rattle.rpm_db.specs.StateLaws.{next-state, next_is_free, package-own, packages-blobs, packages-insert, packages-remove, state-blobs}
-pub use Rattle.rpm_db.specs.Verdicts.{verdict, verdict_of}
+pub use Rattle.rpm_db.specs.Verdicts.{KeepsVerdicts, verdict, verdict_of}
 pub use Rattle.rpm_db.specs.declared.change_fault.ChangeFault.{ChangeFault}
 pub use Rattle.rpm_db.specs.declared.change_fault.ChangeFault.TheVariants.{BadHeader, BadIndex, DiskFault, GenerationSpent, IndexFull, NoMemory, NoSuch}
 pub use Rattle.rpm_db.specs.declared.change_fault.ChangeFault.TheVariants.{NumbersSpent, Stopped, StoreFull}
 pub use Rattle.rpm_db.specs.inner.Both.{AreRead, CanChange, IsApplied, IsDone, IsRefused, IsStored}
-pub use Rattle.rpm_db.specs.inner.Edits.{CanEdit, edit_cost, edited, EditReaches, EditsTo, field_edited, HasEdit, IsEdited}
+pub use Rattle.rpm_db.specs.inner.Edits.{CanEdit, edit_cost, edited, edited_number, EditReaches, EditsTo, field_edited, HasEdit, IsEdited, KeepsSums}
 pub use Rattle.rpm_db.specs.declared.netting.RowChange.{RowChange}
 pub use Rattle.rpm_db.specs.declared.netting.Standing.{Standing}
 pub use Rattle.rpm_db.specs.declared.writing.Edit.{Edit}

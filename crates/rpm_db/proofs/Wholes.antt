@@ -19,10 +19,11 @@ whole_sealed generation work from mid idx same writes sealed =
     subst (λ (buckets : ℕ). IsWellFormed buckets idx) (sym is.buckets_are) is.whole
 
 -- or refused, but not for the index
-pub whole_cause : (idx : Units) (fault : ChangeFault) → IsWholeIndex idx → BadCause idx fault → WholeCause fault
-whole_cause idx (BadIndex unit) whole bad = never_bad (buckets_of (unit_at idx 0)) unit idx whole bad
-whole_cause idx others whole bad = tt
+pub whole_cause : (drops : List Row) (idx : Units) (fault : ChangeFault) → IsWholeIndex idx → BadCause drops idx fault → WholeCause fault
+whole_cause drops idx (BadIndex unit) whole bad = never_bad drops (buckets_of (unit_at idx 0)) unit idx whole bad
+whole_cause drops idx others whole bad = tt
 
-pub whole_err : {A : Type 0} (idx : Units) (result : Result A ChangeFault) → IsWholeIndex idx → BadIndexIs idx result → IfErr result WholeCause
-whole_err idx (Ok done) whole bad = tt
-whole_err idx (Err fault) whole bad = whole_cause idx fault whole bad
+pub whole_err : {A : Type 0} (drops : List Row) (idx : Units) (result : Result A ChangeFault) → IsWholeIndex idx → BadIndexIs drops idx result
+    → IfErr result WholeCause
+whole_err drops idx (Ok done) whole bad = tt
+whole_err drops idx (Err fault) whole bad = whole_cause drops idx fault whole bad

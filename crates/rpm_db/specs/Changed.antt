@@ -3,7 +3,7 @@ use Rattle.std.specs.Prelude.{◌≡◌, ◌≢◌, ◌⊎◌, ◌+◌, true, fa
 use Rattle.rpm_outside.specs.declared.disk.Disk as disk
 use Rattle.rpm_db.specs.declared.change_fault.ChangeFault.{ChangeFault}
 use Rattle.rpm_db.specs.declared.change_fault.ChangeFault.TheVariants.{DiskFault}
-use Rattle.rpm_db.specs.Changes.{AllSay, Change, IsServing, apply}
+use Rattle.rpm_db.specs.Changes.{AllSay, Change, IsServing, apply, changed_number}
 use Rattle.rpm_db.specs.Database.{Database, IsIndexed, generation_of, is_blank, is_indexed, room}
 use Rattle.rpm_db.specs.Frame.{Runs, StaysBetween, state_in}
 use Rattle.rpm_db.specs.Lawful.{IsWholeIndex}
@@ -12,6 +12,7 @@ use Rattle.rpm_db.specs.Refusals.{FullIndexIs, IsRefusal, StaysWhole}
 use Rattle.rpm_db.specs.Room.{RoomIs, next_store}
 use Rattle.rpm_db.specs.Runs.{SameFiles}
 use Rattle.rpm_db.specs.State.{state}
+use Rattle.rpm_db.specs.Verdicts.{KeepsVerdicts}
 
 module _ {D : Type 0} (d : disk.Ghosts D) where
   -- it can be changed: it has an index, wasn't stopped, and is what the disk's files say
@@ -27,6 +28,8 @@ module _ {D : Type 0} (d : disk.Ghosts D) where
     pub held : IsTrue d.tells
         → AllSay (apply change (state (d.files old).pkg (room before)))
         (d.left_since new (d.moment new))
+    pub verdicts : IsTrue d.tells → KeepsVerdicts (changed_number change (state_in d old before))
+        (d.files old).pkg (d.files new).pkg before after
     pub reach : IsTrue d.tells → IsIndexed (d.files old).pkg (d.files old).idx before
         → Reaches (state (d.files old).pkg (room before)) change (d.files old).idx (d.files new).idx
 
@@ -39,7 +42,7 @@ module _ {D : Type 0} (d : disk.Ghosts D) where
         → FullIndexIs (needed (state_in d old before) change) result
     pub stops : StaysBetween d old new change before
 
-  -- what is left of a value; after a refusal it is this one, and no file was written
+  -- what is left of a value; after a refusal it is this one, and nothing was written or settled
   pub record IsLeft {A : Type 0} (old new : D) (before after refused_as : Database)
       (result : Result A ChangeFault) : Type 0 where
     pub indexed : is_indexed after ≡ true
@@ -54,5 +57,6 @@ module _ {D : Type 0} (d : disk.Ghosts D) where
     pub refused : IfErr result (λ e. IsRefusal e → after ≡ refused_as)
     pub same : IfErr result (λ e. IsRefusal e
         → Runs d SameFiles old new)
+    pub moment : IfErr result (λ e. IsRefusal e → d.moment new ≡ d.moment old)
     pub stopped : (after.stopped ≡ true → (before.stopped ≡ true) ⊎ (result ≡ Err DiskFault))
         × (result ≡ Err DiskFault → after.stopped ≡ true)

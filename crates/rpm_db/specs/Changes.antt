@@ -29,6 +29,12 @@ greatest_in (e ∷ es) = max e.0 (greatest_in es)
 abbrev pub next : State → ℕ
 next s = max s.field (greatest_in (finite.entries s.packages) + 1)
 
+-- the number of the package that a change is of
+abbrev pub changed_number : Change → State → ℕ
+changed_number (Add bytes) s = next s
+changed_number (Put n bytes) s = n
+changed_number (Erase n) s = n
+
 -- the state after a change: the field rises with a new number alone
 abbrev pub apply : Change → State → State
 apply (Add bytes) s = record { packages = finite.insert s.packages (next s) (Good bytes); field = next s + 1 }

@@ -9,16 +9,17 @@ use Rattle.rpm_hindex.specs.Sizes.{live_of, units_for}
 use Rattle.rpm_hindex.specs.State as hindex
 use Rattle.rpm_db.specs.declared.change_fault.ChangeFault.{ChangeFault}
 use Rattle.rpm_db.specs.declared.netting.RowChange.{RowChange}
-use Rattle.rpm_db.specs.Changes.{Change, IsServing, apply}
+use Rattle.rpm_db.specs.Changes.{Change, IsServing, apply, changed_number}
 use Rattle.rpm_db.specs.Database.{Database, IsIndexed, database_of, generation_of, has_failed, is_indexed, room}
 use Rattle.rpm_db.specs.Frame.{Runs, StaysBetween, state_in}
 use Rattle.rpm_db.specs.Lawful.{HasRows}
 use Rattle.rpm_db.specs.Reaches.{Reaches, needed}
-use Rattle.rpm_db.specs.Refusals.{FullIndexIs, IsRefusal}
+use Rattle.rpm_db.specs.Refusals.{BadIndexIs, FullIndexIs, IsRefusal}
 use Rattle.rpm_db.specs.Room.{RoomIs, next_store}
 use Rattle.rpm_db.specs.Rows.{rows}
 use Rattle.rpm_db.specs.State.{Package, packages, state}
 use Rattle.rpm_db.specs.Runs.{SameFiles}
+use Rattle.rpm_db.specs.Verdicts.{KeepsVerdicts}
 
 -- the generation at which an index is sealed
 abbrev pub sealed_in : Option hindex.State → ℕ
@@ -85,6 +86,7 @@ module _ {D : Type 0} (d : disk.Ghosts D) where
     pub generation : generation_of after ≡ generation_of before + 1
     pub state_is : IsTrue d.tells
         → state (d.files new).pkg (room after) ≡ apply change (state (d.files old).pkg (room before))
+    pub verdicts : IsTrue d.tells → KeepsVerdicts (changed_number change (state_in d old before)) (d.files old).pkg (d.files new).pkg before after
     pub owes : IsTrue d.tells → OwesOn old before owed → OwesOn new after more
     pub reach : IsTrue d.tells → OwesOn old before owed → Reaches (state (d.files old).pkg (room before)) change
         (due (d.files old) before owed).idx (due (d.files new) after more).idx
@@ -97,13 +99,16 @@ module _ {D : Type 0} (d : disk.Ghosts D) where
     pub full : IsTrue d.tells → OwesOn old before owed → FullIndexIs (needed (state_in d old before) change) result
     pub stops : StaysBetween d old new change before
 
-  -- what is left of a value: after an error it takes no change; after a refusal it is this one, and no file was written
-  pub record IsLeftSuspended {A : Type 0} (old new : D) (after refused_as : Database)
+  -- what is left of a value: after an error it takes no change; after a refusal it is this one, and nothing was written or settled; the index is bad
+  -- only where it has a fault, or these rows, which it is to drop, are more than it counts
+  pub record IsLeftSuspended {A : Type 0} (old new : D) (after refused_as : Database) (drops : List Row)
       (result : Result A ChangeFault) : Type 0 where
     pub indexed : is_indexed after ≡ true
     pub stopped : OnErr result (after.stopped ≡ true)
     pub refused : IfErr result (λ e. IsRefusal e → after ≡ refused_as)
     pub same : IfErr result (λ e. IsRefusal e → Runs d SameFiles old new)
+    pub moment : IfErr result (λ e. IsRefusal e → d.moment new ≡ d.moment old)
+    pub bad : IsTrue d.tells → BadIndexIs drops (d.files old).idx result
 
   -- the batch is over: the index has what it was owed
   pub record IsSettledUp (old new : D) (before after : Database) (owed : RowChange) : Type 0 where

@@ -32,7 +32,7 @@ pub use Rattle.rpm_db.specs.Changed.{IsLeft, IsReady, Makes}
 pub use Rattle.rpm_db.specs.Changes.{Add, Erase, IsChangedStill, IsServing, Put, ReadsAtMost, next, with_room}
 pub use Rattle.rpm_db.specs.Database.{IsNext, KeepsIndex, KeepsUnits, OpenIs, cost, generation_of, has_failed, holds}
 pub use Rattle.rpm_db.specs.Database.{is_blank, is_indexed, next_number, room}
-pub use Rattle.rpm_db.specs.Frame.{Runs, RunsOr, state_in}
+pub use Rattle.rpm_db.specs.Frame.{Runs, RunsOr, packages_in, state_in}
 pub use Rattle.rpm_db.specs.Gathering.{Balances, Gathers, IsGathering, IsLeftSuspended, IsOrdered, IsSettledUp, OwesOn, nothing, resumed}
 pub use Rattle.rpm_db.specs.Gathering.{sealed_in, suspended}
 pub use Rattle.rpm_db.specs.Inits.{IsEmptyStill, IsInit, IsInitFault, IsThere, StopsAs}
@@ -52,7 +52,8 @@ pub use Rattle.rpm_db.specs.declared.change_fault.ChangeFault.TheVariants.{BadHe
 pub use Rattle.rpm_db.specs.declared.open_fault.DbOpenFault.TheVariants.{Damaged}
 pub use Rattle.rpm_db.specs.inner.Both.{AreRead, CanApply, CanChange, CanTake, IndexIs, IsApplied}
 pub use Rattle.rpm_db.specs.inner.Both.{FindsRoom, IsDone, IsPlaced, IsStored, LeadsTo}
-pub use Rattle.rpm_db.specs.inner.Edits.{CanEdit, EditReaches, EditsTo, HasEdit, IsEdited, Suits, edit_cost, edited, field_edited}
+pub use Rattle.rpm_db.specs.inner.Edits.{CanEdit, EditReaches, EditsTo, HasEdit, IsEdited, KeepsSums, Suits, edit_cost, edited, edited_number}
+pub use Rattle.rpm_db.specs.inner.Edits.{field_edited}
 pub use Rattle.rpm_db.specs.inner.Faults.{store_fault}
 pub use Rattle.rpm_db.specs.inner.Filling.{AreOfRows, CanFill, CanPutAside, IsFilled, IsPutAside, TakesRows, with_rows}
 pub use Rattle.rpm_db.specs.inner.Making.{CanIndex, CanMake, IsEmptyIndex, IsIndexFor, IsMadeEmpty, IsRemade, IsSealedHere}

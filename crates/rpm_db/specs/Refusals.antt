@@ -4,6 +4,7 @@ use Rattle.rpm_outside.specs.Files.{Units, unit_at}
 use Rattle.rpm_header.specs.Header.{Header, header}
 use Rattle.rpm_pkgdb.specs.Planned.{IsFull}
 use Rattle.rpm_hindex.specs.Refusals as hindex
+use Rattle.rpm_hindex.specs.Rows.{Row}
 use Rattle.rpm_hindex.specs.State.{buckets_of}
 use Rattle.rpm_hindex.specs.declared.faults.PrepareFault.TheVariants as prepare
 use Rattle.rpm_db.specs.declared.change_fault.ChangeFault.{ChangeFault}
@@ -77,15 +78,15 @@ abbrev pub FullIndexIs : {A : Type 0} → ℕ → Result A ChangeFault → Type 
 FullIndexIs needed (Ok done) = needed ≤ 2 ^ 28
 FullIndexIs needed (Err fault) = FullCause needed fault
 
--- a fault that names a unit names the fault of a chain, or unit 1, which counts too little
-abbrev pub BadCause : Units → ChangeFault → Type 0
-BadCause idx (BadIndex unit) = hindex.IsBad (buckets_of (unit_at idx 0)) idx (prepare.BadIndex unit)
-BadCause idx _ = Unit {0}
+-- a fault that names a unit names the fault of a chain, or unit 1, where these rows, which go, are more than that counts
+abbrev pub BadCause : List Row → Units → ChangeFault → Type 0
+BadCause drops idx (BadIndex unit) = hindex.IsBadFor drops (buckets_of (unit_at idx 0)) idx (prepare.BadIndex unit)
+BadCause drops idx _ = Unit {0}
 
--- BadIndex is answered only for a fault of the index
-abbrev pub BadIndexIs : {A : Type 0} → Units → Result A ChangeFault → Type 0
-BadIndexIs idx (Ok done) = Unit {0}
-BadIndexIs idx (Err fault) = BadCause idx fault
+-- BadIndex is answered only for a fault of the index, met by a change that drops these rows
+abbrev pub BadIndexIs : {A : Type 0} → List Row → Units → Result A ChangeFault → Type 0
+BadIndexIs drops idx (Ok done) = Unit {0}
+BadIndexIs drops idx (Err fault) = BadCause drops idx fault
 
 -- a change of an index that is well formed as a whole leaves one, and isn't refused for it
 abbrev pub WholeCause : ChangeFault → Type 0

@@ -1,5 +1,5 @@
 -- What verifying says of a number.
-use Rattle.std.specs.Prelude.{ℕ, List, Bool, false, not, if◌then◌else◌, Option, Some, None, Result, Ok, Err}
+use Rattle.std.specs.Prelude.{◌≡◌, ◌≢◌, ℕ, List, Bool, false, not, if◌then◌else◌, Option, Some, None, Result, Ok, Err}
 use Rattle.std.specs.FinMap as finite
 use Rattle.std.specs.Str.{bytes_eq}
 use Rattle.hex.specs.Hex.{encode_lower}
@@ -41,3 +41,9 @@ verdict_of _ _ = None
 -- what verifying says of a package, none where there is no such number
 abbrev pub verdict : Units → Database → ℕ → Option Verdict
 verdict file db n = verdict_of (finite.get (blobs file (room db)) n) (checksums_hold file (room db) n)
+
+-- verifying says of each package but one what it said before, and never of that one that its bytes or its header are broken
+pub record KeepsVerdicts (n : ℕ) (old new : Units) (before after : Database) : Type 0 where
+  pub others : (m : ℕ) → m ≢ n → verdict new after m ≡ verdict old before m
+  pub checksum : verdict new after n ≢ Some BadChecksum
+  pub header : verdict new after n ≢ Some BadHeader

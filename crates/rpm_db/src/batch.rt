@@ -1,6 +1,6 @@
 //! A batch of changes of a database: the store changes at each, and the index once for all.
 
-ghost use Rattle.std.specs.Prelude.{◌≡◌, ◌⊎◌, ◌+◌, ◌≤◌, length, IsTrue, true, false, Err, OnOk, IfErr};
+ghost use Rattle.std.specs.Prelude.{◌≡◌, ◌⊎◌, ◌+◌, ◌≤◌, [], length, IsTrue, true, false, Err, OnOk, IfErr};
 ghost use Rattle.rpm_db.specs.Prelude.{AreLawful, cost, DiskFault, Erase, EraseIs, Gathers, generation_of, has_failed, images, is_indexed, IsGathering, IsLawfulStill, IsLeftSuspended, IsOfErasing, IsOfIndex, IsOfReading, IsOrdered, IsSettledUp, IsWholeIndex, LeavesIn, nothing, OwesOn, Pkg, resumed, room, Runs, SameLog, sealed_in, StaysWhole, suspended};
 
 use crate::change_fault::ChangeFault;
@@ -81,7 +81,7 @@ impl Batch {
         ensures kinds { IfErr result IsOfErasing }
         ensures refused { (result ≡ Err ChangeFault.NoSuch) ⊎ (result ≡ Err ChangeFault.GenerationSpent)
             → (disk.new ≡ disk.old) × (db.new ≡ db.old) × (self.new ≡ self.old) }
-        ensures left { IsLeftSuspended D.Disk disk.old disk.new db.new db.old result }
+        ensures left { IsLeftSuspended D.Disk disk.old disk.new db.new db.old [] result }
         ensures index { IsTrue D.tells → (D.files disk.new).idx ≡ (D.files disk.old).idx }
         ensures end { OnOk result (IsTrue D.tells → length (D.files disk.new).pkg ≤ length (D.files disk.old).pkg) }
         ensures reads { D.bytes_read disk.new Pkg ≤ D.bytes_read disk.old Pkg + cost n db.old }
@@ -108,8 +108,8 @@ impl Batch {
     ///
     /// After each but `DiskFault` the files are as they were, and so is the value.
     ///
-    /// - `BadIndex` only where a chain of the index isn't well formed, or unit 1 counts too little; and it or
-    ///   `IndexFull` never where the index held the rows as the batch began.
+    /// - `BadIndex` only where a chain of the index isn't well formed, or unit 1 counts less than the batch drops; and
+    ///   it or `IndexFull` never where the index held the rows as the batch began.
     /// - `DiskFault` only where the disk's count of faults rose.
     /// - `NoMemory` where the change finds no memory. It answers nothing else.
     pub fn finish<D: Disk>(
@@ -126,7 +126,7 @@ impl Batch {
         ensures unwritten { sealed_in db.old.index ≡ generation_of db.old → disk.new ≡ disk.old }
         ensures store { room db.new ≡ room db.old }
         ensures packages { IsTrue D.tells → (D.files disk.new).pkg ≡ (D.files disk.old).pkg }
-        ensures left { IsLeftSuspended D.Disk disk.old disk.new db.new db.old result }
+        ensures left { IsLeftSuspended D.Disk disk.old disk.new db.new db.old self.drops result }
         ensures stops { IsTrue D.tells → AreLawful (images D.Disk disk.old) → OwesOn D.Disk disk.old db.old self
             → LeavesIn D.Disk disk.old disk.new (IsLawfulStill (images D.Disk disk.old)) }
         ensures runs { Runs D.Disk SameLog disk.old disk.new }

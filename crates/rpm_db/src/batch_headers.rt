@@ -1,7 +1,8 @@
 //! Headers that a batch puts into the store.
 
-ghost use Rattle.std.specs.Prelude.{◌≡◌, ◌⊎◌, ◌+◌, ◌≤◌, length, IsTrue, is_none, None, Some, Ok, Err, OnOk, IfOk, IfErr};
-ghost use Rattle.rpm_db.specs.Prelude.{Add, AddIs, CanTake, change_for, cost, DiskFault, Gathers, generation_of, Header, header, HeaderFault, IsFull, IsGathering, IsLeftSuspended, IsWholeIndex, LaterIs, next_number, number_for, Pkg, Put, PutIs, ReachesTo, ReadsAtMost, resumed, room, Runs, SameLog, WholeCause, with_room};
+ghost use Rattle.std.specs.Prelude.{◌≡◌, ◌⊎◌, ◌+◌, ◌++◌, ◌≤◌, length, IsTrue, is_none, None, Some, Ok, Err, OnOk, IfOk, IfErr};
+ghost use Rattle.std.specs.FinMap as finite;
+ghost use Rattle.rpm_db.specs.Prelude.{Add, AddIs, CanTake, change_for, cost, DiskFault, Gathers, generation_of, Header, header, HeaderFault, IsFull, IsGathering, IsLeftSuspended, IsWholeIndex, LaterIs, next_number, number_for, old_rows, packages_in, Pkg, Put, PutIs, ReachesTo, ReadsAtMost, resumed, room, rows_at, Runs, SameLog, WholeCause, with_room};
 
 use crate::batch::Batch;
 use crate::change_fault::ChangeFault;
@@ -35,7 +36,7 @@ impl Batch {
         ensures whole { IsTrue D.tells → IsWholeIndex (D.files disk.old).idx → IfErr result WholeCause }
         ensures refused { (fault : HeaderFault) → result ≡ Err (ChangeFault.BadHeader fault)
             → (disk.new ≡ disk.old) × (db.new ≡ db.old) × (self.new ≡ self.old) }
-        ensures left { IsLeftSuspended D.Disk disk.old disk.new db.new (with_room (room db.new).spare db.old) result }
+        ensures left { IsLeftSuspended D.Disk disk.old disk.new db.new (with_room (room db.new).spare db.old) self.old.drops result }
         ensures index { IsTrue D.tells → (D.files disk.new).idx ≡ (D.files disk.old).idx }
         ensures end { OnOk result (IsTrue D.tells → ReachesTo (room db.new) (D.files disk.old).pkg (D.files disk.new).pkg) }
         ensures runs { Runs D.Disk SameLog disk.old disk.new }
@@ -66,7 +67,7 @@ impl Batch {
         ensures gathers { Gathers D.Disk disk.old disk.new (Add view.now.blob) db.old db.new self.old self.new result }
         ensures whole { IsTrue D.tells → IsWholeIndex (D.files disk.old).idx → IfErr result WholeCause }
         ensures refused { result ≡ Err ChangeFault.NumbersSpent → (disk.new ≡ disk.old) × (db.new ≡ db.old) × (self.new ≡ self.old) }
-        ensures left { IsLeftSuspended D.Disk disk.old disk.new db.new (with_room (room db.new).spare db.old) result }
+        ensures left { IsLeftSuspended D.Disk disk.old disk.new db.new (with_room (room db.new).spare db.old) self.old.drops result }
         ensures index { IsTrue D.tells → (D.files disk.new).idx ≡ (D.files disk.old).idx }
         ensures end { OnOk result (IsTrue D.tells → ReachesTo (room db.new) (D.files disk.old).pkg (D.files disk.new).pkg) }
         ensures runs { Runs D.Disk SameLog disk.old disk.new }
@@ -102,7 +103,8 @@ impl Batch {
         ensures whole { IsTrue D.tells → IsWholeIndex (D.files disk.old).idx → IfErr result WholeCause }
         ensures refused { (result ≡ Err ChangeFault.NoSuch) ⊎ ((fault : HeaderFault) × (result ≡ Err (ChangeFault.BadHeader fault)))
             → (disk.new ≡ disk.old) × (db.new ≡ db.old) × (self.new ≡ self.old) }
-        ensures left { IsLeftSuspended D.Disk disk.old disk.new db.new (with_room (room db.new).spare db.old) result }
+        ensures left { IsLeftSuspended D.Disk disk.old disk.new db.new (with_room (room db.new).spare db.old)
+            (self.old.drops ++ rows_at n (finite.get (packages_in D.Disk disk.old db.old) n)) result }
         ensures index { IsTrue D.tells → (D.files disk.new).idx ≡ (D.files disk.old).idx }
         ensures end { OnOk result (IsTrue D.tells → ReachesTo (room db.new) (D.files disk.old).pkg (D.files disk.new).pkg) }
         ensures reads { D.bytes_read disk.new Pkg ≤ D.bytes_read disk.old Pkg + cost n db.old }
@@ -135,7 +137,8 @@ impl Batch {
         ensures gathers { Gathers D.Disk disk.old disk.new (Put n view.now.blob) db.old db.new self.old self.new result }
         ensures whole { IsTrue D.tells → IsWholeIndex (D.files disk.old).idx → IfErr result WholeCause }
         ensures refused { result ≡ Err ChangeFault.NoSuch → (disk.new ≡ disk.old) × (db.new ≡ db.old) × (self.new ≡ self.old) }
-        ensures left { IsLeftSuspended D.Disk disk.old disk.new db.new (with_room (room db.new).spare db.old) result }
+        ensures left { IsLeftSuspended D.Disk disk.old disk.new db.new (with_room (room db.new).spare db.old)
+            (self.old.drops ++ rows_at n (finite.get (packages_in D.Disk disk.old db.old) n)) result }
         ensures index { IsTrue D.tells → (D.files disk.new).idx ≡ (D.files disk.old).idx }
         ensures end { OnOk result (IsTrue D.tells → ReachesTo (room db.new) (D.files disk.old).pkg (D.files disk.new).pkg) }
         ensures reads { D.bytes_read disk.new Pkg ≤ D.bytes_read disk.old Pkg + cost n db.old }
@@ -168,7 +171,8 @@ impl Batch {
         ensures number { IfOk result (λ m. m ≡ number_for n (room db.old)) }
         ensures gathers { Gathers D.Disk disk.old disk.new (change_for n view.now.blob) db.old db.new self.old self.new result }
         ensures whole { IsTrue D.tells → IsWholeIndex (D.files disk.old).idx → IfErr result WholeCause }
-        ensures left { IsLeftSuspended D.Disk disk.old disk.new db.new (with_room (room db.new).spare db.old) result }
+        ensures left { IsLeftSuspended D.Disk disk.old disk.new db.new (with_room (room db.new).spare db.old)
+            (self.old.drops ++ old_rows n (packages_in D.Disk disk.old db.old)) result }
         ensures index { IsTrue D.tells → (D.files disk.new).idx ≡ (D.files disk.old).idx }
         ensures end { OnOk result (IsTrue D.tells → ReachesTo (room db.new) (D.files disk.old).pkg (D.files disk.new).pkg) }
         ensures reads { ReadsAtMost n (room db.old) (D.bytes_read disk.old Pkg) (D.bytes_read disk.new Pkg) }

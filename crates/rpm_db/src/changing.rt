@@ -2,7 +2,7 @@
 
 ghost use Rattle.std.specs.Prelude.{◌≡◌, ℕ, ◌+◌, ◌≤◌, IsTrue, Err, OnOk, IfErr};
 ghost use Rattle.std.specs.FinMap as finite;
-ghost use Rattle.rpm_db.specs.Prelude.{AreLawful, blobs, CanChange, CanEdit, cost_before, edit_cost, edited, EditReaches, field_edited, HasChanged, HasEdit, HasRows, images, IndexIs, IsChangedStill, IsDone, IsOfIndex, IsRefusal, LeavesIn, live_of, old_rows, packages, packages_of, Pkg, raised, rows, RunsOr, SameLog, state, state_of, units_for};
+ghost use Rattle.rpm_db.specs.Prelude.{AreLawful, blobs, CanChange, CanEdit, cost_before, edit_cost, edited, edited_number, EditReaches, field_edited, HasChanged, HasEdit, HasRows, images, IndexIs, IsChangedStill, IsDone, IsOfIndex, IsRefusal, KeepsSums, LeavesIn, live_of, old_rows, packages, packages_of, Pkg, raised, rows, RunsOr, SameLog, state, state_of, units_for};
 ghost use Rattle.rpm_db.specs.inner.Both.{IsRefused};
 
 use crate::change_fault::ChangeFault;
@@ -37,7 +37,9 @@ pub fn change_both<D: Disk>(
     ensures done { OnOk result (IsDone D.Disk disk.old disk.new store.old store.new index.new
         (edited edit blob.now (blobs (D.files disk.old).pkg store.old)) (field_edited edit store.old.field)
         (index.old.units + live_of adds)) }
+    ensures sums { OnOk result (IsTrue D.tells → KeepsSums (edited_number edit) (D.files disk.old).pkg (D.files disk.new).pkg store.old store.new) }
     ensures index { IndexIs D.Disk disk.old (packages (D.files disk.old).pkg store.old)
+        (old_rows n (packages (D.files disk.old).pkg store.old))
         (units_for (rows (packages_of (edited edit blob.now (blobs (D.files disk.old).pkg store.old))))) result }
     ensures end { OnOk result (IsTrue D.tells → EditReaches edit store.new (D.files disk.old).pkg (D.files disk.new).pkg) }
     ensures refused { IfErr result (λ e. IsRefusal e → IsRefused D.Disk disk.old disk.new store.old store.new index.old index.new) }

@@ -1,6 +1,6 @@
 //! An opened database.
 
-ghost use Rattle.std.specs.Prelude.{◌≡◌, ◌≢◌, ℕ, ◌+◌, ◌^◌, ◌≤◌, IsTrue, true, false, is_some, None, Err, IfOk};
+ghost use Rattle.std.specs.Prelude.{◌≡◌, ◌≢◌, ℕ, ◌+◌, ◌^◌, ◌≤◌, IsTrue, true, false, is_some, None, Err, IfOk, IfErr};
 ghost use Rattle.std.specs.FinMap as finite;
 ghost use Rattle.rpm_db.specs.Prelude.{DiskFault, holds, Idx, is_blank, is_indexed, IsNext, IsOpened, IsOpenedOn, IsSettled, Looks, next, next_number, opening_cost, OpeningReads, OpenIs, Pkg, Remade, room, Runs, slot_with, state, StaysLawful, store, StoreIs, Units};
 ghost use Rattle.rpm_db.specs.Database.{Keeps};
@@ -94,6 +94,7 @@ impl Db {
         requires pkg { IsTrue D.tells → IsSettled D.Disk Pkg disk.old }
         requires idx { IsTrue D.tells → IsSettled D.Disk Idx disk.old }
         ensures opened { IsTrue D.tells → IsOpened (D.files disk.old) (D.files disk.new) result }
+        ensures refused { IfErr result (λ e. e ≢ DbOpenFault.DiskFault → D.moment disk.new ≡ D.moment disk.old) }
         ensures served { IfOk result (IsOpenedOn D.Disk disk.old disk.new) }
         ensures stops { IsTrue D.tells → StaysLawful D.Disk disk.old disk.new }
         ensures reads { IsTrue D.tells → OpeningReads (D.files disk.old) (D.bytes_read disk.old File.Pkg) (D.bytes_read disk.new File.Pkg) }

@@ -1,7 +1,8 @@
 //! Adding, putting and erasing.
 
-ghost use Rattle.std.specs.Prelude.{◌≡◌, ◌+◌, ◌≤◌, length, IsTrue, true, false, None, Some, Ok, Err, OnOk, IfOk};
-ghost use Rattle.rpm_db.specs.Prelude.{Add, AddIs, BadIndexIs, cost, DiskFault, Erase, EraseIs, Header, header, holds, images, is_indexed, IsLeft, IsServing, Makes, next_number, Pkg, Put, PutIs, ReachesTo, ReadsAtMost, room, Runs, SameLog, with_room};
+ghost use Rattle.std.specs.Prelude.{◌≡◌, ◌+◌, ◌≤◌, [], length, IsTrue, true, false, None, Some, Ok, Err, OnOk, IfOk};
+ghost use Rattle.std.specs.FinMap as finite;
+ghost use Rattle.rpm_db.specs.Prelude.{Add, AddIs, BadIndexIs, cost, DiskFault, Erase, EraseIs, Header, header, holds, images, is_indexed, IsLeft, IsServing, Makes, next_number, packages_in, Pkg, Put, PutIs, ReachesTo, ReadsAtMost, room, rows_at, Runs, SameLog, with_room};
 
 use crate::change_fault::ChangeFault;
 use crate::database::Db;
@@ -17,6 +18,7 @@ impl Db {
     /// Both files are planned first, and all memory is taken. Then the generation rises; the blob, its slot and the
     /// number field are written; then its rows; and then the seal. Where no slot is free a slot page is added before,
     /// and the blobs in its way move: each of their blocks is read once. Nothing else of `Packages.db` is read.
+    /// Verifying says of each other package what it said before, and of this one that its bytes are whole.
     ///
     /// Where each image at the start is lawful, a crash at any moment leaves a database that is lawful, with the
     /// packages from before or with this one.
@@ -32,8 +34,7 @@ impl Db {
     /// - `StoreFull` exactly where the blob, or one in the way of its slot page, fits nowhere below 4 GiB.
     /// - `IndexFull`, where the index holds the rows, exactly where those after the change need more than 268435456
     ///   units.
-    /// - `BadIndex` only where a chain of the index isn't well formed, or unit 1 counts too little; never where the
-    ///   index holds the rows.
+    /// - `BadIndex` only where a chain of the index isn't well formed; never where the index holds the rows.
     ///
     /// `DiskFault` only where the disk's count of faults rose: the value is stopped then. `NoMemory` where the change
     /// finds no memory.
@@ -50,7 +51,7 @@ impl Db {
         ensures makes { (h : Header) → header blob.now ≡ Ok h → Makes D.Disk disk.old disk.new (Add h.blob) self.old self.new result }
         ensures left { IsLeft D.Disk disk.old disk.new self.old self.new (with_room (room self.new).spare self.old) result }
         ensures end { OnOk result (IsTrue D.tells → ReachesTo (room self.new) (D.files disk.old).pkg (D.files disk.new).pkg) }
-        ensures bad { IsTrue D.tells → BadIndexIs (D.files disk.old).idx result }
+        ensures bad { IsTrue D.tells → BadIndexIs [] (D.files disk.old).idx result }
         ensures reads { ReadsAtMost None (room self.old) (D.bytes_read disk.old Pkg) (D.bytes_read disk.new Pkg) }
         ensures runs { Runs D.Disk SameLog disk.old disk.new }
         ensures cause { DiskFault D.Disk (result ≡ Err ChangeFault.DiskFault) disk.old disk.new }
@@ -66,7 +67,8 @@ impl Db {
     ///
     /// Both files are planned first, and all memory is taken; of `Packages.db` the blocks of the old package are
     /// read, each once. Then the generation rises; the blob and its slot are written; then the rows that change; and
-    /// then the seal.
+    /// then the seal. Verifying says of each other package what it said before, and of this one that its bytes are
+    /// whole.
     ///
     /// Where each image at the start is lawful, a crash at any moment leaves a database that is lawful, with the old
     /// package or the new one.
@@ -82,8 +84,8 @@ impl Db {
     /// - `StoreFull` exactly where the blob, as it replaces the old one, fits nowhere below 4 GiB.
     /// - `IndexFull`, where the index holds the rows, exactly where those after the change need more than 268435456
     ///   units.
-    /// - `BadIndex` only where a chain of the index isn't well formed, or unit 1 counts too little; never where the
-    ///   index holds the rows.
+    /// - `BadIndex` only where a chain of the index isn't well formed, or unit 1 counts less than the rows that go; never
+    ///   where the index holds the rows.
     ///
     /// `DiskFault` only where the disk's count of faults rose: the value is stopped then. `NoMemory` where the change
     /// finds no memory.
@@ -100,7 +102,8 @@ impl Db {
         ensures makes { (h : Header) → header blob.now ≡ Ok h → Makes D.Disk disk.old disk.new (Put n h.blob) self.old self.new result }
         ensures left { IsLeft D.Disk disk.old disk.new self.old self.new (with_room (room self.new).spare self.old) result }
         ensures end { OnOk result (IsTrue D.tells → ReachesTo (room self.new) (D.files disk.old).pkg (D.files disk.new).pkg) }
-        ensures bad { IsTrue D.tells → BadIndexIs (D.files disk.old).idx result }
+        ensures bad { IsTrue D.tells → BadIndexIs (rows_at n (finite.get (packages_in D.Disk disk.old self.old) n))
+            (D.files disk.old).idx result }
         ensures reads { D.bytes_read disk.new Pkg ≤ D.bytes_read disk.old Pkg + cost n self.old }
         ensures runs { Runs D.Disk SameLog disk.old disk.new }
         ensures cause { DiskFault D.Disk (result ≡ Err ChangeFault.DiskFault) disk.old disk.new }
@@ -116,7 +119,7 @@ impl Db {
     ///
     /// The index is planned first, and all memory is taken; of `Packages.db` the blocks of the package are read, each
     /// once. Then the generation rises; the slot is set free and the blocks become zeros; then the rows are taken
-    /// out; and then the seal is written.
+    /// out; and then the seal is written. Verifying says of each other package what it said before.
     ///
     /// Where each image at the start is lawful, a crash at any moment leaves a database that is lawful, with the
     /// package or without it.
@@ -130,8 +133,8 @@ impl Db {
     /// - `GenerationSpent` exactly where the generation is 4294967295.
     /// - `IndexFull`, where the index holds the rows, exactly where those after the change need more than 268435456
     ///   units.
-    /// - `BadIndex` only where a chain of the index isn't well formed, or unit 1 counts too little; never where the
-    ///   index holds the rows.
+    /// - `BadIndex` only where a chain of the index isn't well formed, or unit 1 counts less than the rows that go; never
+    ///   where the index holds the rows.
     ///
     /// `DiskFault` only where the disk's count of faults rose: the value is stopped then. `NoMemory` where the change
     /// finds no memory.
@@ -142,7 +145,8 @@ impl Db {
         ensures makes { Makes D.Disk disk.old disk.new (Erase n) self.old self.new result }
         ensures left { IsLeft D.Disk disk.old disk.new self.old self.new self.old result }
         ensures end { OnOk result (IsTrue D.tells → length (D.files disk.new).pkg ≤ length (D.files disk.old).pkg) }
-        ensures bad { IsTrue D.tells → BadIndexIs (D.files disk.old).idx result }
+        ensures bad { IsTrue D.tells → BadIndexIs (rows_at n (finite.get (packages_in D.Disk disk.old self.old) n))
+            (D.files disk.old).idx result }
         ensures reads { D.bytes_read disk.new Pkg ≤ D.bytes_read disk.old Pkg + cost n self.old }
         ensures runs { Runs D.Disk SameLog disk.old disk.new }
         ensures cause { DiskFault D.Disk (result ≡ Err ChangeFault.DiskFault) disk.old disk.new }

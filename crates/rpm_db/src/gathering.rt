@@ -2,7 +2,7 @@
 
 ghost use Rattle.std.specs.Prelude.{◌≡◌, ◌+◌, ◌++◌, ◌≤◌, ◌<◌, length, IsTrue, IsSome, true, Some, Err, OnOk, IfOk, IfErr};
 ghost use Rattle.std.specs.FinMap as finite;
-ghost use Rattle.rpm_db.specs.Prelude.{AreLawful, AreOfRows, BadIndexIs, Balances, blobs, CanApply, CanFill, CanPutAside, CanTake, cost_before, DiskFault, field_for, FindsRoom, FullCause, FullIndexIs, HasEdit, HasRows, header_rows, Idx, images, IsChangedStill, IsFilled, IsLawfulStill, IsOfIndex, IsOfReading, IsPutAside, IsRefusal, IsWholeIndex, LeadsTo, LeavesIn, LooksAt, nat_cmp, number_for, old_rows, Package, packages, Pkg, put_map, raised, ReachesTo, ReadsAtMost, rows, Runs, RunsOr, SameFiles, SameLog, slot_with, state, state_of, StaysWhole, TakesRows, units_for, with_rows, with_spare, WritesWhole};
+ghost use Rattle.rpm_db.specs.Prelude.{AreLawful, AreOfRows, BadIndexIs, Balances, blobs, CanApply, CanFill, CanPutAside, CanTake, cost_before, DiskFault, field_for, FindsRoom, FullCause, FullIndexIs, HasEdit, HasRows, header_rows, Idx, images, IsChangedStill, IsFilled, IsLawfulStill, IsOfIndex, IsOfReading, IsPutAside, IsRefusal, IsWholeIndex, KeepsSums, LeadsTo, LeavesIn, LooksAt, nat_cmp, number_for, old_rows, Package, packages, Pkg, put_map, raised, ReachesTo, ReadsAtMost, rows, Runs, RunsOr, SameFiles, SameLog, slot_with, state, state_of, StaysWhole, TakesRows, units_for, with_rows, with_spare, WritesWhole};
 ghost use Rattle.rpm_db.specs.Prelude.{Keeps};
 ghost use Rattle.rpm_hindex.specs.State as hindex;
 
@@ -35,7 +35,7 @@ fn prepare_owed<D: Disk>(
         → HasRows before (D.files disk.old).idx → Balances owed (rows before) (rows after)
         → FullIndexIs (units_for (rows after)) result }
     ensures whole { IfOk result (λ plan. IsTrue D.tells → IsWholeIndex (D.files disk.old).idx → WritesWhole plan.work (D.files disk.old).idx) }
-    ensures bad { IsTrue D.tells → BadIndexIs (D.files disk.old).idx result }
+    ensures bad { IsTrue D.tells → BadIndexIs owed.drops (D.files disk.old).idx result }
     ensures kinds { IfErr result IsOfIndex }
     ensures looks { LooksAt D.Disk Idx disk.old disk.new }
     ensures cause { DiskFault D.Disk (result ≡ Err ChangeFault.DiskFault) disk.old disk.new }
@@ -104,6 +104,7 @@ fn gather_rows<D: Disk>(
     ensures takes { IsTrue D.tells → TakesRows D.Disk disk.old (with_rows owed.old
         (old_rows n (packages (D.files disk.old).pkg store.now)) (header_rows (number_for n store.now) view.now)) result }
     ensures kinds { IfErr result IsOfIndex }
+    ensures moment { D.moment disk.new ≡ D.moment disk.old }
     ensures reads { D.bytes_read disk.new Pkg ≤ D.bytes_read disk.old Pkg + cost_before n store.now }
     ensures runs { Runs D.Disk SameFiles disk.old disk.new }
     ensures cause { DiskFault D.Disk (result ≡ Err ChangeFault.DiskFault) disk.old disk.new }
@@ -138,13 +139,15 @@ pub fn store_header<D: Disk>(
     ensures made { 1 ≤ store.new.pages }
     ensures done { OnOk result (IsPutAside D.Disk disk.new store.old store.new
         (put_map (D.files disk.old).pkg store.old n view.now.blob) (field_for n store.old)) }
+    ensures sums { OnOk result (IsTrue D.tells → KeepsSums (number_for n store.old) (D.files disk.old).pkg (D.files disk.new).pkg store.old store.new) }
     ensures gathered { OnOk result (IsTrue D.tells → owed.new ≡ with_rows owed.old
         (old_rows n (packages (D.files disk.old).pkg store.old)) (header_rows (number_for n store.old) view.now)) }
     ensures takes { IsTrue D.tells → TakesRows D.Disk disk.old (with_rows owed.old
         (old_rows n (packages (D.files disk.old).pkg store.old)) (header_rows (number_for n store.old) view.now)) result }
     ensures end { OnOk result (IsTrue D.tells → ReachesTo store.new (D.files disk.old).pkg (D.files disk.new).pkg) }
     ensures index { IsTrue D.tells → (D.files disk.new).idx ≡ (D.files disk.old).idx }
-    ensures refused { IfErr result (λ e. IsRefusal e → (store.new ≡ with_spare store.new.spare store.old) × Runs D.Disk SameFiles disk.old disk.new) }
+    ensures refused { IfErr result (λ e. IsRefusal e → (store.new ≡ with_spare store.new.spare store.old)
+        × Runs D.Disk SameFiles disk.old disk.new × (D.moment disk.new ≡ D.moment disk.old)) }
     ensures stops { IsTrue D.tells → AreLawful (images D.Disk disk.old)
         → LeavesIn D.Disk disk.old disk.new (IsChangedStill (state (D.files disk.old).pkg store.old)
         (state_of (put_map (D.files disk.old).pkg store.old n view.now.blob) (field_for n store.old))
@@ -182,11 +185,13 @@ pub fn erase_aside<D: Disk>(
     ensures made { 1 ≤ store.new.pages }
     ensures done { OnOk result (IsPutAside D.Disk disk.new store.old store.new
         (finite.remove (blobs (D.files disk.old).pkg store.old) n) store.old.field) }
+    ensures sums { OnOk result (IsTrue D.tells → KeepsSums n (D.files disk.old).pkg (D.files disk.new).pkg store.old store.new) }
     ensures gathered { OnOk result (IsTrue D.tells → drops.new ≡ drops.old ++ old_rows (Some n) (packages (D.files disk.old).pkg store.old)) }
     ensures kinds { IfErr result IsOfReading }
     ensures end { OnOk result (IsTrue D.tells → length (D.files disk.new).pkg ≤ length (D.files disk.old).pkg) }
     ensures index { IsTrue D.tells → (D.files disk.new).idx ≡ (D.files disk.old).idx }
-    ensures refused { IfErr result (λ e. IsRefusal e → (store.new ≡ store.old) × Runs D.Disk SameFiles disk.old disk.new) }
+    ensures refused { IfErr result (λ e. IsRefusal e → (store.new ≡ store.old)
+        × Runs D.Disk SameFiles disk.old disk.new × (D.moment disk.new ≡ D.moment disk.old)) }
     ensures stops { IsTrue D.tells → AreLawful (images D.Disk disk.old)
         → LeavesIn D.Disk disk.old disk.new (IsChangedStill (state (D.files disk.old).pkg store.old)
         (state_of (finite.remove (blobs (D.files disk.old).pkg store.old) n) store.old.field)
@@ -221,7 +226,9 @@ pub fn fill_index<D: Disk>(
     ensures kinds { IfErr result IsOfIndex }
     ensures unwritten { hindex.sealed index.old.first ≡ generation → disk.new ≡ disk.old }
     ensures store { IsTrue D.tells → (D.files disk.new).pkg ≡ (D.files disk.old).pkg }
-    ensures refused { IfErr result (λ e. IsRefusal e → (index.new ≡ index.old) × Runs D.Disk SameFiles disk.old disk.new) }
+    ensures refused { IfErr result (λ e. IsRefusal e → (index.new ≡ index.old)
+        × Runs D.Disk SameFiles disk.old disk.new × (D.moment disk.new ≡ D.moment disk.old)) }
+    ensures bad { IsTrue D.tells → BadIndexIs owed.drops (D.files disk.old).idx result }
     ensures stops { IsTrue D.tells → AreLawful (images D.Disk disk.old) → (before after : finite.FinMap nat_cmp Package)
         → HasRows before (D.files disk.old).idx → Balances owed (rows before) (rows after)
         → AreOfRows generation after (images D.Disk disk.old)

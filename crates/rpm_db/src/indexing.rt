@@ -86,7 +86,8 @@ pub fn make_index<D: Disk>(
     requires settled { IsTrue D.tells → IsSettled D.Disk Pkg disk.old }
     ensures full { IsTrue D.tells → FullIs (units_for (rows (packages (D.files disk.old).pkg store.now))) result }
     ensures sealed { OnOk result (IsSealedHere D.Disk disk.new store.now.generation index.new) }
-    ensures refused { IfErr result (λ e. IsRefused e → (index.new ≡ index.old) × (IsTrue D.tells → D.files disk.new ≡ D.files disk.old)) }
+    ensures refused { IfErr result (λ e. IsRefused e → (index.new ≡ index.old)
+        × (IsTrue D.tells → D.files disk.new ≡ D.files disk.old) × (D.moment disk.new ≡ D.moment disk.old)) }
     ensures reach { OnOk result (IsTrue D.tells
         → ReachesMade (units_for (rows (packages (D.files disk.old).pkg store.now))) (D.files disk.old).idx
         (D.files disk.new).idx) }
@@ -106,6 +107,7 @@ pub fn index_for<D: Disk>(alloc: Global, disk: &mut D, store: &PkgDb) -> Result<
     ensures undamaged { (d : Damage) → result ≢ Err (DbOpenFault.Damaged d) }
     ensures same { IsTrue D.tells → WritesNothing (not (is_current_at store.now.generation (D.files disk.old).idx))
         result → D.files disk.new ≡ D.files disk.old }
+    ensures refused { IfErr result (λ e. e ≢ DbOpenFault.DiskFault → D.moment disk.new ≡ D.moment disk.old) }
     ensures index { IfOk result (IsIndexFor D.Disk disk.old disk.new store.now) }
     ensures reach { IfOk result (λ _index. IsTrue D.tells
         → ReachesMade (units_for (rows (packages (D.files disk.old).pkg store.now))) (D.files disk.old).idx

@@ -91,7 +91,7 @@ pub fn prepare_rows<D: Disk>(
         → HasRows before (D.files disk.old).idx → HasChanged drops.now adds.now (rows before) (rows after)
         → FullIndexIs (units_for (rows after)) result }
     ensures whole { IfOk result (λ plan. IsTrue D.tells → IsWholeIndex (D.files disk.old).idx → WritesWhole plan.work (D.files disk.old).idx) }
-    ensures bad { IsTrue D.tells → BadIndexIs (D.files disk.old).idx result }
+    ensures bad { IsTrue D.tells → BadIndexIs drops.now (D.files disk.old).idx result }
     ensures kinds { IfErr result IsOfIndex }
     ensures looks { LooksAt D.Disk Idx disk.old disk.new }
     ensures cause { DiskFault D.Disk (result ≡ Err ChangeFault.DiskFault) disk.old disk.new }
@@ -126,8 +126,9 @@ pub fn prepare_change<D: Disk>(
         → HasChanged (old_rows n (packages (D.files disk.old).pkg store.now)) adds
         (rows (packages (D.files disk.old).pkg store.now)) (rows after) → FullIndexIs (units_for (rows after)) result }
     ensures whole { IfOk result (λ plan. IsTrue D.tells → IsWholeIndex (D.files disk.old).idx → WritesWhole plan.work (D.files disk.old).idx) }
-    ensures bad { IsTrue D.tells → BadIndexIs (D.files disk.old).idx result }
+    ensures bad { IsTrue D.tells → BadIndexIs (old_rows n (packages (D.files disk.old).pkg store.now)) (D.files disk.old).idx result }
     ensures kinds { IfErr result IsOfIndex }
+    ensures moment { D.moment disk.new ≡ D.moment disk.old }
     ensures reads { D.bytes_read disk.new Pkg ≤ D.bytes_read disk.old Pkg + cost_before n store.now }
     ensures runs { Runs D.Disk SameFiles disk.old disk.new }
     ensures cause { DiskFault D.Disk (result ≡ Err ChangeFault.DiskFault) disk.old disk.new }

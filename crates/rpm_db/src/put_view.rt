@@ -1,7 +1,8 @@
 //! Putting a header that was parsed.
 
-ghost use Rattle.std.specs.Prelude.{◌≡◌, ◌+◌, ◌≤◌, length, IsTrue, true, false, is_none, None, Some, Ok, Err, OnOk, IfOk};
-ghost use Rattle.rpm_db.specs.Prelude.{Add, AddIs, BadIndexIs, CanTake, change_for, cost, DiskFault, generation_of, header, images, is_indexed, is_stopping, IsFull, IsLeft, IsReady, IsServing, LaterIs, Makes, next_number, number_for, Pkg, Put, PutIs, ReachesTo, ReadsAtMost, room, Runs, SameLog, with_room};
+ghost use Rattle.std.specs.Prelude.{◌≡◌, ◌+◌, ◌≤◌, [], length, IsTrue, true, false, is_none, None, Some, Ok, Err, OnOk, IfOk};
+ghost use Rattle.std.specs.FinMap as finite;
+ghost use Rattle.rpm_db.specs.Prelude.{Add, AddIs, BadIndexIs, CanTake, change_for, cost, DiskFault, generation_of, header, images, is_indexed, is_stopping, IsFull, IsLeft, IsReady, IsServing, LaterIs, Makes, next_number, number_for, old_rows, packages_in, Pkg, Put, PutIs, ReachesTo, ReadsAtMost, room, rows_at, Runs, SameLog, with_room};
 
 use crate::change_fault::ChangeFault;
 use crate::database::Db;
@@ -40,7 +41,7 @@ impl Db {
         ensures makes { Makes D.Disk disk.old disk.new (Add view.now.blob) self.old self.new result }
         ensures left { IsLeft D.Disk disk.old disk.new self.old self.new (with_room (room self.new).spare self.old) result }
         ensures end { OnOk result (IsTrue D.tells → ReachesTo (room self.new) (D.files disk.old).pkg (D.files disk.new).pkg) }
-        ensures bad { IsTrue D.tells → BadIndexIs (D.files disk.old).idx result }
+        ensures bad { IsTrue D.tells → BadIndexIs [] (D.files disk.old).idx result }
         ensures reads { ReadsAtMost None (room self.old) (D.bytes_read disk.old Pkg) (D.bytes_read disk.new Pkg) }
         ensures runs { Runs D.Disk SameLog disk.old disk.new }
         ensures cause { DiskFault D.Disk (result ≡ Err ChangeFault.DiskFault) disk.old disk.new }
@@ -77,7 +78,8 @@ impl Db {
         ensures makes { Makes D.Disk disk.old disk.new (Put n view.now.blob) self.old self.new result }
         ensures left { IsLeft D.Disk disk.old disk.new self.old self.new (with_room (room self.new).spare self.old) result }
         ensures end { OnOk result (IsTrue D.tells → ReachesTo (room self.new) (D.files disk.old).pkg (D.files disk.new).pkg) }
-        ensures bad { IsTrue D.tells → BadIndexIs (D.files disk.old).idx result }
+        ensures bad { IsTrue D.tells → BadIndexIs (rows_at n (finite.get (packages_in D.Disk disk.old self.old) n))
+            (D.files disk.old).idx result }
         ensures reads { D.bytes_read disk.new Pkg ≤ D.bytes_read disk.old Pkg + cost n self.old }
         ensures runs { Runs D.Disk SameLog disk.old disk.new }
         ensures cause { DiskFault D.Disk (result ≡ Err ChangeFault.DiskFault) disk.old disk.new }
@@ -110,7 +112,7 @@ impl Db {
         ensures number { IfOk result (λ m. m ≡ number_for n (room self.old)) }
         ensures left { IsLeft D.Disk disk.old disk.new self.old self.new (with_room (room self.new).spare self.old) result }
         ensures end { OnOk result (IsTrue D.tells → ReachesTo (room self.new) (D.files disk.old).pkg (D.files disk.new).pkg) }
-        ensures bad { IsTrue D.tells → BadIndexIs (D.files disk.old).idx result }
+        ensures bad { IsTrue D.tells → BadIndexIs (old_rows n (packages_in D.Disk disk.old self.old)) (D.files disk.old).idx result }
         ensures reads { ReadsAtMost n (room self.old) (D.bytes_read disk.old Pkg) (D.bytes_read disk.new Pkg) }
         ensures runs { Runs D.Disk SameLog disk.old disk.new }
         ensures cause { DiskFault D.Disk (result ≡ Err ChangeFault.DiskFault) disk.old disk.new }

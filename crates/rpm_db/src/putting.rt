@@ -1,8 +1,8 @@
 //! Putting a header under a number and erasing a number: what each plans, before both files change.
 
-ghost use Rattle.std.specs.Prelude.{◌≡◌, ℕ, ◌+◌, ◌≤◌, IsTrue, IsSome, true, length, is_none, None, Ok, Err, OnOk, IfOk, IfErr};
+ghost use Rattle.std.specs.Prelude.{◌≡◌, ℕ, ◌+◌, ◌≤◌, IsTrue, IsSome, true, length, is_none, None, Some, Ok, Err, OnOk, IfOk, IfErr};
 ghost use Rattle.std.specs.FinMap as finite;
-ghost use Rattle.rpm_db.specs.Prelude.{AreLawful, blobs, CanChange, CanEdit, CanTake, field_for, FindsRoom, HasEdit, HasRows, header, header_rows, images, IndexIs, IsChangedStill, IsDone, IsFull, IsOfRoom, IsPlaced, IsRefusal, LaterIs, LeavesIn, live_of, number_for, packages, packages_of, Pkg, put_map, raised, ReachesTo, ReadsAtMost, rows, RunsOr, SameLog, slot_with, state, state_of, units_for, with_spare};
+ghost use Rattle.rpm_db.specs.Prelude.{AreLawful, blobs, CanChange, CanEdit, CanTake, field_for, FindsRoom, HasEdit, HasRows, header, header_rows, images, IndexIs, IsChangedStill, IsDone, IsFull, IsOfRoom, IsPlaced, IsRefusal, KeepsSums, LaterIs, LeavesIn, live_of, number_for, old_rows, packages, packages_of, Pkg, put_map, raised, ReachesTo, ReadsAtMost, rows, RunsOr, SameLog, slot_with, state, state_of, units_for, with_spare};
 ghost use Rattle.rpm_pkgdb.specs.Costs.{cost};
 ghost use Rattle.rpm_db.specs.inner.Both.{IsRefused};
 
@@ -70,7 +70,9 @@ pub fn write_header<D: Disk>(
     ensures done { OnOk result (IsDone D.Disk disk.old disk.new store.old store.new index.new
         (put_map (D.files disk.old).pkg store.old n view.now.blob) (field_for n store.old)
         (index.old.units + live_of (header_rows (number_for n store.old) view.now))) }
+    ensures sums { OnOk result (IsTrue D.tells → KeepsSums (number_for n store.old) (D.files disk.old).pkg (D.files disk.new).pkg store.old store.new) }
     ensures index { IndexIs D.Disk disk.old (packages (D.files disk.old).pkg store.old)
+        (old_rows n (packages (D.files disk.old).pkg store.old))
         (units_for (rows (packages_of (put_map (D.files disk.old).pkg store.old n view.now.blob)))) result }
     ensures end { OnOk result (IsTrue D.tells → ReachesTo store.new (D.files disk.old).pkg (D.files disk.new).pkg) }
     ensures refused { IfErr result (λ e. IsRefusal e
@@ -118,7 +120,9 @@ pub fn erase_number<D: Disk>(
     ensures made { 1 ≤ store.new.pages }
     ensures done { OnOk result (IsDone D.Disk disk.old disk.new store.old store.new index.new
         (finite.remove (blobs (D.files disk.old).pkg store.old) n) store.old.field index.old.units) }
+    ensures sums { OnOk result (IsTrue D.tells → KeepsSums n (D.files disk.old).pkg (D.files disk.new).pkg store.old store.new) }
     ensures index { IndexIs D.Disk disk.old (packages (D.files disk.old).pkg store.old)
+        (old_rows (Some n) (packages (D.files disk.old).pkg store.old))
         (units_for (rows (packages_of (finite.remove (blobs (D.files disk.old).pkg store.old) n)))) result }
     ensures end { OnOk result (IsTrue D.tells → length (D.files disk.new).pkg ≤ length (D.files disk.old).pkg) }
     ensures refused { IfErr result (λ e. IsRefusal e → IsRefused D.Disk disk.old disk.new store.old store.new index.old index.new) }

@@ -16,7 +16,7 @@ use std::alloc::Global;
 fn empty_index<D: Disk>(alloc: Global, disk: &mut D) -> Result<Hindex, RewriteFault>
     ensures room { (needed : ℕ) → result ≢ Err (RewriteFault.IndexFull needed) }
     ensures empty { IfOk result (IsEmptyIndex D.Disk disk.old disk.new) }
-    ensures refused { IfErr result (λ e. IsRefused e → IsTrue D.tells → D.files disk.new ≡ D.files disk.old) }
+    ensures refused { IfErr result (λ e. IsRefused e → (IsTrue D.tells → D.files disk.new ≡ D.files disk.old) × (D.moment disk.new ≡ D.moment disk.old)) }
     ensures units { D.bytes_read disk.new Idx ≤ D.bytes_read disk.old Idx + 32 }
     ensures unread { D.bytes_read disk.new Pkg ≤ D.bytes_read disk.old Pkg }
     ensures runs { Runs D.Disk Remade disk.old disk.new }
@@ -44,7 +44,8 @@ pub fn make_files<D: Disk>(
     ensures room { (needed : ℕ) → result ≢ Err (RewriteFault.IndexFull needed) }
     ensures made { IfOk result (λ _index. store.new ≡ made_new store.old) }
     ensures empty { IfOk result (λ index. IsMadeEmpty D.Disk disk.new store.new index) }
-    ensures refused { IfErr result (λ e. IsRefused e → (store.new ≡ store.old) × (IsTrue D.tells → D.files disk.new ≡ D.files disk.old)) }
+    ensures refused { IfErr result (λ e. IsRefused e → (store.new ≡ store.old)
+        × (IsTrue D.tells → D.files disk.new ≡ D.files disk.old) × (D.moment disk.new ≡ D.moment disk.old)) }
     ensures stops { IsTrue D.tells → LeavesIn D.Disk disk.old disk.new (IsEmptyStill (images D.Disk disk.old)) }
     ensures reach { IfOk result (λ _index. IsTrue D.tells → ReachesMade (units_for []) (D.files disk.old).idx (D.files disk.new).idx) }
     ensures end { IfOk result (λ _index. IsTrue D.tells → ReachesTo store.new (D.files disk.old).pkg (D.files disk.new).pkg) }
@@ -85,7 +86,7 @@ impl Db {
         ensures done { result ≡ Ok true → IsInit D.Disk disk.old disk.new self.old self.new }
         ensures same { result ≡ Ok false → (self.new ≡ self.old) × (disk.new ≡ disk.old) }
         ensures refused { IfErr result (λ e. e ≢ ChangeFault.DiskFault → (self.new ≡ self.old)
-            × (IsTrue D.tells → D.files disk.new ≡ D.files disk.old)) }
+            × (IsTrue D.tells → D.files disk.new ≡ D.files disk.old) × (D.moment disk.new ≡ D.moment disk.old)) }
         ensures reads { ReadAtMost Idx 32 (D.bytes_read disk.old) (D.bytes_read disk.new) }
         ensures kinds { IfErr result IsInitFault }
         ensures stopped { StopsAs self.old self.new result }

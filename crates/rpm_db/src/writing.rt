@@ -1,7 +1,7 @@
 //! Writing a change: the store after a raise of its generation, and then the index.
 
 ghost use Rattle.std.specs.Prelude.{◌≡◌, ℕ, ◌+◌, ◌<◌, ◌≤◌, ◌^◌, IsTrue, true, false, Err, OnOk, OnErr, IfErr};
-ghost use Rattle.rpm_db.specs.Prelude.{Anything, blobs, BlobsTo, CanApply, CanEdit, edit_cost, edited, EditReaches, EditsTo, field_edited, HasEdit, Idx, images, IndexTo, IsApplied, IsEdited, IsQuiet, IsStored, LeavesIn, Pkg, raised, Stops, Suits, Writes};
+ghost use Rattle.rpm_db.specs.Prelude.{Anything, blobs, BlobsTo, CanApply, CanEdit, edit_cost, edited, edited_number, EditReaches, EditsTo, field_edited, HasEdit, Idx, images, IndexTo, IsApplied, IsEdited, IsQuiet, IsStored, KeepsSums, LeavesIn, Pkg, raised, Stops, Suits, Writes};
 ghost use Rattle.rpm_outside.specs.Frame.{WritesOr};
 ghost use Rattle.rpm_pkgdb.specs.Frame as pkgdb;
 ghost use Rattle.rpm_hindex.specs.State as hindex;
@@ -31,6 +31,7 @@ fn edit_store<D: Disk>(
 ) -> Result<(), DiskFault>
     requires ready { pkgdb.IsReady D.Disk disk.old store.old }
     requires suits { Suits edit blob.now store.old }
+    requires generation { store.old.generation < 2 ^ 32 }
     ensures edit { OnOk result (HasEdit edit store.old store.new) }
     ensures err { OnErr result (store.new.pages ≡ store.old.pages) }
     ensures edited { OnOk result (IsTrue D.tells → IsEdited D.Disk disk.old disk.new store.old store.new edit blob.now) }
@@ -68,6 +69,7 @@ pub fn edit_raised<D: Disk>(
         → LeavesIn D.Disk disk.old disk.new (Stops Pkg (BlobsTo store.old.generation store.old.field
         (field_edited edit store.old.field) (blobs (D.files disk.old).pkg store.old)
         (edited edit blob.now (blobs (D.files disk.old).pkg store.old))) (images D.Disk disk.old)) }
+    ensures sums { OnOk result (IsTrue D.tells → KeepsSums (edited_number edit) (D.files disk.old).pkg (D.files disk.new).pkg store.old store.new) }
     ensures end { OnOk result (IsTrue D.tells → EditReaches edit store.new (D.files disk.old).pkg (D.files disk.new).pkg) }
     ensures writes { Writes D.Disk Pkg Anything (edit_cost edit store.old) result disk.old disk.new }
 {

@@ -76,11 +76,11 @@ module _ {D : Type 0} (d : disk.Ghosts D) where
     pub reach : IsTrue d.tells → HasRows before (d.files at).idx
         → units_after work ≤ max (units + live_of adds) (units_for (rows after))
 
-  -- the index is full exactly where so many units are too many, and bad only where it has a fault
-  pub record IndexIs {A : Type 0} (at : D) (before : FinMap nat_cmp Package) (needed : ℕ)
+  -- the index is full exactly where so many units are too many, and bad only where it has a fault, or where these rows, which go, are more than it counts
+  pub record IndexIs {A : Type 0} (at : D) (before : FinMap nat_cmp Package) (drops : List Row) (needed : ℕ)
       (result : Result A ChangeFault) : Type 0 where
     pub full : IsTrue d.tells → HasRows before (d.files at).idx → FullIndexIs needed result
-    pub bad : IsTrue d.tells → BadIndexIs (d.files at).idx result
+    pub bad : IsTrue d.tells → BadIndexIs drops (d.files at).idx result
 
   -- the store was written: it has these blobs, after each crash too
   pub record IsStored (at : D) (value : Store) (to : BlobMap) : Type 0 where
@@ -113,8 +113,9 @@ module _ {D : Type 0} (d : disk.Ghosts D) where
         → index.units ≤ max least (units_for (rows (packages_of to)))
     pub whole : IsTrue d.tells → IsWholeIndex (d.files old).idx → IsWholeIndex (d.files new).idx
 
-  -- nothing was written: the files stay, and these values
+  -- nothing was written or settled: the files stay, and these values
   pub record IsRefused (old new : D) (before after : Store) (was is : hindex.State) : Type 0 where
     pub store_is : after ≡ before
     pub index_is : is ≡ was
     pub runs : Runs d SameFiles old new
+    pub moment : d.moment new ≡ d.moment old

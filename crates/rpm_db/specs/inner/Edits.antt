@@ -1,9 +1,10 @@
 -- What becomes of a store: a planned blob is put, or the package of a number is erased.
-use Rattle.std.specs.Prelude.{◌≡◌, ℕ, ◌<◌, ◌≤◌, List, length, IsSome, Some}
+use Rattle.std.specs.Prelude.{◌≡◌, ◌≢◌, ℕ, ◌<◌, ◌≤◌, Bool, List, length, true, IsSome, Option, Some}
 use Rattle.std.specs.FinMap as finite
 use Rattle.rpm_outside.specs.declared.disk.Disk as disk
 use Rattle.rpm_outside.specs.Files.{Units}
 use Rattle.rpm_pkgdb.specs.Blobs.{blobs}
+use Rattle.rpm_pkgdb.specs.Checksums.{checksums_hold}
 use Rattle.rpm_pkgdb.specs.Frame.{IsWritten, pkg}
 use Rattle.rpm_pkgdb.specs.Growing.{moving_cost}
 use Rattle.rpm_pkgdb.specs.declared.plan.Plan.{Plan}
@@ -13,6 +14,8 @@ use Rattle.rpm_pkgdb.specs.Reaches.{ReachesTo}
 use Rattle.rpm_pkgdb.specs.Slots.{slot_with}
 use Rattle.rpm_pkgdb.specs.Store.{Store}
 use Rattle.rpm_pkgdb.specs.Written.{ErasesTo, PutsTo, erased, field_after, next_field, with_plan, with_spare}
+use Rattle.rpm_db.specs.Database.{unindexed}
+use Rattle.rpm_db.specs.Verdicts.{verdict}
 use Rattle.rpm_db.specs.declared.writing.Edit.{Edit}
 use Rattle.rpm_db.specs.declared.writing.Edit.TheVariants as edit
 
@@ -28,6 +31,16 @@ field_edited (edit.Erase n) field = field
 abbrev pub with_edit : Edit → Store → Store
 with_edit (edit.Put plan) value = with_plan plan value
 with_edit (edit.Erase n) value = erased n value
+
+-- the number of the package that it is of
+abbrev pub edited_number : Edit → ℕ
+edited_number (edit.Put plan) = plan.target.number
+edited_number (edit.Erase n) = n
+
+-- verifying says of each package but one what it said before, and the checksum of that one is right, where it is there
+pub record KeepsSums (n : ℕ) (old new : Units) (before after : Store) : Type 0 where
+  pub others : (m : ℕ) → m ≢ n → verdict new (unindexed after) m ≡ verdict old (unindexed before) m
+  pub own : (sum : Option Bool) → checksums_hold new after n ≡ Some sum → sum ≡ Some true
 
 -- what it reads of the blobs that move
 abbrev pub edit_cost : Edit → Store → ℕ
@@ -73,3 +86,4 @@ module _ {D : Type 0} (d : disk.Ghosts D) where
   pub record IsEdited (old new : D) (before after : Store) (it : Edit) (blob : List ℕ) : Type 0 where
     pub written : IsWritten d new after (edited it blob (blobs (pkg d old) before))
     pub reach : EditReaches it after (pkg d old) (pkg d new)
+    pub sums : KeepsSums (edited_number it) (pkg d old) (pkg d new) before after

@@ -44,11 +44,12 @@ module _ {D : Type 0} (d : disk.Ghosts D) where
     pub keeps : IsTrue d.tells → hindex.Keeps (d.files at).idx index
     pub settled : IsTrue d.tells → IsSettled Idx (d.files at) (d.left_since at (d.moment at))
 
-  -- once it has what it is owed the index is full exactly where so many units are too many, and bad only where it has a fault
+  -- once it has what it is owed the index is full exactly where so many units are too many, and bad only where it has a fault, or counts less than it
+  -- is to drop
   pub record TakesRows {A : Type 0} (at : D) (owed : RowChange) (result : Result A ChangeFault) : Type 0 where
     pub full : IsTrue d.tells → (before after : FinMap nat_cmp Package) → HasRows before (d.files at).idx
         → Balances owed (rows before) (rows after) → FullIndexIs (units_for (rows after)) result
-    pub bad : IsTrue d.tells → BadIndexIs (d.files at).idx result
+    pub bad : IsTrue d.tells → BadIndexIs owed.drops (d.files at).idx result
 
   -- the store was changed alone: it has these blobs and this number field, and the next generation
   pub record IsPutAside (new : D) (before after : Store) (to : BlobMap) (field : ℕ) : Type 0 where

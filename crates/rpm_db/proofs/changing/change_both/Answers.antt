@@ -1,5 +1,5 @@
 use Rattle.std.proofs.Common.{refl, sym, ap, ◌∙◌, subst, arith, rules}
-use Rattle.rpm_db.proofs.Vocabulary.{Anything, blobs, edited, EditReaches, Files, IsApplied, IsStored}
+use Rattle.rpm_db.proofs.Vocabulary.{Anything, blobs, edited, edited_number, EditReaches, Files, IsApplied, IsStored, KeepsSums, Units}
 use Rattle.rpm_db.proofs.Both.{runs_both, runs_store}
 use Rattle.rpm_db.proofs.Halves.{applied_since, both_stop, half_stops, read_of, rows_written, state_written, stored_then}
 use Rattle.rpm_db.proofs.Results.{map_ok, on_ok}
@@ -16,6 +16,9 @@ prepare_change-requires g c = record { read = read_of g.D.Disk _ _ _ c.requires.
 
 pub returns-in-Err-clause-store : goal.returns-in-Err-clause-store
 returns-in-Err-clause-store g c = (search rules, search rules)
+
+pub returns-in-Err-clause-refused : goal.returns-in-Err-clause-refused
+returns-in-Err-clause-refused g c = λ refusal. record { store_is = refl; index_is = refl; runs = c.in-Err.ensures.runs; moment = c.in-Err.ensures.moment }
 
 pub returns-in-Err-clause-runs : goal.returns-in-Err-clause-runs
 returns-in-Err-clause-runs g c = record { files = log_same g.D.Disk _ _ c.in-Err.ensures.runs; cause = search rules }
@@ -103,3 +106,14 @@ returns-clause-end g c = on_ok c.write_rows.result (λ told.
     subst (λ (f : Files). EditReaches c.args.edit c.edit_raised.new.store f.pkg (g.D.Disk.files c.write_rows.new.disk).pkg) (c.in-Ok.ensures.runs.reads_as told)
     (subst (EditReaches c.args.edit c.edit_raised.new.store (g.D.Disk.files c.prepare_change.new.disk).pkg) (sym (c.write_rows.ensures.writes.changes.pkg told))
     (c.in-Ok-edit_raised.ensures.end told)))
+
+pub returns-clause-sums : goal.returns-clause-sums
+returns-clause-sums g c = on_ok c.write_rows.result (λ told.
+    let D = g.D.Disk in
+    let n = edited_number c.args.edit in
+    let old = (D.files c.args.disk.now).pkg in
+    let st = c.args.store.now in
+    let after = c.edit_raised.new.store in
+    subst (λ (u : Units). KeepsSums n old u st after) (sym (c.write_rows.ensures.writes.changes.pkg told))
+    (subst (λ (f : Files). KeepsSums n f.pkg (D.files c.edit_raised.new.disk).pkg st after) (c.in-Ok.ensures.runs.reads_as told)
+    (c.in-Ok-edit_raised.ensures.sums told)))

@@ -1,6 +1,6 @@
 use Rattle.std.proofs.Common.{◌≤◌, length, refl, sym, ap, ◌∙◌, subst, arith}
 use Rattle.std.specs.FinMap as finite
-use Rattle.rpm_db.proofs.Vocabulary.{Anything, blobs, Files, store}
+use Rattle.rpm_db.proofs.Vocabulary.{Anything, blobs, Files, KeepsSums, store}
 use Rattle.rpm_db.proofs.Both.{runs_store}
 use Rattle.rpm_db.proofs.Halves.{half_stops}
 use Rattle.rpm_db.proofs.Results.{cause_as, cause_done}
@@ -30,7 +30,8 @@ returns-in-Err g c =
       kinds = x.kinds;
       end = tt;
       index = λ told. ap (λ (f : Files). f.idx) (run.reads_as told);
-      refused = λ refusal. (refl, run);
+      sums = tt;
+      refused = λ refusal. (refl, run, x.looks.moment_stays);
       stops = λ told lawful. stops_refused _ _ g.D.Disk _ _ told lawful run;
       reads = x.looks.reads.pkg;
       runs = record { files = log_same g.D.Disk _ _ run; cause = cause_as c.in-Err.fault x.cause };
@@ -49,6 +50,7 @@ returns-in-Err-edit_raised g c =
       edit = tt;
       made = omega (arith, w.err, r.made);
       done = tt;
+      sums = tt;
       gathered = tt;
       kinds = tt;
       end = tt;
@@ -91,6 +93,9 @@ returns-in-Ok-edit_raised g c =
             (let moved = w.writes.changes.now told image here in
             moved.idx ∙ settled_same g.D.Disk _ _ told run (r.settled told) moved.from moved.was ∙ sym (w.writes.changes.idx told));
       };
+      sums = λ told.
+          subst (λ (f : Files). KeepsSums c.args.n f.pkg (g.D.Disk.files c.edit_raised.new.disk).pkg st c.edit_raised.new.store) (run.reads_as told)
+          (w.sums told);
       gathered = x.rows;
       kinds = tt;
       end = λ told. subst (λ (f : Files). length (g.D.Disk.files c.edit_raised.new.disk).pkg ≤ length f.pkg) (run.reads_as told) (w.end told);

@@ -1,4 +1,4 @@
-use Rattle.std.proofs.Common.{◌≡◌, ◌==◌, true, false, sym, ap, ◌∙◌, subst, arith}
+use Rattle.std.proofs.Common.{◌≡◌, ◌==◌, true, false, refl, sym, ap, ◌∙◌, subst, arith}
 use Rattle.std.proofs.lemmas.Bool.Decides.{nat_tests}
 use Rattle.rpm_db.proofs.Vocabulary.{DiskFault, Files, FullCause, IndexTo, IsApplied, IsSealedAfter, rows, units_for}
 use Rattle.rpm_hindex.specs.State as hindex
@@ -6,8 +6,10 @@ use Rattle.rpm_db.proofs.Both.{quiet_then, runs_rows}
 use Rattle.rpm_db.proofs.Changed.{rows_sealed}
 use Rattle.rpm_db.proofs.FillStops.{stops_filled}
 use Rattle.rpm_db.proofs.OwedRows.{current_sealed, other_sealed, rows_clear}
+use Rattle.rpm_db.proofs.Refused.{never_of_disk}
 use Rattle.rpm_db.proofs.Unwritten.{log_then, looked_at, quiet_same}
 use Rattle.rpm_db.proofs.Results.{map_if_err, map_ok}
+use Rattle.rpm_db.proofs.Wholes.{whole_cause}
 use Rattle.rpm_db.proofs.gathering.fill_index.Goals as goal
 
 -- ---- it is sealed there
@@ -66,6 +68,17 @@ returns-clause-full g c =
     let apart = other_sealed c.args.generation c.args.index.now c.requires.ready.order (sym c.is_current.ensures ∙ c.if-is_current.false) in
     map_if_err c.write_rows.result (λ fault (is : fault ≡ DiskFault). (apart, λ told from to has changed. subst (FullCause (units_for (rows to))) (sym is) tt))
     c.write_rows.ensures.kind
+
+pub returns-in-Err-clause-refused : goal.returns-in-Err-clause-refused
+returns-in-Err-clause-refused g c = λ refusal. (refl, looked_at g.D.Disk _ _ _ c.in-Err.ensures.looks, c.in-Err.ensures.looks.moment_stays)
+
+pub returns-in-Err-clause-whole : goal.returns-in-Err-clause-whole
+returns-in-Err-clause-whole g c = λ told whole.
+    whole_cause c.args.owed.drops (g.D.Disk.files c.args.disk.now).idx c.in-Err.fault whole (c.in-Err.ensures.bad told)
+
+pub returns-clause-bad : goal.returns-clause-bad
+returns-clause-bad g c = λ told.
+    never_of_disk c.args.owed.drops (g.D.Disk.files c.args.disk.now).idx c.write_rows.result c.write_rows.ensures.kind
 
 pub returns-in-Err-clause-unwritten : goal.returns-in-Err-clause-unwritten
 returns-in-Err-clause-unwritten g c = λ is.

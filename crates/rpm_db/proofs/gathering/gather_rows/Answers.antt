@@ -18,7 +18,7 @@ rows_gathered owed gone {drops} {adds} drops_are k number of adds_are =
 pub returns-in-Err-clause-takes : goal.returns-in-Err-clause-takes
 returns-in-Err-clause-takes g c = λ told. record {
   full = λ told' before after has balances. reading_full (units_for (rows after)) c.in-Err.fault c.in-Err.ensures.kinds;
-  bad = λ told'. reading_bad (g.D.Disk.files c.args.disk.now).idx c.in-Err.fault c.in-Err.ensures.kinds;
+  bad = λ told'. reading_bad _ (g.D.Disk.files c.args.disk.now).idx c.in-Err.fault c.in-Err.ensures.kinds;
 }
 
 pub returns-in-Err-clause-kinds : goal.returns-in-Err-clause-kinds
@@ -49,3 +49,6 @@ returns-clause-takes g c = λ told.
 
 pub returns-clause-reads : goal.returns-clause-reads
 returns-clause-reads g c = omega (arith, c.in-Ok.ensures.looks.reads.pkg, c.expect_room.ensures.looks.reads.pkg)
+
+pub returns-clause-moment : goal.returns-clause-moment
+returns-clause-moment g c = c.expect_room.ensures.looks.moment_stays ∙ c.in-Ok.ensures.looks.moment_stays

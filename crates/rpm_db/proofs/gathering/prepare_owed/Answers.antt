@@ -1,6 +1,7 @@
 use Rattle.std.proofs.Common.{arith}
 use Rattle.rpm_db.proofs.Vocabulary.{rows}
 use Rattle.rpm_db.proofs.OwedRows.{balance_netted}
+use Rattle.rpm_db.proofs.Prepared.{bad_more}
 use Rattle.rpm_db.proofs.Reached.{live_less}
 use Rattle.rpm_db.proofs.gathering.prepare_owed.Goals as goal
 
@@ -25,3 +26,8 @@ returns-in-Ok-prepare_rows-clause-full g c = λ told before after has balances.
 pub returns-clause-full : goal.returns-clause-full
 returns-clause-full g c = λ told before after has balances.
     c.in-Err.ensures.full told before after has (balance_netted c.args.owed c.in-Ok.net (rows before) (rows after) c.in-Ok.ensures balances)
+
+pub returns-clause-bad : goal.returns-clause-bad
+returns-clause-bad g c = λ told.
+    bad_more c.in-Ok.net.drops c.args.owed.drops (g.D.Disk.files c.args.disk.now).idx c.in-Err.fault (λ row. omega (arith, c.in-Ok.ensures.0 row))
+    (c.in-Err.ensures.bad told)

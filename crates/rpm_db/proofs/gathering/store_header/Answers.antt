@@ -1,10 +1,10 @@
 use Rattle.std.proofs.Common.{ℕ, ◌≡◌, ◌+◌, List, Option, Ok, Err, sym, ap, ◌∙◌, subst, arith}
 use Rattle.std.specs.FinMap as finite
-use Rattle.rpm_db.proofs.Vocabulary.{Anything, blobs, CanEdit, edited, Files, Header, header_rows, nat_cmp, number_for, old_rows, Package, packages, ReachesTo}
+use Rattle.rpm_db.proofs.Vocabulary.{Anything, blobs, CanEdit, edited, Files, Header, header_rows, KeepsSums, nat_cmp, number_for, old_rows, Package, packages, ReachesTo}
 use Rattle.rpm_db.proofs.Vocabulary.{RowChange, Store, store, TakesRows, Units, with_rows, with_spare}
 use Rattle.rpm_pkgdb.specs.Store as pkgdb
 use Rattle.rpm_db.proofs.Both.{runs_store}
-use Rattle.rpm_db.proofs.Planning.{field_is, map_is, planned, stops_aside}
+use Rattle.rpm_db.proofs.Planning.{field_is, map_is, planned, stops_aside, sums_are}
 use Rattle.rpm_db.proofs.Puts.{number_same, packages_same, reads_put}
 use Rattle.rpm_db.proofs.Results.{cause_as, cause_done}
 use Rattle.rpm_db.proofs.Rooms.{finds_none, finds_room}
@@ -66,7 +66,8 @@ returns-in-Err-gather_rows g c =
           record { full = takes.full; bad = takes.bad });
       end = tt;
       index = λ told. ap (λ (f : Files). f.idx) (x.runs.reads_as told);
-      refused = λ refusal. (e.value, x.runs);
+      sums = tt;
+      refused = λ refusal. (e.value, x.runs, x.moment);
       stops = λ told lawful. stops_refused _ _ g.D.Disk _ _ told lawful x.runs;
       reads = reads_put c.args.n c.args.store.now _ e.value _ c.in-Ok.plan e.plan.suits.plan_is e.placed.1 _ _ (omega (arith, x.reads));
       runs = record { files = log_same g.D.Disk _ _ x.runs; cause = cause_as fault x.cause };
@@ -133,6 +134,10 @@ returns-in-Ok-edit_raised g c =
             (let moved = w.writes.changes.now told image here in
             moved.idx ∙ settled_same g.D.Disk _ _ told run (c.requires.ready.settled told) moved.from moved.was ∙ sym (w.writes.changes.idx told));
       };
+      sums = λ told.
+          sums_are file p (g.D.Disk.files c.edit_raised.new.disk).pkg c.edit_raised.new.store
+          (subst (λ (f : Files). KeepsSums c.in-Ok.plan.target.number f.pkg (g.D.Disk.files c.edit_raised.new.disk).pkg c.plan_blob.new.store
+          c.edit_raised.new.store) (run.reads_as told) (w.sums told));
       gathered = λ told. x.gathered told ∙ rows;
       takes = λ told.
           (let takes = subst (λ (o : RowChange). TakesRows g.D.Disk {A = Unit {0}} c.args.disk.now o (Ok tt)) rows (x.takes told) in

@@ -1,7 +1,8 @@
-use Rattle.std.proofs.Common.{◌≡◌, ℕ, ◌≤◌, List, Option, IsTrue, sym, subst, arith}
+use Rattle.std.proofs.Common.{◌≡◌, ℕ, ◌≤◌, List, Option, IsTrue, sym, ap, ◌∙◌, subst, arith}
 use Rattle.std.specs.FinMap as finite
-use Rattle.rpm_db.proofs.Vocabulary.{AreNetted, AreWithout, Files, HasChanged, HasRows, live_of, nat_cmp, old_rows, Package, packages, Row, RowChange}
-use Rattle.rpm_db.proofs.Vocabulary.{rows, WritesRows}
+use Rattle.rpm_db.proofs.Vocabulary.{AreNetted, AreWithout, BadCause, Files, HasChanged, HasRows, live_of, nat_cmp, old_rows, Package, packages, Row, RowChange}
+use Rattle.rpm_db.proofs.Vocabulary.{rows, times, WritesRows}
+use Rattle.rpm_db.proofs.Prepared.{bad_more}
 use Rattle.rpm_db.proofs.Reached.{live_less}
 use Rattle.rpm_db.proofs.Shared.{changed_still}
 use Rattle.rpm_db.proofs.Unwritten.{looked_both}
@@ -59,3 +60,20 @@ returns-in-Ok-prepare_rows-clause-runs g c =
 
 pub returns-clause-runs : goal.returns-clause-runs
 returns-clause-runs g c = looked_both g.D.Disk g.met.D.Disk.follows_trans _ _ _ _ _ c.in-Ok.ensures.looks c.in-Err-prepare_rows.ensures.looks
+
+-- ---- what is bad, and the moment
+
+pub returns-clause-bad : goal.returns-clause-bad
+returns-clause-bad g c = λ told.
+    let P = packages (g.D.Disk.files c.args.disk.now).pkg c.args.store.now in
+    let net = c.in-Ok-netted.change in
+    let fault = c.in-Err-prepare_rows.fault in
+    bad_more net.drops (old_rows c.args.n P) (g.D.Disk.files c.args.disk.now).idx fault
+    (λ row. omega (arith, c.in-Ok-netted.ensures.0 row, ap (times row) (c.in-Ok.ensures.rows told)))
+    (subst (λ (f : Files). BadCause net.drops f.idx fault) (c.in-Ok.ensures.looks.untouched told).same (c.in-Err-prepare_rows.ensures.bad told))
+
+pub returns-in-Ok-prepare_rows-clause-moment : goal.returns-in-Ok-prepare_rows-clause-moment
+returns-in-Ok-prepare_rows-clause-moment g c = c.in-Ok-prepare_rows.ensures.looks.moment_stays ∙ c.in-Ok.ensures.looks.moment_stays
+
+pub returns-clause-moment : goal.returns-clause-moment
+returns-clause-moment g c = c.in-Err-prepare_rows.ensures.looks.moment_stays ∙ c.in-Ok.ensures.looks.moment_stays

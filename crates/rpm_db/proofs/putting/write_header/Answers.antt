@@ -1,8 +1,8 @@
-use Rattle.std.proofs.Common.{◌+◌, ℕ, List, refl, sym, ap, ◌∙◌, subst}
-use Rattle.rpm_db.proofs.Vocabulary.{BlobMap, CanEdit, HasChanged, header_rows, live_of, old_rows, packages, packages_of, Row, rows, runs_none}
+use Rattle.std.proofs.Common.{◌+◌, ℕ, List, IsTrue, refl, sym, ap, ◌∙◌, subst}
+use Rattle.rpm_db.proofs.Vocabulary.{BlobMap, CanEdit, HasChanged, header_rows, KeepsSums, live_of, old_rows, packages, packages_of, Row, rows, runs_none}
 use Rattle.rpm_db.proofs.Vocabulary.{SameFiles, SameLog}
 use Rattle.rpm_db.specs.declared.writing.Edit.TheVariants as edit
-use Rattle.rpm_db.proofs.Planning.{done_roomed, field_is, index_planned, map_is, planned, rows_roomed, state_is, state_same}
+use Rattle.rpm_db.proofs.Planning.{done_roomed, field_is, index_planned, map_is, planned, rows_roomed, state_is, state_same, sums_are}
 use Rattle.rpm_db.proofs.Puts.{number_same, reads_put, rows_planned}
 use Rattle.rpm_db.proofs.Results.{cause_memory, map_ok}
 use Rattle.rpm_db.proofs.Rooms.{finds_none, finds_room}
@@ -20,6 +20,7 @@ pub returns-in_default-clause-refused : goal.returns-in_default-clause-refused
 returns-in_default-clause-refused g c = λ refusal. record {
   store_is = c.in-Ok.ensures.value;
   index_is = refl;
+  moment = refl;
   runs = runs_none g.D.Disk g.met.D.Disk.follows_refl SameFiles (λ f. refl) c.args.disk.now;
 }
 
@@ -58,7 +59,7 @@ pub returns-clause-index : goal.returns-clause-index
 returns-clause-index g c =
     let file = (g.D.Disk.files c.args.disk.now).pkg in
     let e = c.in-Ok.ensures in
-    index_planned g.D.Disk _ _ e.value c.args.disk.now _ _ c.change_both.result
+    index_planned g.D.Disk _ _ e.value c.args.n c.args.disk.now _ _ c.change_both.result
     (map_is file (planned e.value e.plan.suits.plan_is e.placed.1 c.blob.ensures.value)) c.change_both.ensures.index
 
 pub returns-clause-done : goal.returns-clause-done
@@ -84,3 +85,14 @@ pub returns-clause-reads : goal.returns-clause-reads
 returns-clause-reads g c =
     let e = c.in-Ok.ensures in
     reads_put c.args.n c.args.store.now _ e.value _ c.in-Ok.plan e.plan.suits.plan_is e.placed.1 _ _ c.change_both.ensures.reads
+
+pub returns-clause-sums : goal.returns-clause-sums
+returns-clause-sums g c =
+    let D = g.D.Disk in
+    let file = (D.files c.args.disk.now).pkg in
+    let e = c.in-Ok.ensures in
+    let p = planned e.value e.plan.suits.plan_is e.placed.1 c.blob.ensures.value in
+    let to = (D.files c.change_both.new.disk).pkg in
+    map_ok c.change_both.result
+    (λ (sums : IsTrue D.tells → KeepsSums c.in-Ok.plan.target.number file to c.plan_blob.new.store c.change_both.new.store) told.
+    sums_are file p to c.change_both.new.store (sums told)) c.change_both.ensures.sums

@@ -1,4 +1,4 @@
-use Rattle.std.proofs.Common.{◌≡◌, length, ap, refl, arith, rules}
+use Rattle.std.proofs.Common.{◌≡◌, ◌∙◌, length, ap, refl, arith, rules}
 use Rattle.rpm_db.proofs.Vocabulary.{Files, units_for}
 use Rattle.rpm_hindex.specs.declared.faults.RewriteFault.TheVariants as rewrite
 use Rattle.rpm_db.proofs.Emptied.{never_full}
@@ -37,3 +37,10 @@ returns-in-Ok-rewrite-clause-empty g c = record {
         ap (λ (f : Files). length f.idx) (c.in-Ok.ensures.reads.looks.untouched told).same,
       );
 }
+
+pub returns-clause-refused : goal.returns-clause-refused
+returns-clause-refused g c = λ refusal.
+    let D = g.D.Disk in
+    let looks = c.in-Ok.ensures.reads.looks in
+    let same = (c.in-Err-rewrite.ensures.refused refusal).1 in
+    (λ told. ap D.files same ∙ (looks.untouched told).same, ap D.moment same ∙ looks.moment_stays)

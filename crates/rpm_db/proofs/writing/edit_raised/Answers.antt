@@ -1,11 +1,16 @@
-use Rattle.std.proofs.Common.{◌+◌, IsTrue, arith, ap, ◌∙◌, rules}
-use Rattle.rpm_db.proofs.Vocabulary.{Anything, BlobMap, blobs, BlobsTo, changes_then, changes_weaker, edit_cost, edited, EditsTo, field_edited, IsEdited, Pkg}
+use Rattle.std.proofs.Common.{◌+◌, ◌≤◌, IsTrue, arith, ap, ◌∙◌, rules}
+use Rattle.rpm_db.proofs.Vocabulary.{Anything, BlobMap, blobs, BlobsTo, changes_then, changes_weaker, edit_cost, edited, edited_number, EditsTo, field_edited, IsEdited, Pkg}
 use Rattle.rpm_db.proofs.Vocabulary.{RaisesTo, SameOutside, stops_then, stops_weaker, Store}
 use Rattle.rpm_db.proofs.Results.{map_ok}
 use Rattle.rpm_db.proofs.Raised.{cost_raised, edits_to, raises_to}
+use Rattle.rpm_db.proofs.Sums.{sums_since}
+use Rattle.rpm_db.proofs.VerdictLaws.{verdict_stays}
 use Rattle.rpm_db.proofs.writing.edit_raised.Goals as goal
 
 -- ---- what the change asks for
+
+pub edit_store-requires-clause-generation : goal.edit_store-requires-clause-generation
+edit_store-requires-clause-generation g c = omega (arith, ap (λ (v : Store). v.generation) c.in-Ok.ensures.ok, c.requires.can.left)
 
 -- ---- what crashes leave
 
@@ -77,3 +82,18 @@ returns-in-Ok-clause-stored g c =
       quiet = λ told. (e told).written.quiet;
       stands = λ told. (e told).written.stands;
     }) c.edit_store.ensures.edited
+
+pub returns-in-Ok-clause-sums : goal.returns-in-Ok-clause-sums
+returns-in-Ok-clause-sums g c =
+    let D = g.D.Disk in
+    let st = c.args.store.now in
+    let raised = c.raise.new.self in
+    let new = c.edit_store.new.store in
+    let ready = c.requires.ready in
+    let old = (D.files c.args.disk.now).pkg in
+    let mid = (D.files c.raise.new.disk).pkg in
+    let some : 1 ≤ raised.pages = omega (arith, ap (λ (v : Store). v.pages) c.in-Ok.ensures.ok, ready.made) in
+    map_ok c.edit_store.result (λ (e : IsTrue D.tells → IsEdited D c.raise.new.disk c.edit_store.new.disk raised new c.args.edit c.args.blob.now) told.
+    let r = c.in-Ok.ensures.raised told in
+    sums_since (edited_number c.args.edit) old mid (D.files c.edit_store.new.disk).pkg st raised new
+    (λ m. verdict_stays old mid st raised (ready.keeps told) r.written.kept ready.made some m (r.others m)) (e told).sums) c.edit_store.ensures.edited

@@ -1,7 +1,7 @@
-use Rattle.std.proofs.Common.{◌≡◌, List, true, false, refl, sym, ap, ◌∙◌, subst, arith}
+use Rattle.std.proofs.Common.{◌≡◌, [], List, true, false, refl, sym, ap, ◌∙◌, subst, arith}
 use Rattle.rpm_db.proofs.Vocabulary.{ChangeFault, Database, database_of, EraseIs, IsRefusal, resumed, Row, Runs, SameFiles, Store}
 use Rattle.rpm_db.proofs.Batched.{gathers_erase}
-use Rattle.rpm_db.proofs.Refused.{erase_full, erase_is, erasing_of, not_reading}
+use Rattle.rpm_db.proofs.Refused.{erase_full, erase_is, erasing_of, never_of_index, not_reading}
 use Rattle.rpm_db.proofs.Results.{map_if_err, map_ok, on_err}
 use Rattle.rpm_db.proofs.Rooms.{room_alone}
 use Rattle.rpm_db.proofs.batch.Batch.erase.Goals as goal
@@ -33,7 +33,7 @@ returns-clause-gathers g c =
     let owed = c.self.inside.owed in
     rw (sym c.db.view_is, sym c.self.view_is) (gathers_erase g.D.Disk c.args.disk.now c.erase_aside.new.disk st c.erase_aside.new.store c.db.inside.index
     c.db.inside.is_stopped owed (record { drops = c.erase_aside.new.drops; adds = owed.adds }) was e.index c.erase_aside.result c.args.n
-    (room_alone c.args.n st c.erase_aside.new.store c.erase_aside.result e.edit e.kinds) e.done
+    (room_alone c.args.n st c.erase_aside.new.store c.erase_aside.result e.edit e.kinds) e.done e.sums
     (map_ok c.erase_aside.result (λ rows told. ap (λ (rs : List Row). record { drops = rs; adds = owed.adds }) (rows told)) e.gathered)
     (λ needed fits. erase_full needed c.erase_aside.result e.kinds fits) e.stops)
 
@@ -54,7 +54,8 @@ returns-clause-left g c =
     let was = rw (sym c.db.view_is) at c.requires.gathering in
     let st = c.db.inside.store in
     let after = c.erase_aside.new.store in
-    let Refused = λ (e : ChangeFault). IsRefusal e → (after ≡ st) × Runs g.D.Disk SameFiles c.args.disk.now c.erase_aside.new.disk in
+    let Refused = λ (e : ChangeFault). IsRefusal e → (after ≡ st) × Runs g.D.Disk SameFiles c.args.disk.now c.erase_aside.new.disk
+    × (g.D.Disk.moment c.erase_aside.new.disk ≡ g.D.Disk.moment c.args.disk.now) in
     rw (sym c.db.view_is) (record {
       indexed = was.indexed;
       stopped = on_err c.erase_aside.result was.suspends;
@@ -62,6 +63,8 @@ returns-clause-left g c =
           refusal).0)
           c.erase_aside.ensures.refused;
       same = map_if_err c.erase_aside.result (λ e (p : Refused e) refusal. (p refusal).1) c.erase_aside.ensures.refused;
+      moment = map_if_err c.erase_aside.result (λ e (p : Refused e) refusal. (p refusal).2) c.erase_aside.ensures.refused;
+      bad = λ told. never_of_index [] (g.D.Disk.files c.args.disk.now).idx c.erase_aside.result c.erase_aside.ensures.kinds;
     })
 
 -- ---- the value holds together

@@ -90,11 +90,13 @@ returns-in-Err-clause-left g c =
     let was = rw (sym c.db.view_is) at c.requires.gathering in
     let e = c.in-Err.ensures in
     let on = c.db.inside.is_stopped in
-    rw (sym c.db.view_is, c.in-Some.is) (record {
+    rw (sym c.db.view_is, sym c.self.view_is, c.in-Some.is) (record {
       indexed = refl;
       stopped = was.suspends;
       refused = λ refusal. refused_same c.db.inside.store _ c.in-Some.index c.fill_index.new.index on on refl (e.refused refusal).0 refl;
       same = λ refusal. (e.refused refusal).1;
+      moment = λ refusal. (e.refused refusal).2;
+      bad = e.bad;
     })
 
 pub invariant_of-db-in-Err : goal.invariant_of-db-in-Err

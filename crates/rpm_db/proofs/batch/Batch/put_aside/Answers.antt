@@ -47,24 +47,27 @@ returns-clause-gathers g c =
     let was = rw (sym c.db.view_is, sym c.self.view_is) at c.requires.gathering in
     rw (sym c.db.view_is, sym c.self.view_is) (gathers_put g.D.Disk c.args.disk.now c.store_header.new.disk c.db.inside.store c.store_header.new.store
     c.db.inside.index c.db.inside.is_stopped c.self.inside.owed c.store_header.new.owed was e.index c.store_header.result c.args.n c.args.view.now
-    c.requires.own e.room.placed e.done e.gathered (λ told. (e.takes told).full told) e.stops)
+    c.requires.own e.room.placed e.done e.sums e.gathered (λ told. (e.takes told).full told) e.stops)
 
 pub returns-clause-whole : goal.returns-clause-whole
-returns-clause-whole g c = λ told whole. whole_err _ c.store_header.result whole ((c.store_header.ensures.takes told).bad told)
+returns-clause-whole g c = λ told whole. whole_err _ _ c.store_header.result whole ((c.store_header.ensures.takes told).bad told)
 
 pub returns-clause-left : goal.returns-clause-left
 returns-clause-left g c =
     let was = rw (sym c.db.view_is) at c.requires.gathering in
     let st = c.db.inside.store in
     let after = c.store_header.new.store in
-    let Refused = λ (e : ChangeFault). IsRefusal e → (after ≡ with_spare after.spare st) × Runs g.D.Disk SameFiles c.args.disk.now c.store_header.new.disk in
-    rw (sym c.db.view_is) (record {
+    let Refused = λ (e : ChangeFault). IsRefusal e → (after ≡ with_spare after.spare st) × Runs g.D.Disk SameFiles c.args.disk.now c.store_header.new.disk
+    × (g.D.Disk.moment c.store_header.new.disk ≡ g.D.Disk.moment c.args.disk.now) in
+    rw (sym c.db.view_is, sym c.self.view_is) (record {
       indexed = was.indexed;
       stopped = on_err c.store_header.result was.suspends;
       refused = map_if_err c.store_header.result (λ e (p : Refused e) refusal. ap (λ (v : Store). database_of v c.db.inside.index c.db.inside.is_stopped) (p
           refusal).0)
           c.store_header.ensures.refused;
       same = map_if_err c.store_header.result (λ e (p : Refused e) refusal. (p refusal).1) c.store_header.ensures.refused;
+      moment = map_if_err c.store_header.result (λ e (p : Refused e) refusal. (p refusal).2) c.store_header.ensures.refused;
+      bad = λ told. (c.store_header.ensures.takes told).bad told;
     })
 
 -- ---- the value holds together

@@ -39,4 +39,6 @@ returns-in_err-view-clause-left g c = record {
   stopped = on_err c.from_residual.result c.requires.gathering.suspends;
   refused = if_err c.from_residual.result (λ e refusal. refl);
   same = search rules;
+  moment = if_err c.from_residual.result (λ e refusal. refl);
+  bad = search rules;
 }

@@ -1,4 +1,3 @@
-use Rattle.std.proofs.Common.{refl}
 use Rattle.rpm_db.proofs.batch.Batch.replace_view.Goals as goal
 
 pub returns-in-Ok-clause-gathers : goal.returns-in-Ok-clause-gathers
@@ -10,3 +9,13 @@ pub returns-in-Err-clause-gathers : goal.returns-in-Err-clause-gathers
 returns-in-Err-clause-gathers g c =
     let m = c.in-Err.ensures.gathers in
     record { room = m.room; gathered = m.gathered; full = m.full; stops = m.stops }
+
+pub returns-in-Err-clause-left : goal.returns-in-Err-clause-left
+returns-in-Err-clause-left g c =
+    let l = c.in-Err.ensures.left in
+    record { indexed = l.indexed; stopped = l.stopped; refused = l.refused; same = l.same; moment = l.moment; bad = l.bad }
+
+pub returns-in-Ok-clause-left : goal.returns-in-Ok-clause-left
+returns-in-Ok-clause-left g c =
+    let l = c.in-Ok.ensures.left in
+    record { indexed = l.indexed; stopped = tt; refused = tt; same = tt; moment = tt; bad = λ told. tt }

@@ -1,6 +1,6 @@
-use Rattle.std.proofs.Common.{arith, false, Some, sym, ap, ◌∙◌}
+use Rattle.std.proofs.Common.{arith, false, Some, refl, sym, ap, ◌∙◌}
 use Rattle.std.specs.FinMap as finite
-use Rattle.rpm_db.proofs.Vocabulary.{blobs, database_of, Erase, raised, with_spare}
+use Rattle.rpm_db.proofs.Vocabulary.{blobs, database_of, Erase, old_rows, packages, raised, with_spare}
 use Rattle.rpm_db.proofs.Applied.{erase_state}
 use Rattle.rpm_db.proofs.Left.{left_done, left_fault, makes_done, makes_fault, ready_inside}
 use Rattle.rpm_db.proofs.Refused.{refusal_goes, erase_cause}
@@ -33,12 +33,13 @@ returns-in-Err-clause-left g c =
     let serving = rw (sym c.self.view_is, c.in-Some.is) at c.requires.serving in
     let now_is = c.is_stopping-self-inside.ensures in
     rw (sym c.self.view_is, c.in-Some.is) (left_fault g.D.Disk _ _ st after c.in-Some.index c.erase_number.new.index c.self.inside.is_stopped
-    c.is_stopping-self-inside.result st _ c.in-Err.fault e.made now_is e.index.bad serving e.refused (room_same st after)
+    c.is_stopping-self-inside.result (old_rows (Some c.args.n) (packages (g.D.Disk.files c.args.disk.now).pkg st))
+    st _ c.in-Err.fault e.made now_is e.index.bad serving e.refused (room_same st after)
     (λ refusal. refused_same st after c.in-Some.index c.erase_number.new.index c.self.inside.is_stopped c.is_stopping-self-inside.result
     (e.refused refusal).store_is (e.refused refusal).index_is (now_is ∙ refusal_goes c.in-Err.fault refusal ∙ sym c.if-self.false)))
 
 pub returns-in-Err-clause-bad : goal.returns-in-Err-clause-bad
-returns-in-Err-clause-bad g c = λ told. c.in-Err.ensures.index.bad told
+returns-in-Err-clause-bad g c = rw (sym c.self.view_is) (λ told. c.in-Err.ensures.index.bad told)
 
 pub returns-in-Ok-clause-makes : goal.returns-in-Ok-clause-makes
 returns-in-Ok-clause-makes g c =
@@ -49,7 +50,7 @@ returns-in-Ok-clause-makes g c =
     rw (sym c.self.view_is, c.in-Some.is) (makes_done g.D.Disk c.args.disk.now c.erase_number.new.disk st c.in-Some.index c.self.inside.is_stopped
     (Erase c.args.n) (finite.remove (blobs file st) c.args.n) st.field (rw c.in-Some.is at c.self.invariant) c.if-self.false (serving c.if-self.false)
     (erase_state file st c.args.n) (g.met.D.Disk.as_read c.args.disk.now) e.stops c.erase_number.new.store c.erase_number.new.index _ _
-    (ap Some (sym (ap (with_spare st.spare) e.edit.is))) e.done (omega arith) e.index.full)
+    (ap Some (sym (ap (with_spare st.spare) e.edit.is))) e.done (omega arith) e.index.full c.args.n refl e.sums)
 
 pub returns-in-Err-clause-makes : goal.returns-in-Err-clause-makes
 returns-in-Err-clause-makes g c =

@@ -1,5 +1,6 @@
 use Rattle.std.proofs.Common.{ℕ, length, IsTrue, Result, refl, ap, sym, ◌∙◌, subst, arith, rules}
 use Rattle.rpm_db.proofs.Vocabulary.{Damage, Files, packages, ReachesMade, Remade, remade_then, rows, runs_then, Store, store, units_for, units_needed}
+use Rattle.rpm_db.proofs.Results.{if_err}
 use Rattle.rpm_db.proofs.Opened.{opened_made, settled_quiet, still_settled, runs_read, stays_lawful}
 use Rattle.rpm_db.proofs.database.Db.open_settled.Goals as goal
 
@@ -84,3 +85,8 @@ returns-clause-served g c =
           (subst (λ (fs : Files). ReachesMade (units_for (rows (packages fs.pkg c.in_ok-store.store))) fs.idx (f new).idx) (s.looks.untouched told).same
           (e.reach told));
     }
+
+-- ---- a refusal
+
+pub returns-in_err-store-clause-refused : goal.returns-in_err-store-clause-refused
+returns-in_err-store-clause-refused g c = if_err c.from_residual.result (λ e other. c.in_err-store.ensures.looks.moment_stays)

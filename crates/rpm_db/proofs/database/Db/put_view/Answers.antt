@@ -24,5 +24,9 @@ returns-in-Err-clause-left g c =
       serving = λ other. l.serving (λ is. other (err_as _ _ is));
       refused = l.refused;
       same = l.same;
+      moment = l.moment;
       stopped = (λ on. elim (l.stopped.0 on) [ inl was ↦ inl was | inr is ↦ inr (err_as _ _ is) ], λ at. l.stopped.1 (err_as _ _ at));
     }
+
+pub returns-in-Err-clause-bad : goal.returns-in-Err-clause-bad
+returns-in-Err-clause-bad g c = λ told. c.in-Err.ensures.bad told

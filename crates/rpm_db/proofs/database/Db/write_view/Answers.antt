@@ -1,10 +1,11 @@
 use Rattle.std.proofs.Common.{false, sym, ◌∙◌, arith}
-use Rattle.rpm_db.proofs.Vocabulary.{change_for, field_for, put_map, with_spare}
+use Rattle.rpm_db.proofs.Vocabulary.{change_for, field_for, number_for, old_rows, packages, put_map, with_spare}
 use Rattle.rpm_db.proofs.Reached.{added_is}
 use Rattle.rpm_db.proofs.Applied.{put_state}
 use Rattle.rpm_db.proofs.Left.{left_done, left_fault, makes_done, makes_fault, ready_inside}
 use Rattle.rpm_db.proofs.Refused.{refusal_goes}
 use Rattle.rpm_db.proofs.Rooms.{put_next}
+use Rattle.rpm_db.proofs.Sums.{changed_is}
 use Rattle.rpm_db.proofs.Served.{refused_room}
 use Rattle.rpm_db.proofs.database.Db.write_view.Goals as goal
 
@@ -40,7 +41,8 @@ returns-in-Err-clause-left g c =
     let was = rw (sym c.self.view_is, c.in-Some.is) at c.requires.ready in
     let now_is = c.is_stopping-self-inside.ensures in
     rw (sym c.self.view_is, c.in-Some.is) (left_fault g.D.Disk _ _ st after c.in-Some.index c.write_header.new.index c.self.inside.is_stopped
-    c.is_stopping-self-inside.result (with_spare after.spare st) _ c.in-Err.fault e.made now_is e.index.bad (λ runs. was.serving) e.refused (λ room. room)
+    c.is_stopping-self-inside.result (old_rows c.args.n (packages (g.D.Disk.files c.args.disk.now).pkg st))
+    (with_spare after.spare st) _ c.in-Err.fault e.made now_is e.index.bad (λ runs. was.serving) e.refused (λ room. room)
     (λ refusal. refused_room st after c.in-Some.index c.write_header.new.index c.self.inside.is_stopped c.is_stopping-self-inside.result
     (e.refused refusal).store_is (e.refused refusal).index_is (now_is ∙ refusal_goes c.in-Err.fault refusal ∙ sym was.going)))
 
@@ -55,7 +57,7 @@ returns-in-Ok-clause-makes g c =
     (change_for c.args.n h.blob) (put_map file st c.args.n h.blob) (field_for c.args.n st) (rw c.in-Some.is at c.self.invariant) was.going was.serving
     (put_state file st c.args.n h c.requires.own) (g.met.D.Disk.as_read c.args.disk.now) e.stops c.write_header.new.store c.write_header.new.index _
     c.number_of-number.result (sym (put_next c.args.n h.blob st) ∙ e.room.placed) e.done
-    (omega (arith, added_is file st c.args.n h c.requires.own)) e.index.full)
+    (omega (arith, added_is file st c.args.n h c.requires.own)) e.index.full (number_for c.args.n st) (changed_is file st c.args.n h.blob) e.sums)
 
 pub returns-in-Err-clause-makes : goal.returns-in-Err-clause-makes
 returns-in-Err-clause-makes g c =
@@ -70,4 +72,4 @@ returns-in-Err-clause-makes g c =
     (rw (put_next c.args.n h.blob st) at e.room.placed) e.index.full)
 
 pub returns-in-Err-clause-bad : goal.returns-in-Err-clause-bad
-returns-in-Err-clause-bad g c = λ told. c.in-Err.ensures.index.bad told
+returns-in-Err-clause-bad g c = rw (sym c.self.view_is) (λ told. c.in-Err.ensures.index.bad told)
