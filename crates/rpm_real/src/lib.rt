@@ -6,6 +6,7 @@ mod folder;
 mod lock;
 mod moment;
 mod obstacle;
+mod pages;
 mod place;
 mod purpose;
 mod real_disk;

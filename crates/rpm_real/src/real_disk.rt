@@ -38,11 +38,13 @@ impl<'a, R: Files<File = fs::File> + Clock> RealDisk<'a, R> {
         folder: &str,
         purpose: Purpose,
     ) -> Result<RealDisk<'a, R>, AllocError> {
+        let mut idx = RealFile::new(alloc, folder, "Hindex.db", purpose)?;
+        idx.hold_pages(alloc);
         Ok(RealDisk {
             rt,
             door: Door::new(alloc, folder, purpose)?,
             pkg: RealFile::new(alloc, folder, "Packages.db", purpose)?,
-            idx: RealFile::new(alloc, folder, "Hindex.db", purpose)?,
+            idx,
             log: RealFile::new(alloc, folder, "Hlog.db", purpose)?,
             moment: 0,
             faults: 0,

@@ -4,6 +4,7 @@ ghost use Rattle.std.specs.Prelude.{◌≡◌, ◌<◌, ◌≤◌, ◌+◌, ◌-
 
 use crate::folder::Folder;
 use crate::obstacle::Obstacle;
+use crate::pages::Pages;
 use crate::place::{Identity, cut_tail, fill};
 use crate::purpose::Purpose;
 use rpm_outside::Failed;
@@ -34,6 +35,8 @@ pub struct RealFile {
     units: Option<u64>,
     // The file was seen to end with a whole unit, and no write of it failed since.
     is_whole: bool,
+    // What small reads are answered from, where pages are held.
+    pages: Option<Pages>,
     pub read: u64,
 }
 
@@ -63,8 +66,35 @@ impl RealFile {
             obstacle: None,
             units: None,
             is_whole: false,
+            pages: None,
             read: 0,
         })
+    }
+
+    /// From now on pages of the file are held between its writes and syncs.
+    pub fn hold_pages(&mut self, alloc: Global)
+        ensures { self.new.read ≡ self.old.read }
+    {
+        self.pages = Some(Pages::new(alloc));
+    }
+
+    /// Gives up the pages that are held.
+    fn give_up_pages(&mut self)
+        ensures { self.new.read ≡ self.old.read }
+    {
+        if let Some(pages) = &mut self.pages {
+            pages.give_up();
+        }
+    }
+
+    /// Fills `into` from a byte on where a page that is held has all of it, and tells whether it did.
+    fn fill_by_page(&mut self, offset: u64, into: &mut [u8]) -> bool
+        ensures { self.new.read ≡ self.old.read }
+    {
+        match (&self.file, &mut self.pages) {
+            (Some(file), Some(pages)) => pages.fill(file, offset, into),
+            _ => false,
+        }
     }
 
     /// The number of its whole units: none where it isn't there. The system is asked once between two writes.
@@ -108,6 +138,9 @@ impl RealFile {
         self.read = self.read.saturating_add(into.len() as u64);
         entered?;
         self.open_to_read(rt)?;
+        if unit < UNITS && self.fill_by_page(16 * unit, into) {
+            return Ok(());
+        }
         match &self.file {
             Some(file) if unit < UNITS => fill(file, 16 * unit, into),
             _ => Err(Failed),
@@ -149,6 +182,7 @@ impl RealFile {
         }
         self.open_to_write(rt, folder)?;
         self.units = None;
+        self.give_up_pages();
         self.put(unit, bytes)
     }
 
@@ -163,6 +197,7 @@ impl RealFile {
         ensures { self.new.read ≡ self.old.read }
     {
         entered?;
+        self.give_up_pages();
         self.open_to_read(rt)?;
         let Some(file) = &self.file else {
             return Ok(());
