@@ -2,6 +2,7 @@
 # Whether command lines end as they have to where memory is refused: each of their allocations finds none in turn, one a run. Such a run says so
 # (status 254), what it printed is the beginning of what is printed with ample memory, and the packages are those from before. Or it ends
 # as with ample memory; or, where the buffer of a package file or of the standard input finds none, that isn't opened, which is status 1.
+# And whether memory is taken as bytes come: a list of 16 bytes that claims 68,157,424 more is cut short, where no more than 16 MiB may be taken.
 #
 #   trials/refused_memory.sh PROGRAM    PROGRAM is crates/rpm_prog/out/rpm_prog; wants python3 and a C compiler (Debian: apt-get install gcc)
 #
@@ -62,9 +63,30 @@ try() {
     echo "$*: $count allocations, $refusals answered with status 254"
 }
 
+# Whether the import of a list ends with this status, where 16 MiB of addresses are all that it may have.
+limited() {
+    rm -rf db
+    cp -r begun db
+    status=0
+    (ulimit -v 16384 && exec "$program" rpmdb --dbpath db --importdb) < "$1" > out 2> err || status=$?
+    packages > left
+    if [ "$status" -eq "$2" ] && cmp -s left before; then
+        echo "a list of $(stat -c %s "$1") bytes in 16 MiB: status $status"
+    else
+        echo "trials/refused_memory.sh: a list of $(stat -c %s "$1") bytes in 16 MiB: status $status, not $2" >&2
+        failed=1
+    fi
+}
+
 rm -rf db
 cp -r begun db
 packages > before
+# The most entries and data that a header may claim: of them nothing comes, and then all.
+printf '\216\255\350\001\0\0\0\0\0\0\377\377\004\0\0\0' > claims
+limited claims 1
+{ cat claims; head -c 68157424 /dev/zero; } > whole
+limited whole 254
+rm whole
 try rpm --dbpath db -qa
 try rpm -qp p1.rpm --qf '%{NVRA} %{SIGSIZE} %{DBINSTANCE} '
 try rpm --dbpath db --erasepkg 2

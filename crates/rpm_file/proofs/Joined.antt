@@ -23,7 +23,7 @@ passed found whole fault.ReadFault on is = tt
 passed found whole fault.NoMemory on is = tt
 
 -- a header with its magic
-headed_is : (p : HeaderKind) (bytes blob rest : List ℕ) (r : Result Header HeaderFault) → front_header bytes ≡ Ok (record { blob = blob; rest = rest })
+pub headed_is : (p : HeaderKind) (bytes blob rest : List ℕ) (r : Result Header HeaderFault) → front_header bytes ≡ Ok (record { blob = blob; rest = rest })
     → r ≡ header blob → headed p bytes ≡ with_rest (or_fault_in p r) rest
 unfolding headed
 headed_is p bytes blob rest r front is = ap (headed_of p) front ∙ ap (λ (h : Result Header HeaderFault). with_rest (or_fault_in p h) rest) (sym is)

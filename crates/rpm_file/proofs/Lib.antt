@@ -1,3 +1,4 @@
+pub mod Extents
 pub mod Filled
 pub mod Fixtures
 pub mod Joined

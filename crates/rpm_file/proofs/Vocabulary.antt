@@ -1,13 +1,13 @@
 -- The words of proofs, from one place.
-pub use Rattle.rpm_file.specs.Answers.{AnswersBy, AnswersNextIn, IsFileFault, IsListFault}
-pub use Rattle.rpm_file.specs.List.{data_in, entries_in, Found, has_magic, list_head, sized, some_found}
-unfoldable pub use Rattle.rpm_file.specs.List.{front_header, size_in}
+pub use Rattle.rpm_file.specs.Answers.{AnswersBy, AnswersNextIn, IsFileFault, IsListFault, TakesAtMost}
+pub use Rattle.rpm_file.specs.List.{body_length, data_in, entries_in, Found, has_magic, list_head, sized, some_found}
+unfoldable pub use Rattle.rpm_file.specs.List.{front_header, header_extent, size_in}
 pub use Rattle.rpm_file.specs.Merging.{and_entries, dribble_as, dribbles, has_tag, is_null, joins_as, passes_limits, stamp_items, with_entries}
 unfoldable pub use Rattle.rpm_file.specs.Merging.{dribble, merged}
 pub use Rattle.rpm_file.specs.Package.{after_signature, early_fault, entries_or_none, Headed, headed_of, headed_with, is_lead, joined_by, lead_magic}
-pub use Rattle.rpm_file.specs.Package.{main_at, or_fault_in}
+pub use Rattle.rpm_file.specs.Package.{extent_after, main_at, main_extent, or_fault_in, signature_extent}
 pub use Rattle.rpm_file.specs.Package.{package_with, padding_of, read_again, signature_at, with_rest}
-unfoldable pub use Rattle.rpm_file.specs.Package.{behind_lead, behind_padding, behind_signature, headed, package_header}
+unfoldable pub use Rattle.rpm_file.specs.Package.{behind_lead, behind_padding, behind_signature, extent_behind, headed, package_extent, package_header}
 pub use Rattle.rpm_file.specs.declared.fault.FileFault.{FileFault}
 pub use Rattle.rpm_file.specs.declared.fault.FileFault.TheVariants.{Signature}
 pub use Rattle.rpm_file.specs.declared.fault.HeaderKind.{HeaderKind}

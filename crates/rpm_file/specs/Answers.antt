@@ -1,5 +1,5 @@
 -- What a call answers that reads from a shelf. Only a failed read and want of memory come from elsewhere than the bytes.
-use Rattle.std.specs.Prelude.{◌≡◌, ℕ, List, take, Option, Some, None, Result, Ok, Err, Vec}
+use Rattle.std.specs.Prelude.{◌≡◌, ℕ, ◌+◌, ◌≤◌, List, length, take, Option, Some, None, Result, Ok, Err, Vec}
 use Rattle.std.specs.declared.alloc.Global.{Global}
 use Rattle.rpm_header.specs.Header.{Header}
 use Rattle.rpm_file.specs.declared.fault.ListFault.{ListFault}
@@ -21,6 +21,10 @@ abbrev pub IsFileFault : {X : Type 0} → Result X FileFault → FileFault → T
 IsFileFault found of_file.ReadFault = Unit {0}
 IsFileFault found of_file.NoMemory = Unit {0}
 IsFileFault found fault = found ≡ Err fault
+
+-- at most so many bytes were taken from the front of what was left
+abbrev pub TakesAtMost : ℕ → Option (List ℕ) → Option (List ℕ) → Type 0
+TakesAtMost most old new = length (left old) ≤ most + length (left new)
 
 -- the next header is taken with its magic, and what follows it is left; at the end nothing is taken
 abbrev pub AnswersNext : Option (List ℕ) → Option (List ℕ) → Result (Option (Vec ℕ Global)) ListFault → Type 0

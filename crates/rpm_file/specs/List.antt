@@ -1,5 +1,5 @@
 -- A header list: any number of headers, each with the eight bytes of its magic in front.
-use Rattle.std.specs.Prelude.{ℕ, ◌+◌, ◌*◌, List, [], ◌∷◌, length, take, drop, Bool, not, nat_eq, nat_lt, if◌then◌else◌, Option, Some, None, Result, Ok, Err}
+use Rattle.std.specs.Prelude.{ℕ, ◌+◌, ◌-◌, ◌*◌, List, [], ◌∷◌, length, take, drop, Bool, not, nat_eq, nat_lt, if◌then◌else◌, Option, Some, None, Result, Ok, Err}
 use Rattle.std.specs.List.{starts_with}
 use Rattle.std.specs.Int.{w32}
 use Rattle.rpm_header.specs.Header.{max_data, max_entries}
@@ -32,6 +32,15 @@ size_in bytes =
     else if nat_lt max_entries (entries_in bytes) then Err TooManyEntries
     else if nat_lt max_data (data_in bytes) then Err TooMuchData
     else Ok (8 + 16 * entries_in bytes + data_in bytes)
+
+-- how many bytes follow the first 16 of a header, whose length these give: none where they have a fault
+abbrev pub body_length : Result ℕ ListFault → ℕ
+body_length (Err fault) = 0
+body_length (Ok size) = size - 8
+
+-- how far the header reaches that stands in front of a list: its first 16 bytes tell, or have a fault and are all of it
+unfoldable pub header_extent : List ℕ → ℕ
+header_extent bytes = 16 + body_length (size_in bytes)
 
 -- a header of this length after its magic
 abbrev pub sized : List ℕ → Result ℕ ListFault → Result Found ListFault

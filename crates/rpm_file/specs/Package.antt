@@ -1,5 +1,5 @@
 -- A package file: a lead, a signature header, padding, the main header, and a payload that isn't looked at.
-use Rattle.std.specs.Prelude.{ℕ, ◌-◌, List, [], ◌∷◌, length, drop, Bool, not, ◌==◌, ◌&&◌, nat_eq, nat_lt, if◌then◌else◌, Result, Ok, Err}
+use Rattle.std.specs.Prelude.{ℕ, ◌+◌, ◌-◌, List, [], ◌∷◌, length, drop, Bool, not, ◌==◌, ◌&&◌, nat_eq, nat_lt, if◌then◌else◌, Result, Ok, Err}
 use Rattle.std.specs.List.{starts_with}
 use Rattle.std.specs.Int.{w16, next_multiple_of}
 use Rattle.rpm_header.specs.declared.form.HeaderFault.{HeaderFault}
@@ -12,7 +12,7 @@ use Rattle.rpm_file.specs.declared.fault.FileFault.{FileFault}
 use Rattle.rpm_file.specs.declared.fault.FileFault.TheVariants.{Short, NotAPackage, BadMagic, Signature, Main, ReadFault, NoMemory}
 use Rattle.rpm_file.specs.declared.fault.HeaderKind.{HeaderKind}
 use Rattle.rpm_file.specs.declared.fault.HeaderKind.TheVariants as part
-use Rattle.rpm_file.specs.List.{Found, front_header}
+use Rattle.rpm_file.specs.List.{Found, front_header, header_extent}
 use Rattle.rpm_file.specs.Merging.{merged, with_entries}
 
 -- ---- the lead
@@ -131,3 +131,28 @@ headed_with more (Ok found) = with_rest (with_entries found.header more) found.r
 -- the same with these entries after all others
 abbrev pub package_with : List Item → List ℕ → Result Headed FileFault
 package_with more bytes = headed_with more (package_header bytes)
+
+-- ---- how far it is read
+
+-- the main header where the padding ends, of which nothing is read where the padding is cut
+abbrev pub main_extent : Result (List ℕ) FileFault → ℕ
+main_extent (Err fault) = 0
+main_extent (Ok bytes) = header_extent bytes
+
+-- the padding after this signature header, and the main header
+unfoldable pub extent_behind : Header → List ℕ → ℕ
+extent_behind signature bytes = padding_of signature.blob + main_extent (behind_padding signature.blob bytes)
+
+-- what is read after a signature header, which is nothing where it has a fault
+abbrev pub extent_after : Result Headed FileFault → ℕ
+extent_after (Err fault) = 0
+extent_after (Ok signature) = extent_behind signature.header signature.rest
+
+-- what is read after the lead, which is nothing where that has a fault
+abbrev pub signature_extent : Result (List ℕ) FileFault → ℕ
+signature_extent (Err fault) = 0
+signature_extent (Ok bytes) = header_extent bytes + extent_after (headed part.Signature bytes)
+
+-- a package file is read to the end of its main header, or of the part that has its first fault
+unfoldable pub package_extent : List ℕ → ℕ
+package_extent bytes = 96 + signature_extent (behind_lead bytes)

@@ -1,7 +1,7 @@
 //! Reads that go on until enough bytes have come.
 
-ghost use Rattle.std.specs.Prelude.{◌≡◌, ◌<◌, ◌≤◌, ◌+◌, ◌++◌, [], IsTrue, length, take, drop, vec_len, Err, IfOk, IfErr, OnOk};
-ghost use Rattle.rpm_file.specs.Prelude.{Appends, Browses, Extends, Fills, HasCause, HasCauseAt, IsOutside, left};
+ghost use Rattle.std.specs.Prelude.{◌≡◌, ◌<◌, ◌≤◌, ◌+◌, ◌-◌, ◌++◌, [], IsTrue, length, take, drop, vec_len, Err, IfOk, IfErr, OnOk};
+ghost use Rattle.rpm_file.specs.Prelude.{Appends, Browses, Extends, Fills, HasCause, HasCauseAt, IsOutside, left, TakesAtMost};
 
 use crate::fault::ListFault;
 use rpm_outside::{Failed, Shelf};
@@ -18,6 +18,7 @@ pub fn fill<S: Shelf>(shelf: &mut S, into: &mut [u8]) -> Result<usize, Failed>
     ensures fills { IfOk result (λ n. IsTrue S.tells → Fills (S.rest shelf.old) (S.rest shelf.new) n into.new) }
     ensures browses { Browses S.Shelf shelf.old shelf.new }
     ensures cause { HasCause (S.faults shelf.old) (S.faults shelf.new) result }
+    ensures extent { IsTrue S.tells → TakesAtMost (length into.old) (S.rest shelf.old) (S.rest shelf.new) }
 {
     let mut done = 0;
     while done < into.len() {
@@ -79,6 +80,7 @@ fn fill_some<S: Shelf>(
     ensures only { IfErr result IsOutside }
     ensures browses { Browses S.Shelf shelf.old shelf.new }
     ensures cause { HasCauseAt (result ≡ Err ListFault.ReadFault) (S.faults shelf.old) (S.faults shelf.new) }
+    ensures extent { IsTrue S.tells → TakesAtMost more (S.rest shelf.old) (S.rest shelf.new) }
 {
     if make_room(room, from + more).is_err() {
         return Err(ListFault::NoMemory);
@@ -124,6 +126,7 @@ pub fn fill_upto<S: Shelf>(
     ensures only { IfErr result IsOutside }
     ensures browses { Browses S.Shelf shelf.old shelf.new }
     ensures cause { HasCauseAt (result ≡ Err ListFault.ReadFault) (S.faults shelf.old) (S.faults shelf.new) }
+    ensures extent { IsTrue S.tells → TakesAtMost (size - from) (S.rest shelf.old) (S.rest shelf.new) }
 {
     let mut done = from;
     while done < size {

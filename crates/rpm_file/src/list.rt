@@ -1,7 +1,7 @@
 //! The headers of a list, one at a time.
 
 ghost use Rattle.std.specs.Prelude.{◌≡◌, ℕ, ◌≤◌, IsTrue, length, vec_len, Ok, Err, IfOk, IfSome};
-ghost use Rattle.rpm_file.specs.Prelude.{AnswersBehind, AnswersIntro, AnswersNext, AnswersNextIn, Browses, HasCauseAt, max_blob, size_in};
+ghost use Rattle.rpm_file.specs.Prelude.{AnswersBehind, AnswersIntro, AnswersNext, AnswersNextIn, body_length, Browses, HasCauseAt, header_extent, left, max_blob, size_in, TakesAtMost};
 
 use crate::bytes::u32_at;
 use crate::fault::ListFault;
@@ -49,6 +49,7 @@ fn take_intro<S: Shelf>(shelf: &mut S, intro: &mut [u8]) -> Result<bool, ListFau
     ensures answers { IsTrue S.tells → AnswersIntro (S.rest shelf.old) (S.rest shelf.new) intro.new result }
     ensures browses { Browses S.Shelf shelf.old shelf.new }
     ensures cause { HasCauseAt (result ≡ Err ListFault.ReadFault) (S.faults shelf.old) (S.faults shelf.new) }
+    ensures extent { IsTrue S.tells → TakesAtMost 16 (S.rest shelf.old) (S.rest shelf.new) }
 {
     let count = match fill(shelf, intro) {
         Ok(count) => count,
@@ -65,6 +66,7 @@ fn take_intro<S: Shelf>(shelf: &mut S, intro: &mut [u8]) -> Result<bool, ListFau
 
 /// Reads the rest of a header that begins with these 16 bytes, its magic in front. Says how long it is without the
 /// magic: never None.
+#[tactic(auto, using(crate::proofs::Extents::sized_extent))]
 fn read_behind<S: Shelf>(
     shelf: &mut S,
     room: &mut Vec<u8>,
@@ -75,6 +77,7 @@ fn read_behind<S: Shelf>(
     ensures answers { IsTrue S.tells → AnswersBehind intro.now (S.rest shelf.old) (S.rest shelf.new) room.new.items result }
     ensures browses { Browses S.Shelf shelf.old shelf.new }
     ensures cause { HasCauseAt (result ≡ Err ListFault.ReadFault) (S.faults shelf.old) (S.faults shelf.new) }
+    ensures extent { IsTrue S.tells → TakesAtMost (body_length (size_in intro.now)) (S.rest shelf.old) (S.rest shelf.new) }
 {
     let size = size_in(intro)?;
     if begin(room, &intro[8..]).is_err() {
@@ -101,14 +104,16 @@ fn read_behind<S: Shelf>(
 /// # Errors
 ///
 /// The first of these, in this order: `Short` where the list ends within the header's first 16 bytes; `BadMagic`;
-/// `TooManyEntries` and `TooMuchData` by its two lengths; `Short` where its body is cut. A fault says nothing of what
-/// follows it, so the list isn't to be read on. `ReadFault` only where a read failed, and `NoMemory` where no memory
-/// was found.
+/// `TooManyEntries` and `TooMuchData` by its two lengths; `Short` where its body is cut. No more is taken then than
+/// the header, or its first 16 bytes where these have the fault; the list isn't to be read on. `ReadFault` only where
+/// a read failed, and `NoMemory` where no memory was found.
+#[tactic(auto, using(crate::proofs::Extents::intro_alone))]
 pub fn read_header<S: Shelf>(shelf: &mut S, room: &mut Vec<u8>) -> Result<Option<usize>, ListFault>
     ensures within { IfOk result (λ found. IfSome found (λ size. size ≤ vec_len room.new)) }
     ensures answers { IsTrue S.tells → AnswersNextIn (S.rest shelf.old) (S.rest shelf.new) room.new.items result }
     ensures browses { Browses S.Shelf shelf.old shelf.new }
     ensures cause { HasCauseAt (result ≡ Err ListFault.ReadFault) (S.faults shelf.old) (S.faults shelf.new) }
+    ensures extent { IsTrue S.tells → TakesAtMost (header_extent (left (S.rest shelf.old))) (S.rest shelf.old) (S.rest shelf.new) }
 {
     let mut intro = [0u8; 16];
     let begins = take_intro(shelf, &mut intro)?;
@@ -129,6 +134,7 @@ pub fn next_header<S: Shelf>(alloc: Global, shelf: &mut S) -> Result<Option<Vec<
     ensures answers { IsTrue S.tells → AnswersNext (S.rest shelf.old) (S.rest shelf.new) result }
     ensures browses { Browses S.Shelf shelf.old shelf.new }
     ensures cause { HasCauseAt (result ≡ Err ListFault.ReadFault) (S.faults shelf.old) (S.faults shelf.new) }
+    ensures extent { IsTrue S.tells → TakesAtMost (header_extent (left (S.rest shelf.old))) (S.rest shelf.old) (S.rest shelf.new) }
 {
     let mut blob = Vec::new(alloc);
     let Some(size) = read_header(shelf, &mut blob)? else {

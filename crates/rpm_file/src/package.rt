@@ -1,7 +1,7 @@
 //! The main header of a package file.
 
 ghost use Rattle.std.specs.Prelude.{◌≡◌, ◌≤◌, IsTrue, length, Ok, Err};
-ghost use Rattle.rpm_file.specs.Prelude.{and_entries, AnswersBy, AnswersMade, AnswersPart, AnswersSkip, AnswersTake, AreStamps, behind_lead, behind_padding, behind_signature, Browses, early_fault, fault_in, HasCauseAt, HasIndex, headed_with, Header, header, is_lead, max_blob, merged, package_header, package_with, read_again, stamp_items};
+ghost use Rattle.rpm_file.specs.Prelude.{and_entries, AnswersBy, AnswersMade, AnswersPart, AnswersSkip, AnswersTake, AreStamps, behind_lead, behind_padding, behind_signature, Browses, early_fault, extent_behind, fault_in, HasCauseAt, HasIndex, headed_with, Header, header, header_extent, is_lead, left, max_blob, merged, package_extent, package_header, package_with, padding_of, read_again, stamp_items, TakesAtMost};
 
 use crate::bytes::u16_at;
 use crate::fault::{FileFault, HeaderKind, ListFault};
@@ -51,6 +51,7 @@ fn take_all<S: Shelf>(shelf: &mut S, into: &mut [u8]) -> Result<(), FileFault>
     ensures answers { IsTrue S.tells → AnswersTake (S.rest shelf.old) (S.rest shelf.new) into.new result }
     ensures browses { Browses S.Shelf shelf.old shelf.new }
     ensures cause { HasCauseAt (result ≡ Err FileFault.ReadFault) (S.faults shelf.old) (S.faults shelf.new) }
+    ensures extent { IsTrue S.tells → TakesAtMost (length into.old) (S.rest shelf.old) (S.rest shelf.new) }
 {
     match fill(shelf, into) {
         Ok(count) => {
@@ -78,6 +79,7 @@ fn skip_lead<S: Shelf>(shelf: &mut S) -> Result<(), FileFault>
     ensures answers { IsTrue S.tells → AnswersSkip behind_lead (S.rest shelf.old) (S.rest shelf.new) result }
     ensures browses { Browses S.Shelf shelf.old shelf.new }
     ensures cause { HasCauseAt (result ≡ Err FileFault.ReadFault) (S.faults shelf.old) (S.faults shelf.new) }
+    ensures extent { IsTrue S.tells → TakesAtMost 96 (S.rest shelf.old) (S.rest shelf.new) }
 {
     let mut lead = [0u8; 96];
     take_all(shelf, &mut lead)?;
@@ -94,6 +96,7 @@ fn skip_padding<S: Shelf>(shelf: &mut S, blob: &[u8]) -> Result<(), FileFault>
     ensures answers { IsTrue S.tells → AnswersSkip (behind_padding blob.now) (S.rest shelf.old) (S.rest shelf.new) result }
     ensures browses { Browses S.Shelf shelf.old shelf.new }
     ensures cause { HasCauseAt (result ≡ Err FileFault.ReadFault) (S.faults shelf.old) (S.faults shelf.new) }
+    ensures extent { IsTrue S.tells → TakesAtMost (padding_of blob.now) (S.rest shelf.old) (S.rest shelf.new) }
 {
     let mut padding = [0u8; 8];
     let count = blob.len().next_multiple_of(8) - blob.len();
@@ -127,6 +130,7 @@ fn read_part<S: Shelf>(alloc: Global, shelf: &mut S, part: HeaderKind) -> Result
     ensures answers { IsTrue S.tells → AnswersPart part (S.rest shelf.old) (S.rest shelf.new) result }
     ensures browses { Browses S.Shelf shelf.old shelf.new }
     ensures cause { HasCauseAt (result ≡ Err FileFault.ReadFault) (S.faults shelf.old) (S.faults shelf.new) }
+    ensures extent { IsTrue S.tells → TakesAtMost (header_extent (left (S.rest shelf.old))) (S.rest shelf.old) (S.rest shelf.new) }
 {
     match next_header(alloc, shelf) {
         Ok(Some(blob)) => Ok(blob),
@@ -147,6 +151,7 @@ fn read_main<S: Shelf>(
         (S.rest shelf.old) (S.rest shelf.new) result }
     ensures browses { Browses S.Shelf shelf.old shelf.new }
     ensures cause { HasCauseAt (result ≡ Err FileFault.ReadFault) (S.faults shelf.old) (S.faults shelf.new) }
+    ensures extent { IsTrue S.tells → TakesAtMost (extent_behind signature.now (left (S.rest shelf.old))) (S.rest shelf.old) (S.rest shelf.new) }
 {
     skip_padding(shelf, signature.blob())?;
     let blob = read_part(alloc, shelf, HeaderKind::Main)?;
@@ -168,7 +173,8 @@ fn joined(
     Ok(Package { blob })
 }
 
-/// Reads the package file that is open, up to the end of its main header, and no byte after it.
+/// Reads the package file that is open, up to the end of its main header, and no byte after it. Where it answers a
+/// fault no more was taken than up to the end of the part that has it.
 ///
 /// Each header's body is read straight into a vector of its own, as `next_header` does it, and both are checked once.
 /// What is handed up is a third vector. Takes time in proportion to the two headers, and to the texts that
@@ -185,6 +191,7 @@ pub fn read_package<S: Shelf>(alloc: Global, shelf: &mut S) -> Result<Package, F
     ensures answers { IsTrue S.tells → AnswersBy package_header (S.rest shelf.old) (S.rest shelf.new) result }
     ensures browses { Browses S.Shelf shelf.old shelf.new }
     ensures cause { HasCauseAt (result ≡ Err FileFault.ReadFault) (S.faults shelf.old) (S.faults shelf.new) }
+    ensures extent { IsTrue S.tells → TakesAtMost (package_extent (left (S.rest shelf.old))) (S.rest shelf.old) (S.rest shelf.new) }
 {
     read_package_with(alloc, shelf, &[])
 }
@@ -204,6 +211,7 @@ pub fn read_package_with<S: Shelf>(
     ensures answers { IsTrue S.tells → AnswersBy (package_with (stamp_items stamps.now)) (S.rest shelf.old) (S.rest shelf.new) result }
     ensures browses { Browses S.Shelf shelf.old shelf.new }
     ensures cause { HasCauseAt (result ≡ Err FileFault.ReadFault) (S.faults shelf.old) (S.faults shelf.new) }
+    ensures extent { IsTrue S.tells → TakesAtMost (package_extent (left (S.rest shelf.old))) (S.rest shelf.old) (S.rest shelf.new) }
 {
     skip_lead(shelf)?;
     let blob = read_part(alloc, shelf, HeaderKind::Signature)?;

@@ -2,6 +2,7 @@ use Rattle.std.proofs.Common.{ap, sym, ◌∙◌, arith}
 use Rattle.rpm_file.proofs.Vocabulary.{and_entries, behind_padding, behind_signature, browses_then, headed, headed_with, header, left, merged, stamp_items}
 use Rattle.std.proofs.lemmas.Result.{err_from_is_err_and}
 use Rattle.rpm_file.specs.declared.fault.HeaderKind.TheVariants as part
+use Rattle.rpm_file.proofs.Extents.{padding_alone, padding_then}
 use Rattle.rpm_file.proofs.Joined.{passed, padding_fault, main_fault, main_bad, main_good, made_answers, made_reads, with_layer}
 use Rattle.rpm_file.specs.inner.Layers.{has_index}
 use Rattle.rpm_file.proofs.package.read_main.Goals as goal
@@ -76,3 +77,26 @@ returns-clause-cause g c = record {
 
 pub joined-requires-clause-index : goal.joined-requires-clause-index
 joined-requires-clause-index g c = has_index c.in_ok-blob.blob.items c.in_ok-main.main (sym (c.in_ok-main.ensures.value ∙ ap header c.deref.ensures.value))
+
+pub returns-in_err-skip_padding-clause-extent : goal.returns-in_err-skip_padding-clause-extent
+returns-in_err-skip_padding-clause-extent g c = λ told.
+    padding_alone c.args.signature.now (g.S.Shelf.rest c.args.shelf.now) (g.S.Shelf.rest c.skip_padding.new.shelf)
+    (rw c.blob.ensures.value at c.skip_padding.ensures.extent told)
+
+pub returns-in_err-blob-clause-extent : goal.returns-in_err-blob-clause-extent
+returns-in_err-blob-clause-extent g c = λ told.
+    padding_then c.args.signature.now (g.S.Shelf.rest c.args.shelf.now) (g.S.Shelf.rest c.skip_padding.new.shelf) (g.S.Shelf.rest c.read_part.new.shelf)
+    (rw c.blob.ensures.value at c.skip_padding.ensures.extent told) (rw c.blob.ensures.value at c.in_ok-skip_padding.ensures.answers told)
+    (c.read_part.ensures.extent told)
+
+pub returns-in_err-main-clause-extent : goal.returns-in_err-main-clause-extent
+returns-in_err-main-clause-extent g c = λ told.
+    padding_then c.args.signature.now (g.S.Shelf.rest c.args.shelf.now) (g.S.Shelf.rest c.skip_padding.new.shelf) (g.S.Shelf.rest c.read_part.new.shelf)
+    (rw c.blob.ensures.value at c.skip_padding.ensures.extent told) (rw c.blob.ensures.value at c.in_ok-skip_padding.ensures.answers told)
+    (c.read_part.ensures.extent told)
+
+pub returns-clause-extent : goal.returns-clause-extent
+returns-clause-extent g c = λ told.
+    padding_then c.args.signature.now (g.S.Shelf.rest c.args.shelf.now) (g.S.Shelf.rest c.skip_padding.new.shelf) (g.S.Shelf.rest c.read_part.new.shelf)
+    (rw c.blob.ensures.value at c.skip_padding.ensures.extent told) (rw c.blob.ensures.value at c.in_ok-skip_padding.ensures.answers told)
+    (c.read_part.ensures.extent told)

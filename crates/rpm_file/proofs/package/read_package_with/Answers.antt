@@ -3,7 +3,8 @@ use Rattle.rpm_file.proofs.Vocabulary.{behind_lead, behind_signature, browses_th
 use Rattle.rpm_file.proofs.Vocabulary.{Signature, stamp_items}
 use Rattle.std.proofs.lemmas.Result.{err_from_is_err_and}
 use Rattle.rpm_file.specs.declared.fault.HeaderKind.TheVariants as part
-use Rattle.rpm_file.proofs.Joined.{passed, lead_fault, signature_fault, signature_bad, signature_good, whole_answers}
+use Rattle.rpm_file.proofs.Extents.{lead_alone, lead_then, main_then}
+use Rattle.rpm_file.proofs.Joined.{headed_is, passed, lead_fault, signature_fault, signature_bad, signature_good, whole_answers}
 use Rattle.rpm_file.proofs.package.read_package_with.Goals as goal
 
 -- what was parsed, before its fault was named
@@ -77,3 +78,30 @@ returns-clause-browses g c =
     c.read_part.new.shelf c.skip_lead.ensures.browses c.read_part.ensures.browses in
     browses_then g.S.Shelf c.args.shelf.now c.read_part.new.shelf
     c.read_main.new.shelf first c.read_main.ensures.browses
+
+pub returns-in_err-skip_lead-clause-extent : goal.returns-in_err-skip_lead-clause-extent
+returns-in_err-skip_lead-clause-extent g c = λ told.
+    lead_alone (g.S.Shelf.rest c.args.shelf.now) (g.S.Shelf.rest c.skip_lead.new.shelf) (c.skip_lead.ensures.extent told)
+
+pub returns-in_err-blob-clause-extent : goal.returns-in_err-blob-clause-extent
+returns-in_err-blob-clause-extent g c = λ told.
+    lead_then (g.S.Shelf.rest c.args.shelf.now) (g.S.Shelf.rest c.skip_lead.new.shelf) (g.S.Shelf.rest c.read_part.new.shelf)
+    (c.skip_lead.ensures.extent told) (c.in_ok-skip_lead.ensures.answers told) (c.read_part.ensures.extent told)
+
+pub returns-in_err-signature-clause-extent : goal.returns-in_err-signature-clause-extent
+returns-in_err-signature-clause-extent g c = λ told.
+    lead_then (g.S.Shelf.rest c.args.shelf.now) (g.S.Shelf.rest c.skip_lead.new.shelf) (g.S.Shelf.rest c.read_part.new.shelf)
+    (c.skip_lead.ensures.extent told) (c.in_ok-skip_lead.ensures.answers told) (c.read_part.ensures.extent told)
+
+pub returns-clause-extent : goal.returns-clause-extent
+returns-clause-extent g c = λ told.
+    let old = g.S.Shelf.rest c.args.shelf.now in
+    let lead = g.S.Shelf.rest c.skip_lead.new.shelf in
+    let mid = g.S.Shelf.rest c.read_part.new.shelf in
+    let s = c.in_ok-signature.signature in
+    let skipped = c.in_ok-skip_lead.ensures.answers told in
+    let parsed = ok_before c.parse.result c.map_err.result c.map_err.ensures.cases s c.in_ok-signature.was in
+    let found = headed_is part.Signature (left lead) c.in_ok-blob.blob.items (left mid) (Ok s) (c.in_ok-blob.ensures.answers told)
+    (sym parsed ∙ c.parse.ensures.value ∙ ap header c.deref.ensures.value) in
+    main_then old lead mid (g.S.Shelf.rest c.read_main.new.shelf) s (c.skip_lead.ensures.extent told) skipped (c.read_part.ensures.extent told) found
+    (c.read_main.ensures.extent told)
