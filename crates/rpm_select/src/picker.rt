@@ -1,6 +1,6 @@
 //! The packages that a question picks, one at a time.
 
-ghost use Rattle.std.specs.Prelude.{◌≡◌, ◌<◌, IsTrue, IsOk, IfOk, IfSome, ◌+◌, ◌≤◌, false};
+ghost use Rattle.std.specs.Prelude.{◌≡◌, ◌<◌, IsTrue, IsOk, IfOk, IfSome, Ok, ◌+◌, ◌≤◌, false};
 ghost use Rattle.rpm_select.specs.Prelude.{above, AnyIs, AsksPackages, asks, AsksIndex, cost_after, cost_to, IsNext, IsStrictlyIncreasing, Kept, KeptIndex, keys_asked, Looks, NextIs, number_in, packages_in, picks, Pkg, reach, reach_after, reach_to, reaches, ReadsOwn, Serves, These, unasked};
 ghost use Rattle.rpm_select.specs.Frame.{HasRows};
 
@@ -100,6 +100,7 @@ impl Picker {
         requires keeps_index { KeptIndex D.Disk disk.old db.now }
         requires runs { db.now.stopped ≡ false }
         ensures begins { asks db.now selection.now ≡ false → IsOk result }
+        ensures plain { asks db.now selection.now ≡ false → result ≡ Ok (unasked selection.now) }
         ensures unread { asks db.now selection.now ≡ false → Looks D.Disk Pkg 0 disk.old disk.new }
         ensures asks { AsksIndex D.Disk (keys_asked selection.now) disk.old disk.new db.now result }
         ensures reach { IfOk result (λ picker. IsTrue D.tells → HasRows D.Disk disk.old db.now
