@@ -1,8 +1,11 @@
 -- What a batch says of an erasure.
-use Rattle.rpm_change.proofs.Vocabulary.{ChangeFault, halt_of, IsOfIndex, WholeCause}
+use Rattle.std.proofs.Common.{ℕ, Option, Some, None}
+use Rattle.rpm_change.proofs.Vocabulary.{ChangeFault, Halt, halt_of, IsOfIndex, WholeCause}
+use Rattle.rpm_change.specs.Adding.{IsOfPutting}
 use Rattle.rpm_change.specs.Endings.{IsOfErasing}
 use Rattle.rpm_db.specs.Refusals as db
 use Rattle.rpm_db.specs.declared.change_fault.ChangeFault.TheVariants as fault
+use Rattle.rpm_change.specs.declared.tally.Halt.TheVariants as halt
 
 pub kind_of_erasing : (f : ChangeFault) → db.IsOfErasing f → IsOfErasing (halt_of f)
 kind_of_erasing fault.NoSuch kind = tt
@@ -22,3 +25,10 @@ kind_of_index others kind = absurd kind
 pub erasing_whole : (f : ChangeFault) → db.IsOfErasing f → WholeCause f
 erasing_whole (fault.BadIndex unit) kind = absurd kind
 erasing_whole others kind = tt
+
+-- what an erasure has may stop a file too
+pub erasing_puts : (number : Option ℕ) (h : Halt) → IsOfErasing h → IsOfPutting number h
+erasing_puts number halt.NumbersSpent kind = absurd kind
+erasing_puts number halt.OutFault kind = absurd kind
+erasing_puts None others kind = tt
+erasing_puts (Some n) others kind = tt

@@ -7,7 +7,7 @@ pub use Rattle.rpm_change.specs.Exercise.{generated, numbered, package_items, ve
 pub use Rattle.rpm_change.specs.Importing.{ending, import_list, import_listed, imported, Listed, listed, listed_in, listed_next, once, place_fails, with_blob}
 pub use Rattle.rpm_change.specs.Limits.{is_limit, LimitsTurn}
 pub use Rattle.rpm_change.specs.Rebuilding.{drop_each, dropped, dropped_line, rebuild}
-pub use Rattle.rpm_change.specs.Singles.{MakesOne}
+pub use Rattle.rpm_change.specs.Singles.{GathersOne, IsHeld, MakesOne}
 pub use Rattle.rpm_change.specs.Steps.{apply_all, Bearer, bearer, changing, Course, failing, idle, in_turn, joined, ToErr, whole}
 pub use Rattle.rpm_change.specs.Texts.{absent_line, header_text, refused_line}
 unfoldable pub use Rattle.rpm_change.specs.Texts.{file_text}
@@ -35,7 +35,8 @@ pub use Rattle.rpm_db.specs.Changed.{IsLeft, IsReady, Makes}
 pub use Rattle.rpm_db.specs.Changes.{Add, Change, Erase, next, Put}
 pub use Rattle.rpm_db.specs.Database.{Database, generation_of, has_failed, is_indexed, IsNext, next_number}
 pub use Rattle.rpm_db.specs.Frame.{IsIndexed, packages_in, room, Runs, state_in}
-pub use Rattle.rpm_db.specs.Gathering.{due, due_units, IsGathering, IsOrdered, IsSettledUp, nothing, OwesOn, resumed, sealed_in, suspended}
+pub use Rattle.rpm_db.specs.Gathering.{due, due_units, Gathers, IsGathering, IsLeftSuspended, IsOrdered, IsSettledUp, nothing, OwesOn, resumed}
+pub use Rattle.rpm_db.specs.Gathering.{sealed_in, suspended}
 pub use Rattle.rpm_db.specs.Lawful.{IsWholeIndex, Remade}
 pub use Rattle.rpm_db.specs.Reaches.{needed}
 pub use Rattle.rpm_db.specs.Refusals.{AddIs, EraseCause, FullCause, IsOfIndex, IsOfReading, WholeCause}

@@ -1,13 +1,13 @@
 //! Adding package files.
 
 ghost use Rattle.std.specs.Prelude.{◌≡◌, ℕ, ◌+◌, ◌^◌, ◌<◌, Some, None, length, map, IsTrue, Ok, Err, IfOk, IfErr};
-ghost use Rattle.rpm_change.specs.Prelude.{add_files, EndedOnErr, Hand, IsHeld, KeepsShelf, IsOfPutting, IsReady, put_file, state_in, stop_in, Went};
+ghost use Rattle.rpm_change.specs.Prelude.{add_files, EndedOnErr, Hand, IsGathering, IsHeld, KeepsShelf, IsOfPutting, IsReady, put_file, state_in, stop_in, Went, WentOwing};
 
 use crate::faults::{put_absent, put_refused};
 use crate::install::read_installed;
-use crate::single::put_blob;
+use crate::single::put_within;
 use crate::tally::{Halt, Tally};
-use rpm_db::Db;
+use rpm_db::{Batch, Db};
 use rpm_file::FileFault;
 use rpm_outside::{Absent, Buffered, Disk, Shelf, Sink};
 use std::alloc::Global;
@@ -31,19 +31,20 @@ fn stop_in(fault: FileFault) -> Option<Halt>
     }
 }
 
-/// Puts the package file under a path into the database, or writes to err why it doesn't go.
+/// Puts the package file under a path into the database while a batch goes on, or writes to err why it doesn't go.
 pub fn put_file<D: Disk, S: Shelf, E: Sink + Drop>(
     alloc: Global,
     db: &mut Db,
     disk: &mut D,
     shelf: &mut S,
+    batch: &mut Batch,
     how: Placing,
     path: &str,
     err: &mut Buffered<E>,
 ) -> Result<Tally, Halt>
-    requires ready { IsReady D.Disk disk.old db.old }
+    requires gathering { IsGathering D.Disk disk.old db.old batch.old }
     requires held { IsHeld how.number db.old }
-    ensures went { (j : ℕ) → Went D.Disk (IsTrue D.tells × IsTrue S.tells) disk.old disk.new db.old db.new result
+    ensures went { (j : ℕ) → WentOwing D.Disk (IsTrue D.tells × IsTrue S.tells) disk.old disk.new db.old db.new batch.old batch.new result
         (EndedOnErr E.Sink err.old err.new) (put_file how (S.paths shelf.old) j path.now) }
     ensures one { IfOk result (λ tally. tally.failed + tally.changes ≡ 1) }
     ensures kinds { IfErr result (IsOfPutting how.number) }
@@ -52,7 +53,7 @@ pub fn put_file<D: Disk, S: Shelf, E: Sink + Drop>(
 {
     match shelf.open(path) {
         Ok(()) => match read_installed(alloc, shelf, how.moment) {
-            Ok(blob) => put_blob(alloc, db, disk, how.number, &blob),
+            Ok(blob) => put_within(alloc, db, disk, batch, how.number, &blob),
             Err(fault) => match stop_in(fault) {
                 Some(halt) => Err(halt),
                 None => put_refused(alloc, err, path.as_bytes(), fault),
@@ -62,10 +63,45 @@ pub fn put_file<D: Disk, S: Shelf, E: Sink + Drop>(
     }
 }
 
+/// Adds the package files under these paths, one after the other, while a batch goes on.
+fn add_each<D: Disk, S: Shelf, E: Sink + Drop>(
+    alloc: Global,
+    db: &mut Db,
+    disk: &mut D,
+    shelf: &mut S,
+    batch: &mut Batch,
+    paths: &[&str],
+    now: u32,
+    err: &mut Buffered<E>,
+) -> Result<Tally, Halt>
+    requires few { length paths.now < 2 ^ 32 }
+    requires gathering { IsGathering D.Disk disk.old db.old batch.old }
+    ensures went { WentOwing D.Disk (IsTrue D.tells × IsTrue S.tells) disk.old disk.new db.old db.new batch.old batch.new result
+        (EndedOnErr E.Sink err.old err.new)
+        (add_files (S.paths shelf.old) now (state_in D.Disk disk.old db.old) (map (λ path. path.now) paths.now)) }
+    ensures kinds { IfErr result (IsOfPutting None) }
+    ensures shelf { KeepsShelf S.Shelf (result ≡ Err Halt.ShelfFault) shelf.old shelf.new }
+    ensures err { Hand E.Sink (result ≡ Err Halt.ErrFault) err.old err.new }
+{
+    let how = Placing {
+        number: None,
+        moment: now,
+    };
+    let mut failed = 0u32;
+    let mut changes = 0u32;
+    for path in paths {
+        let tally = put_file(alloc, db, disk, shelf, batch, how, path, err)?;
+        failed += tally.failed;
+        changes += tally.changes;
+    }
+    Ok(Tally { failed, changes })
+}
+
 /// Adds the package files under these paths, one after the other, each under a new number: its header with the
 /// signature's entries, and with `INSTALLTIME` and `INSTALLTID`, both `now` in seconds since 1970. A path that can't be
 /// opened has a line on `err`, and so has a file that is refused; its argument fails. The path `-` is the standard
-/// input. One header at a time is kept in memory.
+/// input. One header at a time is kept in memory, and the rows of all: the index is changed and sealed once, after the
+/// last.
 ///
 /// The disk may be an overlay: then all changes can be committed as one. After an `Err` the database isn't to be used
 /// further.
@@ -104,16 +140,8 @@ pub fn add_files<D: Disk, S: Shelf, E: Sink + Drop>(
     ensures shelf { KeepsShelf S.Shelf (result ≡ Err Halt.ShelfFault) shelf.old shelf.new }
     ensures err { Hand E.Sink (result ≡ Err Halt.ErrFault) err.old err.new }
 {
-    let how = Placing {
-        number: None,
-        moment: now,
-    };
-    let mut failed = 0u32;
-    let mut changes = 0u32;
-    for path in paths {
-        let tally = put_file(alloc, db, disk, shelf, how, path, err)?;
-        failed += tally.failed;
-        changes += tally.changes;
-    }
-    Ok(Tally { failed, changes })
+    let mut batch = Batch::begin(alloc, db);
+    let tally = add_each(alloc, db, disk, shelf, &mut batch, paths, now, err)?;
+    batch.finish(alloc, db, disk)?;
+    Ok(tally)
 }

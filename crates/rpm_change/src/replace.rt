@@ -1,14 +1,39 @@
 //! A package file in place of a package.
 
 ghost use Rattle.std.specs.Prelude.{◌≡◌, ◌+◌, Some, false, IsTrue, Err, IfOk, IfErr};
-ghost use Rattle.rpm_change.specs.Prelude.{EndedOnErr, Hand, KeepsShelf, holds, IsOfPutting, IsReady, replace, state_in, Went};
+ghost use Rattle.rpm_change.specs.Prelude.{EndedOnErr, Hand, IsHeld, KeepsShelf, holds, IsOfPutting, IsReady, put_file, replace, state_in, Went};
 
 use crate::add::{Placing, put_file};
 use crate::lines::put_missing;
 use crate::tally::{Halt, Tally};
-use rpm_db::Db;
+use rpm_db::{Batch, Db};
 use rpm_outside::{Buffered, Disk, Shelf, Sink};
 use std::alloc::Global;
+
+/// Puts the package file under a path into the database, by a batch of its own, or writes to err why it doesn't go.
+fn put_alone<D: Disk, S: Shelf, E: Sink + Drop>(
+    alloc: Global,
+    db: &mut Db,
+    disk: &mut D,
+    shelf: &mut S,
+    how: Placing,
+    path: &str,
+    err: &mut Buffered<E>,
+) -> Result<Tally, Halt>
+    requires ready { IsReady D.Disk disk.old db.old }
+    requires held { IsHeld how.number db.old }
+    ensures went { Went D.Disk (IsTrue D.tells × IsTrue S.tells) disk.old disk.new db.old db.new result
+        (EndedOnErr E.Sink err.old err.new) (put_file how (S.paths shelf.old) 0 path.now) }
+    ensures one { IfOk result (λ tally. tally.failed + tally.changes ≡ 1) }
+    ensures kinds { IfErr result (IsOfPutting how.number) }
+    ensures shelf { KeepsShelf S.Shelf (result ≡ Err Halt.ShelfFault) shelf.old shelf.new }
+    ensures err { Hand E.Sink (result ≡ Err Halt.ErrFault) err.old err.new }
+{
+    let mut batch = Batch::begin(alloc, db);
+    let tally = put_file(alloc, db, disk, shelf, &mut batch, how, path, err)?;
+    batch.finish(alloc, db, disk)?;
+    Ok(tally)
+}
 
 /// Puts the package file under a path in place of the package that a number has, Good or Bad, with the entries that
 /// `add_files` gives it. Where no package has the number, that has a line on `err`, and the file isn't opened. A path
@@ -55,7 +80,7 @@ pub fn replace_package<D: Disk, S: Shelf, E: Sink + Drop>(
             number: Some(number),
             moment: now,
         };
-        put_file(alloc, db, disk, shelf, how, path, err)
+        put_alone(alloc, db, disk, shelf, how, path, err)
     } else {
         put_missing(alloc, err, number)
     }

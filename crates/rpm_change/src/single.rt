@@ -1,10 +1,10 @@
 //! One change of the database.
 
 ghost use Rattle.std.specs.Prelude.{◌≡◌, true, Ok};
-ghost use Rattle.rpm_change.specs.Prelude.{change_at, Erase, header, holds, IsHeld, IsReady, MakesOne, read_again};
+ghost use Rattle.rpm_change.specs.Prelude.{change_at, Erase, GathersOne, header, holds, IsGathering, IsHeld, IsReady, MakesOne, read_again};
 
 use crate::tally::{CHANGED, Halt, Tally};
-use rpm_db::Db;
+use rpm_db::{Batch, Db};
 use rpm_header::View;
 use rpm_outside::Disk;
 use std::alloc::Global;
@@ -35,6 +35,38 @@ pub fn put_blob<D: Disk>(
         }
         Some(n) => {
             db.put_view(alloc, disk, n, &view)?;
+            Ok(CHANGED)
+        }
+    }
+}
+
+/// Puts a header under a new number, or in place of the package that this number has, while a batch goes on. Counts one
+/// change.
+///
+/// # Errors
+///
+/// Those of [`put_blob`], in the same order.
+pub fn put_within<D: Disk>(
+    alloc: Global,
+    db: &mut Db,
+    disk: &mut D,
+    batch: &mut Batch,
+    number: Option<u32>,
+    blob: &[u8],
+) -> Result<Tally, Halt>
+    requires gathering { IsGathering D.Disk disk.old db.old batch.old }
+    requires held { IsHeld number db.old }
+    requires own { header blob.now ≡ Ok (read_again blob.now) }
+    ensures { GathersOne D.Disk (change_at number blob.now) disk.old disk.new db.old db.new batch.old batch.new result }
+{
+    let view = View::of_checked(blob);
+    match number {
+        None => {
+            batch.add_view(alloc, db, disk, &view)?;
+            Ok(CHANGED)
+        }
+        Some(n) => {
+            batch.replace_view(alloc, db, disk, n, &view)?;
             Ok(CHANGED)
         }
     }

@@ -1,7 +1,8 @@
 use Rattle.std.proofs.Common.{refl, sym}
-use Rattle.rpm_change.proofs.Vocabulary.{absent_line, as_installed, bytes_at, change_at, changing, failing, left, package_header, put_file, ready_line}
-use Rattle.rpm_change.proofs.Vocabulary.{ready_stopped, refused_line, ToErr, took, went_as, whole}
+use Rattle.rpm_change.proofs.Vocabulary.{absent_line, as_installed, bytes_at, change_at, changing, failing, left, line_went, package_header, put_file}
+use Rattle.rpm_change.proofs.Vocabulary.{reading_went, refused_line, ToErr, took, went_as, whole}
 use Rattle.rpm_change.proofs.Filed.{opened_is, own_fault}
+use Rattle.rpm_change.proofs.Owing.{owing_none}
 use Rattle.rpm_change.proofs.Stops.{stop_kind}
 use Rattle.rpm_change.proofs.add.put_file.Goals as goal
 
@@ -12,11 +13,12 @@ returns-in-Ok-read_installed-clause-went g c = λ j.
     went_as g.D.Disk (changing (change_at c.args.how.number c.deref.result.now)) (put_file c.args.how paths j path) (λ both. both.0)
     (λ both. let opened = c.in-Ok.ensures.opened both.1 in
     rw (opened_is (bytes_at paths path) _ opened.0 opened.1, c.in-Ok-read_installed.ensures.gives both.1, c.deref.ensures.value) refl)
-    (λ s t e. λ ot o. e ot g.E.Sink.tells o (took g.E.Sink c.args.err.now)) c.put_blob.ensures.went
+    (λ s t e. λ ot o. e ot g.E.Sink.tells o (took g.E.Sink c.args.err.now)) c.put_within.ensures.went
 
 pub returns-in-Some-clause-went : goal.returns-in-Some-clause-went
 returns-in-Some-clause-went g c = λ j.
-    ready_stopped g.D.Disk g.met.D.Disk.follows_refl c.requires.ready g.E.Sink c.args.err.now
+    reading_went g.D.Disk g.met.D.Disk.follows_refl (owing_none g.D.Disk c.requires.gathering) _ _ c.requires.gathering.indexed g.E.Sink
+    c.args.err.now
     (put_file c.args.how (g.S.Shelf.paths c.args.shelf.now) j c.args.path.now) c.in-Some.halt (stop_kind _ c.in-Some.halt (sym c.in-Some.ensures))
 
 pub returns-in-None-clause-went : goal.returns-in-None-clause-went
@@ -28,11 +30,13 @@ returns-in-None-clause-went g c = λ j.
     went_as g.D.Disk (failing (ToErr (whole j) (refused_line c.as_bytes.result.now c.in-Err-read_installed.fault))) (put_file c.args.how paths j path)
     (λ both. both) (λ both. let opened = c.in-Ok.ensures.opened both.1 in
     rw (opened_is (bytes_at paths path) rest opened.0 opened.1, fault (c.in-Err-read_installed.ensures.gives both.1), c.as_bytes.ensures.value) refl)
-    (λ s t e. e) (ready_line g.D.Disk g.met.D.Disk.follows_refl c.requires.ready g.E.Sink c.put_refused.result (whole j) c.put_refused.ensures)
+    (λ s t e. e) (line_went g.D.Disk g.met.D.Disk.follows_refl (owing_none g.D.Disk c.requires.gathering) _ _ c.requires.gathering.indexed g.E.Sink
+    c.put_refused.result (whole j) c.put_refused.ensures)
 
 pub returns-in-Err-clause-went : goal.returns-in-Err-clause-went
 returns-in-Err-clause-went g c = λ j.
     went_as g.D.Disk (failing (ToErr (whole j) (absent_line c.as_bytes-in-Err.result.now)))
     (put_file c.args.how (g.S.Shelf.paths c.args.shelf.now) j c.args.path.now) (λ both. both)
     (λ both. rw ((c.in-Err.ensures.opened both.1).1, c.as_bytes-in-Err.ensures.value) refl) (λ s t e. e)
-    (ready_line g.D.Disk g.met.D.Disk.follows_refl c.requires.ready g.E.Sink c.put_absent.result (whole j) c.put_absent.ensures)
+    (line_went g.D.Disk g.met.D.Disk.follows_refl (owing_none g.D.Disk c.requires.gathering) _ _ c.requires.gathering.indexed g.E.Sink
+    c.put_absent.result (whole j) c.put_absent.ensures)

@@ -10,7 +10,7 @@ returns-then-holds-clause-went g c =
     let paths = g.S.Shelf.paths c.args.shelf.now in
     went_as g.D.Disk (put_file (record { number = Some n; moment = c.args.now }) paths 0 c.args.path.now)
     (replace paths c.args.now (state_in g.D.Disk c.args.disk.now c.args.db.now) n c.args.path.now) (λ both. both) (λ both. rw held refl) (λ s t e. e)
-    (c.put_file.ensures.went 0)
+    c.put_alone.ensures.went
 
 pub returns-else-holds-clause-went : goal.returns-else-holds-clause-went
 returns-else-holds-clause-went g c =

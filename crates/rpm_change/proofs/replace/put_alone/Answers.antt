@@ -1,0 +1,48 @@
+use Rattle.std.proofs.Common.{ℕ, Option, Some, None}
+use Rattle.rpm_change.proofs.Vocabulary.{Database, err_is, err_stopped, IsHeld, suspended}
+use Rattle.rpm_change.proofs.Erased.{erasing_puts, kind_of_index}
+use Rattle.rpm_change.proofs.Owing.{list_settled, list_stopped, list_unsettled, owing_begun}
+use Rattle.rpm_change.proofs.replace.put_alone.Goals as goal
+
+-- a package that is there is there while a batch goes on
+held_on : (number : Option ℕ) (db : Database) → IsHeld number db → IsHeld number (suspended db)
+held_on None db held = tt
+held_on (Some n) db held = held
+
+pub put_file-requires-clause-gathering : goal.put_file-requires-clause-gathering
+put_file-requires-clause-gathering g c =
+    let b = c.begin-batch.ensures in rw b.same (owing_begun g.D.Disk c.requires.ready b.goes b.order b.sealed b.none).gathering
+
+pub put_file-requires-clause-held : goal.put_file-requires-clause-held
+put_file-requires-clause-held g c = rw c.begin-batch.ensures.same (held_on c.args.how.number c.args.db.now c.requires.held)
+
+pub finish-requires : goal.finish-requires
+finish-requires g c = record { gathering = (c.in_ok-tally.ensures.went 0).left.carried.gathering }
+
+pub returns-in_err-tally-clause-went : goal.returns-in_err-tally-clause-went
+returns-in_err-tally-clause-went g c =
+    let b = c.begin-batch.ensures in
+    rw (err_is c.from_residual.result c.from_residual.ensures)
+    (list_stopped g.D.Disk c.requires.ready b.goes b.order b.sealed b.none (λ both. both.0) (rw b.same at (c.in_err-tally.ensures.went 0)))
+
+pub returns-clause-went : goal.returns-clause-went
+returns-clause-went g c =
+    let b = c.begin-batch.ensures in
+    let f = c.in_ok-finish.ensures in
+    list_settled g.D.Disk c.requires.ready b.goes b.order b.sealed b.none (λ both. both.0) g.met.D.Disk.follows_trans c.finish.new.db
+    (rw b.same at (c.in_ok-tally.ensures.went 0)) f.left.indexed f.runs f.cause.later f.store f.packages f.settled f.whole
+
+pub returns-in_err-finish-clause-went : goal.returns-in_err-finish-clause-went
+returns-in_err-finish-clause-went g c =
+    let b = c.begin-batch.ensures in
+    let f = c.in_err-finish.ensures in
+    let fault = c.in_err-finish.field-0.0 in
+    rw (err_is c.from_residual-in_err-finish.result c.from_residual-in_err-finish.ensures)
+    (list_unsettled g.D.Disk c.requires.ready b.goes b.order b.sealed b.none (λ both. both.0) g.met.D.Disk.follows_trans c.finish.new.db
+    (rw b.same at (c.in_ok-tally.ensures.went 0)) f.left.indexed f.runs f.cause.later fault
+    (err_stopped g.E.Sink c.args.err.now c.put_file.new.err fault) f.kinds f.full f.whole (λ is. f.cause.rose (cc)))
+
+pub returns-in_err-finish-clause-kinds : goal.returns-in_err-finish-clause-kinds
+returns-in_err-finish-clause-kinds g c =
+    rw (err_is c.from_residual-in_err-finish.result c.from_residual-in_err-finish.ensures)
+    (erasing_puts c.args.how.number _ (kind_of_index c.in_err-finish.field-0.0 c.in_err-finish.ensures.kinds))
