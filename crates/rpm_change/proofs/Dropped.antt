@@ -1,9 +1,10 @@
 -- The packages that rebuilding drops, by rising number.
 use Rattle.std.proofs.Common.{◌≡◌, ℕ, ◌<◌, ◌≤◌, Ok, true, false, Option, Some, None, is_some, refl, sym, ap, ◌∙◌, arith, nat_eq, Err, Result}
 use Rattle.rpm_outside.specs.declared.disk.Disk as disk
-use Rattle.rpm_change.proofs.Vocabulary.{above, apply_all, Bad, Course, Database, drop_each, dropped, eq_by_cmp, Good, Halt, HasCauseAt, idle, IsNext}
-use Rattle.rpm_change.proofs.Vocabulary.{IsReady, joined, left_none, left_read, LeftOn, Looks, looks_run, nat_cmp, next_above}
-use Rattle.rpm_change.proofs.Vocabulary.{none_is, none_made, nothing_above, Package, Pkg, room, State, state_in, Tally, uncounted, unsigned_tied, Went}
+use Rattle.rpm_change.proofs.Vocabulary.{above, apply_all, Bad, Course, Database, drop_each, dropped, eq_by_cmp, Good, Halt, HasCauseAt, idle}
+use Rattle.rpm_change.proofs.Vocabulary.{IsGathering, IsNext, IsOwing, joined, LeftBy, Looks, looks_run, nat_cmp, next_above, none_is, none_made}
+use Rattle.rpm_change.proofs.Vocabulary.{nothing_above, OwesOn, Package, Pkg, room, RowChange, runs_looks, SameLog, serving_read, State, state_in}
+use Rattle.rpm_change.proofs.Vocabulary.{Tally, uncounted, unsigned_tied, WentOwing}
 use Rattle.std.specs.FinMap as finite
 use Rattle.std.proofs.lemmas.Cmp.{nat_cmp_total}
 use Rattle.std.proofs.lemmas.Bool.Decides.{nat_tests}
@@ -54,14 +55,44 @@ same_dropped Bad n m s t u same lt is k over =
 
 -- ---- a look
 
-module _ {D : Type 0} (d : disk.Ghosts D) (stays : (x : D) → d.follows x x) (joins : (x y z : D) → d.follows x y → d.follows y z → d.follows x z)
-    {most : ℕ} {old new : D} {db : Database} (ready : IsReady d old db) (looks : Looks d Pkg most old new) where
-  pub left_looked : (r : Result Tally Halt) → HasCauseAt (r ≡ Err halt.DiskFault) (d.faults old) (d.faults new) → LeftOn d old new db db r
-  left_looked = left_read d joins {tally = uncounted} (left_none d stays old db ready (Ok uncounted) (λ is. absurd cc)) (looks_run d looks)
+module _ {D : Type 0} (d : disk.Ghosts D) {most : ℕ} {old new : D} {db : Database} {owed : RowChange} (gathering : IsGathering d old db owed)
+    (looks : Looks d Pkg most old new) where
+  pub gathering_looked : IsGathering d new db owed
+  gathering_looked =
+      let runs = looks_run d looks in
+      record {
+        indexed = gathering.indexed;
+        suspends = gathering.suspends;
+        going = gathering.going;
+        ordered = gathering.ordered;
+        behind = gathering.behind;
+        clear = gathering.clear;
+        serving = λ told.
+            serving_read (d.files old) (d.files new) (d.left_since old (d.moment old)) (d.left_since new (d.moment new)) db (runs.reads_as told)
+            (runs.now told) (gathering.serving told);
+      }
+
+  owing_looked : IsOwing d (OwesOn d old db owed) new db owed
+  owing_looked = record { gathering = gathering_looked; owes = λ told has. rw (looks.untouched told).same has }
+
+  pub left_looked : (r : Result Tally Halt) → HasCauseAt (r ≡ Err halt.DiskFault) (d.faults old) (d.faults new)
+      → LeftBy d (IsOwing d (OwesOn d old db owed) new db owed) old new db r
+  left_looked (Ok tally) cause = record {
+    carried = owing_looked;
+    indexed = gathering.indexed;
+    runs = runs_looks d SameLog (λ f. refl) Pkg most old new refl looks;
+    disk = cause;
+  }
+  left_looked (Err h) cause = record {
+    carried = tt;
+    indexed = gathering.indexed;
+    runs = runs_looks d SameLog (λ f. refl) Pkg most old new refl looks;
+    disk = cause;
+  }
 
   -- nothing was done but for it
   pub looked_went : {T : Type 0} → d.faults old ≤ d.faults new → (T → IsTrue d.tells) → {E : Course → State → State → Result Tally Halt → Type 0}
-      → ((s : State) → E idle s s (Ok uncounted)) → Went d T old new db db (Ok uncounted) E idle
+      → ((s : State) → E idle s s (Ok uncounted)) → WentOwing d T old new db db owed owed (Ok uncounted) E idle
   looked_went later tells {E = E} ends =
       let same = λ (told : IsTrue d.tells). (looks.untouched told).same in
       record {

@@ -3,6 +3,7 @@ use Rattle.std.proofs.Common.{ℕ, Option, Some, None}
 use Rattle.rpm_change.proofs.Vocabulary.{ChangeFault, Halt, halt_of, IsOfIndex, WholeCause}
 use Rattle.rpm_change.specs.Adding.{IsOfPutting}
 use Rattle.rpm_change.specs.Endings.{IsOfErasing}
+use Rattle.rpm_change.specs.Rebuilding.{IsOfRebuilding}
 use Rattle.rpm_db.specs.Refusals as db
 use Rattle.rpm_db.specs.declared.change_fault.ChangeFault.TheVariants as fault
 use Rattle.rpm_change.specs.declared.tally.Halt.TheVariants as halt
@@ -32,3 +33,10 @@ erasing_puts number halt.NumbersSpent kind = absurd kind
 erasing_puts number halt.OutFault kind = absurd kind
 erasing_puts None others kind = tt
 erasing_puts (Some n) others kind = tt
+
+pub index_rebuilds : (f : ChangeFault) → IsOfIndex f → IsOfRebuilding (halt_of f)
+index_rebuilds (fault.IndexFull needed) kind = tt
+index_rebuilds (fault.BadIndex unit) kind = tt
+index_rebuilds fault.DiskFault kind = tt
+index_rebuilds fault.NoMemory kind = tt
+index_rebuilds others kind = absurd kind

@@ -12,21 +12,21 @@ pub use Rattle.rpm_change.specs.Steps.{apply_all, Bearer, bearer, changing, Cour
 pub use Rattle.rpm_change.specs.Texts.{absent_line, header_text, refused_line}
 unfoldable pub use Rattle.rpm_change.specs.Texts.{file_text}
 pub use Rattle.rpm_change.specs.Turns.{from_place, Leaves, StopIs, turn, turn_found}
-pub use Rattle.rpm_change.specs.Went.{CarriedOn, EndedOnErr, EndedOnOut, IsOwing, LeftOn, Went, WentOwing}
+pub use Rattle.rpm_change.specs.Went.{CarriedOn, EndedOnErr, EndedOnOut, IsOwing, LeftBy, Went, WentOwing}
 pub use Rattle.rpm_change.specs.declared.tally.Halt.{Halt}
 pub use Rattle.rpm_change.specs.declared.tally.Tally.{Tally}
 pub use Rattle.rpm_change.specs.inner.Courses.{refused_quietly, stop_by, through_none}
 pub use Rattle.rpm_change.specs.inner.Going.{Going, going_end, going_more, going_start, going_stop, halted_went, line_went, none_went, reading_went}
 pub use Rattle.rpm_change.specs.inner.Going.{stopped_went, went_as, went_behind}
 pub use Rattle.rpm_change.specs.inner.Handing.{err_is}
-pub use Rattle.rpm_change.specs.inner.Joins.{err_joins, err_none, err_refused, err_stopped, hand_then, out_gone, out_joins, out_none, out_refused, took}
-pub use Rattle.rpm_change.specs.inner.Joins.{uncounted}
-pub use Rattle.rpm_change.specs.inner.Leaving.{carried_then, halted_by, left_after, left_made, left_none, remade_log, remade_then}
+pub use Rattle.rpm_change.specs.inner.Joins.{err_joins, err_none, err_refused, err_stopped, hand_then, out_gone, out_joins, out_none, out_refused}
+pub use Rattle.rpm_change.specs.inner.Joins.{out_stopped, took, uncounted}
+pub use Rattle.rpm_change.specs.inner.Leaving.{halted_by, left_after, left_made, none_by, remade_log, remade_then}
 pub use Rattle.rpm_change.specs.inner.Leaving.{then_by, whole_halt}
 pub use Rattle.rpm_change.specs.inner.LimitLaws.{limits_counted, makes_small}
 pub use Rattle.rpm_change.specs.inner.ReachLaws.{idx_more, reached_anew}
-pub use Rattle.rpm_change.specs.inner.Reading.{left_read, looks_run}
-pub use Rattle.rpm_change.specs.inner.Ready.{GoingOn, on_more, on_stop, ready_line, ready_none, ready_stopped}
+pub use Rattle.rpm_change.specs.inner.Reading.{looks_run, serving_read}
+pub use Rattle.rpm_change.specs.inner.Ready.{ready_line}
 pub use Rattle.rpm_change.specs.inner.Single.{add_fault, erase_fault, fault_kind, fault_spent, FaultIs, HasNumber, none_made, one_made, one_refused}
 pub use Rattle.rpm_change.specs.inner.Single.{other_stop, put_fault}
 pub use Rattle.rpm_change.specs.inner.Telling.{told_all, told_none, told_part}
@@ -42,6 +42,7 @@ pub use Rattle.rpm_db.specs.Reaches.{needed}
 pub use Rattle.rpm_db.specs.Refusals.{AddIs, EraseCause, FullCause, IsOfIndex, IsOfReading, WholeCause}
 pub use Rattle.rpm_db.specs.Room.{next_store, RoomCause}
 pub use Rattle.rpm_db.specs.RowLaws.{times_none}
+pub use Rattle.rpm_db.specs.Running.{runs_looks}
 pub use Rattle.rpm_db.specs.Runs.{SameLog}
 pub use Rattle.rpm_db.specs.State.{above, Bad, Good, Package, packages, State}
 pub use Rattle.rpm_db.specs.StateLaws.{next-state}

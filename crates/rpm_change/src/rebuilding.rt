@@ -2,12 +2,12 @@
 
 ghost use Rattle.std.specs.Prelude.{◌≡◌, ◌+◌, ◌≤◌, true, IsTrue, Some, Err, IfOk, IfErr, OnOk};
 ghost use Rattle.std.specs.FinMap as finite;
-ghost use Rattle.rpm_change.specs.Prelude.{Bad, DiskFault, dropped, dropped_line, EndedOnOut, first_limit, Hand, holds, is_indexed, IsCurrent, IsOfRebuilding, IsReady, next_stores, Package, ReachedAnew, rebuild, room, RoomBecomes, Runs, SameLog, state_in, StopsAt, Went};
+ghost use Rattle.rpm_change.specs.Prelude.{Bad, DiskFault, dropped, dropped_line, EndedOnOut, first_limit, Hand, holds, is_indexed, IsCurrent, IsGathering, IsOfRebuilding, IsReady, next_stores, Package, ReachedAnew, rebuild, room, RoomBecomes, Runs, SameLog, state_in, StopsAt, Went, WentOwing};
 
-use crate::single::take_out;
+use crate::single::take_within;
 use crate::tally::{Halt, IDLE, Tally};
 use itoa::Buffer;
-use rpm_db::{Db, GetFault};
+use rpm_db::{Batch, Db, GetFault};
 use rpm_outside::{Buffered, Disk, Sink, put_and_flush};
 use std::alloc::{AllocError, Global};
 use std::mem;
@@ -25,23 +25,25 @@ fn dropped_line(alloc: Global, number: u32) -> Result<Vec<u8>, AllocError>
     Ok(line)
 }
 
-/// Erases a package that is Bad, and then writes to out that it is dropped.
+/// Erases a package that is Bad while a batch goes on, and then writes to out that it is dropped.
 fn drop_bad<D: Disk, O: Sink + Drop>(
     alloc: Global,
     db: &mut Db,
     disk: &mut D,
+    batch: &mut Batch,
     number: u32,
     out: &mut Buffered<O>,
 ) -> Result<Tally, Halt>
     requires held { holds number db.old ≡ true }
-    requires ready { IsReady D.Disk disk.old db.old }
-    ensures went { Went D.Disk (IsTrue D.tells) disk.old disk.new db.old db.new result (EndedOnOut O.Sink out.old out.new) (dropped number Bad) }
+    requires gathering { IsGathering D.Disk disk.old db.old batch.old }
+    ensures went { WentOwing D.Disk (IsTrue D.tells) disk.old disk.new db.old db.new batch.old batch.new result
+        (EndedOnOut O.Sink out.old out.new) (dropped number Bad) }
     ensures one { IfOk result (λ tally. tally ≡ record { failed = 0; changes = 1 }) }
     ensures kinds { IfErr result IsOfRebuilding }
     ensures out { Hand O.Sink (result ≡ Err Halt.OutFault) out.old out.new }
 {
     let line = dropped_line(alloc, number)?;
-    let tally = take_out(alloc, db, disk, number)?;
+    let tally = take_within(alloc, db, disk, batch, number)?;
     out.clear();
     match put_and_flush(out, &line) {
         Ok(()) => Ok(tally),
@@ -49,20 +51,21 @@ fn drop_bad<D: Disk, O: Sink + Drop>(
     }
 }
 
-/// Drops a package where it is Bad. It is read into `buffer`.
+/// Drops a package where it is Bad, while a batch goes on. It is read into `buffer`.
 fn drop_one<D: Disk, O: Sink + Drop>(
     alloc: Global,
     db: &mut Db,
     disk: &mut D,
+    batch: &mut Batch,
     number: u32,
     buffer: &mut Vec<u8>,
     out: &mut Buffered<O>,
 ) -> Result<Tally, Halt>
     requires held { holds number db.old ≡ true }
-    requires ready { IsReady D.Disk disk.old db.old }
-    ensures went { (p : Package) → Went D.Disk
+    requires gathering { IsGathering D.Disk disk.old db.old batch.old }
+    ensures went { (p : Package) → WentOwing D.Disk
         (IsTrue D.tells × (finite.get (state_in D.Disk disk.old db.old).packages number ≡ Some p))
-        disk.old disk.new db.old db.new result (EndedOnOut O.Sink out.old out.new) (dropped number p) }
+        disk.old disk.new db.old db.new batch.old batch.new result (EndedOnOut O.Sink out.old out.new) (dropped number p) }
     ensures one { IfOk result (λ tally. tally.failed + tally.changes ≤ 1) }
     ensures kinds { IfErr result IsOfRebuilding }
     ensures out { Hand O.Sink (result ≡ Err Halt.OutFault) out.old out.new }
@@ -73,15 +76,42 @@ fn drop_one<D: Disk, O: Sink + Drop>(
             *buffer = good;
             Ok(IDLE)
         }
-        Err(GetFault::Bad) => drop_bad(alloc, db, disk, number, out),
+        Err(GetFault::Bad) => drop_bad(alloc, db, disk, batch, number, out),
         Err(GetFault::DiskFault) => Err(Halt::DiskFault),
         Err(GetFault::NoMemory) => Err(Halt::NoMemory),
         Err(GetFault::NoSuch) => unreachable!(),
     }
 }
 
-/// Drops each package that is Bad, by rising number.
+/// Drops each package that is Bad, by rising number, while a batch goes on.
 fn drop_each<D: Disk, O: Sink + Drop>(
+    alloc: Global,
+    db: &mut Db,
+    disk: &mut D,
+    batch: &mut Batch,
+    out: &mut Buffered<O>,
+) -> Result<Tally, Halt>
+    requires gathering { IsGathering D.Disk disk.old db.old batch.old }
+    ensures went { WentOwing D.Disk (IsTrue D.tells) disk.old disk.new db.old db.new batch.old batch.new result
+        (EndedOnOut O.Sink out.old out.new) (rebuild (state_in D.Disk disk.old db.old)) }
+    ensures kinds { IfErr result IsOfRebuilding }
+    ensures out { Hand O.Sink (result ≡ Err Halt.OutFault) out.old out.new }
+{
+    let mut number = 0u32;
+    let mut failed = 0u32;
+    let mut changes = 0u32;
+    let mut buffer = Vec::new(alloc);
+    while let Some(next) = db.next_above(number) {
+        let tally = drop_one(alloc, db, disk, batch, next, &mut buffer, out)?;
+        number = next;
+        failed += tally.failed;
+        changes += tally.changes;
+    }
+    Ok(Tally { failed, changes })
+}
+
+/// Drops the packages that are Bad, by rising number, all in one batch.
+fn drop_all<D: Disk, O: Sink + Drop>(
     alloc: Global,
     db: &mut Db,
     disk: &mut D,
@@ -93,22 +123,16 @@ fn drop_each<D: Disk, O: Sink + Drop>(
     ensures kinds { IfErr result IsOfRebuilding }
     ensures out { Hand O.Sink (result ≡ Err Halt.OutFault) out.old out.new }
 {
-    let mut number = 0u32;
-    let mut failed = 0u32;
-    let mut changes = 0u32;
-    let mut buffer = Vec::new(alloc);
-    while let Some(next) = db.next_above(number) {
-        let tally = drop_one(alloc, db, disk, next, &mut buffer, out)?;
-        number = next;
-        failed += tally.failed;
-        changes += tally.changes;
-    }
-    Ok(Tally { failed, changes })
+    let mut batch = Batch::begin(alloc, db);
+    let tally = drop_each(alloc, db, disk, &mut batch, out)?;
+    batch.finish(alloc, db, disk)?;
+    Ok(tally)
 }
 
 /// Makes the index anew, whatever it was, and then erases each package that is Bad, by rising number: each has a line
 /// on `out`, for which nothing fails. Reads the blocks of each package twice, and those of one that is erased once
-/// more; but for the rows of the index nothing but the present package is in memory.
+/// more; but for the rows of the index nothing but the present package is in memory. The erased are one batch: the index
+/// is changed and sealed once for all of them.
 ///
 /// The disk may be an overlay: then all changes can be committed as one. After an `Err` the database isn't to be used
 /// further.
@@ -151,5 +175,5 @@ pub fn rebuild<D: Disk, O: Sink + Drop>(
     ensures out { Hand O.Sink (result ≡ Err Halt.OutFault) out.old out.new }
 {
     db.rebuild(alloc, disk)?;
-    drop_each(alloc, db, disk, out)
+    drop_all(alloc, db, disk, out)
 }

@@ -91,3 +91,23 @@ pub fn take_out<D: Disk>(
     db.erase(alloc, disk, number)?;
     Ok(CHANGED)
 }
+
+/// Takes the package that this number has out, Good or Bad, while a batch goes on. Counts one change.
+///
+/// # Errors
+///
+/// `GenerationSpent`; besides `DiskFault`, and `NoMemory` where the change finds none.
+pub fn take_within<D: Disk>(
+    alloc: Global,
+    db: &mut Db,
+    disk: &mut D,
+    batch: &mut Batch,
+    number: u32,
+) -> Result<Tally, Halt>
+    requires gathering { IsGathering D.Disk disk.old db.old batch.old }
+    requires held { holds number db.old ≡ true }
+    ensures { GathersOne D.Disk (Erase number) disk.old disk.new db.old db.new batch.old batch.new result }
+{
+    batch.erase(alloc, db, disk, number)?;
+    Ok(CHANGED)
+}

@@ -72,6 +72,11 @@ module _ {S : Type 0} (of : sink.Ghosts S) where
   err_stopped x y f {course = course} s t u ends = λ ot o.
       stopped_ended course s u f _ _ (record { done = course.steps; rest = []; all_is = sym (append-nil course.steps); through = (ends ot o).steps })
 
+  pub out_stopped : (x y : Buffered S) (f : ChangeFault) {course : Course} {tally : Tally} (s t u : State) → EndedOnOut of x y course s t (Ok tally)
+      → EndedOnOut of x y course s u (Err (halt_of f))
+  out_stopped x y f {course = course} s t u ends = λ et e.
+      stopped_ended course s u f _ _ (record { done = course.steps; rest = []; all_is = sym (append-nil course.steps); through = (ends et e).steps })
+
   -- what a part before a call kept of it
   pub hand_then : {fails now : Type 0} → ((x y z : S) → of.follows x y → of.follows y z → of.follows x z) → (x y z : Buffered S)
       → of.faults (inner x) ≤ of.faults (inner y) → of.follows (inner x) (inner y) → (now → fails) → Hand of fails y z → Hand of now x z

@@ -18,7 +18,7 @@ use Rattle.rpm_change.specs.Went.{LeftOn}
 use Rattle.rpm_change.specs.inner.Leaving.{carried_any, cause_then}
 
 -- the value serves as before
-serving_read : (old new : Files) (past since : Files → Type 0) (db : Database) → new ≡ old
+pub serving_read : (old new : Files) (past since : Files → Type 0) (db : Database) → new ≡ old
     → ((image : Files) → since image → CameOf SameFiles past image) → IsServing old past db → IsServing new since db
 serving_read old new past since db same came s =
     let here : (image : Files) → since image → past image = λ image left. subst past (sym (came image left).came) (came image left).was in

@@ -5,6 +5,7 @@ use Rattle.std.specs.Prelude.{IsTrue}
 use Rattle.rpm_outside.specs.declared.disk.Disk as disk
 use Rattle.rpm_outside.specs.declared.sink.Sink as sink
 use Rattle.rpm_outside.specs.declared.buffered.Buffered.{Buffered}
+use Rattle.rpm_outside.specs.Files.{Files}
 use Rattle.rpm_outside.specs.Sinks.{Gained, GainedPart}
 use Rattle.rpm_outside.specs.inner.Taken.{gained_none}
 use Rattle.rpm_db.specs.Changes.{Change}
@@ -14,7 +15,7 @@ use Rattle.rpm_change.specs.declared.tally.Tally.{Tally}
 use Rattle.rpm_change.specs.declared.tally.Halt.{Halt}
 use Rattle.rpm_change.specs.declared.tally.Halt.TheVariants as halt
 use Rattle.rpm_change.specs.Steps.{Bearer, Course, ToOut}
-use Rattle.rpm_change.specs.Went.{CarriedOn, EndedOnOut, EndedQuietly, Went}
+use Rattle.rpm_change.specs.Went.{EndedOnOut, EndedQuietly, WentBy}
 use Rattle.rpm_change.specs.inner.Courses.{stopped_by}
 use Rattle.rpm_change.specs.inner.Joins.{out_gone, took}
 use Rattle.rpm_change.specs.inner.Leaving.{after_by}
@@ -27,11 +28,12 @@ quiet changes = record { steps = []; failed = 0; changes = changes }
 abbrev with_text : List Change → Bearer → List ℕ → Course
 with_text changes for text = record { steps = ToOut for text ∷ []; failed = 0; changes = changes }
 
-module _ {D S : Type 0} (d : disk.Ghosts D) (of : sink.Ghosts S) (changes : List Change) (for : Bearer) (text : List ℕ) {old new : D}
-    {before after : Database} where
-  module _ {tally : Tally} (made : Went d (IsTrue d.tells) old new before after (Ok tally) EndedQuietly (quiet changes)) (x y : Buffered S) where
+module _ {D S : Type 0} (d : disk.Ghosts D) (of : sink.Ghosts S) (changes : List Change) (for : Bearer) (text : List ℕ) {C A : Type 0}
+    {from to : Files} {old new : D} {before after : Database} where
+  module _ {tally : Tally} (made : WentBy d C A (IsTrue d.tells) from to old new before after (Ok tally) EndedQuietly (quiet changes))
+      (x y : Buffered S) where
     pub told_all : (IsTrue d.tells → Gained of.tells (took of x) (took of y) text)
-        → Went d (IsTrue d.tells) old new before after (Ok tally) (EndedOnOut of x y) (with_text changes for text)
+        → WentBy d C A (IsTrue d.tells) from to old new before after (Ok tally) (EndedOnOut of x y) (with_text changes for text)
     told_all gained = record {
       ended = λ told et e.
           let done = made.ended told true true [] [] in
@@ -50,7 +52,7 @@ module _ {D S : Type 0} (d : disk.Ghosts D) (of : sink.Ghosts S) (changes : List
     }
 
     pub told_part : (IsTrue d.tells → GainedPart of.tells (took of x) (took of y) text)
-        → Went d (IsTrue d.tells) old new before after (Err halt.OutFault) (EndedOnOut of x y) (with_text changes for text)
+        → WentBy d C A (IsTrue d.tells) from to old new before after (Err halt.OutFault) (EndedOnOut of x y) (with_text changes for text)
     told_part part = record {
       ended = λ told et e.
           let first = part told in
@@ -68,11 +70,12 @@ module _ {D S : Type 0} (d : disk.Ghosts D) (of : sink.Ghosts S) (changes : List
           };
       limits = λ told i rows. other_stop i _ _ _ _ halt.OutFault refl;
       whole = λ told was. tt;
-      left = after_by d (CarriedOn d old new before after) old new after tally made.left (Err halt.OutFault) (λ same. absurd cc);
+      left = after_by d C old new after tally made.left (Err halt.OutFault) (λ same. absurd cc);
     }
 
-  pub told_none : (h : Halt) → Went d (IsTrue d.tells) old new before after (Err h) EndedQuietly (quiet changes) → h ≢ halt.OutFault → h ≢ halt.ErrFault
-      → (x : Buffered S) → Went d (IsTrue d.tells) old new before after (Err h) (EndedOnOut of x x) (with_text changes for text)
+  pub told_none : (h : Halt) → WentBy d C A (IsTrue d.tells) from to old new before after (Err h) EndedQuietly (quiet changes)
+      → h ≢ halt.OutFault → h ≢ halt.ErrFault → (x : Buffered S)
+      → WentBy d C A (IsTrue d.tells) from to old new before after (Err h) (EndedOnOut of x x) (with_text changes for text)
   told_none h made out err x = record {
     ended = λ told et e.
         let all = with_text changes for text in

@@ -1,14 +1,16 @@
 use Rattle.std.proofs.Common.{◌+◌, ◌-◌, ◌^◌, ◌≤◌}
 use Rattle.std.specs.Prelude.{IsTrue}
 use Rattle.std.specs.FinMap as finite
-use Rattle.rpm_change.proofs.Vocabulary.{above, drop_each, EndedOnOut, GoingOn, inner, packages_in, rebuild, state_in}
+use Rattle.rpm_change.proofs.Vocabulary.{above, drop_each, due, EndedOnOut, Going, inner, IsOwing, OwesOn, packages_in, rebuild, state_in}
 use Rattle.rpm_change.proofs.Dropped.{SameAbove}
 use Rattle.rpm_change.proofs.rebuilding.drop_each.Given as goal
 
 abbrev pub invariant-loop-next : goal.invariant-loop-next
 invariant-loop-next g l = record {
-  goes : GoingOn g.D.Disk (IsTrue g.D.Disk.tells) l.initial.disk l.disk l.initial.db l.db (record { failed = l.failed; changes = l.changes })
-      (EndedOnOut g.O.Sink l.initial.out l.out)
+  goes : Going g.D.Disk (IsOwing g.D.Disk (OwesOn g.D.Disk l.initial.disk l.initial.db l.initial.batch) l.disk l.db l.batch)
+      (OwesOn g.D.Disk l.initial.disk l.initial.db l.initial.batch) (IsTrue g.D.Disk.tells)
+      (due (g.D.Disk.files l.initial.disk) l.initial.db l.initial.batch) (due (g.D.Disk.files l.disk) l.db l.batch)
+      l.initial.disk l.disk l.initial.db l.db (record { failed = l.failed; changes = l.changes }) (EndedOnOut g.O.Sink l.initial.out l.out)
       (rebuild (state_in g.D.Disk l.initial.disk l.initial.db))
       (drop_each (above l.number (finite.entries (packages_in g.D.Disk l.initial.disk l.initial.db))));
   same : IsTrue g.D.Disk.tells → SameAbove l.number (packages_in g.D.Disk l.initial.disk l.initial.db) (packages_in g.D.Disk l.disk l.db);

@@ -8,25 +8,25 @@ returns-clause-limits g c = λ told.
     let said = c.in_ok-rebuild.ensures in
     let s = state_in g.D.Disk c.args.disk.now c.args.db.now in
     rw (makes_small true s (room c.args.db.now) (rebuild s).changes (λ is. (said.rebuilt told).0))
-    (remade_limits g.D.Disk c.args.db.now said.runs.reads_as said.still.store (λ told. (said.rebuilt told).3) c.drop_each.ensures.went told).first
+    (remade_limits g.D.Disk c.args.db.now said.runs.reads_as said.still.store (λ told. (said.rebuilt told).3) c.drop_all.ensures.went told).first
 
 pub returns-clause-stores : goal.returns-clause-stores
 returns-clause-stores g c =
     let said = c.in_ok-rebuild.ensures in
-    told_ok c.drop_each.result (λ told is. is) (λ told. (remade_limits g.D.Disk c.args.db.now said.runs.reads_as said.still.store
-    (λ told. (said.rebuilt told).3) c.drop_each.ensures.went told).stores)
+    told_ok c.drop_all.result (λ told is. is) (λ told. (remade_limits g.D.Disk c.args.db.now said.runs.reads_as said.still.store
+    (λ told. (said.rebuilt told).3) c.drop_all.ensures.went told).stores)
 
 pub returns-clause-reach : goal.returns-clause-reach
 returns-clause-reach g c =
     let said = c.in_ok-rebuild.ensures in
-    told_ok c.drop_each.result (λ told. reached_anew (state_in g.D.Disk c.args.disk.now c.args.db.now) (room c.args.db.now) _ (g.D.Disk.files c.args.disk.now)
-    (g.D.Disk.files c.rebuild.new.disk) (g.D.Disk.files c.drop_each.new.disk) (said.runs.reads_as told).pkg (said.renewed.reach told))
-    (λ told. (remade_limits g.D.Disk c.args.db.now said.runs.reads_as said.still.store (λ told. (said.rebuilt told).3) c.drop_each.ensures.went
+    told_ok c.drop_all.result (λ told. reached_anew (state_in g.D.Disk c.args.disk.now c.args.db.now) (room c.args.db.now) _ (g.D.Disk.files c.args.disk.now)
+    (g.D.Disk.files c.rebuild.new.disk) (g.D.Disk.files c.drop_all.new.disk) (said.runs.reads_as told).pkg (said.renewed.reach told))
+    (λ told. (remade_limits g.D.Disk c.args.db.now said.runs.reads_as said.still.store (λ told. (said.rebuilt told).3) c.drop_all.ensures.went
     told).reached)
 
 pub returns-clause-runs : goal.returns-clause-runs
 returns-clause-runs g c =
-    remade_then g.D.Disk g.met.D.Disk.follows_trans _ _ _ c.in_ok-rebuild.ensures.runs c.drop_each.ensures.went.left.runs
+    remade_then g.D.Disk g.met.D.Disk.follows_trans _ _ _ c.in_ok-rebuild.ensures.runs c.drop_all.ensures.went.left.runs
 
 pub returns-in_err-rebuild-clause-ended : goal.returns-in_err-rebuild-clause-ended
 returns-in_err-rebuild-clause-ended g c = λ told.
