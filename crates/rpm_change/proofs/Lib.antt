@@ -6,9 +6,7 @@ pub mod Filed
 pub mod Gathered
 pub mod Imported
 pub mod Listed
-pub mod Owing
 pub mod Rebuilt
-pub mod Singles
 pub mod Stops
 pub mod Texts
 pub mod Told

@@ -7,7 +7,7 @@ pub use Rattle.rpm_change.specs.Exercise.{generated, numbered, package_items, ve
 pub use Rattle.rpm_change.specs.Importing.{ending, import_list, import_listed, imported, Listed, listed, listed_in, listed_next, once, place_fails, with_blob}
 pub use Rattle.rpm_change.specs.Limits.{is_limit, LimitsTurn}
 pub use Rattle.rpm_change.specs.Rebuilding.{drop_each, dropped, dropped_line, rebuild}
-pub use Rattle.rpm_change.specs.Singles.{GathersOne, IsHeld, MakesOne}
+pub use Rattle.rpm_change.specs.Singles.{GathersOne, IsHeld}
 pub use Rattle.rpm_change.specs.Steps.{apply_all, Bearer, bearer, changing, Course, failing, idle, in_turn, joined, ToErr, whole}
 pub use Rattle.rpm_change.specs.Texts.{absent_line, header_text, refused_line}
 unfoldable pub use Rattle.rpm_change.specs.Texts.{file_text}
@@ -21,7 +21,7 @@ pub use Rattle.rpm_change.specs.inner.Going.{stopped_went, went_as, went_behind}
 pub use Rattle.rpm_change.specs.inner.Handing.{err_is}
 pub use Rattle.rpm_change.specs.inner.Joins.{err_joins, err_none, err_refused, err_stopped, hand_then, out_gone, out_joins, out_none, out_refused}
 pub use Rattle.rpm_change.specs.inner.Joins.{out_stopped, took, uncounted}
-pub use Rattle.rpm_change.specs.inner.Leaving.{halted_by, left_after, left_made, none_by, remade_log, remade_then}
+pub use Rattle.rpm_change.specs.inner.Leaving.{halted_by, left_after, none_by, remade_log, remade_then}
 pub use Rattle.rpm_change.specs.inner.Leaving.{then_by, whole_halt}
 pub use Rattle.rpm_change.specs.inner.LimitLaws.{limits_counted, makes_small}
 pub use Rattle.rpm_change.specs.inner.ReachLaws.{idx_more, reached_anew}
@@ -31,7 +31,7 @@ pub use Rattle.rpm_change.specs.inner.Single.{add_fault, erase_fault, fault_kind
 pub use Rattle.rpm_change.specs.inner.Single.{other_stop, put_fault}
 pub use Rattle.rpm_change.specs.inner.Telling.{told_all, told_none, told_part}
 pub use Rattle.rpm_db.specs.Above.{next_above, none_is, nothing_above}
-pub use Rattle.rpm_db.specs.Changed.{IsLeft, IsReady, Makes}
+pub use Rattle.rpm_db.specs.Changed.{IsReady}
 pub use Rattle.rpm_db.specs.Changes.{Add, Change, Erase, next, Put}
 pub use Rattle.rpm_db.specs.Database.{Database, generation_of, has_failed, is_indexed, IsNext, next_number}
 pub use Rattle.rpm_db.specs.Frame.{IsIndexed, packages_in, room, Runs, state_in}

@@ -29,7 +29,7 @@ pub use Rattle.rpm_change.specs.Lines.{Fails}
 pub use Rattle.rpm_change.specs.Reaches.{ReachedAnew}
 pub use Rattle.rpm_change.specs.Rebuilding.{IsOfRebuilding, dropped, dropped_line, rebuild}
 pub use Rattle.rpm_db.specs.Frame.{room}
-pub use Rattle.rpm_change.specs.Singles.{GathersOne, IsHeld, MakesOne}
+pub use Rattle.rpm_change.specs.Singles.{GathersOne, IsHeld}
 pub use Rattle.rpm_change.specs.Texts.{absent_line, at_entry, file_text, header_text, list_text, place_line}
 pub use Rattle.rpm_change.specs.Texts.{refused_line}
 pub use Rattle.rpm_change.specs.Turns.{IsOfHeaders, IsOfImporting, Leaves, StopIs, tally_of}

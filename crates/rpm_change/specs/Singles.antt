@@ -1,4 +1,4 @@
--- One change of the database by its answer: what it is never stopped for, and what is left.
+-- One change of the database by its answer, while a batch goes on: what it is never stopped for, and what is left.
 use Rattle.std.specs.Prelude.{◌≡◌, ◌≢◌, ℕ, true, IsTrue, IfOk, IfErr, Option, Some, None, Result}
 use Rattle.rpm_outside.specs.declared.disk.Disk as disk
 use Rattle.rpm_db.specs.Changes.{Change, Put, Erase}
@@ -8,7 +8,7 @@ use Rattle.rpm_change.specs.declared.tally.Halt.{Halt}
 use Rattle.rpm_change.specs.declared.tally.Halt.TheVariants as halt
 use Rattle.rpm_db.specs.declared.netting.RowChange.{RowChange}
 use Rattle.rpm_change.specs.Steps.{changing}
-use Rattle.rpm_change.specs.Went.{EndedQuietly, Went, WentOwing}
+use Rattle.rpm_change.specs.Went.{EndedQuietly, WentOwing}
 
 -- a header goes under a new number, or under one that a package has
 abbrev pub IsHeld : Option ℕ → Database → Type 0
@@ -33,14 +33,8 @@ abbrev pub IsOfChange : Change → Halt → Type 0
 IsOfChange change h = (h ≢ halt.ShelfFault) × (h ≢ halt.OutFault) × (h ≢ halt.ErrFault) × IsRefusing h change
 
 module _ {D : Type 0} (d : disk.Ghosts D) where
-  -- it was made, or what refuses it stopped it: numbers or generations are said to be spent only where they are
-  pub record MakesOne (change : Change) (old new : D) (before after : Database) (r : Result Tally Halt) : Type 0 where
-    pub went : Went d (IsTrue d.tells) old new before after r EndedQuietly (changing change)
-    pub one : IfOk r (λ tally. tally ≡ record { failed = 0; changes = 1 })
-    pub kinds : IfErr r (IsOfChange change)
-    pub spent : IfErr r (IsSpent after)
-
-  -- a change of a batch was made in the store, and its rows are owed; or what refuses it stopped it
+  -- a change of a batch was made in the store, and its rows are owed; or what refuses it stopped it: numbers and generations are said to be spent
+  -- only where they are
   pub record GathersOne (change : Change) (old new : D) (before after : Database) (owed more : RowChange)
       (r : Result Tally Halt) : Type 0 where
     pub went : WentOwing d (IsTrue d.tells) old new before after owed more r EndedQuietly (changing change)

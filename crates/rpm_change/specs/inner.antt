@@ -5,6 +5,7 @@ pub mod Handing
 pub mod Joins
 pub mod Leaving
 pub mod LimitLaws
+pub mod Owing
 pub mod ReachLaws
 pub mod Reading
 pub mod Ready

@@ -27,5 +27,5 @@ pub use faults::{
 pub use import::{import_list, import_most};
 pub use rebuilding::rebuild;
 pub use replace::replace_package;
-pub use single::{put_blob, take_out};
+pub use single::{put_within, take_within};
 pub use tally::{Halt, IDLE, Tally};

@@ -1,7 +1,7 @@
-//! One change of the database.
+//! One change of the database, while a batch goes on.
 
 ghost use Rattle.std.specs.Prelude.{◌≡◌, true, Ok};
-ghost use Rattle.rpm_change.specs.Prelude.{change_at, Erase, GathersOne, header, holds, IsGathering, IsHeld, IsReady, MakesOne, read_again};
+ghost use Rattle.rpm_change.specs.Prelude.{change_at, Erase, GathersOne, header, holds, IsGathering, IsHeld, read_again};
 
 use crate::tally::{CHANGED, Halt, Tally};
 use rpm_db::{Batch, Db};
@@ -9,43 +9,13 @@ use rpm_header::View;
 use rpm_outside::Disk;
 use std::alloc::Global;
 
-/// Puts a header under a new number, or in place of the package that this number has. Counts one change.
-///
-/// # Errors
-///
-/// The first of these limits that it meets: `NumbersSpent`, under a new number alone; `GenerationSpent`; `StoreFull`;
-/// `IndexFull`. Besides `BadIndex` and `DiskFault`; and `NoMemory` where the change finds none.
-pub fn put_blob<D: Disk>(
-    alloc: Global,
-    db: &mut Db,
-    disk: &mut D,
-    number: Option<u32>,
-    blob: &[u8],
-) -> Result<Tally, Halt>
-    requires ready { IsReady D.Disk disk.old db.old }
-    requires held { IsHeld number db.old }
-    requires own { header blob.now ≡ Ok (read_again blob.now) }
-    ensures { MakesOne D.Disk (change_at number blob.now) disk.old disk.new db.old db.new result }
-{
-    let view = View::of_checked(blob);
-    match number {
-        None => {
-            db.add_view(alloc, disk, &view)?;
-            Ok(CHANGED)
-        }
-        Some(n) => {
-            db.put_view(alloc, disk, n, &view)?;
-            Ok(CHANGED)
-        }
-    }
-}
-
 /// Puts a header under a new number, or in place of the package that this number has, while a batch goes on. Counts one
 /// change.
 ///
 /// # Errors
 ///
-/// Those of [`put_blob`], in the same order.
+/// The first of these limits that it meets: `NumbersSpent`, under a new number alone; `GenerationSpent`; `StoreFull`;
+/// `IndexFull`. Besides `BadIndex` and `DiskFault`; and `NoMemory` where the change finds none.
 pub fn put_within<D: Disk>(
     alloc: Global,
     db: &mut Db,
@@ -70,26 +40,6 @@ pub fn put_within<D: Disk>(
             Ok(CHANGED)
         }
     }
-}
-
-/// Takes the package that this number has out, Good or Bad. Counts one change.
-///
-/// # Errors
-///
-/// The first of these limits that it meets: `GenerationSpent`; `IndexFull`. Besides `BadIndex` and `DiskFault`; and
-/// `NoMemory` where the change finds none.
-pub fn take_out<D: Disk>(
-    alloc: Global,
-    db: &mut Db,
-    disk: &mut D,
-    number: u32,
-) -> Result<Tally, Halt>
-    requires ready { IsReady D.Disk disk.old db.old }
-    requires held { holds number db.old ≡ true }
-    ensures { MakesOne D.Disk (Erase number) disk.old disk.new db.old db.new result }
-{
-    db.erase(alloc, disk, number)?;
-    Ok(CHANGED)
 }
 
 /// Takes the package that this number has out, Good or Bad, while a batch goes on. Counts one change.

@@ -1,20 +1,20 @@
 -- The words of proofs, from one place.
-pub use Rattle.rpm_change.specs.Endings.{WholeTurn}
+pub use Rattle.rpm_change.specs.Endings.{halt_of, WholeTurn}
 pub use Rattle.rpm_change.specs.Exercise.{numbered}
 pub use Rattle.rpm_change.specs.Limits.{is_limit}
-pub use Rattle.rpm_change.specs.Singles.{IsOfChange, IsSpent, MakesOne}
+pub use Rattle.rpm_change.specs.Singles.{GathersOne, IsOfChange, IsSpent}
 pub use Rattle.rpm_change.specs.Steps.{apply_all, Course, whole}
-pub use Rattle.rpm_change.specs.Went.{EndedOnOut, EndedQuietly, Went}
+pub use Rattle.rpm_change.specs.Went.{EndedOnOut, EndedQuietly, IsOwing, Went, WentBy}
 pub use Rattle.rpm_change.specs.declared.tally.Halt.{Halt}
 pub use Rattle.rpm_change.specs.declared.tally.Tally.{Tally}
 pub use Rattle.rpm_change.specs.inner.Courses.{none_gone, plus, stopped_by, through_none}
-pub use Rattle.rpm_change.specs.inner.Going.{counted_went, going_begin, going_end, none_went, stopped_went, went_ahead, went_then}
+pub use Rattle.rpm_change.specs.inner.Going.{counted_went, Going, going_begin, going_end, going_more, going_stop, none_went, stopped_went, went_ahead}
+pub use Rattle.rpm_change.specs.inner.Going.{went_then}
 pub use Rattle.rpm_change.specs.inner.Handing.{err_is}
-pub use Rattle.rpm_change.specs.inner.Joins.{out_gone, quiet_joins, quiet_none}
-pub use Rattle.rpm_change.specs.inner.Leaving.{carried_then, cause_then, current_left, left_none, ready_left, remade_log, remade_then, state_remade}
-pub use Rattle.rpm_change.specs.inner.Leaving.{unchanged}
+pub use Rattle.rpm_change.specs.inner.Joins.{out_gone, quiet_joins, quiet_none, quiet_stopped}
+pub use Rattle.rpm_change.specs.inner.Leaving.{cause_then, current_left, none_by, remade_log, remade_then, state_remade}
+pub use Rattle.rpm_change.specs.inner.Owing.{list_settled, list_stopped, list_unsettled, owing_begun, owing_none, owing_then}
 pub use Rattle.rpm_change.specs.inner.Reading.{left_read, looks_run, reads_on}
-pub use Rattle.rpm_change.specs.inner.Ready.{GoingOn, on_more, on_ready, on_stop, ready_none}
 pub use Rattle.rpm_change.specs.inner.Single.{other_stop}
 pub use Rattle.rpm_change.specs.inner.Telling.{told_all, told_none, told_part}
 pub use Rattle.rpm_db.specs.Asked.{IsAskable}
@@ -23,17 +23,21 @@ pub use Rattle.rpm_db.specs.Changes.{Change, next}
 pub use Rattle.rpm_db.specs.Database.{Database, is_indexed}
 pub use Rattle.rpm_db.specs.Frame.{packages_in, room, Runs, state_in}
 pub use Rattle.rpm_db.specs.FromOne.{from_one}
+pub use Rattle.rpm_db.specs.Gathering.{due, IsGathering, OwesOn}
+pub use Rattle.rpm_db.specs.Refusals.{IsOfIndex}
 pub use Rattle.rpm_db.specs.Running.{runs_looks, runs_none}
 pub use Rattle.rpm_db.specs.Runs.{SameFiles}
 pub use Rattle.rpm_db.specs.State.{above, Package, State}
+pub use Rattle.rpm_db.specs.declared.change_fault.ChangeFault.{ChangeFault}
+pub use Rattle.rpm_db.specs.declared.netting.RowChange.{RowChange}
 pub use Rattle.rpm_exercise.specs.Endings.{IsOfAsking, IsOfExercise, IsOfReading, stop_of}
 pub use Rattle.rpm_exercise.specs.Exercised.{capability_line, capability_lines, capability_named, count_line, digest_line, exercise}
 pub use Rattle.rpm_exercise.specs.Exercised.{exported, picked}
 unfoldable pub use Rattle.rpm_exercise.specs.Exercised.{summary}
-pub use Rattle.rpm_exercise.specs.Ready.{Asks, IsStop, WentThrough}
+pub use Rattle.rpm_exercise.specs.Ready.{Asks, GathersThrough, IsStop}
 pub use Rattle.rpm_exercise.specs.Rounds.{changes_after, IsOfChanges, making, round_changes, turn}
 unfoldable pub use Rattle.rpm_exercise.specs.Rounds.{changes}
-pub use Rattle.rpm_outside.specs.Files.{Units}
+pub use Rattle.rpm_outside.specs.Files.{Files, Units}
 pub use Rattle.rpm_outside.specs.Frame.{DiskFault, LooksAt}
 pub use Rattle.rpm_outside.specs.declared.buffered.Buffered.{Buffered}
 pub use Rattle.rpm_outside.specs.declared.disk.File.TheVariants.{Idx}

@@ -13,6 +13,7 @@ pub use Rattle.rpm_db.specs.Asked.{IsAskable}
 pub use Rattle.rpm_db.specs.Changed.{IsReady}
 pub use Rattle.rpm_db.specs.Database.{IsNext, holds, is_indexed}
 pub use Rattle.rpm_db.specs.Frame.{Runs, packages_in, state_in}
+pub use Rattle.rpm_db.specs.Gathering.{IsGathering}
 pub use Rattle.rpm_db.specs.Lawful.{Remade}
 pub use Rattle.rpm_db.specs.Openings.{units_needed}
 pub use Rattle.rpm_db.specs.Reaches.{ReachesMade}
@@ -26,5 +27,5 @@ pub use Rattle.rpm_exercise.specs.Endings.{IsOfReading, IsRefused, OnceBegun}
 pub use Rattle.rpm_exercise.specs.Endings.{Renewed, pick_halt}
 pub use Rattle.rpm_exercise.specs.Exercised.{capability_line, capability_lines, capability_named, count_line}
 pub use Rattle.rpm_exercise.specs.Exercised.{digest_text, exercise, exported, IsFound, picked, summary}
-pub use Rattle.rpm_exercise.specs.Ready.{Asks, IsStop, WentThrough}
-pub use Rattle.rpm_exercise.specs.Rounds.{changes, made, round_changes, turn}
+pub use Rattle.rpm_exercise.specs.Ready.{Asks, GathersThrough, IsStop, WentThrough}
+pub use Rattle.rpm_exercise.specs.Rounds.{changes, changes_after, made, round_changes, turn}

@@ -6,12 +6,13 @@ use Rattle.rpm_db.specs.Changes.{Change}
 use Rattle.rpm_db.specs.Database.{Database, is_indexed}
 use Rattle.rpm_db.specs.Frame.{Runs}
 use Rattle.rpm_db.specs.Runs.{SameFiles}
+use Rattle.rpm_db.specs.declared.netting.RowChange.{RowChange}
 use Rattle.rpm_select.specs.Frame.{HasRows}
 use Rattle.rpm_change.specs.declared.tally.Tally.{Tally}
 use Rattle.rpm_change.specs.declared.tally.Halt.{Halt}
 use Rattle.rpm_change.specs.declared.tally.Halt.TheVariants as halt
 use Rattle.rpm_change.specs.Singles.{IsSpent}
-use Rattle.rpm_change.specs.Went.{EndedQuietly, Went}
+use Rattle.rpm_change.specs.Went.{EndedQuietly, Went, WentOwing}
 use Rattle.rpm_exercise.specs.Endings.{IsOfReading, IsOfAsking, IsOfExercise}
 use Rattle.rpm_exercise.specs.Rounds.{IsOfChanges, making}
 
@@ -28,6 +29,13 @@ module _ {D : Type 0} (d : disk.Ghosts D) where
       (r : Result Tally Halt) : Type 0 where
     pub course : Went d (IsTrue d.tells) old new before after r EndedQuietly (making changes)
     -- numbers or generations are said to be spent only where they are
+    pub spent : IfErr r (IsSpent after)
+    pub kinds : IfErr r IsOfChanges
+
+  -- changes of a batch were made in the store, and their rows are owed; or the first that is refused stopped them
+  pub record GathersThrough (changes : List Change) (old new : D) (before after : Database) (owed more : RowChange)
+      (r : Result Tally Halt) : Type 0 where
+    pub course : WentOwing d (IsTrue d.tells) old new before after owed more r EndedQuietly (making changes)
     pub spent : IfErr r (IsSpent after)
     pub kinds : IfErr r IsOfChanges
 

@@ -1,10 +1,10 @@
 //! The changes of the exercise, round by round.
 
 ghost use Rattle.std.specs.Prelude.{◌≡◌, ◌+◌, ◌<◌, ◌≤◌, [], ◌∷◌, true, IfOk, IfErr};
-ghost use Rattle.rpm_exercise.specs.Prelude.{change_at, changes, holds, IsHeld, IsReady, made, round_changes, state_in, turn, WentThrough};
+ghost use Rattle.rpm_exercise.specs.Prelude.{change_at, changes, changes_after, GathersThrough, holds, IsGathering, IsHeld, IsReady, made, round_changes, state_in, turn, WentThrough};
 
-use rpm_change::{Halt, IDLE, Tally, generated, put_blob, take_out};
-use rpm_db::Db;
+use rpm_change::{Halt, IDLE, Tally, generated, put_within, take_within};
+use rpm_db::{Batch, Db};
 use rpm_outside::Disk;
 use std::alloc::Global;
 
@@ -24,18 +24,19 @@ fn put_one<D: Disk>(
     alloc: Global,
     db: &mut Db,
     disk: &mut D,
+    batch: &mut Batch,
     number: Option<u32>,
     i: u32,
     m: u32,
 ) -> Result<Tally, Halt>
     requires small { i < 4294967295 }
-    requires ready { IsReady D.Disk disk.old db.old }
+    requires gathering { IsGathering D.Disk disk.old db.old batch.old }
     requires held { IsHeld number db.old }
-    ensures went { WentThrough D.Disk (change_at number (made i m) ∷ []) disk.old disk.new db.old db.new result }
+    ensures went { GathersThrough D.Disk (change_at number (made i m) ∷ []) disk.old disk.new db.old db.new batch.old batch.new result }
     ensures few { IfOk result (λ tally. tally.changes ≤ 1) }
 {
     let blob = generated(alloc, i, m)?;
-    put_blob(alloc, db, disk, number, &blob)
+    put_within(alloc, db, disk, batch, number, &blob)
 }
 
 /// The number of header `i`. It was given before, so a package has it.
@@ -55,30 +56,31 @@ fn take_turn<D: Disk>(
     alloc: Global,
     db: &mut Db,
     disk: &mut D,
+    batch: &mut Batch,
     round: Round,
     b: u32,
     i: u32,
 ) -> Result<Tally, Halt>
     requires small { i < 4294967295 }
-    requires ready { IsReady D.Disk disk.old db.old }
-    ensures went { WentThrough D.Disk (turn round b i) disk.old disk.new db.old db.new result }
+    requires gathering { IsGathering D.Disk disk.old db.old batch.old }
+    ensures went { GathersThrough D.Disk (turn round b i) disk.old disk.new db.old db.new batch.old batch.new result }
     ensures few { IfOk result (λ tally. tally.changes ≤ 1) }
 {
     match round {
-        Round::Adding => put_one(alloc, db, disk, None, i, 1),
+        Round::Adding => put_one(alloc, db, disk, batch, None, i, 1),
         Round::Replacing => {
             if i % 3 != 0 {
                 return Ok(IDLE);
             }
             let number = number_of(db, b, i)?;
-            put_one(alloc, db, disk, Some(number), i, 2)
+            put_one(alloc, db, disk, batch, Some(number), i, 2)
         }
         Round::Erasing => {
             if i % 5 != 0 {
                 return Ok(IDLE);
             }
             let number = number_of(db, b, i)?;
-            take_out(alloc, db, disk, number)
+            take_within(alloc, db, disk, batch, number)
         }
     }
 }
@@ -88,30 +90,54 @@ fn go_round<D: Disk>(
     alloc: Global,
     db: &mut Db,
     disk: &mut D,
+    batch: &mut Batch,
     round: Round,
     b: u32,
     n: u32,
 ) -> Result<Tally, Halt>
     requires few { n ≤ 100000 }
-    requires ready { IsReady D.Disk disk.old db.old }
-    ensures went { WentThrough D.Disk (round_changes round b n) disk.old disk.new db.old db.new result }
+    requires gathering { IsGathering D.Disk disk.old db.old batch.old }
+    ensures went { GathersThrough D.Disk (round_changes round b n) disk.old disk.new db.old db.new batch.old batch.new result }
     ensures few { IfOk result (λ tally. tally.changes ≤ n) }
 {
     let mut changes = 0u32;
     for done in 0..n {
-        let tally = take_turn(alloc, db, disk, round, b, done + 1)?;
+        let tally = take_turn(alloc, db, disk, batch, round, b, done + 1)?;
         changes += tally.changes;
     }
     Ok(Tally { failed: 0, changes })
+}
+
+/// Goes through the three rounds, each from 1 to `n`.
+fn go_rounds<D: Disk>(
+    alloc: Global,
+    db: &mut Db,
+    disk: &mut D,
+    batch: &mut Batch,
+    b: u32,
+    n: u32,
+) -> Result<Tally, Halt>
+    requires few { n ≤ 100000 }
+    requires gathering { IsGathering D.Disk disk.old db.old batch.old }
+    ensures { GathersThrough D.Disk (changes_after b n) disk.old disk.new db.old db.new batch.old batch.new result }
+{
+    let added = go_round(alloc, db, disk, batch, Round::Adding, b, n)?;
+    let replaced = go_round(alloc, db, disk, batch, Round::Replacing, b, n)?;
+    let erased = go_round(alloc, db, disk, batch, Round::Erasing, b, n)?;
+    Ok(Tally {
+        failed: 0,
+        changes: added.changes + (replaced.changes + erased.changes),
+    })
 }
 
 /// Adds the headers 1 to `n` with the leading number 1; then puts each that is divisible by 3 in its own place with the
 /// leading number 2; then erases each that is divisible by 5. Each round goes by rising number. Header `i` has the
 /// `i`th number after those that the database gave before. These are `n + n / 3 + n / 5` changes, and nothing fails.
 ///
-/// One header is held at a time, below 512 bytes. Of `Packages.db` the blocks of each package that is replaced or
-/// erased are read once. The disk may be an overlay: then all changes can be committed as one. After an `Err` the
-/// database isn't to be used further. The headers and the rounds are this project's own.
+/// One header is held at a time, below 512 bytes, and the rows of all: the changes are one batch, and the index is
+/// changed and sealed once, after the last. Of `Packages.db` the blocks of each package that is replaced or erased are
+/// read once. The disk may be an overlay: then all changes can be committed as one. After an `Err` the database isn't to
+/// be used further. The headers and the rounds are this project's own.
 ///
 /// # Errors
 ///
@@ -136,11 +162,8 @@ pub fn change_all<D: Disk>(alloc: Global, db: &mut Db, disk: &mut D, n: u32) -> 
     ensures { WentThrough D.Disk (changes n (state_in D.Disk disk.old db.old)) disk.old disk.new db.old db.new result }
 {
     let b = db.next_number().saturating_sub(1);
-    let added = go_round(alloc, db, disk, Round::Adding, b, n)?;
-    let replaced = go_round(alloc, db, disk, Round::Replacing, b, n)?;
-    let erased = go_round(alloc, db, disk, Round::Erasing, b, n)?;
-    Ok(Tally {
-        failed: 0,
-        changes: added.changes + (replaced.changes + erased.changes),
-    })
+    let mut batch = Batch::begin(alloc, db);
+    let tally = go_rounds(alloc, db, disk, &mut batch, b, n)?;
+    batch.finish(alloc, db, disk)?;
+    Ok(tally)
 }

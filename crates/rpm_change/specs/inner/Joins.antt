@@ -102,3 +102,9 @@ quiet_joins = record {
 
 pub quiet_none : (s : State) → EndedQuietly idle s s (Ok uncounted)
 quiet_none s = λ ot et o e. ended_none ot et o e s
+
+pub quiet_stopped : (f : ChangeFault) {course : Course} {tally : Tally} (s t u : State) → EndedQuietly course s t (Ok tally)
+    → EndedQuietly course s u (Err (halt_of f))
+quiet_stopped f {course = course} s t u ends = λ ot et o e.
+    stopped_ended course s u f _ _
+    (record { done = course.steps; rest = []; all_is = sym (append-nil course.steps); through = (ends ot et o e).steps })

@@ -1,12 +1,11 @@
--- What is left of a database where nothing was done, where a change was made or refused, and after one call and then another.
-use Rattle.std.proofs.Common.{◌≡◌, ℕ, ◌≤◌, true, false, Result, Ok, Err, inl, inr, refl, ap, ◌∙◌, arith}
-use Rattle.std.proofs.lemmas.Bool.{cases_Bool}
+-- What is left of a database where nothing was done, where a change was refused, and after one call and then another.
+use Rattle.std.proofs.Common.{◌≡◌, ℕ, ◌≤◌, true, Result, Ok, Err, refl, ap, ◌∙◌, arith}
 use Rattle.std.specs.Prelude.{IsTrue, IfOk}
 use Rattle.rpm_outside.specs.declared.disk.Disk as disk
 use Rattle.rpm_outside.specs.Causes.{HasCauseAt, Rose}
 use Rattle.rpm_db.specs.declared.change_fault.ChangeFault.{ChangeFault}
 use Rattle.rpm_db.specs.declared.change_fault.ChangeFault.TheVariants as fault
-use Rattle.rpm_db.specs.Changed.{IsReady, IsLeft}
+use Rattle.rpm_db.specs.Changed.{IsReady}
 use Rattle.rpm_db.specs.Database.{Database, is_indexed}
 use Rattle.rpm_db.specs.Frame.{IsIndexed, Runs}
 use Rattle.rpm_db.specs.Running.{runs_none, runs_then}
@@ -117,51 +116,6 @@ module _ {D : Type 0} (d : disk.Ghosts D) where
   pub carried_any : (old new : D) (before after : Database) → CarriedOn d old new before after → (r : Result Tally Halt)
       → IfOk r (λ tally. CarriedOn d old new before after)
   carried_any old new before after = done_any (CarriedOn d old new before after)
-
-  pub left_none : ((x : D) → d.follows x x) → (at : D) (db : Database) → IsReady d at db → (r : Result Tally Halt)
-      → (r ≡ Err halt.DiskFault → ⊥) → LeftOn d at at db db r
-  left_none stays at db ready r other = none_by stays (CarriedOn d at at db db) (unchanged at db ready) at db ready.indexed r other
-
-  -- ---- a change
-
-  module _ {A : Type 0} (old new : D) (before after refused : Database) (runs : Ran old new) (later : d.faults old ≤ d.faults new) where
-    made_going : (a : A) → IsLeft d old new before after refused (Ok a) → before.stopped ≡ false → after.stopped ≡ false
-    made_going a left going = elim (cases_Bool after.stopped) [
-      | inl on ↦ (elim (left.stopped.0 on) [ inl was ↦ absurd cc | inr failed ↦ absurd cc ])
-      | inr off ↦ off
-    ]
-
-    pub left_made : (a : A) (tally : Tally) → IsLeft d old new before after refused (Ok a) → before.stopped ≡ false
-        → LeftOn d old new before after (Ok tally)
-    left_made a tally left going = record {
-      carried = record {
-        going = made_going a left going;
-        serving = λ told. left.serving (λ e. cc) going told;
-        index = λ told rows. left.index told rows;
-      };
-      indexed = left.indexed;
-      runs = runs;
-      disk = record { later = later; rose = λ is. absurd cc };
-    }
-
-    -- and then something else that writes no file
-    pub left_refused : (e : Result A ChangeFault) → IsLeft d old new before after refused e → (e ≡ Err fault.DiskFault → ⊥)
-        → before.stopped ≡ false → after.stopped ≡ false → (IsTrue d.tells → IsIndexed d old before → IsIndexed d new after)
-        → (r : Result Tally Halt) → (r ≡ Err halt.DiskFault → ⊥) → LeftOn d old new before after r
-    left_refused e left kept going goes index r other = record {
-      carried = carried_any old new before after
-          (record { going = goes; serving = λ told. left.serving kept going told; index = index }) r;
-      indexed = left.indexed;
-      runs = runs;
-      disk = record { later = later; rose = λ is. absurd (other is) };
-    }
-
-  -- ---- one call and then another
-
-  pub carried_then : (old mid new : D) (start before after : Database) → CarriedOn d old mid start before → CarriedOn d mid new before after
-      → CarriedOn d old new start after
-  carried_then old mid new start before after first second =
-      record { going = second.going; serving = second.serving; index = λ told rows. second.index told (first.index told rows) }
 
   -- nothing was changed after it
   pub left_after : (old new : D) (before after : Database) (tally : Tally) → LeftOn d old new before after (Ok tally)

@@ -1,7 +1,7 @@
 use Rattle.std.proofs.Common.{None}
 use Rattle.rpm_change.proofs.Vocabulary.{err_is, err_stopped}
 use Rattle.rpm_change.proofs.Erased.{erasing_puts, kind_of_index}
-use Rattle.rpm_change.proofs.Owing.{list_settled, list_stopped, list_unsettled, owing_begun}
+use Rattle.rpm_change.specs.inner.Owing.{list_settled, list_stopped, list_unsettled, owing_begun}
 use Rattle.rpm_change.proofs.add.add_files.Goals as goal
 
 pub add_each-requires-clause-gathering : goal.add_each-requires-clause-gathering

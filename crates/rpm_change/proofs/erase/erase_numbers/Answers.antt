@@ -1,6 +1,6 @@
 use Rattle.rpm_change.proofs.Vocabulary.{err_is, err_stopped}
 use Rattle.rpm_change.proofs.Erased.{kind_of_index}
-use Rattle.rpm_change.proofs.Owing.{list_settled, list_stopped, list_unsettled, owing_begun}
+use Rattle.rpm_change.specs.inner.Owing.{list_settled, list_stopped, list_unsettled, owing_begun}
 use Rattle.rpm_change.proofs.erase.erase_numbers.Goals as goal
 
 pub erase_each-requires-clause-gathering : goal.erase_each-requires-clause-gathering

@@ -3,7 +3,7 @@ use Rattle.rpm_change.proofs.Vocabulary.{changing, EndedOnErr, Erase, erase_faul
 use Rattle.rpm_change.proofs.Vocabulary.{one_made, one_refused, resumed, room, state_in, through_none, took, went_as, whole}
 use Rattle.rpm_change.proofs.Dropped.{some_is}
 use Rattle.rpm_change.proofs.Erased.{erasing_whole, kind_of_erasing}
-use Rattle.rpm_change.proofs.Owing.{owing_none}
+use Rattle.rpm_change.specs.inner.Owing.{owing_none}
 use Rattle.rpm_change.proofs.erase.erase_one.Goals as goal
 
 pub returns-in_ok-erase-clause-went : goal.returns-in_ok-erase-clause-went

@@ -4,7 +4,7 @@ use Rattle.rpm_change.proofs.Vocabulary.{absent_line, bytes_at, err_is, err_stop
 use Rattle.rpm_change.proofs.Vocabulary.{ToErr, went_as, whole}
 use Rattle.rpm_change.proofs.Filed.{opened_is}
 use Rattle.rpm_change.proofs.Imported.{went_once}
-use Rattle.rpm_change.proofs.Owing.{list_settled, list_stopped, list_unsettled, owing_begun}
+use Rattle.rpm_change.specs.inner.Owing.{list_settled, list_stopped, list_unsettled, owing_begun}
 use Rattle.rpm_change.proofs.import.import_most.Goals as goal
 
 pub import_all-requires-clause-gathering : goal.import_all-requires-clause-gathering

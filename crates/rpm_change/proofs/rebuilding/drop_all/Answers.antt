@@ -1,6 +1,6 @@
 use Rattle.rpm_change.proofs.Vocabulary.{err_is, out_stopped}
 use Rattle.rpm_change.proofs.Erased.{index_rebuilds}
-use Rattle.rpm_change.proofs.Owing.{list_settled, list_stopped, list_unsettled, owing_begun}
+use Rattle.rpm_change.specs.inner.Owing.{list_settled, list_stopped, list_unsettled, owing_begun}
 use Rattle.rpm_change.proofs.rebuilding.drop_all.Goals as goal
 
 pub drop_each-requires : goal.drop_each-requires

@@ -1,7 +1,7 @@
 use Rattle.std.proofs.Common.{ℕ, Option, Some, None}
 use Rattle.rpm_change.proofs.Vocabulary.{Database, err_is, err_stopped, IsHeld, suspended}
 use Rattle.rpm_change.proofs.Erased.{erasing_puts, kind_of_index}
-use Rattle.rpm_change.proofs.Owing.{list_settled, list_stopped, list_unsettled, owing_begun}
+use Rattle.rpm_change.specs.inner.Owing.{list_settled, list_stopped, list_unsettled, owing_begun}
 use Rattle.rpm_change.proofs.replace.put_alone.Goals as goal
 
 -- a package that is there is there while a batch goes on

@@ -3,7 +3,7 @@ use Rattle.std.proofs.lemmas.Bool.Decides.{nat_tests}
 use Rattle.rpm_change.proofs.Vocabulary.{Add, changing, EndedOnErr, err_refused, halted_went, header_text, line_went, next-state, one_made}
 use Rattle.rpm_change.proofs.Vocabulary.{place_fails, resumed, room, state_in, through_none, took, turn_found, went_as, whole}
 use Rattle.rpm_change.proofs.Imported.{add_limits}
-use Rattle.rpm_change.proofs.Owing.{owing_none}
+use Rattle.rpm_change.specs.inner.Owing.{owing_none}
 use Rattle.rpm_change.proofs.turn.import_header.Goals as goal
 
 pub returns-then-most-place-clause-went : goal.returns-then-most-place-clause-went

@@ -1,36 +1,46 @@
-use Rattle.std.proofs.Common.{Ok, Err}
-use Rattle.rpm_exercise.proofs.Vocabulary.{err_is, ready_left, state_in}
+use Rattle.rpm_exercise.proofs.Vocabulary.{err_is, list_settled, list_stopped, list_unsettled, owing_begun, quiet_stopped, state_in}
 use Rattle.rpm_exercise.proofs.Parts.{all_is}
-use Rattle.rpm_exercise.proofs.Through.{through_ahead, through_then}
+use Rattle.rpm_exercise.proofs.Through.{index_changes}
 use Rattle.rpm_exercise.proofs.rounds.change_all.Goals as goal
 
-pub go_round-requires-2-clause-ready : goal.go_round-requires-2-clause-ready
-go_round-requires-2-clause-ready g c = ready_left g.D.Disk _ _ _ _ _ c.in_ok-added.ensures.went.course.left
+pub go_rounds-requires-clause-gathering : goal.go_rounds-requires-clause-gathering
+go_rounds-requires-clause-gathering g c =
+    let b = c.begin-batch.ensures in rw b.same (owing_begun g.D.Disk c.requires.ready b.goes b.order b.sealed b.none).gathering
 
-pub go_round-requires-3-clause-ready : goal.go_round-requires-3-clause-ready
-go_round-requires-3-clause-ready g c = ready_left g.D.Disk _ _ _ _ _ c.in_ok-replaced.ensures.went.course.left
-
-pub returns-in_err-added : goal.returns-in_err-added
-returns-in_err-added g c =
+pub returns-in_err-tally : goal.returns-in_err-tally
+returns-in_err-tally g c =
     let all = all_is c.args.n (state_in g.D.Disk c.args.disk.now c.args.db.now) c.saturating_sub-b.ensures (c.next_number.ensures.told _) in
-    rw (err_is c.from_residual.result c.from_residual.ensures, ← all) (through_ahead g.D.Disk _ c.in_err-added.ensures.went)
-
-pub returns-in_err-replaced : goal.returns-in_err-replaced
-returns-in_err-replaced g c =
-    let all = all_is c.args.n (state_in g.D.Disk c.args.disk.now c.args.db.now) c.saturating_sub-b.ensures (c.next_number.ensures.told _) in
-    rw (err_is c.from_residual-in_err-replaced.result c.from_residual-in_err-replaced.ensures, ← all)
-    (through_then g.D.Disk g.met.D.Disk.follows_trans (Err _) c.in_ok-added.ensures.went (through_ahead g.D.Disk _ c.in_err-replaced.ensures.went))
-
-pub returns-in_err-erased : goal.returns-in_err-erased
-returns-in_err-erased g c =
-    let all = all_is c.args.n (state_in g.D.Disk c.args.disk.now c.args.db.now) c.saturating_sub-b.ensures (c.next_number.ensures.told _) in
-    let joins = g.met.D.Disk.follows_trans in
-    rw (err_is c.from_residual-in_err-erased.result c.from_residual-in_err-erased.ensures, ← all) (through_then g.D.Disk joins (Err _)
-    c.in_ok-added.ensures.went (through_then g.D.Disk joins (Err _) c.in_ok-replaced.ensures.went c.in_err-erased.ensures.went))
+    let b = c.begin-batch.ensures in
+    let said = c.in_err-tally.ensures in
+    rw (err_is c.from_residual.result c.from_residual.ensures, ← all) (record {
+      course = list_stopped g.D.Disk c.requires.ready b.goes b.order b.sealed b.none (λ told. told) (rw b.same at said.course);
+      spent = said.spent;
+      kinds = said.kinds;
+    })
 
 pub returns : goal.returns
 returns g c =
     let all = all_is c.args.n (state_in g.D.Disk c.args.disk.now c.args.db.now) c.saturating_sub-b.ensures (c.next_number.ensures.told _) in
-    let joins = g.met.D.Disk.follows_trans in
-    rw (← all) (through_then g.D.Disk joins (Ok _) c.in_ok-added.ensures.went
-    (through_then g.D.Disk joins (Ok _) c.in_ok-replaced.ensures.went c.in_ok-erased.ensures.went))
+    let b = c.begin-batch.ensures in
+    let f = c.in_ok-finish.ensures in
+    rw (← all) (record {
+      course = list_settled g.D.Disk c.requires.ready b.goes b.order b.sealed b.none (λ told. told) g.met.D.Disk.follows_trans c.finish.new.db
+          (rw b.same at c.in_ok-tally.ensures.course) f.left.indexed f.runs f.cause.later f.store f.packages f.settled f.whole;
+      spent = tt;
+      kinds = tt;
+    })
+
+pub returns-in_err-finish : goal.returns-in_err-finish
+returns-in_err-finish g c =
+    let all = all_is c.args.n (state_in g.D.Disk c.args.disk.now c.args.db.now) c.saturating_sub-b.ensures (c.next_number.ensures.told _) in
+    let b = c.begin-batch.ensures in
+    let f = c.in_err-finish.ensures in
+    let fault = c.in_err-finish.field-0.0 in
+    let of = index_changes c.finish.new.db fault f.kinds in
+    rw (err_is c.from_residual-in_err-finish.result c.from_residual-in_err-finish.ensures, ← all) (record {
+      course = list_unsettled g.D.Disk c.requires.ready b.goes b.order b.sealed b.none (λ told. told) g.met.D.Disk.follows_trans c.finish.new.db
+          (rw b.same at c.in_ok-tally.ensures.course) f.left.indexed f.runs f.cause.later fault (quiet_stopped fault) f.kinds f.full f.whole
+          (λ is. f.cause.rose (cc));
+      spent = of.0;
+      kinds = of.1;
+    })

@@ -1,6 +1,6 @@
 use Rattle.std.proofs.Common.{◌+◌, ◌-◌, arith, ap}
-use Rattle.rpm_exercise.proofs.Vocabulary.{err_is, flat_map, going_begin, going_end, making, on_more, on_ready, on_stop, quiet_joins, quiet_none}
-use Rattle.rpm_exercise.proofs.Vocabulary.{range_with_len, ready_none, round_changes, turn}
+use Rattle.rpm_exercise.proofs.Vocabulary.{err_is, flat_map, going_begin, going_end, going_more, going_stop, making, none_went, owing_none}
+use Rattle.rpm_exercise.proofs.Vocabulary.{owing_then, quiet_joins, quiet_none, range_with_len, round_changes, turn}
 use Rattle.rpm_exercise.proofs.Parts.{each_next, each_none, each_all}
 use Rattle.rpm_exercise.proofs.Through.{none_failed}
 use Rattle.rpm_exercise.proofs.rounds.go_round.Goals as goal
@@ -10,7 +10,8 @@ loop-done-init g c =
     let f = turn c.args.round c.args.b in
     record {
       goes = going_begin g.D.Disk (making (round_changes c.args.round c.args.b c.args.n)) (making (flat_map f (range_with_len 1 (c.args.n - 0))))
-          (λ told. ap making (each_all f c.args.n)) (ready_none g.D.Disk g.met.D.Disk.follows_refl c.requires.ready (quiet_none _));
+          (λ told. ap making (each_all f c.args.n)) (none_went g.D.Disk g.met.D.Disk.follows_refl (owing_none g.D.Disk c.requires.gathering) _ _
+          c.requires.gathering.indexed (quiet_none _));
       few = omega arith;
     }
 
@@ -21,14 +22,11 @@ loop-done-preserved g c =
     let f = turn c.args.round c.args.b in
     let one = c.in_ok-tally.ensures in
     record {
-      goes = on_more g.D.Disk g.met.D.Disk.follows_trans (λ told. told) quiet_joins (making (f (k + 1)))
-          (making (flat_map f (range_with_len (k + 1 + 1) (n - (k + 1))))) c.loop-done.invariant.goes
+      goes = going_more g.D.Disk g.met.D.Disk.follows_trans quiet_joins (owing_then g.D.Disk) (λ owing told rows. owing.owes told rows)
+          (making (f (k + 1))) (making (flat_map f (range_with_len (k + 1 + 1) (n - (k + 1))))) c.loop-done.invariant.goes
           (λ told after. ap making (each_next f (k + 1) n k (omega arith))) (none_failed g.D.Disk (f (k + 1)) c.in_ok-tally.tally one.went.course);
       few = omega (arith, c.loop-done.invariant.few, one.few);
     }
-
-pub take_turn-requires-clause-ready : goal.take_turn-requires-clause-ready
-take_turn-requires-clause-ready g c = on_ready g.D.Disk c.loop-done.invariant.goes
 
 pub returns-in_err-tally-clause-went : goal.returns-in_err-tally-clause-went
 returns-in_err-tally-clause-went g c =
@@ -37,8 +35,8 @@ returns-in_err-tally-clause-went g c =
     let f = turn c.args.round c.args.b in
     let said = c.in_err-tally.ensures.went in
     rw (err_is c.from_residual.result c.from_residual.ensures) (record {
-      course = on_stop g.D.Disk g.met.D.Disk.follows_trans (λ told. told) quiet_joins (making (f (k + 1)))
-          (making (flat_map f (range_with_len (k + 1 + 1) (n - (k + 1))))) c.loop-done.invariant.goes
+      course = going_stop g.D.Disk g.met.D.Disk.follows_trans quiet_joins (owing_then g.D.Disk) (λ owing told rows. owing.owes told rows)
+          (making (f (k + 1))) (making (flat_map f (range_with_len (k + 1 + 1) (n - (k + 1))))) c.loop-done.invariant.goes
           (λ told. ap making (each_next f (k + 1) n k (omega arith))) said.course;
       spent = said.spent;
       kinds = said.kinds;

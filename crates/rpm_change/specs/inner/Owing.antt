@@ -4,12 +4,30 @@ use Rattle.std.proofs.lemmas.Bool.Decides.{nat_tests}
 use Rattle.std.proofs.lemmas.List.{length-replicate}
 use Rattle.std.specs.Prelude.{IsTrue}
 use Rattle.rpm_outside.specs.declared.disk.Disk as disk
-use Rattle.rpm_change.proofs.Vocabulary.{blank, CarriedOn, ChangeFault, Course, Database, due, due_units, generation_of, Halt, halt_of, halted_by}
-use Rattle.rpm_change.proofs.Vocabulary.{has_failed, idx_more, is_indexed, is_limit, IsGathering, IsIndexed, IsOfIndex, IsOfReading, IsOrdered, IsOwing}
-use Rattle.rpm_change.proofs.Vocabulary.{IsReady, IsSettledUp, IsWholeIndex, other_stop, OwesOn, nothing, packages, room, Rose, RowChange, Runs, SameLog}
-use Rattle.rpm_change.proofs.Vocabulary.{sealed_in, State, state_in, suspended, Tally, then_by, times, times_none, Went, WentOwing}
-use Rattle.rpm_change.proofs.Vocabulary.{whole_halt, WholeCause}
+use Rattle.rpm_outside.specs.Causes.{Rose}
+use Rattle.rpm_outside.specs.Files.{blank}
+use Rattle.rpm_hindex.specs.Rows.{times}
+use Rattle.rpm_db.specs.declared.change_fault.ChangeFault.{ChangeFault}
 use Rattle.rpm_db.specs.declared.change_fault.ChangeFault.TheVariants as fault
+use Rattle.rpm_db.specs.declared.netting.RowChange.{RowChange}
+use Rattle.rpm_db.specs.Changed.{IsReady}
+use Rattle.rpm_db.specs.Database.{Database, generation_of, has_failed, is_indexed}
+use Rattle.rpm_db.specs.Frame.{IsIndexed, Runs, room, state_in}
+use Rattle.rpm_db.specs.Gathering.{IsGathering, IsOrdered, IsSettledUp, OwesOn, due, due_units, nothing, sealed_in, suspended}
+use Rattle.rpm_db.specs.Lawful.{IsWholeIndex}
+use Rattle.rpm_db.specs.Refusals.{IsOfIndex, IsOfReading, WholeCause}
+use Rattle.rpm_db.specs.RowLaws.{times_none}
+use Rattle.rpm_db.specs.Runs.{SameLog}
+use Rattle.rpm_db.specs.State.{State, packages}
+use Rattle.rpm_change.specs.declared.tally.Tally.{Tally}
+use Rattle.rpm_change.specs.declared.tally.Halt.{Halt}
+use Rattle.rpm_change.specs.Endings.{halt_of}
+use Rattle.rpm_change.specs.Limits.{is_limit}
+use Rattle.rpm_change.specs.Steps.{Course}
+use Rattle.rpm_change.specs.Went.{CarriedOn, IsOwing, Went, WentOwing}
+use Rattle.rpm_change.specs.inner.Leaving.{halted_by, then_by, whole_halt}
+use Rattle.rpm_change.specs.inner.ReachLaws.{idx_more}
+use Rattle.rpm_change.specs.inner.Single.{other_stop}
 
 -- a fault of the index is no limit where the index held the rows, and none of the lines and the shelf
 pub end_limit : (i : Bool) (f : ChangeFault) → IsOfIndex f → (i ≡ true → IsOfReading f) → is_limit i (halt_of f) ≡ false
