@@ -1,12 +1,16 @@
--- The numbers that an argument's steps are for.
-use Rattle.std.proofs.Common.{◌≡◌, ℕ, List, [], ◌∷◌, map, Option, Some, None, refl, ap, ◌∙◌}
+-- The numbers that an argument's steps are for, and which steps `--after` leaves out.
+use Rattle.std.proofs.Common.{◌≡◌, ℕ, ◌+◌, Bool, true, false, cond, List, [], ◌∷◌, ◌++◌, map, Option, Some, None, refl, sym, ap, ◌∙◌, arith, nat_lt}
 use Rattle.std.proofs.lemmas.List.{append-nil}
+use Rattle.std.proofs.lemmas.List.Elements.{filter-append}
+use Rattle.std.proofs.lemmas.Bool.Decides.{nat_tests}
 use Rattle.rpm_tool.proofs.Vocabulary.{above, answered, argument_part, Bearer, Chosen, is_picked, lent, missing_part, nat_cmp, Package, picked, picked_by}
 use Rattle.rpm_tool.proofs.Vocabulary.{picks, query_of, question_of, RisesFrom, Selection, step_of, Tree, with_number}
 use Rattle.std.specs.FinMap as finite
 use Rattle.rpm_words.specs.declared.switch.Chosen.TheVariants as by
 use Rattle.rpm_select.specs.declared.selection.Selection.TheVariants as question
-use Rattle.rpm_print.specs.Steps.{numbers}
+use Rattle.rpm_change.specs.Steps.{Step}
+use Rattle.rpm_print.specs.Steps.{bearer_of, in_turn, numbers}
+use Rattle.rpm_tool.specs.Deeds.{is_above, steps_above}
 use Rattle.rpm_print.specs.inner.Printed.{bearer-step_of}
 use Rattle.rpm_query.specs.inner.Rising.{rises_above}
 
@@ -52,3 +56,61 @@ whole_numbers tree packages chosen after =
 
 pub all_rise : (packages : finite.FinMap nat_cmp Package) (after : ℕ) → RisesFrom after (map (λ e. e.0) (above after (picks packages question.All)))
 all_rise packages after = by_rises packages (Some question.All) after
+
+-- ---- with `--after` and without
+
+abbrev is_left : ℕ → Step → Bool
+is_left after s = is_above after (bearer_of s).number
+
+module _ (tree : Tree) (after : ℕ) where
+  -- one package more, by whether it has a number, and one above
+  one_above : (j : ℕ) (e : ℕ × Package) (all over : List (ℕ × Package)) (some higher : Bool) → (higher ≡ true → some ≡ true)
+      → is_left after (step_of tree j e) ≡ higher → map (step_of tree j) over ≡ steps_above after (map (step_of tree j) all)
+      → map (step_of tree j) (cond higher (e ∷ over) over) ≡ steps_above after (map (step_of tree j) (cond some (e ∷ all) all))
+  one_above j e all over true true up is rest = rw is (ap (λ (steps : List Step). step_of tree j e ∷ steps) rest)
+  one_above j e all over true false up is rest = rw is rest
+  one_above j e all over false true up is rest = absurd (let no = up refl in cc)
+  one_above j e all over false false up is rest = rest
+
+  told_above : (j : ℕ) (es : List (ℕ × Package)) → map (step_of tree j) (above after es) ≡ steps_above after (map (step_of tree j) (above 0 es))
+  told_above j [] = refl
+  told_above j (e ∷ es) = one_above j e (above 0 es) (above after es) (nat_lt 0 e.0) (nat_lt after e.0)
+      (λ (over : nat_lt after e.0 ≡ true). grind (arith, nat_tests))
+      (ap (λ (b : Bearer). is_above after b.number) (bearer-step_of tree j e))
+      (told_above j es)
+
+  missing_above : (chosen : Chosen) (j : ℕ) (text : List ℕ)
+      → (missing_part chosen j text).steps ≡ steps_above after (missing_part chosen j text).steps
+  unfolding missing_part
+  missing_above by.Label j text = refl
+  missing_above others j text = refl
+
+  answered_above : (chosen : Chosen) (j : ℕ) (text : List ℕ) (es : List (ℕ × Package))
+      → (answered tree chosen after j text es).steps ≡ steps_above after (answered tree chosen 0 j text es).steps
+  answered_above chosen j text [] = missing_above chosen j text
+  answered_above chosen j text (e ∷ es) = told_above j (e ∷ es)
+
+  -- a part before others
+  steps_then : (a b c d : List Step) → a ≡ steps_above after b → c ≡ steps_above after d → a ++ c ≡ steps_above after (b ++ d)
+  steps_then a b c d first second = ap (λ (steps : List Step). steps ++ c) first ∙ ap (λ (steps : List Step). steps_above after b ++ steps) second
+      ∙ sym (filter-append (is_left after) b d)
+
+  turn_above : (packages : finite.FinMap nat_cmp Package) (chosen : Chosen) (j : ℕ) (texts : List (List ℕ))
+      → (in_turn (argument_part tree packages chosen after) j texts).steps ≡ steps_above after (in_turn (argument_part tree packages chosen 0) j texts).steps
+  turn_above packages chosen j [] = refl
+  turn_above packages chosen j (text ∷ texts) = steps_then
+      (argument_part tree packages chosen after j text).steps
+      (argument_part tree packages chosen 0 j text).steps
+      (in_turn (argument_part tree packages chosen after) (j + 1) texts).steps
+      (in_turn (argument_part tree packages chosen 0) (j + 1) texts).steps
+      (answered_above chosen j text (picked packages chosen text))
+      (turn_above packages chosen (j + 1) texts)
+
+  -- the steps of a query are those without `--after`, less those that bear a number up to it
+  pub query_above : (packages : finite.FinMap nat_cmp Package) (chosen : Chosen) (texts : List (List ℕ))
+      → (query_of tree packages chosen after texts).steps ≡ steps_above after (query_of tree packages chosen 0 texts).steps
+  query_above packages chosen [] = steps_then
+      (map (step_of tree 0) (above after (picks packages question.All)))
+      (map (step_of tree 0) (above 0 (picks packages question.All)))
+      [] [] (told_above 0 (picks packages question.All)) refl
+  query_above packages chosen (text ∷ texts) = turn_above packages chosen 0 (text ∷ texts)

@@ -1,6 +1,7 @@
 -- What a command does with the database that it opens, with its index or without: what it prints, and what it reads of the packages. On it rest
--- `plain` and `keyed` of the page (Theorem.antt).
-use Rattle.std.specs.Prelude.{ℕ, ◌+◌, ◌≤◌, List, [], ◌∷◌, map, Bool, false, Result, Ok, Err}
+-- `plain` and `keyed` of the page (Theorem.antt), and the law `after`.
+use Rattle.std.specs.Prelude.{ℕ, ◌+◌, ◌≤◌, List, [], ◌∷◌, map, Bool, true, false, nat_lt, Option, Some, None, Result, Ok, Err}
+use Rattle.std.specs.List.{filter}
 use Rattle.std.specs.Ordering.{nat_cmp}
 use Rattle.std.specs.FinMap.{FinMap}
 use Rattle.rpm_outside.specs.Files.{Units, Files}
@@ -18,7 +19,8 @@ use Rattle.rpm_print.specs.declared.reading.Deed.{Deed}
 use Rattle.rpm_print.specs.declared.reading.Deed.TheVariants as deed
 use Rattle.rpm_print.specs.Asked.{deed_of}
 use Rattle.rpm_change.specs.Endings.{Through}
-use Rattle.rpm_change.specs.Steps.{Bearer}
+use Rattle.rpm_change.specs.Steps.{Bearer, Step}
+use Rattle.rpm_print.specs.Steps.{bearer_of}
 use Rattle.rpm_print.specs.Answers.{Went, Misread, Refused, Anywhere}
 use Rattle.rpm_print.specs.Classes.{is_done}
 use Rattle.rpm_report.specs.FileReport.{check_files}
@@ -101,3 +103,14 @@ Queried tree words a files given old new before now =
 -- the most that it reads
 abbrev pub query_cost : List (List ℕ) → AskParts → Units → ℕ
 query_cost words a file = opening_cost file + blocks_cost (λ s. false) file (store file) words a
+
+-- ---- under `--after`
+
+-- a step for no package is above each number
+abbrev pub is_above : ℕ → Option ℕ → Bool
+is_above n None = true
+is_above n (Some number) = nat_lt n number
+
+-- the steps less those for packages up to a number
+abbrev pub steps_above : ℕ → List Step → List Step
+steps_above n = filter (λ s. is_above n (bearer_of s).number)

@@ -23,13 +23,13 @@ use Rattle.rpm_print.specs.Asked.{is_query, of_files, by_key, is_changing, asks_
 use Rattle.rpm_commit.specs.Changing.{DidOn, ChangesWith, EmptyBy}
 use Rattle.rpm_print.specs.Classes.{is_done, is_done_or_outside, is_foreign}
 use Rattle.rpm_print.specs.Texts.{Course, text_course, text_of}
-use Rattle.rpm_tool.specs.Deeds.{Outputs, Package, Queried, query_cost, reopened, State, Tree, Why}
+use Rattle.rpm_tool.specs.Deeds.{Outputs, Package, Queried, query_cost, reopened, State, steps_above, Tree, Why}
 use Rattle.rpm_print.specs.Frame.{images, pkg_read, Leaves, LeavesIn}
 use Rattle.rpm_tool.specs.Keyed.{AreLawfulGroups, Chosen, IsLawfulGroup, IsUsableGroup, KeepsLog, KeepsPackages, StandsStill}
 use Rattle.rpm_tool.specs.Keyed.{IsAtRest, IsReady, KeyedIs, FullIs, BadIs, HasRoom, keyed_cost}
 use Rattle.rpm_commit.specs.Limits.{LimitsBy, LogBy, FaultIs}
 use Rattle.rpm_query.specs.PackageFiles.{passing, query_files}
-use Rattle.rpm_query.specs.Queries.{picked, argument_part, query_of, AreOfEach, AreQuestions}
+use Rattle.rpm_query.specs.Queries.{picked, argument_part, query, query_of, AreOfEach, AreQuestions}
 use Rattle.rpm_commit.specs.Tasks.{asked_task, asked_course, reads_shelf, is_anew, changes_index, needs_none}
 
 -- One run: its words and its moment, how it ended, what it found and left, what out and err had taken before.
@@ -135,12 +135,13 @@ pub record Causes {D S O E : Type 0} (d : disk.Ghosts D) (s : shelf.Ghosts S) (o
 
 -- 8. LAWS of the words and of what is picked.
 pub record Laws (words : List (List ℕ)) : Type 0 where
-  -- with package files no number is passed over
+  -- `--after` leaves out the steps for packages up to its number, and no others; with package files none
+  pub after : (tree : Tree) (packages : FinMap nat_cmp Package) (a : AskParts)
+      → (query tree packages words a).steps ≡ steps_above a.after (query tree packages words (passing 0 a)).steps
   pub files_after : (tree : Tree) (paths : Paths) (n : ℕ) (a : AskParts) → query_files tree paths words (passing n a) ≡ query_files tree paths words a
   -- an argument's packages are those that it picks above `--after`, each once and rising
-  pub numbers : (tree : Tree) (packages : FinMap nat_cmp Package) (chosen : Chosen) (after j : ℕ)
-      (text : List ℕ) → AreOfEach after (picked packages chosen text)
-      (argument_part tree packages chosen after j text).steps
+  pub numbers : (tree : Tree) (packages : FinMap nat_cmp Package) (chosen : Chosen) (after j : ℕ) (text : List ℕ)
+      → AreOfEach after (picked packages chosen text) (argument_part tree packages chosen after j text).steps
   -- and those of a query without arguments all above it
   pub all_numbers : (tree : Tree) (packages : FinMap nat_cmp Package) (chosen : Chosen) (after : ℕ)
       → AreOfEach after (picks packages question.All) (query_of tree packages chosen after []).steps
