@@ -16,7 +16,7 @@ IsListFault found of_list.ReadFault = Unit {0}
 IsListFault found of_list.NoMemory = Unit {0}
 IsListFault found fault = found ≡ Err fault
 
--- so is one of a package file
+-- a package file's answer names this fault
 abbrev pub IsFileFault : {X : Type 0} → Result X FileFault → FileFault → Type 0
 IsFileFault found of_file.ReadFault = Unit {0}
 IsFileFault found of_file.NoMemory = Unit {0}
@@ -32,7 +32,7 @@ AnswersNext old new (Ok None) = (list_head (left old) ≡ Ok None) × (new ≡ o
 AnswersNext old new (Ok (Some blob)) = list_head (left old) ≡ Ok (Some (record { blob = blob.items; rest = left new }))
 AnswersNext old new (Err fault) = IsListFault (list_head (left old)) fault
 
--- or into the front of a longer row
+-- a list's next header comes into the front of a row that may be longer
 abbrev pub AnswersNextIn : Option (List ℕ) → Option (List ℕ) → List ℕ → Result (Option ℕ) ListFault → Type 0
 AnswersNextIn old new room (Ok None) = (list_head (left old) ≡ Ok None) × (new ≡ old)
 AnswersNextIn old new room (Ok (Some size)) = list_head (left old) ≡ Ok (Some (record { blob = take size room; rest = left new }))

@@ -13,7 +13,7 @@ pub record Found : Type 0 where
   pub blob : List ℕ
   pub rest : List ℕ
 
--- these bytes begin with a magic, as each header of a list does
+-- a header of a list begins with a magic
 abbrev pub has_magic : List ℕ → Bool
 has_magic bytes = starts_with nat_eq bytes magic
 
@@ -21,7 +21,7 @@ has_magic bytes = starts_with nat_eq bytes magic
 abbrev pub entries_in : List ℕ → ℕ
 entries_in bytes = number_at w32 bytes 8
 
--- and how many bytes of data
+-- a header of a list says here how many bytes of data it has
 abbrev pub data_in : List ℕ → ℕ
 data_in bytes = number_at w32 bytes 12
 

@@ -57,7 +57,7 @@ AreStamps stamps = All (λ stamp. is_region_tag stamp.tag ≡ false) stamps
 
 -- ---- the header with all of them
 
--- so many entries, or so many bytes of data, are more than a header may have
+-- a header would pass its limits with a count of entries or a size of data
 abbrev pub passes_limits : ℕ → ℕ → Bool
 passes_limits count size = nat_lt max_entries count || nat_lt max_data size
 
@@ -67,7 +67,7 @@ with_entries main more =
     if passes_limits (length main.entries + length more) (length (dribbled_data main more)) then Err TooLarge
     else Ok (record { blob = dribbled main more; entries = main.entries ++ more })
 
--- the same where there is a header
+-- a header that could be read gets more entries
 abbrev pub and_entries : List Item → Result Header FileFault → Result Header FileFault
 and_entries more (Ok h) = with_entries h more
 and_entries more (Err fault) = Err fault

@@ -21,7 +21,7 @@ use Rattle.rpm_file.specs.Merging.{merged, with_entries}
 abbrev pub lead_magic : List ℕ
 lead_magic = 0xed ∷ 0xab ∷ 0xee ∷ 0xdb ∷ []
 
--- its magic in front, and the number 5 for the type of its signature at 78; nothing else is looked at
+-- a lead has its magic in front, and the number 5 for the type of its signature at 78; nothing else is looked at
 abbrev pub is_lead : List ℕ → Bool
 is_lead bytes = starts_with nat_eq bytes lead_magic && number_at w16 bytes 78 == 5
 
@@ -95,7 +95,7 @@ behind_padding blob bytes =
 
 -- ---- all of it
 
--- with the entries of the signature header that join it
+-- a main header is joined by those entries of the signature header that belong to it
 abbrev pub joined_by : List Item → Result Headed FileFault → Result Headed FileFault
 joined_by signature (Err fault) = Err fault
 joined_by signature (Ok main) = with_rest (merged signature main.header) main.rest
@@ -109,12 +109,12 @@ main_at signature (Ok bytes) = joined_by signature (headed part.Main bytes)
 unfoldable pub behind_signature : Header → List ℕ → Result Headed FileFault
 behind_signature signature bytes = main_at signature.entries (behind_padding signature.blob bytes)
 
--- and after a signature header that has no fault
+-- a package file goes on with its main header after a signature header without a fault
 abbrev pub after_signature : Result Headed FileFault → Result Headed FileFault
 after_signature (Err fault) = Err fault
 after_signature (Ok signature) = behind_signature signature.header signature.rest
 
--- which stands where the lead ends
+-- a package file's signature header stands where the lead ends
 abbrev pub signature_at : Result (List ℕ) FileFault → Result Headed FileFault
 signature_at (Err fault) = Err fault
 signature_at (Ok bytes) = after_signature (headed part.Signature bytes)
@@ -128,7 +128,7 @@ abbrev pub headed_with : List Item → Result Headed FileFault → Result Headed
 headed_with more (Err fault) = Err fault
 headed_with more (Ok found) = with_rest (with_entries found.header more) found.rest
 
--- the same with these entries after all others
+-- a package file's header with these entries after all others
 abbrev pub package_with : List Item → List ℕ → Result Headed FileFault
 package_with more bytes = headed_with more (package_header bytes)
 

@@ -44,7 +44,7 @@ blocks_at s file = record { head = unit_at file s.offset; rest = bytes_of (take 
 abbrev pub frame_of : ℕ → Slot → Units → Option Frame
 frame_of n s file = if is_framed n s.count (blocks_at s file) then Some (blocks_at s file) else None
 
--- for a number that no slot has None, and Some None where its framing is broken
+-- a number's blob is framed like this: None where no slot has the number, Some None where the framing is broken
 abbrev pub frames : Units → Store → ℕ → Option (Option Frame)
 frames file store n = option_map (λ s. frame_of n s file) (slot_with n store.slots)
 

@@ -23,11 +23,11 @@ adler bytes = second_sum bytes % 65521 * 65536 + first_sum bytes % 65521
 unfoldable pub checksum_holds : Frame → Bool
 checksum_holds f = word 0 (tail f.rest) == adler (f.head ++ take (length f.rest - 12) f.rest)
 
--- for a number that no slot has None, and Some None where its framing is broken
+-- a number's checksum holds or not: None where no slot has the number, Some None where the framing is broken
 abbrev pub checksums_hold : Units → Store → ℕ → Option (Option Bool)
 checksums_hold file store n = option_map (option_map checksum_holds) (frames file store n)
 
--- both sums carried on by some bytes
+-- a checksum has two sums, which some bytes carry on
 unfoldable pub sums : ℕ → ℕ → List ℕ → ℕ × ℕ
 sums a b [] = (a, b)
 sums a b (x ∷ xs) = sums ((a + x) % 65521) ((b + (a + x) % 65521) % 65521) xs

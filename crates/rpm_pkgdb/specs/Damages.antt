@@ -10,7 +10,7 @@ use Rattle.rpm_pkgdb.specs.declared.slot.Reason.TheVariants.{BadMagic, BadVersio
 use Rattle.rpm_pkgdb.specs.Words.{word, begins}
 use Rattle.rpm_pkgdb.specs.Slots.{slot_of, slots_in, is_used, end_of, meets, has_number}
 
--- which byte of its unit a reason is about
+-- a reason of damage is about this byte of its unit
 abbrev pub place_in : Reason → ℕ
 place_in BadMagic = 0
 place_in BadVersion = 4
@@ -45,7 +45,7 @@ head_reason units head =
 abbrev pub is_bad_number : Slot → Bool
 is_bad_number s = s.number == 0 || s.number == 4294967295
 
--- its blocks begin in the slot pages, are none, or end past the file or past the limit
+-- a slot's range is bad when its blocks begin in the slot pages, are none, or end past the file or past the limit
 abbrev pub is_bad_range : ℕ → ℕ → Slot → Bool
 is_bad_range pages units s = nat_lt s.offset (256 * pages) || s.count == 0 || nat_lt units (end_of s) || nat_lt (2 ^ 28) (end_of s)
 

@@ -14,7 +14,7 @@ use Rattle.rpm_pkgdb.specs.Growing.{after_move, grown, next_end}
 use Rattle.rpm_pkgdb.specs.Planned.{moves_of}
 use Rattle.rpm_pkgdb.specs.Written.{with_blob, with_generation, with_spare}
 
--- so many blocks from this one on end by the limit, and meet no used slot's
+-- a count of blocks fits at a block when it ends by the limit, and meets no used slot's
 abbrev pub fits : List Slot → ℕ → ℕ → Bool
 fits slots count start = nat_le (start + count) (2 ^ 28) && not (list_any (meets (record { number = 0; offset = start; count = count })) slots)
 
@@ -28,16 +28,16 @@ first_fit slots count from = reduce min (filter (fits slots count) (from ∷ fil
 abbrev pub is_first : List Slot → Slot → Bool
 is_first slots s = is_used s && not (list_any (λ t. is_used t && nat_lt t.offset s.offset) slots)
 
--- its place
+-- the first used slot by offset has this place
 unfoldable pub first_used : List Slot → ℕ
 first_used slots = position_or_len (is_first slots) slots
 
--- its move to the first fit from a block on
+-- the first used slot is moved next, to the first fit from a block on
 unfoldable pub next_move : List Slot → ℕ → Option Move
 next_move slots end =
     option_map (λ to. record { place = first_used slots; to = to }) (first_fit slots (slot_at slots (first_used slots)).count end)
 
--- so many moves, each the next one after those before it
+-- a count of moves is made one after the other, each the next one after those before it
 unfoldable pub moves_from : ℕ → List Slot → ℕ → Option (List Move)
 moves_from zero slots end = Some []
 moves_from (suc n) slots end = option_and_then (λ m. option_map (λ moves. m ∷ moves) (moves_from n (after_move slots m) end)) (next_move slots end)

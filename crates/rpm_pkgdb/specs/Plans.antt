@@ -16,7 +16,7 @@ pub record IsFirstFree (slots : List Slot) (place : ℕ) : Type 0 where
 abbrev pub AreAllUsed : List Slot → Type 0
 AreAllUsed slots = (k : ℕ) → k < length slots → is_used (slot_at slots k) ≡ true
 
--- so many blocks from this one on end by the limit, and none of them is a used slot's
+-- a count of blocks fits at a block when it ends by the limit, and none of them is a used slot's
 pub record Fits (slots : List Slot) (count start : ℕ) : Type 0 where
   pub ends : start + count ≤ 2 ^ 28
   pub apart : (k : ℕ) → is_used (slot_at slots k) ≡ true → (start + count ≤ (slot_at slots k).offset) ⊎ (end_of (slot_at slots k) ≤ start)
@@ -27,7 +27,7 @@ pub record IsLeast (slots : List Slot) (count from start : ℕ) : Type 0 where
   pub fits : Fits slots count start
   pub least : (block : ℕ) → from ≤ block → block < start → ¬ Fits slots count block
 
--- from a block on, no place has room for so many blocks
+-- a count of blocks has room at no place from a block on
 abbrev pub FitsNowhere : List Slot → ℕ → ℕ → Type 0
 FitsNowhere slots count from = (block : ℕ) → from ≤ block → ¬ Fits slots count block
 

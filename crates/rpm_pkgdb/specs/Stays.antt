@@ -21,7 +21,7 @@ blocks_with n value file = option_map (λ s. take s.count (drop s.offset file)) 
 abbrev pub AllStay : Store → Units → Store → Units → Type 0
 AllStay old before new after = (n : ℕ) → blocks_with n new after ≡ blocks_with n old before
 
--- and each package's but this one's
+-- each package but this one keeps its blocks
 abbrev pub OthersStay : ℕ → Store → Units → Store → Units → Type 0
 OthersStay n old before new after = (m : ℕ) → m ≢ n → blocks_with m new after ≡ blocks_with m old before
 

@@ -89,7 +89,7 @@ Says (Damaged d) fault = fault ≡ Some d
 Says DiskFault fault = Unit {0}
 Says NoMemory fault = Unit {0}
 
--- the same of a call that doesn't take the disk
+-- a refusal of a call that doesn't take the disk names this fault
 abbrev pub SaysHere : OpenFault → Option Damage → Type 0
 SaysHere (Damaged d) fault = fault ≡ Some d
 SaysHere DiskFault fault = ⊥

@@ -20,7 +20,7 @@ pub record AreApart (s t : Slot) : Type 0 where
   pub numbers : s.number ≢ t.number
   pub blocks : (end_of s ≤ t.offset) ⊎ (end_of t ≤ s.offset)
 
--- in a file of so many units each used slot is placed, and any two are apart
+-- a file's used slots are each placed within its units, and any two are apart
 pub record AreSound (pages units : ℕ) (slots : List Slot) : Type 0 where
   pub placed : (k : ℕ) → is_used (slot_at slots k) ≡ true → IsPlaced pages units (slot_at slots k)
   pub apart : (j k : ℕ) → j ≢ k → is_used (slot_at slots j) ≡ true → is_used (slot_at slots k) ≡ true → AreApart (slot_at slots j) (slot_at slots k)
@@ -30,7 +30,7 @@ pub record IsSlotUnit (unit : List ℕ) (s : Slot) : Type 0 where
   pub magic : begins (codes "Slot") unit ≡ true
   pub says : slot_of unit ≡ s
 
--- so many pages are some, and lie in a file of so many units and below the limit
+-- a count of slot pages is at least one, and lies within the file's units and below the limit
 pub record IsLawful (units pages : ℕ) : Type 0 where
   pub some : 1 ≤ pages
   pub inside : 256 * pages ≤ units

@@ -12,7 +12,7 @@ IsOutside fault.ReadFault = Unit {0}
 IsOutside fault.NoMemory = Unit {0}
 IsOutside _ = ⊥
 
--- so many bytes came to the front of a buffer, and fewer than it has only where nothing is left
+-- a buffer's front got so many bytes, and fewer than it has only where nothing is left
 pub record Fills (old new : Option (List ℕ)) (count : ℕ) (into : List ℕ) : Type 0 where
   pub front : Takes old new (take count into)
   pub ended : count < length into → left new ≡ []
@@ -23,7 +23,7 @@ pub record Extends (old new : Option (List ℕ)) (before now : List ℕ) : Type 
   pub behind : now ≡ before ++ more
   pub front : Takes old new more
 
--- and fewer than so many in all came only where nothing is left
+-- a row got more bytes of an item, and fewer than so many in all only where nothing is left
 pub record Appends (old new : Option (List ℕ)) (before : List ℕ) (size : ℕ) (now : List ℕ) : Type 0 where
   pub extends : Extends old new before now
   pub ended : length now < size → left new ≡ []

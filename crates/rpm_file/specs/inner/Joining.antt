@@ -9,7 +9,7 @@ use Rattle.rpm_file.specs.declared.fault.FileFault.{FileFault}
 use Rattle.rpm_file.specs.declared.fault.FileFault.TheVariants.{TooLarge, NoMemory}
 use Rattle.rpm_file.specs.Merging.{has_tag, dribble}
 
--- of each tag below 1,047, whether these entries have it
+-- a table says of each tag below 1,047 whether these entries have it
 pub record HasTags (entries : List Item) (has : List Bool) : Type 0 where
   pub long : length has ≡ 1047
   pub told : (tag : ℕ) → tag < 1047 → slice_index_or has tag false ≡ has_tag tag entries
@@ -25,6 +25,6 @@ made_fault build.TooManyEntries = TooLarge
 made_fault build.TooMuchData = TooLarge
 made_fault build.NoMemory = NoMemory
 
--- its own bytes have its two lengths and its index
+-- a header's own bytes have its two lengths and its index
 abbrev pub HasIndex : Header → Type 0
 HasIndex h = 8 + 16 * length h.entries ≤ length h.blob

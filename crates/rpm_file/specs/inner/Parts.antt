@@ -17,7 +17,8 @@ AnswersIntro old new intro (Ok true) = Takes old new intro
 AnswersIntro old new intro (Ok false) = (list_head (left old) ≡ Ok None) × (new ≡ old)
 AnswersIntro old new intro (Err fault) = IsListFault (list_head (left old)) fault
 
--- of a header whose first 16 bytes were taken before, and whose own bytes are put in front of a row
+-- a list's next header comes into a row, when its first 16 bytes were taken before and its own bytes are put in front
+-- of the row
 abbrev pub AnswersBehind : List ℕ → Option (List ℕ) → Option (List ℕ) → List ℕ → Result (Option ℕ) ListFault → Type 0
 AnswersBehind intro old new room (Ok None) = ⊥
 AnswersBehind intro old new room (Ok (Some size)) = front_header (intro ++ left old) ≡ Ok (record { blob = take size room; rest = left new })
@@ -51,7 +52,7 @@ abbrev pub AnswersMade : Result Header FileFault → Result Header FileFault →
 AnswersMade made (Ok h) = made ≡ Ok h
 AnswersMade made (Err fault) = IsMadeFault made fault
 
--- and its bytes
+-- a header was made, and these are its bytes
 abbrev pub AnswersBytes : Result Header FileFault → Result (Vec ℕ Global) FileFault → Type 0
 AnswersBytes made (Ok blob) = (made ≡ Ok (read_again blob.items)) × (header blob.items ≡ Ok (read_again blob.items))
 AnswersBytes made (Err fault) = IsMadeFault made fault

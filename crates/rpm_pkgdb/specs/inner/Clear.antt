@@ -13,7 +13,7 @@ pub record IsClear (store : Store) (at n : ℕ) : Type 0 where
 abbrev pub IsPut : ℕ → List ℕ → Units → Units → Type 0
 IsPut at unit old new = (new ≡ old) ⊎ (new ≡ put at (unit ∷ []) old)
 
--- these units stand in the file from this one on
+-- a file has these units from this one on
 pub record Holds (file : Units) (at : ℕ) (units : Units) : Type 0 where
   pub within : at + length units ≤ length file
   pub each : (k : ℕ) → k < length units → unit_at file (at + k) ≡ unit_at units k

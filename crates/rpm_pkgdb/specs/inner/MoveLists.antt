@@ -16,7 +16,7 @@ move_at moves i = slice_index_or moves i no_move
 abbrev pub with_move : Store → Move → Store
 with_move value m = record value { slots = after_move value.slots m }
 
--- and after several
+-- a store after several moves
 abbrev pub with_moves : Store → List Move → Store
 with_moves value moves = record value { slots = after_moves value.slots moves }
 

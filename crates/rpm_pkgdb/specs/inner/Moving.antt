@@ -42,7 +42,7 @@ module _ {D : Type 0} (d : disk.Ghosts D) where
     pub reach : (limit : ℕ) → place + 3 ≤ limit → end_of s ≤ limit
         → EndsBy limit (pkg d old) (pkg d new)
 
-  -- its blocks were moved, and the old ones from a block on are zeros
+  -- a slot's blocks were moved, and the old ones from a block on are zeros
   pub record AreBlocksMoved (old new : D) (place : ℕ) (s : Slot) (to zeros_from : ℕ)
       : Type 0 where
     pub stands : (value : Store) → CanMove value place s to → Keeps (pkg d old) value
@@ -55,7 +55,7 @@ module _ {D : Type 0} (d : disk.Ghosts D) where
     pub reach : (limit : ℕ) → place + 3 ≤ limit → end_of s ≤ limit → to + s.count ≤ limit
         → EndsBy limit (pkg d old) (pkg d new)
 
-  -- of some moves these were made
+  -- a store made the first of some moves, and these are done
   pub record AreMoved (old new : D) (slots : List Slot) (moves done : List Move)
       (zeros_from : ℕ) : Type 0 where
     pub keeps : (value : Store) → CanMoveAll slots moves value → Keeps (pkg d old) value

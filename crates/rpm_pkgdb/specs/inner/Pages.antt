@@ -39,12 +39,12 @@ abbrev pub IsHere : List Slot → ℕ → ℕ → Option ℕ → Type 0
 IsHere slots end least None = least ≡ end
 IsHere slots end least (Some p) = (p < length slots) × (is_used (slot_at slots p) ≡ true) × ((slot_at slots p).offset ≡ least) × (least < end)
 
--- these places are of slots, and have that of each used slot of the first so many whose blocks begin before a block
+-- a list of places has that of each used slot, among the first so many, whose blocks begin before a block
 pub record HasPlacesSoFar (slots : List Slot) (end count : ℕ) (places : List ℕ) : Type 0 where
   pub below : (i : ℕ) → i < length places → nth places i < length slots
   pub all : (j : ℕ) → j < count → is_used (slot_at slots j) ≡ true → (slot_at slots j).offset < end → Contains places j
 
--- of each
+-- a list of places has that of each used slot whose blocks begin before a block
 pub record HasPlacesBefore (slots : List Slot) (end : ℕ) (places : List ℕ) : Type 0 where
   pub below : (i : ℕ) → i < length places → nth places i < length slots
   pub all : (j : ℕ) → is_used (slot_at slots j) ≡ true → (slot_at slots j).offset < end → Contains places j

@@ -57,7 +57,7 @@ pub data WhilePut (value : Store) (target : Target) (generation : ℕ) (blob : L
   Numbered : StandsAs (with_next (next_field target) value) file image → WhilePut value target generation blob file image
   After : StandsWith value target generation blob file image → WhilePut value target generation blob file image
 
--- of this number and length, and new or not
+-- a target is of this number and this length, and new or not
 pub record IsTargetFor (number length : ℕ) (is_new : Bool) (target : Target) : Type 0 where
   pub number_is : target.number ≡ number
   pub length_is : target.length ≡ length

@@ -35,7 +35,7 @@ abbrev pub HasStart : Option Blocks → ℕ → Type 0
 HasStart None start = Unit {0}
 HasStart (Some b) start = SomeIndex b.ranges (λ i. (range_at b.ranges i).start ≡ start)
 
--- it is taken out
+-- a store's blocks lose the range that begins here
 abbrev pub Forgets : ℕ → Option Blocks → Option Blocks → Type 0
 Forgets start None None = Unit {0}
 Forgets start (Some b) (Some d) = (d.ranges ≡ without start b.ranges) × (d.spare ≡ b.spare)

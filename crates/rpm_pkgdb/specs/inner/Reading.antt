@@ -11,7 +11,7 @@ use Rattle.rpm_pkgdb.specs.Damages.{damage_at, own_reason}
 use Rattle.rpm_pkgdb.specs.inner.Tables.{AreOwn, AreNumbered}
 use Rattle.rpm_pkgdb.specs.inner.Meetings.{meeting}
 
--- these slots and one more, if nothing is wrong with it
+-- a table gains a slot if nothing is wrong with it
 abbrev pub added : List Slot → Option Reason → Slot → List Slot
 added slots None s = slots ++ s ∷ []
 added slots (Some reason) s = slots
@@ -36,13 +36,13 @@ pub record AreRead (Told : Type 0) (pages units : ℕ) (whole : Units) (slots : 
   pub numbered : AreNumbered slots
   pub told : Told → us ≡ take (length us) whole
 
--- so many are all that were asked for, or the next one isn't right by itself
+-- a reading got to the slots that were asked for, or the next one isn't right by itself
 abbrev pub IsAll : Type 0 → ℕ → ℕ → Units → ℕ → ℕ → Option Reason → Type 0
 IsAll Told pages units whole asked count None = count ≡ asked
 IsAll Told pages units whole asked count (Some reason) =
     (count < asked) × (Told → (count < length whole) × (own_reason pages units (unit_at whole count) ≡ Some reason))
 
--- so many of a table's first slots were asked for
+-- a reading asked for so many of a table's first slots
 pub record IsRead (Told : Type 0) (pages units : ℕ) (whole : Units) (asked : ℕ) (reading : Reading) : Type 0 where
   pub slots : AreRead Told pages units whole reading.rising.slots.items
   pub all : IsAll Told pages units whole asked (length reading.rising.slots.items) reading.reason

@@ -22,7 +22,7 @@ pub record InOrder (slots : List Slot) (pairs : Pairs) (free : Option ℕ) (numb
 abbrev pub IsInOrder : Rising → Type 0
 IsInOrder r = InOrder r.slots.items r.pairs.items r.free r.numbers_rise r.blocks_rise r.number r.block
 
--- so many slot pages as a store can have
+-- a count of slot pages is one that a store can have
 pub record ArePages (pages : ℕ) : Type 0 where
   pub some : 1 ≤ pages
   pub below : 256 * pages ≤ 2 ^ 28
