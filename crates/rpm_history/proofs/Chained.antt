@@ -1,17 +1,20 @@
 -- Command lines one after the other, each as `run` does it: the states to which they lead, and the numbers that they give.
-use Rattle.std.proofs.Common.{◌≡◌, ℕ, ◌≤◌, Bool, true, List, [], ◌∷◌, ◌++◌, refl, sym, ap, ◌∙◌, subst, inl, inr, ⊎_elim, arith}
+use Rattle.std.proofs.Common.{◌≡◌, ℕ, ◌≤◌, Bool, true, List, [], ◌∷◌, ◌++◌, Ok, refl, sym, ap, ◌∙◌, subst, inl, inr, ⊎_elim, arith}
 use Rattle.std.specs.Prelude.{IsTrue}
 use Rattle.std.proofs.lemmas.List.{append-nil}
 use Rattle.rpm_history.proofs.Vocabulary.{after, AllFit, AllStand, AreLawfulGroups, asks, Between, ChangesWith, Course, course_of, Cuts, Files, FromOneOf}
-use Rattle.rpm_history.proofs.Vocabulary.{given_on, HasState, images, InTurn, is_done, Leads, leaves_then, leaves_weaker, LeavesIn, LeavesState, LineIs, Moves}
-use Rattle.rpm_history.proofs.Vocabulary.{Paths, reopened, RowsFit, RunCall, Says, StandsIn, started, State, state, store, TellsCalls, Units, Why}
+use Rattle.rpm_history.proofs.Vocabulary.{given_on, HasState, images, InTurn, InTurnBefore, is_done, Leads, leaves_then, leaves_weaker, LeavesIn, LeavesState}
+use Rattle.rpm_history.proofs.Vocabulary.{LineIs, LineStays, Moves, Paths, reopened, RowsFit, RunCall, Says, StandsIn, started, State, state, Store, store}
+use Rattle.rpm_history.proofs.Vocabulary.{TellsCalls, Units, Why}
 use Rattle.rpm_commit.specs.inner.Brokens.{by_bool}
 use Rattle.rpm_history.proofs.Fitting.{course_fits}
 use Rattle.rpm_history.proofs.Histories.{Cut, cut_stands, line_fits, LineDoes, Next, next_all, stands_weaker, moves_nothing}
-use Rattle.rpm_history.proofs.Lined.{from_itself, from_one, line_does}
+use Rattle.rpm_history.proofs.Lined.{from_itself, from_one, line_does, line_changes}
 use Rattle.rpm_history.proofs.Numbering.{Numbered, numbered_made, numbered_moved, given_nothing, given_undone, given_done}
-use Rattle.rpm_commit.specs.inner.Standing.{if_ok_at}
+use Rattle.rpm_commit.specs.inner.Standing.{if_ok_at, ok_is}
 use Rattle.rpm_outside.specs.declared.disk.Disk as disk
+use Rattle.rpm_outside.specs.declared.shelf.Shelf as shelf
+use Rattle.rpm_outside.specs.declared.sink.Sink as sink
 use Rattle.rpm_print.specs.declared.answer.Why.TheVariants as why
 
 -- one more
@@ -20,11 +23,11 @@ pub in_turn_more : {X : Type 0} (Each : RunCall → X → X → Type 0) (calls :
 in_turn_more Each [] call old mid new same last = (new, subst (λ x. Each call x new) same last, refl)
 in_turn_more Each (c ∷ calls) call old mid new (x, first, rest) last = (x, first, in_turn_more Each calls call x mid new rest last)
 
-module _ {D : Type 0} (d : disk.Ghosts D) (told : IsTrue d.tells) (shelf : Bool) (paths : Paths)
+module _ {D S O E : Type 0} (d : disk.Ghosts D) (told : IsTrue d.tells) (s : shelf.Ghosts S) (o : sink.Ghosts O) (e : sink.Ghosts E) (paths : Paths)
     (as_read : (it : D) → d.left_since it (d.moment it) (d.files it))
-    (earlier : (it : D) (s t : ℕ) (image : Files) → s ≤ t → t ≤ d.moment it → d.left_since it t image → d.left_since it s image) where
-  abbrev Lines : List RunCall → Between D → Between D → Type 0
-  Lines = InTurn (LineIs d shelf paths)
+    (earlier : (it : D) (at t : ℕ) (image : Files) → at ≤ t → t ≤ d.moment it → d.left_since it t image → d.left_since it at image) where
+  abbrev Lines : List RunCall → Between D S O E → Between D S O E → Type 0
+  Lines = InTurn (LineIs d s o e paths)
 
   abbrev course_in : RunCall → State → Course
   course_in call = course_of paths call.moment call.words (asks call.words)
@@ -32,28 +35,47 @@ module _ {D : Type 0} (d : disk.Ghosts D) (told : IsTrue d.tells) (shelf : Bool)
   -- ---- the states
 
   abbrev LeadsFrom : (State → Type 0) → List RunCall → State → Type 0
-  LeadsFrom P calls t = (s : State) × P s × Leads paths calls s t
+  LeadsFrom P calls t = (m : State) × P m × Leads paths calls m t
 
   abbrev CutsFrom : (State → Type 0) → List RunCall → State → Type 0
-  CutsFrom P calls t = (s : State) × P s × Cuts paths calls s t
+  CutsFrom P calls t = (m : State) × P m × Cuts paths calls m t
 
   -- after them, within them, and that the rows fit meanwhile
   abbrev Led : (State → Type 0) → List RunCall → D → D → Type 0
   Led P calls old new = AllStand (LeadsFrom P calls) (images d new) × LeavesIn d old new (StandsIn (CutsFrom P calls))
       × (AllFit (images d old) → LeavesIn d old new RowsFit)
 
-  lines_led : (calls : List RunCall) (old new : Between D) → TellsCalls shelf calls → Lines calls old new → (P : State → Type 0)
+  -- a crash within a line, or within those behind it
+  cut_within : (call : RunCall) (calls : List RunCall) (P : State → Type 0) (t : State) → Cut (course_in call) call.outcome.why P t
+      → CutsFrom P (call ∷ calls) t
+  cut_within call calls P t how = (
+    how.0,
+    how.1,
+    ⊎_elim {C = Cuts paths (call ∷ calls) how.0 t}
+        (λ same. ([], call ∷ calls, refl, same))
+        (λ moves. (call ∷ [], calls, refl, (t, moves, refl)))
+        how.2,
+  )
+
+  cut_behind : (call : RunCall) (calls : List RunCall) (P : State → Type 0) (t : State)
+      → CutsFrom (Next (course_in call) call.outcome.why P) calls t → CutsFrom P (call ∷ calls) t
+  cut_behind call calls P t (m, (from, p, moves), (first, rest, is, leads)) =
+      (from, p, (call ∷ first, rest, ap (λ (cs : List RunCall). call ∷ cs) is, (m, moves, leads)))
+
+  lines_led : (calls : List RunCall) (old new : Between D S O E) → TellsCalls s.tells calls → Lines calls old new → (P : State → Type 0)
       → AllStand P (images d old.disk) → Led P calls old.disk new.disk
   lines_led [] old new tells same P all =
-      let itself : (image : Files) → images d old.disk image → StandsIn (λ t. (s : State) × P s × (t ≡ s)) image =
-      λ image left. stands_weaker P (λ t. (s : State) × P s × (t ≡ s)) image (λ t p. (t, p, refl)) (all image left) in
-      subst (λ (b : Between D). Led P [] old.disk b.disk) (sym same) (
+      let itself : (image : Files) → images d old.disk image → StandsIn (LeadsFrom P []) image =
+      λ image left. stands_weaker P (LeadsFrom P []) image (λ t p. (t, p, refl)) (all image left) in
+      let crashed : (image : Files) → images d old.disk image → StandsIn (CutsFrom P []) image =
+      λ image left. stands_weaker P (CutsFrom P []) image (λ t p. (t, p, ([], [], refl, refl))) (all image left) in
+      subst (λ (b : Between D S O E). Led P [] old.disk b.disk) (sym same) (
         itself,
-        started d old.disk (StandsIn (CutsFrom P [])) itself,
+        started d old.disk (StandsIn (CutsFrom P [])) crashed,
         started d old.disk RowsFit,
       )
   lines_led (call ∷ calls) old new tells (mid, line, rest) P all =
-      let does = line_does d told shelf paths call old mid tells.0 line in
+      let does = line_does d told s o e paths call old mid tells.0 line in
       let given = call.outcome.why in
       let n = call.outcome.changes in
       let P1 : State → Type 0 = Next (course_in call) given P in
@@ -64,13 +86,11 @@ module _ {D : Type 0} (d : disk.Ghosts D) (told : IsTrue d.tells) (shelf : Bool)
         λ image left. stands_weaker (LeadsFrom P1 calls) (LeadsFrom P (call ∷ calls)) image
             (λ t how. (how.1.0, how.1.1, (how.0, how.1.2, how.2))) (later.0 image left),
         leaves_then d old.disk mid.disk new.disk Q
-            (leaves_weaker d old.disk mid.disk (StandsIn (Cut (course_in call) P)) Q
-            (λ image. stands_weaker (Cut (course_in call) P) (CutsFrom P (call ∷ calls)) image
-            (λ t how. (how.0, how.1, ⊎_elim (λ same. inl same) (λ made. inr (inl made)) how.2)))
+            (leaves_weaker d old.disk mid.disk (StandsIn (Cut (course_in call) given P)) Q
+            (λ image. stands_weaker (Cut (course_in call) given P) (CutsFrom P (call ∷ calls)) image (cut_within call calls P))
             (cut_stands d (course_in call) given n old.disk mid.disk P all here does))
             (leaves_weaker d mid.disk new.disk (StandsIn (CutsFrom P1 calls)) Q
-            (λ image. stands_weaker (CutsFrom P1 calls) (CutsFrom P (call ∷ calls)) image
-            (λ t how. (how.1.0, how.1.1, inr (inr (how.0, how.1.2, how.2))))) later.1),
+            (λ image. stands_weaker (CutsFrom P1 calls) (CutsFrom P (call ∷ calls)) image (cut_behind call calls P)) later.1),
         λ fit.
             let so_far = line_fits d (course_in call) given n old.disk mid.disk P all here does fit in
             leaves_then d old.disk mid.disk new.disk RowsFit so_far (later.2 (λ image left. so_far.each image
@@ -78,23 +98,64 @@ module _ {D : Type 0} (d : disk.Ghosts D) (told : IsTrue d.tells) (shelf : Bool)
       )
 
   -- from the images at first
-  pub lines_stand : (calls : List RunCall) (old new : Between D) → TellsCalls shelf calls → Lines calls old new → AreLawfulGroups (images d old.disk)
+  pub lines_stand : (calls : List RunCall) (old new : Between D S O E) → TellsCalls s.tells calls → Lines calls old new
+      → AreLawfulGroups (images d old.disk)
       → AllStand (FromOneOf (images d old.disk) (Leads paths calls)) (images d new.disk)
       × LeavesIn d old.disk new.disk (StandsIn (FromOneOf (images d old.disk) (Cuts paths calls)))
       × (AllFit (images d old.disk) → LeavesIn d old.disk new.disk RowsFit)
   lines_stand calls old new tells lines lawful =
       let at = images d old.disk in
-      let P : State → Type 0 = FromOneOf at (λ s t. t ≡ s) in
-      let led = lines_led calls old new tells lines P (λ image left. from_itself at (λ s t. t ≡ s) (λ s. refl) image left (lawful image left)) in (
+      let P : State → Type 0 = FromOneOf at (λ m t. t ≡ m) in
+      let led = lines_led calls old new tells lines P (λ image left. from_itself at (λ m t. t ≡ m) (λ m. refl) image left (lawful image left)) in (
         λ image left. stands_weaker (LeadsFrom P calls) (FromOneOf at (Leads paths calls)) image (from_one at (Leads paths calls)) (led.0 image left),
         leaves_weaker d old.disk new.disk (StandsIn (CutsFrom P calls)) (StandsIn (FromOneOf at (Cuts paths calls)))
             (λ image. stands_weaker (CutsFrom P calls) (FromOneOf at (Cuts paths calls)) image (from_one at (Cuts paths calls))) led.1,
         led.2,
       )
 
+  -- ---- what stays of each
+
+  -- from the state after changes that were done
+  acknowledged : (call : RunCall) (calls : List RunCall) (old mid new : Between D S O E) → TellsCalls s.tells calls → Lines calls mid new
+      → AreLawfulGroups (images d mid.disk) → {anew changing : Bool}
+      → ChangesWith d anew changing (course_in call) call.outcome.why call.outcome.changes old.disk mid.disk → is_done call.outcome.why ≡ true
+      → (value : Store) → store (reopened (d.files old.disk)).pkg ≡ Ok value
+      → LeavesIn d mid.disk new.disk (StandsIn (Cuts paths calls (after (course_in call) (state (reopened (d.files old.disk)).pkg value))))
+  acknowledged call calls old mid new tells rest lawful did done value undamaged =
+      let made = after (course_in call) (state (reopened (d.files old.disk)).pkg value) in
+      let P : State → Type 0 = λ t. t ≡ made in
+      let held : (image : Files) → images d mid.disk image → HasState made image =
+      if_ok_at _ (store (reopened (d.files old.disk)).pkg) value undamaged (did.held done) in
+      leaves_weaker d mid.disk new.disk (StandsIn (CutsFrom P calls)) (StandsIn (Cuts paths calls made))
+      (λ image. stands_weaker (CutsFrom P calls) (Cuts paths calls made) image
+      (λ t how. subst (λ (m : State). Cuts paths calls m t) how.1 how.2))
+      (lines_led calls mid new tells rest P (λ image left. record { lawful = lawful image left; says = held image left })).1
+
+  pub lines_stay : (calls : List RunCall) (old new : Between D S O E) → TellsCalls s.tells calls → Lines calls old new
+      → AreLawfulGroups (images d old.disk) → InTurnBefore (LineStays d s o e paths) calls old new
+  lines_stay [] old new tells same lawful = same
+  lines_stay (call ∷ calls) old new tells (mid, line, rest) lawful =
+      let at = images d old.disk in
+      let P : State → Type 0 = FromOneOf at (λ m t. t ≡ m) in
+      let all : AllStand P at = λ image left. from_itself at (λ m t. t ≡ m) (λ m. refl) image left (lawful image left) in
+      let next = next_all d (course_in call) call.outcome.why call.outcome.changes old.disk mid.disk P all (as_read old.disk) (earlier mid.disk)
+      (line_does d told s o e paths call old mid tells.0 line) in
+      let behind : AreLawfulGroups (images d mid.disk) = λ image left. (next image left).lawful in
+      let first = (all (d.files old.disk) (as_read old.disk)).says in (
+        mid,
+        record {
+          line = line;
+          since = (lines_stand calls mid new tells.1 rest behind).1;
+          acknowledged = λ a tree asked any done. ok_is _ (store (reopened (d.files old.disk)).pkg) first.value first.undamaged
+              (acknowledged call calls old mid new tells.1 rest behind (line_changes d told s o e paths call old mid tells.0 line a tree asked any) done
+              first.value first.undamaged);
+        },
+        lines_stay calls mid new tells.1 rest behind,
+      )
+
   -- ---- the numbers
 
-  module _ (call : RunCall) (old new : Between D) (line : LineIs d shelf paths call old new) (from : ℕ)
+  module _ (call : RunCall) (old new : Between D S O E) (line : LineIs d s o e paths call old new) (from : ℕ)
       (all : AllStand (Numbered from old.given) (images d old.disk)) where
     abbrev course : State → Course
     course = course_in call
@@ -124,7 +185,7 @@ module _ {D : Type 0} (d : disk.Ghosts D) (told : IsTrue d.tells) (shelf : Bool)
           says = record {
             value = has.value;
             undamaged = has.undamaged;
-            is = subst (λ (s : State). Numbered from new.given s) (sym has.is)
+            is = subst (λ (t : State). Numbered from new.given t) (sym has.is)
                 (subst (λ (ns : List ℕ). Numbered from ns (after course s0)) (sym (line.gives ∙ ap (λ (ns : List ℕ). old.given ++ ns)
                 (given_done course (d.files old.disk) call.outcome.why first.value first.undamaged done)))
                 (numbered_made course (course_fits paths call.moment call.words (asks call.words)) from old.given s0 first.is));
@@ -141,11 +202,11 @@ module _ {D : Type 0} (d : disk.Ghosts D) (told : IsTrue d.tells) (shelf : Bool)
         rises (inr (anew, changing, did)) next = by_bool (is_done call.outcome.why) (made next did)
             (λ undone. kept next (given_undone course (d.files old.disk) call.outcome.why undone))
 
-  pub lines_rise : (calls : List RunCall) (old new : Between D) (from : ℕ) → TellsCalls shelf calls → Lines calls old new
+  pub lines_rise : (calls : List RunCall) (old new : Between D S O E) (from : ℕ) → TellsCalls s.tells calls → Lines calls old new
       → AllStand (Numbered from old.given) (images d old.disk) → AllStand (Numbered from new.given) (images d new.disk)
-  lines_rise [] old new from tells same all = subst (λ (b : Between D). AllStand (Numbered from b.given) (images d b.disk)) (sym same) all
+  lines_rise [] old new from tells same all = subst (λ (b : Between D S O E). AllStand (Numbered from b.given) (images d b.disk)) (sym same) all
   lines_rise (call ∷ calls) old new from tells (mid, line, rest) all = lines_rise calls mid new from tells.1 rest
-      (line_rises call old mid line from all (line_does d told shelf paths call old mid tells.0 line))
+      (line_rises call old mid line from all (line_does d told s o e paths call old mid tells.0 line))
 
 -- the files stand for a state to which the line moves
 abbrev Stands : Why → State → State → Files → Type 0
@@ -167,11 +228,11 @@ module _ {D : Type 0} (d : disk.Ghosts D) where
       (subst (λ (t : State). LeavesState course t given n (d.files new)) has.is
       (if_ok_at _ (store (reopened (d.files old)).pkg) has.value has.undamaged did.leaves))
 
-  pub lines_lead : (told : IsTrue d.tells) (shelf : Bool) (paths : Paths) (calls : List RunCall) (old new : Between D) → TellsCalls shelf calls
-      → InTurn (LineIs d shelf paths) calls old new → (s : State) → HasState s (d.files old.disk)
-      → (t : State) × HasState t (d.files new.disk) × Leads paths calls s t
-  lines_lead told shelf paths [] old new tells same s has = (s, subst (λ (b : Between D). HasState s (d.files b.disk)) (sym same) has, refl)
-  lines_lead told shelf paths (call ∷ calls) old new tells (mid, line, rest) s has =
-      let first = line_moves _ _ _ old.disk mid.disk s has (line_does d told shelf paths call old mid tells.0 line) in
-      let later = lines_lead told shelf paths calls mid new tells.1 rest first.0 first.1 in
+module _ {D S O E : Type 0} (d : disk.Ghosts D) (told : IsTrue d.tells) (s : shelf.Ghosts S) (o : sink.Ghosts O) (e : sink.Ghosts E) (paths : Paths) where
+  pub lines_lead : (calls : List RunCall) (old new : Between D S O E) → TellsCalls s.tells calls → InTurn (LineIs d s o e paths) calls old new
+      → (m : State) → HasState m (d.files old.disk) → (t : State) × HasState t (d.files new.disk) × Leads paths calls m t
+  lines_lead [] old new tells same m has = (m, subst (λ (b : Between D S O E). HasState m (d.files b.disk)) (sym same) has, refl)
+  lines_lead (call ∷ calls) old new tells (mid, line, rest) m has =
+      let first = line_moves d _ _ _ old.disk mid.disk m has (line_does d told s o e paths call old mid tells.0 line) in
+      let later = lines_lead calls mid new tells.1 rest first.0 first.1 in
       (later.0, later.1, (first.0, first.2, later.2))

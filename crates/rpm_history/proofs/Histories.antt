@@ -58,8 +58,8 @@ abbrev pub Next : (State → Course) → Why → (State → Type 0) → State �
 Next course given P t = (m : State) × P m × Moves given (after course m) m t
 
 -- and those that a crash within it leaves
-abbrev pub Cut : (State → Course) → (State → Type 0) → State → Type 0
-Cut course P t = (m : State) × P m × ((t ≡ m) ⊎ (t ≡ after course m))
+abbrev pub Cut : (State → Course) → Why → (State → Type 0) → State → Type 0
+Cut course given P t = (m : State) × P m × ((t ≡ m) ⊎ Moves given (after course m) m t)
 
 module _ {D : Type 0} (d : disk.Ghosts D) (course : State → Course) (given : Why) (n : ℕ) (old new : D) (P : State → Type 0)
     (all : AllStand P (images d old)) (here : images d old (d.files old)) where
@@ -75,8 +75,8 @@ module _ {D : Type 0} (d : disk.Ghosts D) (course : State → Course) (given : W
   same_next : ((t : State) → Moves given (after course t) t t) → (image : Files) → StandsStill past image → Behind image
   same_next moves image still = stands_weaker P (Next course given P) image (λ t p. (t, p, moves t)) (still_stands P past image all still)
 
-  same_cut : (image : Files) → StandsStill past image → StandsIn (Cut course P) image
-  same_cut image still = stands_weaker P (Cut course P) image (λ t p. (t, p, inl refl)) (still_stands P past image all still)
+  same_cut : (image : Files) → StandsStill past image → StandsIn (Cut course given P) image
+  same_cut image still = stands_weaker P (Cut course given P) image (λ t p. (t, p, inl refl)) (still_stands P past image all still)
 
   -- ---- a command that changes packages
 
@@ -111,18 +111,28 @@ module _ {D : Type 0} (d : disk.Ghosts D) (course : State → Course) (given : W
         (stops.each image since))
         (λ refused. same_next (λ t. (moves_are given t (after course t)).2 undone) image ((did.unmade refused lawful).each image since)))
 
-    changed_cut : (image : Files) → StandsStillOr past (after course s0) image → StandsIn (Cut course P) image
-    changed_cut image = ⊎_elim (same_cut image) (λ both. record {
+    changed_cut : Moves given (after course s0) s0 (after course s0) → (image : Files) → StandsStillOr past (after course s0) image
+        → StandsIn (Cut course given P) image
+    changed_cut moves image = ⊎_elim (same_cut image) (λ both. record {
       lawful = both.0;
-      says = record { value = both.1.value; undamaged = both.1.undamaged; is = (s0, first.is, inr both.1.is) };
+      says = record {
+        value = both.1.value;
+        undamaged = both.1.undamaged;
+        is = (s0, first.is, inr (subst (λ (t : State). Moves given (after course s0) s0 t) (sym both.1.is) moves));
+      };
     })
+
+    changed_cuts : LeavesIn d old new (StandsIn (Cut course given P))
+    changed_cuts = by_bool (is_done_or_fault given)
+        (λ may. leaves_weaker d old new (StandsStillOr past (after course s0)) (StandsIn (Cut course given P))
+        (changed_cut ((moves_are given s0 (after course s0)).1 may)) stops)
+        (λ refused. leaves_weaker d old new (StandsStill past) (StandsIn (Cut course given P)) same_cut (did.unmade refused lawful))
 
   -- ---- any
 
-  pub cut_stands : LineDoes d course given n old new → LeavesIn d old new (StandsIn (Cut course P))
-  cut_stands (inl stood) = leaves_weaker d old new (StandsStill past) (StandsIn (Cut course P)) same_cut (stood.stops lawful)
-  cut_stands (inr (anew, changing, did)) = leaves_weaker d old new (StandsStillOr past (after course (s0 anew changing did)))
-      (StandsIn (Cut course P)) (changed_cut anew changing did) (stops anew changing did)
+  pub cut_stands : LineDoes d course given n old new → LeavesIn d old new (StandsIn (Cut course given P))
+  cut_stands (inl stood) = leaves_weaker d old new (StandsStill past) (StandsIn (Cut course given P)) same_cut (stood.stops lawful)
+  cut_stands (inr (anew, changing, did)) = changed_cuts anew changing did
 
   next_stands : LineDoes d course given n old new → (image : Files) → d.left_since new (d.moment old) image → images d new image → Behind image
   next_stands (inl stood) image since left = same_next (moves_nothing course stood.nothing given) image ((stood.stops lawful).each image since)

@@ -4,7 +4,7 @@ use Rattle.std.specs.Prelude.{Option, Some, None, IsTrue, if◌then◌else◌}
 use Rattle.rpm_history.proofs.Vocabulary.{Adding, asked_course, asked_task, AskParts, asks, Between, by_key, calls_of, changes_index, Course, course_of, Files}
 use Rattle.rpm_history.proofs.Vocabulary.{FromOneOf, idle, Importing, is_anew, is_changing, IsLawfulGroup, Leaves, Line, LineIs, of_files, Outcome, Paths}
 use Rattle.rpm_history.proofs.Vocabulary.{reads_shelf, reopened, Replacing, RunCall, StandsIn, StandsStill, State, state, task_course, TaskParts, TellsCalls}
-use Rattle.rpm_history.proofs.Vocabulary.{AnswersChange, OneChange, Outputs, Run, TellsLines, Tree, uses_in, uses_shelf}
+use Rattle.rpm_history.proofs.Vocabulary.{ChangesWith, Does, run_of, TellsLines, Tree, uses_in, uses_shelf}
 use Rattle.rpm_print.specs.Frame.{images, LeavesIn}
 use Rattle.rpm_commit.specs.inner.Brokens.{by_bool}
 use Rattle.rpm_history.proofs.Histories.{LineDoes, Stood}
@@ -12,7 +12,7 @@ use Rattle.std.proofs.lemmas.Bool.{or_right}
 use Rattle.rpm_commit.specs.inner.Standing.{lawful_store}
 use Rattle.rpm_outside.specs.declared.disk.Disk as disk
 use Rattle.rpm_outside.specs.declared.shelf.Shelf as shelf
-use Rattle.rpm_print.specs.declared.answer.Why.TheVariants as why
+use Rattle.rpm_outside.specs.declared.sink.Sink as sink
 
 -- ---- from one of these images
 
@@ -72,24 +72,28 @@ by_asked : {X : Type 0} (read : Option (AskParts × Tree)) → (read ≡ None �
 by_asked None nothing command = nothing refl
 by_asked (Some asked) nothing command = command asked.0 asked.1 refl
 
-module _ {D : Type 0} (d : disk.Ghosts D) (told : IsTrue d.tells) (shelf : Bool) (paths : Paths) (call : RunCall) (old new : Between D)
-    (tells : uses_shelf call.words ≡ true → IsTrue shelf) (line : LineIs d shelf paths call old new) where
+module _ {D S O E : Type 0} (d : disk.Ghosts D) (told : IsTrue d.tells) (s : shelf.Ghosts S) (o : sink.Ghosts O) (e : sink.Ghosts E) (paths : Paths)
+    (call : RunCall) (old new : Between D S O E) (tells : uses_shelf call.words ≡ true → IsTrue s.tells) (line : LineIs d s o e paths call old new) where
   abbrev words : List (List ℕ)
   words = call.words
 
   abbrev past : Files → Type 0
   past = images d old.disk
 
-  abbrev Does : (State → Course) → Type 0
-  Does course = LineDoes d course call.outcome.why call.outcome.changes old.disk new.disk
+  abbrev LineDid : (State → Course) → Type 0
+  LineDid course = LineDoes d course call.outcome.why call.outcome.changes old.disk new.disk
+
+  abbrev Changed : AskParts → (State → Course) → Type 0
+  Changed a course =
+      ChangesWith d (is_anew (asked_task words a)) (changes_index (asked_task words a)) course call.outcome.why call.outcome.changes old.disk new.disk
 
   -- by whether the command changes packages
   abbrev course_if : AskParts → Bool → State → Course
-  course_if a b s = if b then asked_course paths call.moment words a s else idle
+  course_if a b t = if b then asked_course paths call.moment words a t else idle
 
-  unread : new.disk ≡ old.disk → Stood d (λ s. idle) old.disk new.disk
+  unread : new.disk ≡ old.disk → Stood d (λ t. idle) old.disk new.disk
   unread same = record {
-    nothing = λ s. refl;
+    nothing = λ t. refl;
     pkg = ap (λ (it : D). (reopened (d.files it)).pkg) same;
     stops = λ lawful. subst (λ (it : D). LeavesIn d old.disk it (StandsStill past)) (sym same) (record {
       later = omega arith;
@@ -98,9 +102,9 @@ module _ {D : Type 0} (d : disk.Ghosts D) (told : IsTrue d.tells) (shelf : Bool)
     });
   }
 
-  looked : Leaves d old.disk new.disk → Stood d (λ s. idle) old.disk new.disk
+  looked : Leaves d old.disk new.disk → Stood d (λ t. idle) old.disk new.disk
   looked leaves = record {
-    nothing = λ s. refl;
+    nothing = λ t. refl;
     pkg = ap (λ (f : Files). (reopened f).pkg) (leaves.untouched told).same;
     stops = λ lawful. record {
       later = omega (arith, leaves.moment_stays);
@@ -110,23 +114,39 @@ module _ {D : Type 0} (d : disk.Ghosts D) (told : IsTrue d.tells) (shelf : Bool)
     };
   }
 
-  asked_does : (a : AskParts) (tree : Tree) → asks words ≡ Some (a, tree) → Does (course_if a (is_changing a))
+  -- ---- what the page says of it
+
+  does : (a : AskParts) (tree : Tree) → asks words ≡ Some (a, tree) → Does (run_of d s o e call old new) a tree line.answers.mid
+  does a tree asked = line.answers.did.asked a tree asked
+
+  -- the course is the same by what the shelf held at first
+  changed : (a : AskParts) (tree : Tree) → asks words ≡ Some (a, tree) → is_changing a ≡ true → Changed a (asked_course paths call.moment words a)
+  changed a tree asked any =
+      let reads = λ (yes : reads_shelf (asked_task words a) ≡ true). tells (uses_reads words a tree asked yes) in
+      let did : Changed a (asked_course (s.paths old.shelf) call.moment words a) = ((does a tree asked).changes any told reads).changed in
+      by_bool {X = Changed a (asked_course paths call.moment words a)} (reads_shelf (asked_task words a))
+      (λ yes. subst (λ (p : Paths). Changed a (asked_course p call.moment words a)) (line.shelf (reads yes)) did)
+      (λ no. unread_course (Changed a) (s.paths old.shelf) paths call.moment (asked_task words a) no did)
+
+  asked_does : (a : AskParts) (tree : Tree) → asks words ≡ Some (a, tree) → LineDid (course_if a (is_changing a))
   asked_does a tree asked = by_bool (is_changing a)
-      (λ any. subst (λ (b : Bool). Does (course_if a b)) (sym any) (inr (
-        is_anew (asked_task words a),
-        changes_index (asked_task words a),
-        (line.change a tree asked any (λ reads. tells (uses_reads words a tree asked reads))).did.changed,
-      )))
-      (λ none. subst (λ (b : Bool). Does (course_if a b)) (sym none) (inl (by_bool (by_key a)
-      (λ keyed. record { nothing = λ s. refl; pkg = line.packages a tree asked keyed; stops = line.stops a tree asked keyed })
-      (λ unkeyed. looked (line.looks a tree asked unkeyed none)))))
+      (λ any. subst (λ (b : Bool). LineDid (course_if a b)) (sym any)
+      (inr (is_anew (asked_task words a), changes_index (asked_task words a), changed a tree asked any)))
+      (λ none. subst (λ (b : Bool). LineDid (course_if a b)) (sym none) (inl (by_bool (by_key a)
+      (λ keyed. record {
+        nothing = λ t. refl;
+        pkg = ((does a tree asked).keyed keyed told).packages;
+        stops = ((does a tree asked).keyed keyed told).stops;
+      })
+      (λ unkeyed. looked ((does a tree asked).looks unkeyed none)))))
 
-  pub line_does : Does (course_of paths call.moment words (asks words))
+  pub line_does : LineDid (course_of paths call.moment words (asks words))
   line_does = by_asked (asks words)
-      (λ none. subst (λ (read : Option (AskParts × Tree)). Does (course_of paths call.moment words read)) (sym none) (inl (unread (line.unread none))))
-      (λ a tree asked. subst (λ (read : Option (AskParts × Tree)). Does (course_of paths call.moment words read)) (sym asked) (asked_does a tree asked))
+      (λ none. subst (λ (read : Option (AskParts × Tree)). LineDid (course_of paths call.moment words read)) (sym none) (inl (unread (line.unread none).0)))
+      (λ a tree asked. subst (λ (read : Option (AskParts × Tree)). LineDid (course_of paths call.moment words read)) (sym asked) (asked_does a tree asked))
 
--- what a run says of a command that changes packages
-pub change_one : {D S : Type 0} {d : disk.Ghosts D} {s : shelf.Ghosts S} {r : Run d s} {a : AskParts} {course : State → Course} {mid : Outputs}
-    → AnswersChange r a course mid → OneChange d (asked_task r.words a) course r.why r.changes r.found r.left r.before mid
-change_one c = record { did = c.did; changed = c.changed; limits = c.limits; fault = c.fault; log = c.log }
+  -- of a command that changes packages
+  pub line_changes : (a : AskParts) (tree : Tree) → asks words ≡ Some (a, tree) → is_changing a ≡ true
+      → Changed a (course_of paths call.moment words (asks words))
+  line_changes a tree asked any = subst (λ (read : Option (AskParts × Tree)). Changed a (course_of paths call.moment words read)) (sym asked)
+      (subst (λ (b : Bool). Changed a (course_if a b)) (sym any) (changed a tree asked any))

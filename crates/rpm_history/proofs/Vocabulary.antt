@@ -1,6 +1,5 @@
 -- The words of proofs, from one place.
 pub use Rattle.rpm_change.specs.Adding.{add_file, as_installed, put_found, put_installed, replaced}
-pub use Rattle.rpm_change.specs.Endings.{Outputs}
 pub use Rattle.rpm_change.specs.Erasing.{erase_one, erased}
 pub use Rattle.rpm_change.specs.Importing.{import_end, import_from, import_list, imported, listed, max_headers, place_fails}
 pub use Rattle.rpm_change.specs.Rebuilding.{drop_each}
@@ -8,7 +7,6 @@ pub use Rattle.rpm_change.specs.Steps.{apply_all, Course, idle, in_turn}
 pub use Rattle.rpm_change.specs.declared.add.Placing.{Placing}
 pub use Rattle.rpm_commit.specs.Changing.{after, AllFit, ChangesWith, HasState, LeavesState, RowsFit, StandsStillOr}
 pub use Rattle.rpm_commit.specs.Lawful.{AreLawfulGroups, IsLawfulGroup, StandsStill}
-pub use Rattle.rpm_commit.specs.Limits.{OneChange}
 pub use Rattle.rpm_commit.specs.Tasks.{Adding, asked_course, asked_task, changes_index, Erasing, Exercising, Importing, is_anew, Making, reads_shelf}
 pub use Rattle.rpm_commit.specs.Tasks.{Rebuilding, Replacing, task_course, TaskParts}
 pub use Rattle.rpm_db.specs.Changes.{Add, apply, Change, Erase, greatest_in, next, Put, Says}
@@ -24,7 +22,7 @@ pub use Rattle.rpm_header.specs.declared.form.HeaderFault.{HeaderFault}
 pub use Rattle.rpm_history.specs.Given.{given_in, given_on, IsAhead, numbers_given, RiseWithin}
 pub use Rattle.rpm_history.specs.History.{AllStand, calls_of, course_of, Cuts, FromOneOf, Leads, Moves, RunCall, StandsIn, TellsCalls, TellsLines}
 pub use Rattle.rpm_history.specs.History.{uses_in, uses_shelf}
-pub use Rattle.rpm_history.specs.Lines.{between, Between, InTurn, LineIs}
+pub use Rattle.rpm_history.specs.Lines.{between, Between, InTurn, InTurnBefore, LineIs, LineStays, run_of}
 pub use Rattle.rpm_history.specs.declared.several.Line.{Line}
 pub use Rattle.rpm_outside.specs.Files.{Files, Units}
 pub use Rattle.rpm_outside.specs.Frame.{images, LeavesIn}
@@ -33,17 +31,14 @@ pub use Rattle.rpm_outside.specs.Shelves.{bytes_at, Paths}
 pub use Rattle.rpm_outside.specs.inner.Moments.{leaves_then, leaves_weaker, started}
 pub use Rattle.rpm_pkgdb.specs.Store.{store, Store}
 pub use Rattle.rpm_pkgdb.specs.declared.slot.Damage.{Damage}
-pub use Rattle.rpm_print.specs.Answers.{Anywhere, Closes, Went}
 pub use Rattle.rpm_print.specs.Asked.{by_key, is_changing, of_files}
 unfoldable pub use Rattle.rpm_print.specs.Asked.{asks}
 pub use Rattle.rpm_print.specs.Classes.{is_done, is_done_or_fault}
-unfoldable pub use Rattle.rpm_print.specs.Closing.{closing}
-pub use Rattle.rpm_print.specs.Frame.{Leaves, outs}
+pub use Rattle.rpm_print.specs.Frame.{Leaves}
 pub use Rattle.rpm_print.specs.declared.answer.Outcome.{Outcome}
 pub use Rattle.rpm_print.specs.declared.answer.Why.{Why}
 pub use Rattle.rpm_qfparse.specs.Tree.{Tree}
-pub use Rattle.rpm_query.specs.PackageFiles.{query_files}
-pub use Rattle.rpm_tool.specs.Theorem.{AnswersChange, Run}
+pub use Rattle.rpm_tool.specs.Theorem.{Does}
 pub use Rattle.rpm_words.specs.Ask.{AskParts}
 pub use Rattle.std.specs.Cmp.{unsigned_tied}
 pub use Rattle.std.specs.FinMap.{FinMap}

@@ -1,6 +1,6 @@
 -- Several command lines on one disk, one after the other: what the database stands for after them, and after a crash. On it rest `leads`,
--- `cuts` and `states` of `run_each`.
-use Rattle.std.specs.Prelude.{◌≡◌, ◌⊎◌, ℕ, List, [], ◌∷◌, Bool, true, false, ◌||◌, IsTrue, Option, Some, None, if◌then◌else◌}
+-- `cuts`, `kept` and `states` of `run_each`.
+use Rattle.std.specs.Prelude.{◌≡◌, ◌⊎◌, ℕ, List, [], ◌∷◌, ◌++◌, Bool, true, false, ◌||◌, IsTrue, Option, Some, None, if◌then◌else◌}
 use Rattle.std.specs.List.{AllByRecursion}
 use Rattle.rpm_outside.specs.Files.{Files}
 use Rattle.rpm_outside.specs.Logs.{reopened}
@@ -57,11 +57,9 @@ Leads paths [] s t = t ≡ s
 Leads paths (call ∷ calls) s t =
     (mid : State) × Moves call.outcome.why (made_by paths call.moment call.words s) s mid × Leads paths calls mid t
 
--- a crash within them or after them: those before it, and of the line that it stops all changes or none
+-- the first few of these lines lead from state s to t: what a crash within the lines or after them may leave
 abbrev pub Cuts : Paths → List RunCall → State → State → Type 0
-Cuts paths [] s t = t ≡ s
-Cuts paths (call ∷ calls) s t = (t ≡ s) ⊎ ((t ≡ made_by paths call.moment call.words s)
-    ⊎ ((mid : State) × Moves call.outcome.why (made_by paths call.moment call.words s) s mid × Cuts paths calls mid t))
+Cuts paths calls s t = (first rest : List RunCall) × (calls ≡ first ++ rest) × Leads paths first s t
 
 -- ---- the shelf
 

@@ -5,5 +5,5 @@ pub use Rattle.rpm_commit.specs.Changing.{AllFit, HasState, RowsFit}
 pub use Rattle.rpm_commit.specs.Lawful.{AreLawfulGroups}
 pub use Rattle.rpm_history.specs.Given.{IsAhead, RiseWithin}
 pub use Rattle.rpm_history.specs.History.{AllStand, Cuts, FromOneOf, Leads, StandsIn, TellsLines, calls_of}
-pub use Rattle.rpm_history.specs.Lines.{InTurn, LineIs, between}
-pub use Rattle.rpm_print.specs.Frame.{LeavesIn, images, outs}
+pub use Rattle.rpm_history.specs.Lines.{InTurn, InTurnBefore, LineIs, LineStays, between}
+pub use Rattle.rpm_print.specs.Frame.{LeavesIn, images}

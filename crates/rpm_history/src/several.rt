@@ -1,7 +1,7 @@
 //! Several command lines on one disk, one after the other.
 
-ghost use Rattle.std.specs.Prelude.{◌≡◌, ◌≤◌, ℕ, List, [], length, IsTrue, IfOk, OnErr, OnOk};
-ghost use Rattle.rpm_history.specs.Prelude.{AllFit, AllStand, AreLawfulGroups, between, calls_of, Cuts, FromOneOf, HasState, images, InTurn, IsAhead, Leads, LeavesIn, LineIs, next, outs, RiseWithin, RowsFit, StandsIn, State, TellsLines};
+ghost use Rattle.std.specs.Prelude.{◌≡◌, ℕ, List, [], length, IsTrue, IfOk, OnErr, OnOk};
+ghost use Rattle.rpm_history.specs.Prelude.{AllFit, AllStand, AreLawfulGroups, between, calls_of, Cuts, FromOneOf, HasState, images, InTurn, InTurnBefore, IsAhead, Leads, LeavesIn, LineIs, LineStays, next, RiseWithin, RowsFit, StandsIn, State, TellsLines};
 
 use rpm_outside::{Disk, Shelf, Sink};
 use rpm_print::Outcome;
@@ -52,11 +52,16 @@ pub fn run_each<D: Disk, S: Shelf, O: Sink, E: Sink>(
         → AllFit (images D.Disk disk) → LeavesIn D.Disk disk result.1 RowsFit) }
 
     // Each answer is that of `run` to its line, on what the lines before it left.
-    ensures ran { IfOk result.0 (λ outcomes. IsTrue D.tells
-        → (given : List ℕ) × InTurn (LineIs D.Disk S.tells (S.paths shelf.old)) (calls_of lines.now outcomes.items)
-        (between disk [] (outs O.Sink E.Sink out.old err.old) (S.faults shelf.old) (O.faults out.old)
-        (E.faults err.old)) (between result.1 given (outs O.Sink E.Sink out.new err.new) (S.faults shelf.new)
-        (O.faults out.new) (E.faults err.new))) }
+    ensures ran { IfOk result.0 (λ outcomes. (given : List ℕ)
+        × InTurn (LineIs D.Disk S.Shelf O.Sink E.Sink (S.paths shelf.old)) (calls_of lines.now outcomes.items)
+        (between disk shelf.old out.old err.old []) (between result.1 shelf.new out.new err.new given)) }
+
+    // No acknowledged change is lost, not by a crash within a later line: what a crash leaves after the line stands
+    // for the state with all its changes, or for one to which lines behind it lead from there.
+    ensures kept { IfOk result.0 (λ outcomes. IsTrue D.tells → TellsLines S.tells lines.now
+        → AreLawfulGroups (images D.Disk disk) → (given : List ℕ)
+        × InTurnBefore (LineStays D.Disk S.Shelf O.Sink E.Sink (S.paths shelf.old)) (calls_of lines.now outcomes.items)
+        (between disk shelf.old out.old err.old []) (between result.1 shelf.new out.new err.new given)) }
 
     // The files stand for a state to which the lines lead, also where they aren't lawful: it is for the next line to
     // go on with.
@@ -68,11 +73,9 @@ pub fn run_each<D: Disk, S: Shelf, O: Sink, E: Sink>(
     // leaves after the lines, the next number is above all of them.
     ensures numbers { IfOk result.0 (λ outcomes. IsTrue D.tells → TellsLines S.tells lines.now → (from : ℕ)
         → AllStand (λ t. IsAhead t × RiseWithin from [] (next t)) (images D.Disk disk) → (given : List ℕ)
-        → InTurn (LineIs D.Disk S.tells (S.paths shelf.old)) (calls_of lines.now outcomes.items)
-        (between disk [] (outs O.Sink E.Sink out.old err.old) (S.faults shelf.old) (O.faults out.old)
-        (E.faults err.old)) (between result.1 given (outs O.Sink E.Sink out.new err.new) (S.faults shelf.new)
-        (O.faults out.new) (E.faults err.new)) → AllStand (λ t. IsAhead t × RiseWithin from given (next t))
-        (images D.Disk result.1)) }
+        → InTurn (LineIs D.Disk S.Shelf O.Sink E.Sink (S.paths shelf.old)) (calls_of lines.now outcomes.items)
+        (between disk shelf.old out.old err.old []) (between result.1 shelf.new out.new err.new given)
+        → AllStand (λ t. IsAhead t × RiseWithin from given (next t)) (images D.Disk result.1)) }
 {
     let Ok(outcomes) = Vec::with_capacity(alloc, lines.len()) else {
         return (Err(AllocError), disk);

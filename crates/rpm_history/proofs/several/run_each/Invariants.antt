@@ -1,6 +1,6 @@
 use Rattle.std.proofs.Common.{◌≡◌, ℕ, List, [], length}
 use Rattle.std.specs.Prelude.{IsTrue}
-use Rattle.rpm_history.proofs.Vocabulary.{between, calls_of, InTurn, LineIs, outs, vec_capacity, vec_len}
+use Rattle.rpm_history.proofs.Vocabulary.{between, calls_of, InTurn, LineIs, vec_capacity, vec_len}
 use Rattle.rpm_history.proofs.several.run_each.Given as goal
 
 abbrev pub invariant-loop-line : goal.invariant-loop-line
@@ -9,9 +9,7 @@ invariant-loop-line g l = record {
   as_many : vec_len l.outcomes ≡ l.line-index;
   room : vec_capacity l.outcomes ≡ length l.lines;
   paths : IsTrue g.S.Shelf.tells → g.S.Shelf.paths l.shelf ≡ g.S.Shelf.paths l.initial.shelf;
-  ran : IsTrue g.D.Disk.tells → (given : List ℕ)
-      × InTurn (LineIs g.D.Disk g.S.Shelf.tells (g.S.Shelf.paths l.initial.shelf)) (calls_of l.lines l.outcomes.items)
-      (between l.initial.disk [] (outs g.O.Sink g.E.Sink l.initial.out l.initial.err) (g.S.Shelf.faults l.initial.shelf)
-      (g.O.Sink.faults l.initial.out) (g.E.Sink.faults l.initial.err))
-      (between l.disk given (outs g.O.Sink g.E.Sink l.out l.err) (g.S.Shelf.faults l.shelf) (g.O.Sink.faults l.out) (g.E.Sink.faults l.err));
+  ran : (given : List ℕ)
+      × InTurn (LineIs g.D.Disk g.S.Shelf g.O.Sink g.E.Sink (g.S.Shelf.paths l.initial.shelf)) (calls_of l.lines l.outcomes.items)
+      (between l.initial.disk l.initial.shelf l.initial.out l.initial.err []) (between l.disk l.shelf l.out l.err given);
 }
