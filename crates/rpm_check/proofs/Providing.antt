@@ -4,25 +4,25 @@ use Rattle.std.specs.Prelude.{◌&&◌, Result, slice_index}
 use Rattle.rpm_check.proofs.Vocabulary.{answers, Bad, bytes_eq, CapabilityParts, entries, filter, FinMap, givers, gives, Good, has_file, Header, header, HeaderFault}
 use Rattle.rpm_check.proofs.Vocabulary.{is_file_of, is_met, is_open, is_picked, is_some_of, meets, nat_cmp, Needed, overlaps, Package, picks, provided}
 use Rattle.rpm_check.proofs.Vocabulary.{Provides, read_gives, takes_header, takes_read}
-use Rattle.rpm_select.specs.Selections as select
+use Rattle.rpm_select.specs.Selections.{needed_by}
 use Rattle.rpm_check.proofs.Picking.{is_some_of-filter, list_any_same, filter_same}
 
 -- a capability stands for a requirement
 pub record StandsFor (c : CapabilityParts) (need : Needed) : Type 0 where
   pub name : c.name ≡ need.name
-  pub plain : (c.flags == 0) ≡ is_open need.flags need.version
+  pub plain : is_open c.flags c.evr ≡ is_open need.flags need.version
   pub same : (f : ℕ) (v : List ℕ) → overlaps f v c.flags c.evr ≡ overlaps f v need.flags need.version
 
 module _ (c : CapabilityParts) (need : Needed) (stands : StandsFor c need) where
-  same_answer : (given : Needed) → select.meets c given ≡ answers need given
+  same_answer : (given : Needed) → answers (needed_by c) given ≡ answers need given
   same_answer given = λ i. bytes_eq given.name (stands.name i) && stands.same given.flags given.version i
 
-  same_file : (h : Header) → select.is_file_of c h ≡ is_file_of need h
+  same_file : (h : Header) → is_file_of (needed_by c) h ≡ is_file_of need h
   same_file h = λ i. stands.plain i && (slice_index (stands.name i) 0 == 47 && has_file h (stands.name i))
 
   same_header : (n : ℕ) (h : Header) → takes_header (Provides c) n h ≡ gives need h
   unfolding takes_header
-  same_header n h = λ i. list_any_same (select.meets c) (answers need) same_answer (provided h) i || same_file h i
+  same_header n h = λ i. list_any_same (answers (needed_by c)) (answers need) same_answer (provided h) i || same_file h i
 
   same_read : (n : ℕ) (r : Result Header HeaderFault) → takes_read (Provides c) n r ≡ read_gives need r
   same_read n (Ok h) = same_header n h

@@ -1,38 +1,21 @@
 -- Which requirements no package meets.
-use Rattle.std.specs.Prelude.{◌≡◌, ℕ, List, [], ◌∷◌, map, filter, length, codes, Bool, false, not, ◌&&◌, ◌||◌, ◌==◌, nat_eq, nat_lt, slice_index, Option, Some, None, Result, Ok, Err}
+use Rattle.std.specs.Prelude.{◌≡◌, ℕ, List, [], ◌∷◌, map, filter, length, codes, Bool, false, not, ◌&&◌, ◌||◌, ◌==◌, nat_eq, nat_lt, Option, Some, None, Result, Ok, Err}
 use Rattle.std.specs.List.{list_any, flat_map, zip, range_with_len, starts_with}
 use Rattle.std.specs.Ordering.{nat_cmp}
-use Rattle.std.specs.Str.{bytes_eq}
 use Rattle.std.specs.FinMap.{FinMap, entries}
 use Rattle.rpm_header.specs.declared.form.HeaderFault.{HeaderFault}
 use Rattle.rpm_header.specs.Header.{Header, header}
-use Rattle.rpm_tags.specs.Numbers.{PROVIDENAME, PROVIDEFLAGS, PROVIDEVERSION, REQUIRENAME, REQUIREFLAGS, REQUIREVERSION}
-use Rattle.rpm_tags.specs.Wanted.{Needed, has_file, dependencies}
-use Rattle.rpm_version.specs.Range.{is_open, overlaps}
+use Rattle.rpm_tags.specs.Numbers.{REQUIRENAME, REQUIREFLAGS, REQUIREVERSION}
+use Rattle.rpm_tags.specs.Wanted.{Needed, dependencies}
 use Rattle.rpm_db.specs.State.{Package, Good, Bad}
+pub use Rattle.rpm_select.specs.Providing.{answers, gives, is_file_of, provided}
 use Rattle.rpm_check.specs.declared.list.Unmet.{Unmet}
 
 -- ---- one requirement and one header
 
--- what a header provides
-abbrev pub provided : Header → List Needed
-provided h = dependencies (record { names = PROVIDENAME; flags = PROVIDEFLAGS; versions = PROVIDEVERSION }) h
-
 -- what a header requires
 abbrev pub required : Header → List Needed
 required h = dependencies (record { names = REQUIRENAME; flags = REQUIREFLAGS; versions = REQUIREVERSION }) h
-
--- what is given has the name that is needed, and their ranges overlap
-abbrev pub answers : Needed → Needed → Bool
-answers need given = bytes_eq given.name need.name && overlaps given.flags given.version need.flags need.version
-
--- what is needed is a path without a range, of a file that is there
-abbrev pub is_file_of : Needed → Header → Bool
-is_file_of need h = is_open need.flags need.version && (slice_index need.name 0 == 47 && has_file h need.name)
-
--- a header provides what is needed, or has it as a file
-abbrev pub gives : Needed → Header → Bool
-gives need h = list_any (answers need) (provided h) || is_file_of need h
 
 -- ---- one requirement and all packages
 

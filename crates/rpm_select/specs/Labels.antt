@@ -3,6 +3,7 @@ use Rattle.std.specs.Prelude.{ℕ, List, [], ◌∷◌, ◌++◌, Bool, ◌==◌
 use Rattle.std.specs.List.{list_any}
 use Rattle.rpm_header.specs.Header.{Header}
 use Rattle.std.specs.Str.{bytes_eq}
+use Rattle.rpm_tags.specs.Numbers.{ARCH, NAME, RELEASE, VERSION}
 use Rattle.rpm_tags.specs.Value.{first_text}
 use Rattle.rpm_select.specs.Glob.{glob}
 
@@ -43,7 +44,8 @@ with_name arch (Some name) version release = with_arch arch name ++ with_version
 -- N, N.A, N-V, N-V.A, N-V-R and N-V-R.A; a version, a release and an architecture have no dash, and the last no dot
 unfoldable pub labels : Header → List (List ℕ)
 labels h =
-    with_name (without is_dash_or_dot (first_text h 1022)) (first_text h 1000) (without is_dash (first_text h 1001)) (without is_dash (first_text h 1002))
+    with_name (without is_dash_or_dot (first_text h ARCH)) (first_text h NAME) (without is_dash (first_text h VERSION))
+    (without is_dash (first_text h RELEASE))
 
 -- a glob, or a text, is one that a label is picked by
 abbrev pub matches : Bool → List ℕ → List ℕ → Bool

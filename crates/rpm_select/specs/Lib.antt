@@ -3,6 +3,7 @@ pub mod Frame
 pub mod Glob
 pub mod Labels
 pub mod Picks
+pub mod Providing
 pub mod Reach
 pub mod Recents
 pub mod Selections

@@ -27,7 +27,8 @@ pub use Rattle.rpm_select.specs.Picks.{number_in, package_in}
 pub use Rattle.rpm_select.specs.Reach.{IsBroken, KeysCost, Serves, These, asks, is_in, reach, reach_after, reach_next}
 pub use Rattle.rpm_select.specs.Reach.{reach_to, reaches, unasked}
 pub use Rattle.rpm_select.specs.Recents.{IsHeld, IsOf, Recalls, picks_at}
-pub use Rattle.rpm_select.specs.Selections.{has_any, is_among, is_elsewhere, is_file_of, is_first, is_picked, meets}
+pub use Rattle.rpm_select.specs.Providing.{is_file_of}
+pub use Rattle.rpm_select.specs.Selections.{has_any, is_among, is_elsewhere, is_first, is_picked, meets, needed_by}
 pub use Rattle.rpm_select.specs.Selections.{picks, takes_bad, takes_header}
 pub use Rattle.rpm_select.specs.declared.picked.PickFault.TheVariants.{NoMemory}
 pub use Rattle.rpm_select.specs.inner.Asking.{Adds, AreWith, is_byte, name_keys}

@@ -1,5 +1,5 @@
 -- Which packages a question picks.
-use Rattle.std.specs.Prelude.{ℕ, List, filter, Bool, true, false, not, ◌&&◌, ◌||◌, ◌==◌, slice_index, Option, Some, None, Result, Ok, Err}
+use Rattle.std.specs.Prelude.{ℕ, List, filter, Bool, true, false, not, ◌==◌, Option, Some, None, Result, Ok, Err}
 use Rattle.std.specs.List.{list_any}
 use Rattle.std.specs.Str.{bytes_eq}
 use Rattle.std.specs.Ordering.{nat_cmp}
@@ -7,15 +7,15 @@ use Rattle.std.specs.FinMap.{FinMap, entries}
 use Rattle.rpm_header.specs.declared.form.HeaderFault.{HeaderFault}
 use Rattle.rpm_header.specs.Header.{Header, header}
 use Rattle.rpm_tags.specs.declared.needed.Tags.{Tags}
-use Rattle.rpm_tags.specs.Numbers.{GROUP, PROVIDENAME, PROVIDEFLAGS, PROVIDEVERSION, REQUIRENAME, REQUIREFLAGS, REQUIREVERSION, CONFLICTNAME, CONFLICTFLAGS, CONFLICTVERSION, OBSOLETENAME, OBSOLETEFLAGS, OBSOLETEVERSION, RECOMMENDNAME, RECOMMENDFLAGS, RECOMMENDVERSION, TRIGGERNAME, DIRNAMES, INSTALLTID}
+use Rattle.rpm_tags.specs.Numbers.{GROUP, REQUIRENAME, REQUIREFLAGS, REQUIREVERSION, CONFLICTNAME, CONFLICTFLAGS, CONFLICTVERSION, OBSOLETENAME, OBSOLETEFLAGS, OBSOLETEVERSION, RECOMMENDNAME, RECOMMENDFLAGS, RECOMMENDVERSION, TRIGGERNAME, DIRNAMES, INSTALLTID}
 use Rattle.rpm_tags.specs.Value.{first_text, texts_in, numbers_in}
 use Rattle.rpm_tags.specs.Wanted.{Needed, listed, has_file, dependencies}
 use Rattle.rpm_version.specs.Capability.{CapabilityParts}
-use Rattle.rpm_version.specs.Range.{overlaps}
 use Rattle.rpm_db.specs.State.{Package, Good, Bad}
 use Rattle.rpm_select.specs.declared.selection.Selection.{Selection}
 use Rattle.rpm_select.specs.declared.selection.Selection.TheVariants.{All, Pattern, Label, Path, Group, Provides, Requires, Conflicts, Obsoletes, Trigger, Number, Directory, Tid, Recommends}
 use Rattle.rpm_select.specs.Glob.{glob}
+use Rattle.rpm_select.specs.Providing.{answers, gives}
 use Rattle.rpm_select.specs.Labels.{labels}
 
 -- ---- what is needed or given
@@ -24,21 +24,17 @@ use Rattle.rpm_select.specs.Labels.{labels}
 abbrev pub tags : ℕ → ℕ → ℕ → Tags
 tags names flags versions = record { names = names; flags = flags; versions = versions }
 
+-- a capability asks for an element of its name and its range
+abbrev pub needed_by : CapabilityParts → Needed
+needed_by c = record { name = c.name; flags = c.flags; version = c.evr }
+
 -- an element has the capability's name, and their ranges overlap
 abbrev pub meets : CapabilityParts → Needed → Bool
-meets c e = bytes_eq e.name c.name && overlaps e.flags e.version c.flags c.evr
+meets c e = answers (needed_by c) e
 
 -- one of the elements under these tags meets a capability
 abbrev pub has_any : Tags → CapabilityParts → Header → Bool
 has_any ts c h = list_any (meets c) (dependencies ts h)
-
--- it has no range
-abbrev pub is_plain : CapabilityParts → Bool
-is_plain c = c.flags == 0
-
--- it is a path, of a file that is there
-abbrev pub is_file_of : CapabilityParts → Header → Bool
-is_file_of c h = is_plain c && (slice_index c.name 0 == 47 && has_file h c.name)
 
 -- ---- one row for each selection
 
@@ -58,7 +54,7 @@ takes_header (Pattern p) n h = list_any (glob p.now) (labels h)
 takes_header (Label x) n h = is_among x.now (labels h)
 takes_header (Path x) n h = has_file h x.now
 takes_header (Group x) n h = is_first x.now (first_text h GROUP)
-takes_header (Provides c) n h = has_any (tags PROVIDENAME PROVIDEFLAGS PROVIDEVERSION) c h || is_file_of c h
+takes_header (Provides c) n h = gives (needed_by c) h
 takes_header (Requires c) n h = has_any (tags REQUIRENAME REQUIREFLAGS REQUIREVERSION) c h
 takes_header (Conflicts c) n h = has_any (tags CONFLICTNAME CONFLICTFLAGS CONFLICTVERSION) c h
 takes_header (Obsoletes c) n h = has_any (tags OBSOLETENAME OBSOLETEFLAGS OBSOLETEVERSION) c h

@@ -5,7 +5,7 @@ ghost use Rattle.rpm_select.specs.Prelude.{is_dash, is_dash_or_dot, labels, list
 
 use crate::matching::glob;
 use rpm_header::View;
-use rpm_tags::first_text;
+use rpm_tags::{first_text, numbers};
 use std::alloc::{AllocError, Global};
 
 /// What a label is compared with: a text, or a glob.
@@ -175,13 +175,13 @@ fn any_name(
 pub fn any_label(alloc: Global, view: &View<'_>, wanted: Wanted<'_>) -> Result<bool, AllocError>
     ensures { IfOk result (λ b. b ≡ list_any (matches wanted.entry.is_glob wanted.entry.text.now) (labels view.now)) }
 {
-    let arch = without_dash_or_dot(first_text(view, 1022));
-    let version = without_dash(first_text(view, 1001));
-    let release = without_dash(first_text(view, 1002));
+    let arch = without_dash_or_dot(first_text(view, numbers::ARCH));
+    let version = without_dash(first_text(view, numbers::VERSION));
+    let release = without_dash(first_text(view, numbers::RELEASE));
     any_name(
         alloc,
         arch,
-        first_text(view, 1000),
+        first_text(view, numbers::NAME),
         version,
         release,
         wanted,

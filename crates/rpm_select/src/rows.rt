@@ -1,7 +1,7 @@
 //! Whether a header is picked.
 
 ghost use Rattle.std.specs.Prelude.{◌≡◌, ◌==◌, slice_index, IfOk};
-ghost use Rattle.rpm_select.specs.Prelude.{first_text, GROUP, has_any, INSTALLTID, is_among, is_file_of, is_first, list_any, listed, meets, needed_in, numbers_in, takes_header, texts_in};
+ghost use Rattle.rpm_select.specs.Prelude.{first_text, GROUP, has_any, INSTALLTID, is_among, is_file_of, is_first, list_any, listed, meets, needed_by, needed_in, numbers_in, takes_header, texts_in};
 
 use crate::labels::{any_label, glob_of, text_of};
 use crate::selection::Selection;
@@ -10,7 +10,7 @@ use rpm_tags::{
     Dependency, Numbers, Tags, Texts, dependencies, first_text, has_file, numbers, numbers_in,
     texts_in,
 };
-use rpm_version::{Capability, overlap};
+use rpm_version::{Capability, is_open, overlap};
 use std::alloc::{AllocError, Global};
 
 const PROVIDES: Tags = Tags {
@@ -79,10 +79,10 @@ pub fn is_slash_first(text: &[u8]) -> bool
 
 /// Whether a capability without a range is the path of a file of a package.
 fn is_file_of(view: &View<'_>, capability: &Capability<'_>) -> bool
-    ensures { result ≡ is_file_of capability.now view.now }
+    ensures { result ≡ is_file_of (needed_by capability.now) view.now }
 {
     let name = capability.name();
-    capability.flags() == 0 && (is_slash_first(name) && has_file(view, name))
+    is_open(capability.flags(), capability.evr()) && (is_slash_first(name) && has_file(view, name))
 }
 
 fn is_in(texts: &Texts<'_>, wanted: &[u8]) -> bool

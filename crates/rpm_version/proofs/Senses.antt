@@ -47,7 +47,7 @@ unfolding overlaps
 overlaps_kept f v flags w =
     λ i. is_open f v || open_kept flags w i || meets_kept (evr_order (evr v) (evr w)) f (evr v) flags (evr w) i
 
-opened : (w : List ℕ) → is_open 0 w ≡ true
+pub opened : (w : List ℕ) → is_open 0 w ≡ true
 unfolding is_open
 opened w = refl
 

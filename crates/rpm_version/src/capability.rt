@@ -107,7 +107,8 @@ impl<'a> Capability<'a> {
     /// name where every version is in that range. It overlaps what the range overlaps. Copies nothing.
     pub fn of_range(name: &'a [u8], flags: u64, version: &'a [u8]) -> Self
         ensures name { result.name ≡ name.now }
-        ensures plain { (result.flags == 0) ≡ is_open flags version.now }
+        ensures plain { is_open result.flags result.evr ≡ is_open flags version.now }
+        ensures flags { (result.flags == 0) ≡ is_open flags version.now }
         ensures same { (f : ℕ) (v : List ℕ) → overlaps f v result.flags result.evr ≡ overlaps f v flags version.now }
     {
         let bits = (flags & SENSE) as u32;

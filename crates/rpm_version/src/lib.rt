@@ -14,4 +14,4 @@ mod segment;
 pub use capability::{BadCapability, Capability};
 pub use evr::{Evr, compare_evr};
 pub use order::compare;
-pub use range::overlap;
+pub use range::{is_open, overlap};

@@ -18,7 +18,9 @@ use Rattle.rpm_select.specs.declared.selection.Selection.{Selection}
 use Rattle.rpm_select.specs.declared.selection.Selection.TheVariants.{All, Pattern, Label, Path, Group, Provides, Requires, Conflicts, Obsoletes, Trigger, Number, Directory, Tid, Recommends}
 use Rattle.rpm_select.specs.Candidates.{has_keys, keys_asked, has_key, has_key_in, is_candidate, names_in, path_keys}
 use Rattle.rpm_select.specs.Labels.{labels}
-use Rattle.rpm_select.specs.Selections.{tags, has_any, is_plain, is_file_of, is_among, is_first, takes_header, takes_read, is_picked}
+use Rattle.rpm_version.specs.Range.{is_open}
+use Rattle.rpm_select.specs.Providing.{is_file_of}
+use Rattle.rpm_select.specs.Selections.{tags, has_any, needed_by, is_among, is_first, takes_header, takes_read, is_picked}
 use Rattle.rpm_select.specs.inner.Cuts.{label_begins}
 use Rattle.rpm_select.specs.inner.Keyed.{or_left, or_right, or_cases, same_bytes, are_same, first_among, named, based, numbered}
 
@@ -62,9 +64,9 @@ path_key : (path : List ℕ) (h : Header) → has_file h path ≡ true → is_am
 unfolding has_file
 path_key path h is = based path (filenames (texts_in h DIRNAMES) (numbers_in h DIRINDEXES) (texts_in h BASENAMES)) (texts_in h BASENAMES) is
 
-file_key : (c : CapabilityParts) (h : Header) → is_file_of c h ≡ true → list_any (has_key h) (path_keys c.name) ≡ true
+file_key : (c : CapabilityParts) (h : Header) → is_file_of (needed_by c) h ≡ true → list_any (has_key h) (path_keys c.name) ≡ true
 file_key c h is =
-    let both = and_parts (is_plain c) (slice_index c.name 0 == 47 && has_file h c.name) is in
+    let both = and_parts (is_open c.flags c.evr) (slice_index c.name 0 == 47 && has_file h c.name) is in
     let slash = and_parts (slice_index c.name 0 == 47) (has_file h c.name) both.1 in
     subst (λ (b : Bool). list_any (has_key h) (if b then (kind.Basenames, base_name c.name) ∷ [] else []) ≡ true) (sym slash.0)
     (only (is_among (base_name c.name) (listed (texts_in h BASENAMES))) (path_key c.name h slash.1))
@@ -80,7 +82,7 @@ header_complete (Path x) n h keyed takes = only (is_among (base_name x.now) (lis
 header_complete (Group x) n h keyed takes = only (is_among x.now (listed (texts_in h GROUP))) (group_key x.now h takes)
 header_complete (Provides c) n h keyed takes =
     let among = is_among c.name (listed (texts_in h PROVIDENAME)) in
-    elim (or_cases (has_any (tags PROVIDENAME PROVIDEFLAGS PROVIDEVERSION) c h) (is_file_of c h) takes) [
+    elim (or_cases (has_any (tags PROVIDENAME PROVIDEFLAGS PROVIDEVERSION) c h) (is_file_of (needed_by c) h) takes) [
       | inl given ↦ or_left among (list_any (has_key h) (path_keys c.name)) (need_key (tags PROVIDENAME PROVIDEFLAGS PROVIDEVERSION) c h given)
       | inr file ↦ or_right among (list_any (has_key h) (path_keys c.name)) (file_key c h file)
     ]
