@@ -25,7 +25,7 @@ pub use joined::Joined;
 pub use key_iter::{Key, KeyIter, keys};
 pub use kind::Kind;
 pub use needed::{Dependency, DependencyIter, Tags, dependencies};
-pub use rpm_header::TextPlaces;
+pub use rpm_header::{PlacesRoom, TextPlaces};
 pub use stored::{
     NumberIter, Numbers, TextIter, Texts, first_number, first_text, numbers_in, texts_in,
 };
