@@ -1,7 +1,7 @@
 -- What a crash leaves of the log behind a group, while the group is committed.
 use Rattle.std.proofs.Common.{◌≡◌, inr, ℕ, ◌≤◌, IsTrue, List, refl, sym, ap, subst, ◌∙◌, arith}
 use Rattle.rpm_outside.specs.declared.disk.Disk as disk
-use Rattle.rpm_group.proofs.Vocabulary.{ChangedIn, Entry, Files, KeepsBehind, leaves_then, leaves_weaker, LeavesChanged, LeavesOnly, Log, NotLog, Units}
+use Rattle.rpm_group.proofs.Vocabulary.{ChangedIn, Entry, Files, KeepsBehind, leaves_then, leaves_weaker, LeavesChanged, LeavesOnly, Log, NotLog, started, Units}
 use Rattle.rpm_group.proofs.Vocabulary.{WasChanged, WasWithin, within_log}
 use Rattle.rpm_group.proofs.Orders.{keeps_then}
 
@@ -28,12 +28,12 @@ module _ {D : Type 0} (g : disk.Ghosts D) (told : IsTrue g.tells)
       leaves_weaker g old new (WasChanged Log first last (g.left_since old (g.moment old))) Behind
       (λ image was. keeps_then end log was.0.log image.log (here was.0 was.1) (changed_keeps first last end was.0 image low was.2)) run
 
-  -- from files with this log
-  pub first_behind : (old new : D) (files : Files) (first last : ℕ) → log ≡ files.log → last ≤ end
-      → ((image : Files) → g.left_since old (g.moment old) image → image ≡ files) → LeavesChanged g Log first last old new → LeavesOnly g old new Behind
-  first_behind old new files first last is low settled run =
-      write_behind old new first last low
-      (λ image left. subst (λ (us : Units). KeepsBehind end log us) (is ∙ sym (ap (λ (f : Files). f.log) (settled image left))) (keeps_none end log)) run
+  -- nothing was done yet to files with this log
+  pub none_behind : (old : D) (files : Files) → log ≡ files.log → ((image : Files) → g.left_since old (g.moment old) image → image ≡ files)
+      → LeavesOnly g old old Behind
+  none_behind old files is settled =
+      started g old Behind
+      (λ image left. subst (λ (us : Units). KeepsBehind end log us) (is ∙ sym (ap (λ (f : Files). f.log) (settled image left))) (keeps_none end log))
 
   -- after what was done
   pub then_behind : (old mid new : D) (first last : ℕ) → last ≤ end → LeavesOnly g old mid Behind → LeavesChanged g Log first last mid new

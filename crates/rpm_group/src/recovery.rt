@@ -163,6 +163,7 @@ fn finish<D: Disk>(disk: &mut D, gate: Gate) -> Result<bool, RecoverFault>
     ensures files { OnOk result (IsTrue D.tells → unlogged (D.files disk.new) ≡ reopened (D.files disk.old)) }
     ensures settled { OnOk result (IsTrue D.tells → AreSettled (D.files disk.new) (images D.Disk disk.new)) }
     ensures images { IsTrue D.tells → LeavesIn D.Disk disk.old disk.new (ReopensAs (reopened (D.files disk.old))) }
+    ensures behind { IsTrue D.tells → LeavesIn D.Disk disk.old disk.new (λ image. KeepsBehind 1 (D.files disk.old).log image.log) }
     ensures reads { OnlyReadsLogOr D.Disk (result ≡ Err RecoverFault.DiskFault) disk.old disk.new }
 {
     let Ok(fault) = apply_entries(disk, gate) else {
@@ -194,6 +195,8 @@ pub fn recover<D: Disk>(disk: &mut D) -> Result<bool, RecoverFault>
     ensures settled { OnOk result (IsTrue D.tells → AreSettled (D.files disk.new) (images D.Disk disk.new)) }
     ensures stands { IsTrue D.tells → reopened (D.files disk.new) ≡ reopened (D.files disk.old) }
     ensures images { IsTrue D.tells → LeavesIn D.Disk disk.old disk.new (ReopensAsOneOf (images D.Disk disk.old)) }
+    ensures behind { IsTrue D.tells → LeavesIn D.Disk disk.old disk.new
+        (λ image. (from : Files) × images D.Disk disk.old from × KeepsBehind 1 from.log image.log) }
     ensures reads { ReadsLog D.Disk disk.old disk.new }
     ensures cause { DiskFault D.Disk (result ≡ Err RecoverFault.DiskFault) disk.old disk.new }
 {

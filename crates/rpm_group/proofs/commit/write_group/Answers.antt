@@ -2,7 +2,7 @@ use Rattle.std.proofs.Common.{inl, inr, refl, ◌+◌, sym, ap, subst, ◌∙◌
 use Rattle.std.proofs.lemmas.Result.{on_ok_weaker}
 use Rattle.std.proofs.lemmas.Bool.{cases_lt}
 use Rattle.rpm_group.proofs.Vocabulary.{entries_of, Files, KeepsBehind, log_not_log, LogState, needed, runs_of, Units, unlogged, with_entries}
-use Rattle.rpm_group.proofs.Behinds.{entries_behind, first_behind, then_behind}
+use Rattle.rpm_group.proofs.Behinds.{entries_behind, none_behind, then_behind}
 use Rattle.rpm_group.proofs.Orders.{keeps_then, group_logged}
 use Rattle.rpm_group.proofs.Countings.{no_runs}
 use Rattle.rpm_group.proofs.Closes.{applied_settled, mid_open, mid_done}
@@ -129,7 +129,8 @@ returns-in_err-tail-clause-behind g c = λ told.
     let end = needed c.args.held.now in
     let old = c.args.disk.now in
     let files : Files = D.files old in
-    first_behind D told earlier end files.log old c.log_held.new.disk files 1 end refl (omega arith) (c.requires.settled told) (c.log_held.ensures.images told)
+    then_behind D told earlier end files.log old old c.log_held.new.disk 1 end (omega arith)
+    (none_behind D told earlier end files.log old files refl (c.requires.settled told)) (c.log_held.ensures.images told)
 
 pub returns-in_err-open_log-clause-behind : goal.returns-in_err-open_log-clause-behind
 returns-in_err-open_log-clause-behind g c = λ told.
@@ -138,8 +139,8 @@ returns-in_err-open_log-clause-behind g c = λ told.
     let end = needed c.args.held.now in
     let old = c.args.disk.now in
     let files : Files = D.files old in
-    let one = first_behind D told earlier end files.log old c.log_held.new.disk files 1 end refl (omega arith) (c.requires.settled told)
-    (c.log_held.ensures.images told) in
+    let one = then_behind D told earlier end files.log old old c.log_held.new.disk 1 end (omega arith)
+    (none_behind D told earlier end files.log old files refl (c.requires.settled told)) (c.log_held.ensures.images told) in
     then_behind D told earlier end files.log old c.log_held.new.disk c.open_log.new.disk 0 1 (omega arith) one (c.open_log.ensures.gate told)
 
 pub returns-in_err-apply_held-clause-behind : goal.returns-in_err-apply_held-clause-behind
@@ -149,8 +150,8 @@ returns-in_err-apply_held-clause-behind g c = λ told.
     let end = needed c.args.held.now in
     let old = c.args.disk.now in
     let files : Files = D.files old in
-    let one = first_behind D told earlier end files.log old c.log_held.new.disk files 1 end refl (omega arith) (c.requires.settled told)
-    (c.log_held.ensures.images told) in
+    let one = then_behind D told earlier end files.log old old c.log_held.new.disk 1 end (omega arith)
+    (none_behind D told earlier end files.log old files refl (c.requires.settled told)) (c.log_held.ensures.images told) in
     let two = then_behind D told earlier end files.log old c.log_held.new.disk c.open_log.new.disk 0 1 (omega arith) one (c.open_log.ensures.gate told) in
     let logged = c.in_ok-tail.ensures.logged told in
     let second = c.open_log.new.disk in
@@ -164,8 +165,8 @@ returns-clause-behind g c = λ told.
     let end = needed c.args.held.now in
     let old = c.args.disk.now in
     let files : Files = D.files old in
-    let one = first_behind D told earlier end files.log old c.log_held.new.disk files 1 end refl (omega arith) (c.requires.settled told)
-    (c.log_held.ensures.images told) in
+    let one = then_behind D told earlier end files.log old old c.log_held.new.disk 1 end (omega arith)
+    (none_behind D told earlier end files.log old files refl (c.requires.settled told)) (c.log_held.ensures.images told) in
     let two = then_behind D told earlier end files.log old c.log_held.new.disk c.open_log.new.disk 0 1 (omega arith) one (c.open_log.ensures.gate told) in
     let logged = c.in_ok-tail.ensures.logged told in
     let second = c.open_log.new.disk in

@@ -1,7 +1,8 @@
-use Rattle.std.proofs.Common.{◌≡◌, ℕ, length, sym, ap, subst, ◌∙◌, arith}
+use Rattle.std.proofs.Common.{◌≡◌, ℕ, length, refl, sym, ap, subst, ◌∙◌, arith}
 use Rattle.rpm_outside.specs.declared.disk.Disk as disk
-use Rattle.rpm_group.proofs.Vocabulary.{entries_of, Files, heads_behind, IsOpen, leaves_then, leaves_weaker, LeavesOnly, log_state, LogState, reopened}
+use Rattle.rpm_group.proofs.Vocabulary.{entries_of, Files, heads_behind, IsOpen, leaves_then, leaves_weaker, LeavesOnly, log_not_log, log_state, LogState, NotLog, reopened}
 use Rattle.rpm_group.proofs.Vocabulary.{ReopensAs, Units, unlogged, WasWithin, with_entries}
+use Rattle.rpm_group.proofs.Behinds.{entries_behind, none_behind, then_behind}
 use Rattle.rpm_group.proofs.Closes.{mid_log, mid_open, mid_done, mid_stands, written_leaves, open_as}
 use Rattle.rpm_group.proofs.recovery.finish.Goals as goal
 
@@ -97,3 +98,41 @@ returns-clause-files g c = λ told.
     c.close_log.ensures.same told
     ∙ mid_stands files mid (entries_of (log_state files.log)) (c.requires.open told)
     (entries_are files mid (heads_behind c.args.gate files.log) (c.requires.state told) (c.in-Ok.ensures.written told))
+
+-- the entries of an open log write the two files alone
+gate_not_log : (log : Units) (behind : LogState) → log_state log ≡ behind → IsOpen (log_state log) → NotLog (entries_of behind)
+gate_not_log log behind is opened = subst (λ (s : LogState). NotLog (entries_of s)) is (log_not_log log (entries_of (log_state log)) opened)
+
+pub returns-in_default-clause-behind : goal.returns-in_default-clause-behind
+returns-in_default-clause-behind g c = λ told.
+    let D = g.D.Disk in
+    let earlier = g.met.D.Disk.earlier in
+    let old = c.args.disk.now in
+    let files = D.files old in
+    entries_behind D told earlier 1 files.log old old c.apply_entries.new.disk (entries_of (heads_behind c.args.gate files.log))
+    (gate_not_log files.log (heads_behind c.args.gate files.log) (c.requires.state told) (c.requires.open told))
+    (none_behind D told earlier 1 files.log old files refl (c.requires.settled told)) (c.apply_entries.ensures.images told)
+
+pub returns-in_err-map_err-clause-behind : goal.returns-in_err-map_err-clause-behind
+returns-in_err-map_err-clause-behind g c = λ told.
+    let D = g.D.Disk in
+    let earlier = g.met.D.Disk.earlier in
+    let old = c.args.disk.now in
+    let files = D.files old in
+    then_behind D told earlier 1 files.log old c.apply_entries.new.disk c.close_log.new.disk 0 1 (omega arith)
+    (entries_behind D told earlier 1 files.log old old c.apply_entries.new.disk (entries_of (heads_behind c.args.gate files.log))
+    (gate_not_log files.log (heads_behind c.args.gate files.log) (c.requires.state told) (c.requires.open told))
+    (none_behind D told earlier 1 files.log old files refl (c.requires.settled told)) (c.apply_entries.ensures.images told))
+    (c.close_log.ensures.gate told)
+
+pub returns-clause-behind : goal.returns-clause-behind
+returns-clause-behind g c = λ told.
+    let D = g.D.Disk in
+    let earlier = g.met.D.Disk.earlier in
+    let old = c.args.disk.now in
+    let files = D.files old in
+    then_behind D told earlier 1 files.log old c.apply_entries.new.disk c.close_log.new.disk 0 1 (omega arith)
+    (entries_behind D told earlier 1 files.log old old c.apply_entries.new.disk (entries_of (heads_behind c.args.gate files.log))
+    (gate_not_log files.log (heads_behind c.args.gate files.log) (c.requires.state told) (c.requires.open told))
+    (none_behind D told earlier 1 files.log old files refl (c.requires.settled told)) (c.apply_entries.ensures.images told))
+    (c.close_log.ensures.gate told)

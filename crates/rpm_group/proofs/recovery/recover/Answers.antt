@@ -1,7 +1,8 @@
-use Rattle.std.specs.Prelude.{IsTrue}
 use Rattle.std.proofs.Common.{◌≡◌, refl, ap, ◌∙◌, subst}
-use Rattle.rpm_group.proofs.Vocabulary.{Closed, Files, IsOpen, IsSound, leaves_then, leaves_weaker, log_state, LogSays, LogState, Malformed, Open, Reading}
-use Rattle.rpm_group.proofs.Vocabulary.{reopened, ReopensAs, ReopensAsOneOf, then_look}
+use Rattle.rpm_outside.specs.declared.disk.Disk as disk
+use Rattle.rpm_group.proofs.Vocabulary.{Closed, Files, IsOpen, IsSound, KeepsBehind, leaves_then, leaves_weaker, LeavesOnly, log_state, LogSays, LogState, Malformed}
+use Rattle.rpm_group.proofs.Vocabulary.{Open, Reading, reopened, ReopensAs, ReopensAsOneOf, then_look}
+use Rattle.rpm_group.proofs.Behinds.{keeps_none}
 use Rattle.rpm_group.specs.inner.KeptLogs.{same_kept, sound_kept}
 use Rattle.rpm_group.proofs.recovery.recover.Goals as goal
 
@@ -36,3 +37,59 @@ returns-in-Opened-clause-images g c = λ told.
       record { same = is.same ∙ ap reopened same; log = sound_kept (D.files old) image was is.sound },
     ))
     (c.finish.ensures.images told))
+
+-- settled files leave their images as they were
+abbrev BehindOneOf : (Files → Type 0) → Files → Type 0
+BehindOneOf images image = (from : Files) × images from × KeepsBehind 1 from.log image.log
+
+module _ {D : Type 0} (d : disk.Ghosts D) where
+  settled_behind : (old new : D) → LeavesOnly d old new (d.left_since old (d.moment old)) → LeavesOnly d old new (BehindOneOf (d.left_since old (d.moment old)))
+  settled_behind old new run =
+      leaves_weaker d old new (d.left_since old (d.moment old)) (BehindOneOf (d.left_since old (d.moment old)))
+      (λ image left. (image, left, keeps_none 1 image.log)) run
+
+pub returns-in_err-map_err-clause-behind : goal.returns-in_err-map_err-clause-behind
+returns-in_err-map_err-clause-behind g c = λ told. settled_behind g.D.Disk c.args.disk.now c.settle.new.disk (c.settle.ensures.images told)
+
+pub returns-in_default-clause-behind : goal.returns-in_default-clause-behind
+returns-in_default-clause-behind g c = λ told.
+    let D = g.D.Disk in
+    let old = c.args.disk.now in
+    let first = c.settle.new.disk in
+    let looks = c.read_log.ensures.reads.looks in
+    then_look D old first c.read_log.new.disk (BehindOneOf (D.left_since old (D.moment old))) _ _
+    (settled_behind D old first (c.settle.ensures.images told)) (looks.untouched told) looks.moment_stays
+
+pub returns-in-Shut-clause-behind : goal.returns-in-Shut-clause-behind
+returns-in-Shut-clause-behind g c = λ told.
+    let D = g.D.Disk in
+    let old = c.args.disk.now in
+    let first = c.settle.new.disk in
+    let looks = c.read_log.ensures.reads.looks in
+    then_look D old first c.read_log.new.disk (BehindOneOf (D.left_since old (D.moment old))) _ _
+    (settled_behind D old first (c.settle.ensures.images told)) (looks.untouched told) looks.moment_stays
+
+pub returns-in-Bad-clause-behind : goal.returns-in-Bad-clause-behind
+returns-in-Bad-clause-behind g c = λ told.
+    let D = g.D.Disk in
+    let old = c.args.disk.now in
+    let first = c.settle.new.disk in
+    let looks = c.read_log.ensures.reads.looks in
+    then_look D old first c.read_log.new.disk (BehindOneOf (D.left_since old (D.moment old))) _ _
+    (settled_behind D old first (c.settle.ensures.images told)) (looks.untouched told) looks.moment_stays
+
+pub returns-in-Opened-clause-behind : goal.returns-in-Opened-clause-behind
+returns-in-Opened-clause-behind g c = λ told.
+    let D = g.D.Disk in
+    let old = c.args.disk.now in
+    let first = c.settle.new.disk in
+    let mid = c.read_log.new.disk in
+    let new = c.finish.new.disk in
+    let one_of : Files → Type 0 = BehindOneOf (D.left_since old (D.moment old)) in
+    let looks = c.read_log.ensures.reads.looks in
+    let same : D.files mid ≡ D.files old = (looks.untouched told).same ∙ c.settle.ensures.same told in
+    leaves_then D old mid new one_of
+    (then_look D old first mid one_of _ _ (settled_behind D old first (c.settle.ensures.images told)) (looks.untouched told) looks.moment_stays)
+    (leaves_weaker D mid new (λ image. KeepsBehind 1 (D.files mid).log image.log) one_of
+    (λ image keeps. (D.files old, g.met.D.Disk.as_read old told, subst (λ (f : Files). KeepsBehind 1 f.log image.log) same keeps))
+    (c.finish.ensures.behind told))
