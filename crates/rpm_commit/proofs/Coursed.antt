@@ -1,11 +1,11 @@
 -- A course that was gone through on a database that was opened to be changed, as a command says it.
 use Rattle.rpm_commit.proofs.Vocabulary.{BadBy, begun, Change, command_limit, Course, Damage, Database, DiskFault, Done, done_why, EmptyBy, Ended, ended_as}
-use Rattle.rpm_commit.proofs.Vocabulary.{exercise, exercise_ended, ExerciseFault, Files, first_limit, first_refusal, Halt, Halted, HasRows, holds, idle}
+use Rattle.rpm_commit.proofs.Vocabulary.{exercise, exercise_ended, ExerciseFault, Files, first_limit, first_refusal, Halt, Halted, HasRows, HasStore, holds, idle}
 use Rattle.rpm_commit.proofs.Vocabulary.{in_file, is_halt, is_there, IsCurrent, IsIndexed, IsLawful, IsNext, IsOfOpening, IsPaged, IsRefused, Keeps, LimitsBy}
 use Rattle.rpm_commit.proofs.Vocabulary.{LimitsTurn, made_paged, makes, makes_small, MayBegin, MeetsFirst, must_make, nat_cmp, next_stores, none_gone, NotEmpty}
 use Rattle.rpm_commit.proofs.Vocabulary.{OnceBegun, OpensBy, OpensIn, OpensOn, Outputs, Package, packages, reached_anew, reached_none, ReachedAnew}
 use Rattle.rpm_commit.proofs.Vocabulary.{ReachesBy, Renewed, room, RoomBecomes, Row, rows, rows_in, Runs, runs_then, SameLog, State, state, state_in, Stopped}
-use Rattle.rpm_commit.proofs.Vocabulary.{StopsAt}
+use Rattle.rpm_commit.proofs.Vocabulary.{StopsAt, with_spare}
 use Rattle.rpm_commit.proofs.Vocabulary.{Store, store, stores_paged, Tally, Through, Units, units_for, units_needed, Why, why_of, why_of_halt, WorkedBy}
 use Rattle.rpm_commit.proofs.Vocabulary.{WorkedWith, WorksOn}
 use Rattle.std.proofs.Common.{◌≡◌, ℕ, ◌≤◌, Bool, true, false, [], Option, None, Result, Ok, Err, refl, sym, ap, ◌∙◌, subst, arith, List, ◌^◌}
@@ -67,6 +67,7 @@ open_with anew changing course old new w before now opens none = record {
   bad = λ unit is. absurd (open_unbroken old new (store old.pkg) w unit opens is);
   made = tt;
   index = λ _. tt;
+  stored = tt;
   reached = tt;
 }
 
@@ -140,6 +141,7 @@ module _ {D : Type 0} (d : disk.Ghosts D) (trans : (a b c : D) → d.follows a b
         bad = bad t;
         made = tt;
         index = λ _. tt;
+        stored = tt;
         reached = tt;
       };
       limits = λ t. limits_at w t (meets t);
@@ -157,6 +159,7 @@ module _ {D : Type 0} (d : disk.Ghosts D) (trans : (a b c : D) → d.follows a b
       done : Done (course found) found (state_in d new last) tally before behind
       keeps : store (d.files new).pkg ≡ Ok (in_file (room last))
       paged : IsPaged (room last)
+      stores : RoomBecomes (next_stores changes (room db)) (room db) (room last)
       index : MayBegin anew Lawful → IsIndexed (d.files new).pkg (d.files new).idx last
       first : Meets told (λ indexed first. first ≡ None)
       reached : ReachesBy anew Lawful course (d.files old) (d.files new)
@@ -174,6 +177,7 @@ module _ {D : Type 0} (d : disk.Ghosts D) (trans : (a b c : D) → d.follows a b
             );
             bad = λ unit is. absurd (done_unbroken tally.failed unit is);
             made = record { value = in_file (room last); undamaged = it.keeps; paged = it.paged };
+            stored = found_if t.0 (λ value s v. HasStore v (course s).changes (d.files new).pkg) (with_spare (room db).spare (room last), it.stores, it.keeps);
             index = λ may. record {
               value = in_file (room last);
               undamaged = it.keeps;
@@ -205,6 +209,7 @@ module _ {D : Type 0} (d : disk.Ghosts D) (trans : (a b c : D) → d.follows a b
         done = record { steps = through_none x; failed = refl; changes = refl; state_is = refl };
         keeps = (opened.ready.serving t.0).keeps;
         paged = made_paged db opened.not_blank;
+        stores = refl;
         index = opened.rows t.0;
         first = λ indexed may.
             plain_stops (d.files old) (d.files mid) db (opens t.0) (opened.found t.0) indexed (λ s. idle) (Ok none) refl;
@@ -222,6 +227,7 @@ module _ {D : Type 0} (d : disk.Ghosts D) (trans : (a b c : D) → d.follows a b
       keeps = (went.left.carried.serving t.0).keeps;
       paged = stores_paged (course found).changes (room db) (room last) (went.limits (says t) false (λ asked. absurd cc)).stores
           (made_paged db opened.not_blank);
+      stores = (went.limits (says t) false (λ asked. absurd cc)).stores;
       index = λ lawful. went.left.carried.index t.0 (opened.rows t.0 lawful);
       first = λ indexed may. plain_stops (d.files old) (d.files mid) db (opens t.0) (opened.found t.0) indexed course (Ok tally)
           (went.limits (says t) indexed (λ asked. opened.rows t.0 (may asked))).first;
@@ -247,6 +253,7 @@ module _ {D : Type 0} (d : disk.Ghosts D) (trans : (a b c : D) → d.follows a b
       done = ended t;
       keeps = (current.ready.serving t.0).keeps;
       paged = stores_paged (course found).changes (room db) (room last) (stores t.0) (made_paged db opened.not_blank);
+      stores = stores t.0;
       index = λ _. current.index t.0;
       first = λ indexed may. made_stops indexed true found (room db) (course found).changes (Ok tally) (stops t.0);
       reached = λ indexed may. reached_renewed indexed course (d.files old) (d.files mid) (d.files new) db (opens t.0) (opened.found t.0) (reach t.0);

@@ -1,57 +1,26 @@
 -- The changes of a command as one group: what they leave of a disk that was recovered.
-use Rattle.std.proofs.Common.{◌≡◌, ℕ, ◌^◌, ◌≤◌, Bool, true, false, None, Result, Ok, Err, refl, sym, ◌∙◌, subst, inl, inr, ⊎_elim, List, [], ◌∷◌, Option, Some}
-use Rattle.std.proofs.Common.{arith}
-use Rattle.std.specs.Prelude.{IfOk, IfErr, ◌==◌, ◌&&◌, if◌then◌else◌, is_none, unwrap_or, nat_lt}
-use Rattle.rpm_commit.proofs.Vocabulary.{after, AllFit, apply, apply_all, AreLawfulGroups, BeforeOrAfter, begun, Change, changes_index, command_limit, Course}
-use Rattle.rpm_commit.proofs.Vocabulary.{Damage, Did, DidLoaded, DidOn, DidOpened, done_why, EndsGroup, Files, first_limit, first_refusal, Halt, HasCurrent}
-use Rattle.rpm_commit.proofs.Vocabulary.{HasState, images, is_anew, is_done_or_fault, is_halt, is_large, is_of_lawful, is_spent, IsLawful, IsLawfulGroup}
+use Rattle.std.proofs.Common.{◌≡◌, ℕ, ◌^◌, ◌≤◌, Bool, true, false, None, Result, Ok, Err, refl, sym, ◌∙◌, subst, inl, inr, ⊎_elim}
+use Rattle.std.specs.Prelude.{IfOk, IfErr}
+use Rattle.rpm_commit.proofs.Vocabulary.{after, AllFit, AreLawfulGroups, BeforeOrAfter, begun, changes_index, command_limit, Course}
+use Rattle.rpm_commit.proofs.Vocabulary.{Damage, Did, DidLoaded, DidOn, DidOpened, done_why, EndsGroup, Files, HasCurrent}
+use Rattle.rpm_commit.proofs.Vocabulary.{HasChanges, HasState, HasStore, images, is_anew, is_done_or_fault, is_halt, is_of_lawful, IsAllOrNone}
+use Rattle.rpm_commit.proofs.Vocabulary.{IsLawful, IsLawfulGroup, IsSound, KeepsLog, ReachedOn, ReachesBy}
 use Rattle.rpm_commit.proofs.Vocabulary.{IsMade, IsShut, IsUncommitted, leaves_then, leaves_weaker, LeavesIn, LimitsBy, Log, log_state, LogIs, LogOn, LogState}
-use Rattle.rpm_commit.proofs.Vocabulary.{makes, MayBegin, needed, next_store, OneChange, option_or, Outputs, RecoverSays, refusal, reopened, ReopensAs}
+use Rattle.rpm_commit.proofs.Vocabulary.{makes, MayBegin, OneChange, Outputs, RecoverSays, reopened, ReopensAs}
 use Rattle.rpm_commit.proofs.Vocabulary.{ReopensAsOneOf, rows, RowsFit, Says, StandsStillOr, State, state, Store, store, Tally, TaskParts, Through, Units}
 use Rattle.rpm_commit.proofs.Vocabulary.{units_for, units_needed, unlogged, Why, why_of, with_file, WorkedBy, WorkedOn, WorkedWith}
 use Rattle.rpm_commit.specs.inner.Brokens.{done_unbroken}
 use Rattle.rpm_commit.specs.inner.ByEnding.{by_ends, by_uncommitted}
 use Rattle.rpm_commit.specs.inner.Outcomes.{by_done_why, done_did, fault_done_why, is_done_why, lawful_ending, leaves_done, some_all, stopped_did}
 use Rattle.rpm_commit.proofs.Ends.{halt_undone}
+use Rattle.rpm_commit.proofs.Fitting.{limit_fits}
 use Rattle.rpm_commit.specs.inner.Limited.{none_done}
 use Rattle.rpm_commit.specs.inner.Regrouped.{recovered_fits, recovered_sound, recovered_still}
 use Rattle.rpm_commit.specs.inner.Standing.{begins, current_lawful, if_ok, if_ok_at, lawful_store, may_begin, ok_is, shut_lawful, shut_stands, stands_lawful}
 use Rattle.rpm_commit.specs.inner.Unmade.{still_one}
-use Rattle.std.proofs.lemmas.Bool.Decides.{nat_tests}
 use Rattle.rpm_group.specs.inner.KeptLogs.{sound_kept}
 use Rattle.rpm_outside.specs.declared.disk.Disk as disk
 use Rattle.rpm_print.specs.declared.answer.Why.TheVariants as why
-use Rattle.rpm_change.specs.declared.tally.Halt.TheVariants as halt
-
-abbrev Fits : State → Type 0
-Fits s = units_for (rows s.packages) ≤ 2 ^ 28
-
--- an answer that isn't given, and what comes after it
-behind : (b : Bool) (h : Halt) (o : Option Halt) → (if b then Some h else o) ≡ None → (b ≡ false) × (o ≡ None)
-behind true h o is = absurd cc
-behind false h o is = (refl, is)
-
-either_none : (a b : Option Halt) → option_or a b ≡ None → (a ≡ None) × (b ≡ None)
-either_none None b is = (refl, is)
-either_none (Some h) b is = absurd cc
-
-one_fits : (s : State) (v : Store) (c : Change) → refusal true s v c ≡ None → Fits (apply c s)
-one_fits s v c none =
-    let first = behind (is_spent s c) halt.NumbersSpent _ none in
-    let second = behind (v.generation == 4294967295) halt.GenerationSpent _ first.1 in
-    let third = behind (is_none (next_store c v)) halt.StoreFull _ second.1 in
-    let small : nat_lt (2 ^ 28) (needed s c) ≡ false = (behind (true && is_large s c) (halt.IndexFull (needed s c)) None third.1).0 in
-    grind (arith, nat_tests, small)
-
-all_fit : (cs : List Change) (s : State) (v : Store) → first_refusal true s v cs ≡ None → Fits s → Fits (apply_all cs s)
-all_fit [] s v none fits = fits
-all_fit (c ∷ cs) s v none fits =
-    let parts = either_none (refusal true s v c) (first_refusal true (apply c s) (unwrap_or (next_store c v) v) cs) none in
-    all_fit cs (apply c s) (unwrap_or (next_store c v) v) parts.1 (one_fits s v c parts.0)
-
-pub limit_fits : (made : Bool) (s : State) (v : Store) (cs : List Change) → first_limit made s v cs ≡ None → Fits s → Fits (apply_all cs s)
-limit_fits made s v cs none fits =
-    all_fit cs s v (behind (made && nat_lt (2 ^ 28) (units_for (rows s.packages))) (halt.IndexFull (units_for (rows s.packages))) _ none).1 fits
 
 -- what was done was done of a database that can be read
 worked_store : (course : State → Course) (pkg : Units) (new : Files) (tally : Tally) (before now : Outputs) (sr : Result Store Damage)
@@ -113,21 +82,21 @@ module _ {D : Type 0} (d : disk.Ghosts D) (task : TaskParts) (course : State →
   did_by : (w : Why) → DidOpened (λ s. course (s0 s)) (store r.pkg) w before now → DidOn course (d.files old) w before now
   did_by w did = recovered_by (λ s. course (s0 s)) (store r.pkg) (log_state (d.files old).log) finished w before now says did
 
+  -- a log that was recovered is kept, where the one that is left isn't malformed
+  sound_log : (image : Files) → IsSound (log_state image.log) → KeepsLog (d.files old) image
+  sound_log image = sound_kept (d.files old) image (recovered_sound (log_state (d.files old).log) finished says)
+
   -- ---- stopped, or not committed
 
   still_before : (image : Files) → ReopensAs (unlogged (d.files last)) image → ReopensAsOneOf past image
-  still_before image stands = (
-    d.files old,
-    here,
-    record {
-      same = stands.same ∙ same;
-      log = sound_kept (d.files old) image (recovered_sound (log_state (d.files old).log) finished says) stands.sound;
-    },
-  )
+  still_before image stands = (d.files old, here, record { same = stands.same ∙ same; log = sound_log image stands.sound })
 
   module _ (left : LeavesIn d last final (ReopensAs (unlogged (d.files last)))) where
     still_final : reopened (d.files final) ≡ r
     still_final = (left.each (d.files final) as_read).same ∙ same
+
+    still_log : KeepsLog (d.files old) (d.files final)
+    still_log = sound_log (d.files final) (left.each (d.files final) as_read).sound
 
     still_run : LeavesIn d old final (ReopensAsOneOf past)
     still_run = leaves_then d old last final (ReopensAsOneOf past) run
@@ -136,7 +105,7 @@ module _ {D : Type 0} (d : disk.Ghosts D) (task : TaskParts) (course : State →
     halted_one : (was : Why) → is_halt was ≡ true → Worked (Err was) → Meets was → One was 0
     halted_one was halts worked met =
         let told = stopped_opened course r.pkg new was before now (store r.pkg) worked.went in
-        still_one d task course old final still_final still_run was before now (halt_undone was halts) (did_by was told) worked.bad
+        still_one d task course old final still_final still_log still_run was before now (halt_undone was halts) (did_by was told) worked.bad
         (λ lawful. (let is = lawful_store r.pkg r.idx lawful.lawful in
         lawful_ending (course (s0 is.0)) _ was before now
         (subst (λ (sr : Result Store Damage). DidOpened (λ s. course (s0 s)) sr was before now) is.1 told)
@@ -144,7 +113,7 @@ module _ {D : Type 0} (d : disk.Ghosts D) (task : TaskParts) (course : State →
         met (λ indexed may. halt_unlogged indexed course r was halts)
 
     starved_one : Worked (Err why.DiskFault) → One why.NoMemory 0
-    starved_one worked = still_one d task course old final still_final still_run why.NoMemory before now (λ is. cc)
+    starved_one worked = still_one d task course old final still_final still_log still_run why.NoMemory before now (λ is. cc)
         (did_by why.NoMemory (starved_opened course r.pkg new before now (store r.pkg) worked.went)) (λ unit is. absurd cc) (λ lawful. refl)
         (λ indexed may. if_ok (store r.pkg) (λ s is. tt)) (λ indexed may. tt)
 
@@ -182,6 +151,36 @@ module _ {D : Type 0} (d : disk.Ghosts D) (task : TaskParts) (course : State →
         (leaves_weaker d old last (ReopensAsOneOf past) P still run)
         (leaves_weaker d last final (BeforeOrAfter (unlogged (d.files last)) (unlogged new)) P
         (λ image. ⊎_elim (λ was. still image (still_before image was)) (after_it image)) left)
+
+    reached : (indexed : Bool) → (indexed ≡ true → MayBegin anew Lawful) → ReachedOn indexed r.pkg r.idx s (s0 s) (course (s0 s)).changes new
+    reached indexed may = if_ok_at _ (store r.pkg) s is (worked.reached indexed (λ asked. may_begin anew (λ group. group.lawful) (may asked)))
+
+    reaches_made : ReachesBy anew Lawful course r (unlogged new)
+    reaches_made indexed may =
+        let it = reached indexed may in ok_is _ (store r.pkg) s is (record { pkg_is = it.pkg_is; idx_is = it.idx_is })
+
+    -- an image that stands for what was made has all changes
+    changes_in : (image : Files) → ReopensAs (unlogged new) image → HasChanges anew Lawful course r image
+    changes_in image stands = record {
+      value = s;
+      undamaged = is;
+      sound = stands.sound;
+      has = has_made image stands.same;
+      stored = subst (λ (f : Files). HasStore (begun s) (course (s0 s)).changes f.pkg) (sym stands.same) (if_ok_at _ (store r.pkg) s is worked.stored);
+      reaches = subst (λ (f : Files). ReachesBy anew Lawful course r f) (sym stands.same) reaches_made;
+      lawful = λ may. stands_lawful (unlogged new) image stands (current_lawful new.pkg new.idx (current may));
+    }
+
+    group_images : (w : Why) → is_done_or_fault w ≡ true → LeavesIn d old final (IsAllOrNone past w (HasChanges anew Lawful course r))
+    group_images w may = group_run (IsAllOrNone past w (HasChanges anew Lawful course r)) (λ image was. inl was)
+        (λ image stands. inr (may, changes_in image stands))
+
+    -- the log of what is left isn't malformed
+    final_sound : (image : Files) → BeforeOrAfter (unlogged (d.files last)) (unlogged new) image → IsSound (log_state image.log)
+    final_sound image = ⊎_elim (λ was. was.sound) (λ made. made.sound)
+
+    group_log : KeepsLog (d.files old) (d.files final)
+    group_log = sound_log (d.files final) (final_sound (d.files final) (left.each (d.files final) as_read))
 
     group_stops : AreLawfulGroups past → IfOk (store r.pkg) (λ s. LeavesIn d old final (StandsStillOr past (after course (s0 s))))
     group_stops lawful = ok_is _ (store r.pkg) s is (group_run (StandsStillOr past made) (λ image was. inl (recovered_still past lawful image was))
@@ -224,6 +223,9 @@ module _ {D : Type 0} (d : disk.Ghosts D) (task : TaskParts) (course : State →
         unmade = λ not. absurd cc;
         fits = group_fits;
         held = λ done. absurd cc;
+        kept = group_log;
+        next = λ done. absurd cc;
+        images = group_images why.DiskFault refl;
       };
       limits = λ indexed may. if_ok (store r.pkg) (λ t stored. tt);
       fault = λ faulted. inr (record {
@@ -238,19 +240,19 @@ module _ {D : Type 0} (d : disk.Ghosts D) (task : TaskParts) (course : State →
         → One w 0
     uncommitted = by_uncommitted
         (λ (w : Why). (is_done_or_fault w ≡ false → LeavesIn d last final (ReopensAs (unlogged (d.files last)))) → LogIs new w → One w 0)
-        (λ u unmade long. still_one d task course old final (still_final (unmade refl)) (still_run (unmade refl)) (why.LogFull u) before now (λ done. cc)
-        (did_all (why.LogFull u) (λ c through failed. some_all c before now through)) (λ unit bad. absurd cc) (λ lawful. refl)
+        (λ u unmade long. still_one d task course old final (still_final (unmade refl)) (still_log (unmade refl)) (still_run (unmade refl)) (why.LogFull u)
+        before now (λ done. cc) (did_all (why.LogFull u) (λ c through failed. some_all c before now through)) (λ unit bad. absurd cc) (λ lawful. refl)
         (λ indexed may. ok_is _ (store r.pkg) s is (none indexed may))
         (λ indexed may. ok_is _ (store r.pkg) s is (
           new,
           has,
-          if_ok_at _ (store r.pkg) s is (worked.reached indexed (λ asked. may_begin anew (λ group. group.lawful) (may asked))),
+          reached indexed may,
           long.0,
           long.1,
         )))
         (λ unmade long. faulted)
-        (λ unmade long. still_one d task course old final (still_final (unmade refl)) (still_run (unmade refl)) why.NoMemory before now (λ done. cc)
-        (did_all why.NoMemory (λ c through failed. some_all c before now through)) (λ unit bad. absurd cc) (λ lawful. refl)
+        (λ unmade long. still_one d task course old final (still_final (unmade refl)) (still_log (unmade refl)) (still_run (unmade refl)) why.NoMemory
+        before now (λ done. cc) (did_all why.NoMemory (λ c through failed. some_all c before now through)) (λ unit bad. absurd cc) (λ lawful. refl)
         (λ indexed may. if_ok (store r.pkg) (λ t stored. tt)) (λ indexed may. tt))
 
     -- it was
@@ -278,6 +280,9 @@ module _ {D : Type 0} (d : disk.Ghosts D) (task : TaskParts) (course : State →
           fits = group_fits;
           held = λ _. ok_is _ (store r.pkg) s is
               (λ image left. subst (λ (f : Files). HasState made f) (sym (shut.settled image left)) (has_made (d.files final) final_is));
+          kept = group_log;
+          next = λ _. changes_in (d.files final) (record { same = final_is; sound = subst IsSound (sym shut.closed) tt });
+          images = group_images (done_why tally.failed) (fault_done_why tally.failed);
         };
         limits = met;
         fault = λ faulted. absurd (by_done_why (λ (w : Why). w ≡ why.DiskFault → ⊥) tally.failed (λ _ is. cc) (λ _ is. cc) faulted);

@@ -17,10 +17,11 @@ pub use Rattle.rpm_change.specs.inner.LimitLaws.{makes_small, never_bad_made}
 pub use Rattle.rpm_change.specs.inner.ReachLaws.{idx_more, pkg_more, reached_anew, reached_none}
 pub use Rattle.rpm_change.specs.inner.Stores.{stores_paged}
 pub use Rattle.rpm_commit.specs.Changing.{after, AllFit, BadBy, Did, DidLoaded, DidOn, DidOpened, EmptyBy, HasCurrent, HasState, IsMade, makes}
-pub use Rattle.rpm_commit.specs.Changing.{MayBegin, RowsFit, StandsStillOr}
+pub use Rattle.rpm_commit.specs.Changing.{HasChanges, IsAllOrNone, RowsFit, StandsStillOr}
 pub use Rattle.rpm_commit.specs.Endings.{unless_starved, why_of_load, why_of_recover}
-pub use Rattle.rpm_commit.specs.Lawful.{AreLawfulGroups, IsLawfulGroup}
-pub use Rattle.rpm_commit.specs.Limits.{begun, command_limit, LimitsBy, LogIs, LogOn, MeetsFirst, OneChange, ReachedOn, ReachesBy, ReachesOn}
+pub use Rattle.rpm_commit.specs.Lawful.{AreLawfulGroups, IsLawfulGroup, MayBegin}
+pub use Rattle.rpm_commit.specs.Limits.{command_limit, LimitsBy, LogIs, LogOn, MeetsFirst, OneChange}
+pub use Rattle.rpm_commit.specs.Reaches.{begun, HasStore, ReachedOn, ReachesBy, ReachesOn, StoresOn}
 pub use Rattle.rpm_commit.specs.Tasks.{asked_task, changes_index, is_anew, needs_none, reads_shelf, task_course, task_parts, TaskParts}
 pub use Rattle.rpm_commit.specs.Working.{done_why, ended_as, EndsGroup, exercise_ended, IsShut, OpensBy, OpensIn, Stopped, why_of, WorkedBy, WorkedOn}
 pub use Rattle.rpm_commit.specs.Working.{WorkedWith}
@@ -49,7 +50,8 @@ pub use Rattle.rpm_group.specs.Groups.{BeforeOrAfter}
 pub use Rattle.rpm_group.specs.Layers.{laid_files}
 pub use Rattle.rpm_group.specs.Loads.{IsSound}
 pub use Rattle.rpm_group.specs.Overlay.{overlay_below, overlay_held, overlay_read, overlay_starved}
-pub use Rattle.rpm_group.specs.Settled.{RecoverSays, ReopensAs, ReopensAsOneOf}
+pub use Rattle.rpm_group.specs.Settled.{KeepsLog, RecoverSays, ReopensAs, ReopensAsOneOf}
+pub use Rattle.rpm_group.specs.inner.KeptLogs.{recovered_kept, same_kept}
 pub use Rattle.rpm_hindex.specs.Rows.{Row}
 pub use Rattle.rpm_hindex.specs.Sizes.{doubled, units_for}
 pub use Rattle.rpm_outside.specs.Buffered.{inner}
@@ -64,6 +66,7 @@ pub use Rattle.rpm_outside.specs.declared.disk.File.TheVariants.{Log}
 pub use Rattle.rpm_outside.specs.inner.Moments.{leaves_then, leaves_weaker, started}
 pub use Rattle.rpm_pkgdb.specs.Reaches.{store_end}
 pub use Rattle.rpm_pkgdb.specs.Store.{in_file, Store, store}
+pub use Rattle.rpm_pkgdb.specs.Written.{with_spare}
 pub use Rattle.rpm_pkgdb.specs.declared.slot.Damage.{Damage}
 pub use Rattle.rpm_print.specs.Answers.{why_of_halt}
 pub use Rattle.rpm_print.specs.Classes.{is_done, is_done_or_fault, is_halt, is_held, is_of_lawful, is_of_streams, IsOfOpening, IsUncommitted}

@@ -22,7 +22,10 @@ use Rattle.rpm_print.specs.declared.answer.Why.{Why}
 use Rattle.rpm_print.specs.declared.answer.Why.TheVariants as why
 use Rattle.rpm_print.specs.Answers.{Misread, Refused}
 use Rattle.rpm_print.specs.Classes.{is_done, is_done_or_fault, is_held, is_of_lawful}
-use Rattle.rpm_commit.specs.Lawful.{IsLawfulGroup, AreLawfulGroups, StandsStill}
+use Rattle.rpm_group.specs.Loads.{IsSound}
+use Rattle.rpm_group.specs.Settled.{KeepsLog, ReopensAsOneOf}
+use Rattle.rpm_commit.specs.Lawful.{IsLawfulGroup, AreLawfulGroups, MayBegin, StandsStill}
+use Rattle.rpm_commit.specs.Reaches.{HasStore, ReachesBy, begun}
 
 -- ---- what a command answers
 
@@ -91,7 +94,22 @@ pub record IsSealed (files : Files) : Type 0 where
   pub closed : log_state files.log ≡ Closed
   pub indexed : HasCurrent files.pkg files.idx
 
+-- all changes of a course were made of what was found: the files have the state and the store after them, are no longer than the changes make them,
+-- and are lawful where the command may begin
+pub record HasChanges (anew : Bool) (Lawful : Type 0) (course : State → Course) (found files : Files) : Type 0 where
+  pub value : Store
+  pub undamaged : store found.pkg ≡ Ok value
+  pub sound : IsSound (log_state files.log)
+  pub has : HasState (after course (state found.pkg value)) files
+  pub stored : HasStore (begun value) (course (state found.pkg value)).changes (reopened files).pkg
+  pub reaches : ReachesBy anew Lawful course found (reopened files)
+  pub lawful : MayBegin anew Lawful → IsLawfulGroup files
+
 -- ---- what a crash leaves
+
+-- an image stands for what one of these stands for, or has all changes of a command that was done or whose disk failed
+abbrev pub IsAllOrNone : (Files → Type 0) → Why → (Files → Type 0) → Files → Type 0
+IsAllOrNone images given Changed image = ReopensAsOneOf images image ⊎ ((is_done_or_fault given ≡ true) × Changed image)
 
 -- a lawful image, which stands for the packages that one of these stands for, or for this state
 abbrev pub StandsStillOr : (Files → Type 0) → State → Files → Type 0
@@ -144,11 +162,6 @@ BadBy changing pkg idx given = (unit : ℕ) → given ≡ why.BadIndex unit → 
 
 -- ---- a command that changes packages
 
--- a command that makes the index anew may begin with any index; another asks for a lawful database
-abbrev pub MayBegin : Bool → Type 0 → Type 0
-MayBegin true Lawful = Unit {0}
-MayBegin false Lawful = Lawful
-
 module _ {D : Type 0} (d : disk.Ghosts D) where
   -- all that is said, beside what it answers, on a disk that tells its contents
   pub record ChangesWith (anew changing : Bool) (course : State → Course) (given : Why) (changes : ℕ) (old new : D) : Type 0 where
@@ -168,3 +181,7 @@ module _ {D : Type 0} (d : disk.Ghosts D) where
     pub fits : AreLawfulGroups (images d old) → AllFit (images d old) → LeavesIn d old new RowsFit
     pub held : is_done given ≡ true → IfOk (store (reopened (d.files old)).pkg)
         (λ s. (image : Files) → images d new image → HasState (after course (state (reopened (d.files old)).pkg s)) image)
+    pub kept : KeepsLog (d.files old) (d.files new)
+    pub next : is_done given ≡ true → HasChanges anew (IsLawfulGroup (d.files old)) course (reopened (d.files old)) (d.files new)
+    pub images : LeavesIn d old new
+        (IsAllOrNone (images d old) given (HasChanges anew (IsLawfulGroup (d.files old)) course (reopened (d.files old))))

@@ -1,5 +1,5 @@
 -- Files and images that stand for a lawful database: what the page (`rpm_tool`, Theorem.antt) calls lawful.
-use Rattle.std.specs.Prelude.{◌≡◌}
+use Rattle.std.specs.Prelude.{◌≡◌, Bool, true, false}
 use Rattle.rpm_outside.specs.Frame.{images}
 use Rattle.rpm_outside.specs.Files.{Files}
 use Rattle.rpm_outside.specs.Logs.{log_state, reopened}
@@ -11,6 +11,11 @@ use Rattle.rpm_db.specs.Lawful.{IsLawful}
 pub record IsLawfulGroup (files : Files) : Type 0 where
   pub sound : IsSound (log_state files.log)
   pub lawful : IsLawful (reopened files).pkg (reopened files).idx
+
+-- a command that makes the index anew may begin with any index; another asks for a lawful database
+abbrev pub MayBegin : Bool → Type 0 → Type 0
+MayBegin true Lawful = Unit {0}
+MayBegin false Lawful = Lawful
 
 -- each of these images is
 abbrev pub AreLawfulGroups : (Files → Type 0) → Type 0

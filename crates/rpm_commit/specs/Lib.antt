@@ -3,6 +3,7 @@ pub mod Endings
 pub mod Lawful
 pub mod Limits
 pub mod OneChange
+pub mod Reaches
 pub mod Tasks
 pub mod Working
 pub mod inner

@@ -1,33 +1,26 @@
 -- The limits of a command that changes packages: the first that it meets is the one that it is answered; and when the disk failed. On it rest
 -- `limits`, `log` and `fault` of `changes` on the page (`rpm_tool`, Theorem.antt).
-use Rattle.std.specs.Prelude.{◌≡◌, ◌⊎◌, ℕ, ◌^◌, ◌<◌, ◌≤◌, ◌==◌, if◌then◌else◌, max, List, length, Bool, true, false, Option, Some, None, IfOk}
+use Rattle.std.specs.Prelude.{◌≡◌, ◌⊎◌, ℕ, ◌^◌, ◌<◌, ◌≤◌, List, Bool, true, false, Option, Some, None, IfOk}
 use Rattle.rpm_outside.specs.declared.disk.Disk as disk
-use Rattle.rpm_outside.specs.Files.{Units, Files}
+use Rattle.rpm_outside.specs.Files.{Files}
 use Rattle.rpm_outside.specs.Frame.{images, LeavesIn}
 use Rattle.rpm_outside.specs.Logs.{reopened}
-use Rattle.rpm_hindex.specs.Sizes.{units_for}
-use Rattle.rpm_pkgdb.specs.Reaches.{store_end}
 use Rattle.rpm_pkgdb.specs.Store.{Store, store}
-use Rattle.rpm_pkgdb.specs.Written.{made_new}
 use Rattle.rpm_group.specs.Groups.{longest_log}
+use Rattle.rpm_group.specs.Settled.{ReopensAsOneOf}
 use Rattle.rpm_db.specs.Changes.{Change, Says}
-use Rattle.rpm_db.specs.Rows.{rows}
 use Rattle.rpm_db.specs.State.{State, state}
 use Rattle.rpm_change.specs.declared.tally.Halt.{Halt}
 use Rattle.rpm_change.specs.declared.tally.Halt.TheVariants as halt
 use Rattle.rpm_change.specs.Endings.{Outputs, Through}
 use Rattle.rpm_change.specs.Limits.{first_refusal, first_limit}
-use Rattle.rpm_change.specs.Reaches.{pkg_reach, idx_reach}
 use Rattle.rpm_change.specs.Steps.{Course}
 use Rattle.rpm_print.specs.declared.answer.Why.{Why}
 use Rattle.rpm_print.specs.declared.answer.Why.TheVariants as why
-use Rattle.rpm_commit.specs.Lawful.{IsLawfulGroup, AreLawfulGroups, StandsStill}
-use Rattle.rpm_commit.specs.Changing.{DidOn, ChangesWith, MayBegin, makes, after}
+use Rattle.rpm_commit.specs.Lawful.{IsLawfulGroup, AreLawfulGroups, MayBegin, StandsStill}
+use Rattle.rpm_commit.specs.Changing.{DidOn, ChangesWith, makes, after}
+use Rattle.rpm_commit.specs.Reaches.{ReachedOn, begun}
 use Rattle.rpm_commit.specs.Tasks.{TaskParts, is_anew, changes_index}
-
--- the store that the first change finds: where there is no database, one is made
-abbrev pub begun : Store → Store
-begun value = if value.pages == 0 then made_new value else value
 
 -- what a command is refused for first: an index that has no room, where one is made before the changes, and then what refuses the first change
 -- that is refused; where the index isn't asked, only what comes before it in a change
@@ -55,22 +48,6 @@ LimitsOn indexed anew course files given = IfOk (store files.pkg) (λ value. Mee
 -- the index is asked where it is rebuilt, and where the database is lawful
 abbrev pub LimitsBy : Bool → Type 0 → (State → Course) → Files → Why → Type 0
 LimitsBy anew Lawful course files given = (indexed : Bool) → (indexed ≡ true → MayBegin anew Lawful) → LimitsOn indexed anew course files given
-
--- ---- how far a group reaches
-
--- no file is longer than these changes make what was found: a blank Packages.db gets its first page before them, and Hindex.db may be made
-pub record ReachedOn (indexed : Bool) (pkg idx : Units) (value : Store) (s : State) (changes : List Change) (made : Files) : Type 0 where
-  pub pkg_is : length made.pkg ≤ pkg_reach (max (length pkg) (store_end (begun value))) (begun value) changes
-  pub idx_is : indexed ≡ true → length made.idx ≤ idx_reach (max (length idx) (units_for (rows s.packages))) s changes
-
--- of a course, on files whose Packages.db isn't damaged
-abbrev pub ReachesOn : Bool → (State → Course) → Files → Files → Type 0
-ReachesOn indexed course files made =
-    IfOk (store files.pkg) (λ value. ReachedOn indexed files.pkg files.idx value (state files.pkg value) (course (state files.pkg value)).changes made)
-
--- the index is asked as above
-abbrev pub ReachesBy : Bool → Type 0 → (State → Course) → Files → Files → Type 0
-ReachesBy anew Lawful course files made = (indexed : Bool) → (indexed ≡ true → MayBegin anew Lawful) → ReachesOn indexed course files made
 
 -- ---- the log
 
@@ -105,6 +82,7 @@ module _ {D : Type 0} (d : disk.Ghosts D) where
   pub record StoodStill (old new : D) : Type 0 where
     pub same : reopened (d.files new) ≡ reopened (d.files old)
     pub stops : AreLawfulGroups (images d old) → LeavesIn d old new (StandsStill (images d old))
+    pub images : LeavesIn d old new (ReopensAsOneOf (images d old))
 
   -- with a fault of the disk nothing changed, or all lines were printed and no limit was met
   abbrev pub FaultIs : Bool → (State → Course) → Why → D → D → Outputs → Outputs → Type 0

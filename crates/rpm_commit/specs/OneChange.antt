@@ -24,7 +24,8 @@ use Rattle.rpm_commit.specs.declared.changing.CommandEnding.{CommandEnding}
 use Rattle.rpm_commit.specs.Changing.{EmptyBy, IsBroken}
 use Rattle.rpm_print.specs.Classes.{is_done, is_halt, is_of_words}
 use Rattle.rpm_print.specs.Frame.{DiskFault, ShelfFault, Hands, IsIndexed, Runs, state_in}
-use Rattle.rpm_commit.specs.Limits.{LimitsBy, begun}
+use Rattle.rpm_commit.specs.Limits.{LimitsBy}
+use Rattle.rpm_commit.specs.Reaches.{begun}
 use Rattle.rpm_commit.specs.Working.{OpensWithin, WorkedWith, why_of}
 
 -- the store that a database is opened with: begun, where it is blank; and no file is longer than opening makes it

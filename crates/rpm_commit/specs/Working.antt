@@ -25,9 +25,10 @@ use Rattle.rpm_exercise.specs.declared.running.ExerciseFault.TheVariants.{NotEmp
 use Rattle.rpm_print.specs.declared.answer.Why.{Why}
 use Rattle.rpm_print.specs.declared.answer.Why.TheVariants as why
 use Rattle.rpm_print.specs.Answers.{Refused, why_of_halt}
-use Rattle.rpm_commit.specs.Changing.{Did, BadBy, MayBegin, HasCurrent, IsMade}
+use Rattle.rpm_commit.specs.Changing.{Did, BadBy, HasCurrent, IsMade}
+use Rattle.rpm_commit.specs.Lawful.{MayBegin}
 use Rattle.rpm_print.specs.Classes.{is_done, is_done_or_fault, IsUncommitted}
-use Rattle.rpm_commit.specs.Limits.{ReachesBy}
+use Rattle.rpm_commit.specs.Reaches.{ReachesBy, StoresOn}
 
 -- ---- opening
 
@@ -100,6 +101,7 @@ pub record WorkedWith (anew changing : Bool) (course : State → Course) (old ne
   pub bad : BadBy changing old.pkg old.idx (why_of ended)
   pub made : IfOk ended (λ tally. IsMade new.pkg)
   pub index : MayBegin anew (IsLawful old.pkg old.idx) → IfOk ended (λ tally. HasCurrent new.pkg new.idx)
+  pub stored : IfOk ended (λ tally. StoresOn course old.pkg new.pkg)
   pub reached : IfOk ended (λ tally. ReachesBy anew (IsLawful old.pkg old.idx) course old new)
 
 -- ---- how the group ends

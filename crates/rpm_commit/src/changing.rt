@@ -84,12 +84,13 @@ fn end_group<D: Disk>(overlay: Overlay<D>, ended: Result<Tally, Why>) -> (Comman
 ///
 /// The changes are held in memory, over the disk, and committed after the last one: a crash at any moment leaves all
 /// of them or none. The ending is `Done`, or `Failed` with how many arguments failed; only then are changes counted,
-/// and on a lawful database the index is current then, and the disk lawful. Any other ending leaves what the files
-/// stand for as it was, `DiskFault` aside, after which all changes or none are made. That a command line is one
-/// change is this project's own rule.
+/// and on a lawful database the index is current then, and the disk lawful. Generation, slot pages and the lengths of
+/// the files are then those that the changes make. Any other ending leaves what the files stand for as it was,
+/// `DiskFault` aside, after which all changes or none are made. That a command line is one change is this project's
+/// own rule.
 ///
-/// - `BadLog` comes exactly where the log is malformed, and else `Damaged` where `Packages.db` is damaged, with the
-///   place.
+/// - `BadLog` comes exactly where the log is malformed, and the files stay as they are; else `Damaged` where
+///   `Packages.db` is damaged, with the place.
 /// - `NotEmpty` comes exactly of an exercise where there are packages, with the least number.
 /// - `IndexFull` comes first where the index must be made before the changes and needs more than 268435456 units.
 ///   Then, going through the changes in order, the first that is refused decides, and of it the first limit that it

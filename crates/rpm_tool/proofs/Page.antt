@@ -19,6 +19,7 @@ use Rattle.rpm_tool.proofs.Faults.{never_cause}
 use Rattle.rpm_tool.proofs.Recovered.{unbegun}
 use Rattle.rpm_tool.proofs.Undone.{asked_is, asked_some, same_asked}
 use Rattle.rpm_commit.specs.inner.Unmade.{idle_run, unmade_one}
+use Rattle.rpm_group.specs.inner.KeptLogs.{same_kept}
 
 clash : {P : Type 0} {b : _} → b ≡ true → b ≡ false → P
 clash is not = let both : true ≡ false = sym is ∙ not in absurd cc
@@ -187,7 +188,7 @@ module _ {D S : Type 0} {d : disk.Ghosts D} {s : shelf.Ghosts S} (words : List (
     };
     keyed = λ is told. keyed_of (unbegun d tree words a ot et o e it);
     changes = λ is told reads. change_of (unmade_one d (asked_task words a) (task_course (s.paths at) now (asked_task words a)) it it refl
-        (idle_run d it) (outputs ot o et e) why.NoMemory tt);
+        (same_kept (d.files it)) (idle_run d it) (outputs ot o et e) why.NoMemory tt);
     empty = λ is told. memory_empty (needs_none (asked_task words a)) (reopened (d.files it));
     looks = λ _k _c. leaves_none d stays;
     shelf_unread = λ _f _r. refl;

@@ -8,7 +8,8 @@ use Rattle.rpm_change.specs.declared.tally.Halt.{Halt}
 use Rattle.rpm_db.specs.Changes.{Change}
 use Rattle.rpm_outside.specs.Files.{Files, Units}
 use Rattle.rpm_pkgdb.specs.declared.slot.Damage.{Damage}
-use Rattle.rpm_commit.specs.Limits.{begun, command_limit, LimitsOn, MeetsFirst}
+use Rattle.rpm_commit.specs.Limits.{command_limit, LimitsOn, MeetsFirst}
+use Rattle.rpm_commit.specs.Reaches.{begun}
 use Rattle.rpm_commit.specs.Working.{done_why, OpensBy, OpensIn}
 use Rattle.rpm_change.specs.inner.LimitLaws.{makes_large, makes_small, never_bad_made, stops_unasked}
 use Rattle.rpm_db.specs.Openings.{must_make}

@@ -8,8 +8,8 @@ use Rattle.rpm_hindex.specs.State.{is_current, is_in_order, sealed, state_of}
 use Rattle.rpm_outside.specs.Files.{Files, unit_at, Units}
 use Rattle.rpm_outside.specs.Logs.{Closed, log_state, LogState, reopened, unlogged, with_state}
 use Rattle.rpm_pkgdb.specs.Store.{blank_store, Store, store}
-use Rattle.rpm_commit.specs.Changing.{HasCurrent, MayBegin}
-use Rattle.rpm_commit.specs.Lawful.{IsLawfulGroup}
+use Rattle.rpm_commit.specs.Changing.{HasCurrent}
+use Rattle.rpm_commit.specs.Lawful.{IsLawfulGroup, MayBegin}
 use Rattle.rpm_group.specs.Settled.{ReopensAs}
 
 pub if_ok : {T E : Type 0} {P : T → Type 0} (x : Result T E) → ((t : T) → x ≡ Ok t → P t) → IfOk x P

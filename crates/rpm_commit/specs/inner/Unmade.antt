@@ -6,7 +6,7 @@ use Rattle.rpm_outside.specs.Files.{Files}
 use Rattle.rpm_outside.specs.Frame.{images, LeavesIn}
 use Rattle.rpm_outside.specs.Logs.{Closed, log_state, LogState, Malformed, reopened}
 use Rattle.rpm_pkgdb.specs.declared.slot.Damage.{Damage}
-use Rattle.rpm_commit.specs.Changing.{after, BadBy, Did, DidLoaded, DidOn}
+use Rattle.rpm_commit.specs.Changing.{after, BadBy, Did, DidLoaded, DidOn, HasChanges, IsAllOrNone}
 use Rattle.rpm_print.specs.Classes.{is_done, is_of_lawful}
 use Rattle.rpm_commit.specs.Tasks.{changes_index, is_anew, TaskParts}
 use Rattle.rpm_group.specs.Loads.{IsSound, LoadSays}
@@ -16,9 +16,9 @@ use Rattle.rpm_commit.specs.Limits.{LimitsBy, LogBy, OneChange}
 use Rattle.rpm_change.specs.Endings.{Outputs, Through}
 use Rattle.rpm_change.specs.inner.Courses.{none_gone}
 use Rattle.rpm_db.specs.State.{State, state}
-use Rattle.rpm_group.specs.Settled.{RecoverSays, ReopensAsOneOf}
+use Rattle.rpm_group.specs.Settled.{KeepsLog, RecoverSays, ReopensAsOneOf}
 use Rattle.rpm_group.specs.declared.recovery.RecoverFault.{RecoverFault}
-use Rattle.rpm_outside.specs.inner.Moments.{started}
+use Rattle.rpm_outside.specs.inner.Moments.{leaves_weaker, started}
 use Rattle.rpm_print.specs.Answers.{Misread, Refused}
 use Rattle.rpm_pkgdb.specs.Store.{Store, store}
 use Rattle.rpm_commit.specs.Endings.{why_of_load, why_of_recover}
@@ -63,12 +63,18 @@ module _ (course : Store → Course) (x : Outputs) where
 -- ---- what is left, and what is said
 
 module _ {D : Type 0} (d : disk.Ghosts D) (task : TaskParts) (course : State → Course) (old new : D)
-    (stands : reopened (d.files new) ≡ reopened (d.files old)) (run : LeavesIn d old new (ReopensAsOneOf (images d old))) where
+    (stands : reopened (d.files new) ≡ reopened (d.files old)) (kept : KeepsLog (d.files old) (d.files new))
+    (run : LeavesIn d old new (ReopensAsOneOf (images d old))) where
   abbrev r : Files
   r = reopened (d.files old)
 
   abbrev Lawful : Type 0
   Lawful = IsLawfulGroup (d.files old)
+
+  unmade_images : (w : Why) → LeavesIn d old new
+      (IsAllOrNone (images d old) w (HasChanges (is_anew task) Lawful course r))
+  unmade_images w = leaves_weaker d old new (ReopensAsOneOf (images d old)) (IsAllOrNone (images d old) w (HasChanges (is_anew task) Lawful course r))
+      (λ image stood. inl stood) run
 
   pub still_one : (w : Why) (before now : Outputs) → (is_done w ≡ true → ⊥) → DidOn course (d.files old) w before now
       → BadBy (changes_index task) r.pkg r.idx w → (Lawful → is_of_lawful w ≡ true) → LimitsBy (is_anew task) Lawful course r w
@@ -90,9 +96,12 @@ module _ {D : Type 0} (d : disk.Ghosts D) (task : TaskParts) (course : State →
       unmade = λ no lawful. recovering_still d old new run lawful;
       fits = λ lawful fit. recovering_fits d old new run fit;
       held = λ done. absurd (undone done);
+      kept = kept;
+      next = λ done. absurd (undone done);
+      images = unmade_images w;
     };
     limits = limits;
-    fault = λ faulted. inl (record { same = stands; stops = recovering_still d old new run });
+    fault = λ faulted. inl (record { same = stands; stops = recovering_still d old new run; images = run });
     log = log;
   }
 

@@ -10,7 +10,8 @@ use Rattle.rpm_outside.specs.Files.{Files, Units}
 use Rattle.rpm_pkgdb.specs.Blobs.{blobs}
 use Rattle.rpm_pkgdb.specs.Store.{in_file, Store, store}
 use Rattle.rpm_pkgdb.specs.declared.slot.Damage.{Damage}
-use Rattle.rpm_commit.specs.Limits.{begun, command_limit}
+use Rattle.rpm_commit.specs.Limits.{command_limit}
+use Rattle.rpm_commit.specs.Reaches.{begun}
 use Rattle.rpm_commit.specs.OneChange.{FoundAs}
 use Rattle.rpm_db.specs.Frame.{room}
 use Rattle.rpm_db.specs.Openings.{must_make, units_needed}

@@ -1,7 +1,8 @@
 use Rattle.std.proofs.Common.{◌≡◌, ◌+◌, ◌≤◌, true, Err, refl, sym, ap, ◌∙◌, subst, ⊎_elim, arith}
 use Rattle.std.specs.Prelude.{IsTrue}
 use Rattle.rpm_commit.proofs.Vocabulary.{asked_task, changes_index, Course, EmptyBy, Files, images, is_anew, is_of_streams, IsLawful, laid_files, LimitsBy, Log}
-use Rattle.rpm_commit.proofs.Vocabulary.{log_state, needs_none, OneChange, overlay_below, overlay_held, overlay_read, overlay_starved, reads_shelf, reopened}
+use Rattle.rpm_commit.proofs.Vocabulary.{KeepsLog, log_state, needs_none, OneChange, overlay_below, overlay_held, overlay_read, overlay_starved, reads_shelf}
+use Rattle.rpm_commit.proofs.Vocabulary.{recovered_kept, reopened, same_kept}
 use Rattle.rpm_commit.proofs.Vocabulary.{ReopensAsOneOf, Rose, shown, State, task_course, task_parts, TaskParts, unlogged, why_of, why_of_load, why_of_recover}
 use Rattle.rpm_commit.proofs.Vocabulary.{with_file, WorkedWith}
 use Rattle.rpm_print.specs.declared.answer.Why.TheVariants as why
@@ -125,6 +126,8 @@ returns-in-Ok-recover-clause-one g c = λ told shelf.
     rw (c.unchanged-in-Err-load.ensures, c.why_of_load.ensures)
     (unmade_one D t (task_course (g.S.Shelf.paths c.args.shelf.now) c.args.now t) c.args.disk back
     (ap reopened (looks.untouched told).same ∙ recovered.stands told)
+    (subst (λ (f : Files). KeepsLog (D.files c.args.disk) f) (sym (looks.untouched told).same)
+    (recovered_kept (D.files c.args.disk) (D.files first) (recovered.kept told)))
     (leaves_on D c.args.disk first back (ReopensAsOneOf (images D c.args.disk)) looks.moment_stays (looks.untouched told).images (recovered.images told))
     (shown g.O.Sink g.E.Sink c.args.out.now c.args.err.now) (why_of_load fault)
     (early_load (log_state (D.files c.args.disk).log) (log_state (D.files first).log) (recovered.closed told) fault (c.in-Err-load.ensures.says told)))
@@ -138,7 +141,8 @@ returns-clause-one g c = λ told shelf.
     let t = asked_task c.args.words.now c.args.ask.now in
     rw (c.unchanged-in-Err-recover.ensures, c.why_of_recover.ensures)
     (unmade_one g.D.Disk t (task_course (g.S.Shelf.paths c.args.shelf.now) c.args.now t) c.args.disk c.recover.new.disk (first.stands told)
-    (first.images told) (shown g.O.Sink g.E.Sink c.args.out.now c.args.err.now) (why_of_recover fault)
+    (recovered_kept (g.D.Disk.files c.args.disk) (g.D.Disk.files c.recover.new.disk) (first.kept told)) (first.images told)
+    (shown g.O.Sink g.E.Sink c.args.out.now c.args.err.now) (why_of_recover fault)
     (early_recover (log_state (g.D.Disk.files c.args.disk).log) fault (first.says told)))
 
 -- ---- not begun
@@ -147,4 +151,5 @@ pub returns-in-Err-clause-one : goal.returns-in-Err-clause-one
 returns-in-Err-clause-one g c = λ told shelf.
     let t = asked_task c.args.words.now c.args.ask.now in
     rw c.unchanged.ensures (unmade_one g.D.Disk t (task_course (g.S.Shelf.paths c.args.shelf.now) c.args.now t) c.args.disk c.args.disk refl
-    (idle_run g.D.Disk c.args.disk) (shown g.O.Sink g.E.Sink c.args.out.now c.args.err.now) why.NoMemory tt)
+    (same_kept (g.D.Disk.files c.args.disk)) (idle_run g.D.Disk c.args.disk)
+    (shown g.O.Sink g.E.Sink c.args.out.now c.args.err.now) why.NoMemory tt)
