@@ -29,7 +29,7 @@ abbrev pub as_installed : ℕ → Result Headed FileFault → Result Header File
 as_installed now (Ok found) = installed now found.header
 as_installed now (Err fault) = Err fault
 
--- it goes into the database so, or the file is refused
+-- a package file that could be read goes into the database with its moment, or its line is told
 abbrev pub put_installed : Option ℕ → ℕ → List ℕ → Result Header FileFault → Course
 put_installed number j path (Ok h) = changing (change_at number h.blob)
 put_installed number j path (Err fault) = failing (ToErr (whole j) (refused_line path fault))

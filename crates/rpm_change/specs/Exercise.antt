@@ -8,11 +8,11 @@ use Rattle.rpm_header.specs.Build.{numbers_item, text_item, texts_item}
 abbrev pub numbered : List ℕ → ℕ → List ℕ
 numbered word n = word ++ decimal n
 
--- of package i with the leading number m
+-- package i of the exercise has this version, with the leading number m
 abbrev pub version : ℕ → ℕ → List ℕ
 version i m = decimal m ++ codes "." ++ decimal (i % 10)
 
--- in release 1, for any machine
+-- a package of the exercise has this name and version, in release 1, for any machine
 abbrev pub identity_items : List ℕ → List ℕ → List Item
 identity_items name version =
     text_item 1000 name ∷ text_item 1001 version ∷ text_item 1002 (codes "1") ∷ text_item 1022 (codes "noarch") ∷ []
@@ -33,12 +33,13 @@ required_items capability =
     ∷ texts_item 1050 form.Texts ([] ∷ [])
     ∷ []
 
--- its one file
+-- a package of the exercise has this one file
 abbrev pub file_items : List ℕ → List Item
 file_items name =
     texts_item 1117 form.Texts (name ∷ []) ∷ numbers_item 1116 form.Int32 (0 ∷ []) ∷ texts_item 1118 form.Texts (codes "/opt/" ∷ []) ∷ []
 
--- of these texts: its name, its version, the capability that it provides, the one that it requires, its file
+-- a package of the exercise has these entries: its name, its version, the capability that it provides, the one that
+-- it requires, its file
 abbrev pub package_items : List ℕ → List ℕ → List ℕ → List ℕ → List ℕ → List Item
 package_items name version provided required file =
     identity_items name version ++ provided_items name provided version ++ required_items required ++ file_items file

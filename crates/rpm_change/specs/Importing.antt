@@ -72,7 +72,7 @@ import_listed most l = import_from most 1 l.blobs l.fault
 abbrev pub once : Course → Course
 once c = record { steps = c.steps; failed = min 1 c.failed; changes = c.changes }
 
--- of the list under the path -, of at most so many headers
+-- an import takes the list under the path -, of at most so many headers
 abbrev pub import_list : ℕ → Option (List ℕ) → Course
 import_list most None = failing (ToErr (whole 0) (absent_line (codes "-")))
 import_list most (Some bytes) = once (import_listed most (listed bytes))

@@ -15,7 +15,7 @@ use Rattle.rpm_change.specs.Reaches.{Reached}
 
 -- ---- one change
 
--- it needs a new number, and none is left
+-- a change is spent when it needs a new number and none is left
 abbrev pub is_spent : State → Change → Bool
 is_spent s (Add bytes) = next s == 4294967295
 is_spent s others = false
@@ -45,7 +45,8 @@ first_refusal indexed s value [] = None
 first_refusal indexed s value (change ∷ changes) =
     option_or (refusal indexed s value change) (first_refusal indexed (apply change s) (unwrap_or (next_store change value) value) changes)
 
--- and where the index is made before them, it has to hold the rows of the packages as they are
+-- a list of changes meets this limit first; where the index is made before them, it has to hold the rows of the
+-- packages as they are
 abbrev pub first_limit : Bool → State → Store → List Change → Option Halt
 first_limit makes s value changes =
     if makes && nat_lt (2 ^ 28) (units_for (rows s.packages)) then Some (halt.IndexFull (units_for (rows s.packages)))
@@ -72,8 +73,8 @@ abbrev pub StopsAt : Bool → Option Halt → Result Tally Halt → Type 0
 StopsAt indexed first (Ok tally) = first ≡ None
 StopsAt indexed first (Err h) = is_limit indexed h ≡ true → first ≡ Some h
 
--- so of these changes; once all are made the store is that after them, up to room in memory, the generation rose by each, and no file is longer
--- than they make it
+-- a list of changes meets its first limit, or is made: the store is then that after them, up to room in memory, the
+-- generation rose by each, and no file is longer than they make it
 pub record LimitsTurn (indexed : Bool) (s : State) (old new : Store) (before after : Files) (changes : List Change) (r : Result Tally Halt) : Type 0 where
   pub first : StopsAt indexed (first_refusal indexed s old changes) r
   pub stores : OnOk r (RoomBecomes (next_stores changes old) old new)

@@ -11,7 +11,7 @@ use Rattle.rpm_change.specs.Hands.{Hand}
 use Rattle.rpm_change.specs.Steps.{Bearer, ToErr, failing}
 use Rattle.rpm_change.specs.Went.{EndedOnErr}
 
--- it goes to err, for whomever it is, and one argument fails; or it is told why it can't be written
+-- a line goes to err, for whomever it is, and one argument fails; or the call says why it can't be written
 pub record Fails {E : Type 0} (e : sink.Ghosts E) (line : List ℕ) (old new : Buffered E) (r : Result Tally Halt) : Type 0 where
   pub ended : (for : Bearer) (s : State) → EndedOnErr e old new (failing (ToErr for line)) s s r
   pub one : IfOk r (λ tally. tally ≡ record { failed = 1; changes = 0 })

@@ -26,7 +26,7 @@ pub record Reached (indexed : Bool) (s : State) (value : Store) (changes : List 
   pub pkg : length new.pkg ≤ pkg_reach (length old.pkg) value changes
   pub idx : indexed ≡ true → length new.idx ≤ idx_reach (length old.idx) s changes
 
--- and where the index is made before them, whatever it was
+-- a list of changes leaves the files no longer than this where the index is made before them, whatever it was
 pub record ReachedAnew (s : State) (value : Store) (changes : List Change) (old new : Files) : Type 0 where
   pub pkg : length new.pkg ≤ pkg_reach (length old.pkg) value changes
   pub idx : length new.idx ≤ idx_reach (max (length old.idx) (units_for (rows s.packages))) s changes

@@ -11,7 +11,7 @@ use Rattle.rpm_change.specs.Steps.{Course, ToOut, bearer, idle, joined}
 unfoldable pub dropped_line : ℕ → List ℕ
 dropped_line n = codes "package " ++ decimal n ++ codes ": dropped\n"
 
--- with a line for which nothing fails
+-- a Bad package is dropped with a line, for which nothing fails
 abbrev pub dropped : ℕ → Package → Course
 dropped n (Good bytes) = idle
 dropped n Bad = record { steps = ToOut (bearer 0 n) (dropped_line n) ∷ []; failed = 0; changes = Erase n ∷ [] }
@@ -21,7 +21,7 @@ abbrev pub drop_each : List (ℕ × Package) → Course
 drop_each [] = idle
 drop_each (e ∷ es) = joined (dropped e.0 e.1) (drop_each es)
 
--- by rising number, from 1 on: no package has the number 0
+-- a rebuild drops the Bad packages by rising number, from 1 on: no package has the number 0
 abbrev pub rebuild : State → Course
 rebuild s = drop_each (above 0 (finite.entries s.packages))
 

@@ -8,7 +8,7 @@ pub record Bearer : Type 0 where
   pub argument : ℕ
   pub number : Option ℕ
 
--- of a package, and of a whole argument
+-- a step for a package of an argument
 abbrev pub bearer : ℕ → ℕ → Bearer
 bearer j n = record { argument = j; number = Some n }
 

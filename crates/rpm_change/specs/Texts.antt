@@ -22,7 +22,7 @@ header_text (header.BadCount i) = at_entry i (codes "bad count")
 header_text (header.NoEnd i) = at_entry i (codes "text has no end")
 header_text header.BadRegion = codes "bad region"
 
--- of a file; the last two are of no file
+-- a fault of a package file has this text; the last two are of no file
 unfoldable pub file_text : FileFault → List ℕ
 file_text file.Short = codes "file is cut short"
 file_text file.NotAPackage = codes "not an rpm package"
@@ -41,7 +41,7 @@ refused_line path fault = codes "error: " ++ path ++ codes ": " ++ file_text fau
 abbrev pub absent_line : List ℕ → List ℕ
 absent_line path = codes "error: open of " ++ path ++ codes " failed\n"
 
--- of a list; the last two are of no list
+-- a fault of a list has this text; the last two are of no list
 unfoldable pub list_text : ListFault → List ℕ
 list_text list.Short = codes "list is cut short"
 list_text list.BadMagic = codes "bad header magic"
@@ -50,6 +50,6 @@ list_text list.TooMuchData = codes "too much data"
 list_text list.ReadFault = []
 list_text list.NoMemory = []
 
--- of the header at this place of a list, from 1
+-- a fault of the header at this place of a list, from 1, has this line
 unfoldable pub place_line : ℕ → List ℕ → List ℕ
 place_line k text = codes "error: header " ++ decimal k ++ codes ": " ++ text ++ codes "\n"

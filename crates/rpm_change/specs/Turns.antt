@@ -45,7 +45,7 @@ abbrev pub IsOfImporting : Halt → Type 0
 IsOfImporting halt.OutFault = ⊥
 IsOfImporting others = Unit {0}
 
--- and adding a header reads no shelf
+-- a halt of an import that adds headers isn't the shelf's
 abbrev pub IsOfHeaders : Halt → Type 0
 IsOfHeaders h = (h ≢ halt.ShelfFault) × IsOfImporting h
 

@@ -34,7 +34,7 @@ module _ {S : Type 0} (of : sink.Ghosts S) where
   abbrev pub with_err : Bool → List ℕ → Buffered S → Outputs
   with_err tells out err = outputs tells out of.tells (of.taken (inner err))
 
-  -- or out is
+  -- the outputs are these of err, beside what out has
   abbrev pub with_out : Bool → List ℕ → Buffered S → Outputs
   with_out tells err out = outputs of.tells (of.taken (inner out)) tells err
 
@@ -44,7 +44,7 @@ module _ {S : Type 0} (of : sink.Ghosts S) where
   EndedOnErr old new course s t r = (tells : Bool) (out : List ℕ)
       → Ended course s t r (with_err tells out old) (with_err tells out new)
 
-  -- it went to out: err has what it had
+  -- a course went to out, and err has what it had
   abbrev pub EndedOnOut : Buffered S → Buffered S → Course → State → State → Result Tally Halt
       → Type 0
   EndedOnOut old new course s t r = (tells : Bool) (err : List ℕ)
@@ -53,7 +53,7 @@ module _ {S : Type 0} (of : sink.Ghosts S) where
 -- ---- the disk and the database
 
 module _ {D : Type 0} (d : disk.Ghosts D) where
-  -- it can be changed further, and its index holds the rows where it did before
+  -- a database can be changed further, and its index holds the rows where it did before
   pub record CarriedOn (old new : D) (before after : Database) : Type 0 where
     pub going : after.stopped ≡ false
     pub serving : Serving d new after
@@ -65,7 +65,7 @@ module _ {D : Type 0} (d : disk.Ghosts D) where
       (indexed : Bool) → (indexed ≡ true → IsIndexed d old before)
       → LimitsTurn indexed (state_in d old before) (room before) (room after) (d.files old) (d.files new) changes r
 
-  -- it can be changed further, and its index holds the rows of its packages
+  -- a database can be changed further, and its index holds the rows of its packages
   pub record IsCurrent (at : D) (db : Database) : Type 0 where
     pub ready : IsReady d at db
     pub index : IsTrue d.tells → IsIndexed d at db
@@ -79,7 +79,7 @@ module _ {D : Type 0} (d : disk.Ghosts D) where
     pub runs : Runs d SameLog old new
     pub disk : DiskFault d (r ≡ Err halt.DiskFault) old new
 
-  -- of a database that can be changed further
+  -- a database that can be changed further was left so on this disk
   abbrev pub LeftOn : D → D → Database → Database → Result Tally Halt → Type 0
   LeftOn old new before after r = LeftBy (CarriedOn old new before after) old new after r
 
@@ -102,7 +102,7 @@ module _ {D : Type 0} (d : disk.Ghosts D) where
 
   -- ---- a batch, whose rows are gathered
 
-  -- it goes on, and the index is owed these rows
+  -- a batch goes on, and the index is owed these rows
   pub record IsOwing (Asked : Type 0) (at : D) (db : Database) (owed : RowChange) : Type 0 where
     pub gathering : IsGathering d at db owed
     pub owes : IsTrue d.tells → Asked → OwesOn d at db owed

@@ -29,7 +29,7 @@ use Rattle.rpm_commit.specs.Reaches.{HasStore, ReachesBy, begun}
 
 -- ---- what a command answers
 
--- of a database that can be read: all steps were gone through, or some, or it stopped within one
+-- a course went through all its steps, or some, or stopped within one, and this is the cause
 abbrev pub Did : Course → Why → Outputs → Outputs → Type 0
 Did course why.Done old new = Through course.steps old new × (course.failed ≡ 0)
 Did course (why.Failed n) old new = Through course.steps old new × (course.failed ≡ n) × (0 < n)
@@ -42,7 +42,7 @@ Did course why.OutFault old new = StoppedWithin course.steps true old new
 Did course why.ErrFault old new = StoppedWithin course.steps false old new
 Did course others old new = ThroughSome course.steps old new
 
--- of one that is damaged, that alone
+-- a course was done of a store that isn't damaged, and of one that is the damage alone was told
 abbrev pub DidOpened : (Store → Course) → Result Store Damage → Why → Outputs → Outputs → Type 0
 DidOpened course (Ok s) given old new = Did (course s) given old new
 DidOpened course (Err damage) given old new = Refused damage given × Through [] old new
@@ -53,7 +53,7 @@ DidLoaded course s Closed given old new = DidOpened course s given old new
 DidLoaded course s (Malformed unit) given old new = Misread unit given × Through [] old new
 DidLoaded course s (Open entries) given old new = DidOpened course s given old new
 
--- by what the files stand for
+-- a course was done of what the files represent
 abbrev pub DidOn : (State → Course) → Files → Why → Outputs → Outputs → Type 0
 DidOn course files given old new =
     let r = reopened files in
@@ -89,7 +89,7 @@ pub record IsMade (pkg : Units) : Type 0 where
   pub undamaged : store pkg ≡ Ok value
   pub paged : 1 ≤ value.pages
 
--- and nothing is left of a change
+-- a database has its index current and settled, and nothing is left of a change
 pub record IsSealed (files : Files) : Type 0 where
   pub closed : log_state files.log ≡ Closed
   pub indexed : HasCurrent files.pkg files.idx
@@ -119,7 +119,7 @@ StandsStillOr images s image = StandsStill images image ⊎ (IsLawfulGroup image
 abbrev pub RowsFit : Files → Type 0
 RowsFit files = units_needed (reopened files).pkg (store (reopened files).pkg) ≤ 2 ^ 28
 
--- and so do those of each image
+-- each image has rows that fit into an index
 abbrev pub AllFit : (Files → Type 0) → Type 0
 AllFit images = (image : Files) → images image → RowsFit image
 
@@ -140,11 +140,11 @@ EmptyIs packages why.DiskFault = Unit {0}
 EmptyIs packages why.NoMemory = Unit {0}
 EmptyIs packages others = IsNext (λ n. is_some (finite.get packages n)) 0 None
 
--- of files whose Packages.db isn't damaged
+-- a command that asks for a database without packages is refused exactly where there is one
 abbrev pub EmptyOn : Files → Why → Type 0
 EmptyOn files given = IfOk (store files.pkg) (λ value. EmptyIs (packages files.pkg value) given)
 
--- of a command that asks for none; another is never refused so
+-- a command that asks for no packages is refused exactly where there is one, and another never so
 abbrev pub EmptyBy : Bool → Files → Why → Type 0
 EmptyBy true files given = EmptyOn files given
 EmptyBy false files given = is_held given ≡ false

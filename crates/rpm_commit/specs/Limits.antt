@@ -40,7 +40,8 @@ MeetsFirst indexed first (why.IndexFull told) = indexed ≡ true → first ≡ S
 MeetsFirst indexed first (why.BadIndex unit) = indexed ≡ false
 MeetsFirst indexed first others = Unit {0}
 
--- of a course, on files whose Packages.db isn't damaged, and of a command that makes the index anew or doesn't
+-- a course meets its first limit, on files whose Packages.db isn't damaged, of a command that makes the index anew or
+-- doesn't
 abbrev pub LimitsOn : Bool → Bool → (State → Course) → Files → Why → Type 0
 LimitsOn indexed anew course files given = IfOk (store files.pkg) (λ value. MeetsFirst indexed
     (command_limit indexed (makes anew files.idx value) (state files.pkg value) (begun value) (course (state files.pkg value)).changes) given)
@@ -56,11 +57,11 @@ abbrev pub LogIs : Files → Why → Type 0
 LogIs made (why.LogFull needed) = (2 ^ 28 < needed) × (needed ≤ longest_log made)
 LogIs made others = Unit {0}
 
--- of a group that leaves this state, and files that reach no further
+-- a transaction is too long for the log: some files with this state that reach no further have so long a log
 abbrev pub IsTooLong : ℕ → State → (Files → Type 0) → Type 0
 IsTooLong needed s Reached = (made : Files) × Says (λ t. t ≡ s) made.pkg × Reached made × (2 ^ 28 < needed) × (needed ≤ longest_log made)
 
--- of a course, on files whose Packages.db isn't damaged
+-- a course has LogFull told only where its transaction is too long, on files whose Packages.db isn't damaged
 abbrev pub LogOn : Bool → (State → Course) → Files → Why → Type 0
 LogOn indexed course files (why.LogFull needed) = IfOk (store files.pkg) (λ value. IsTooLong needed (after course (state files.pkg value))
     (ReachedOn indexed files.pkg files.idx value (state files.pkg value) (course (state files.pkg value)).changes))
@@ -72,19 +73,19 @@ LogBy anew Lawful course files given = (indexed : Bool) → (indexed ≡ true �
 
 -- ---- a fault of the disk
 
--- it came with the commit, or after it: all lines were told, and no change was refused
+-- a fault came with the commit or after it: all lines were told, and no change was refused
 pub record ToldAll (anew : Bool) (Lawful : Type 0) (course : State → Course) (files : Files) (before now : Outputs) : Type 0 where
   pub told : Says (λ s. Through (course s).steps before now) files.pkg
   pub limits : LimitsBy anew Lawful course files why.Done
 
 module _ {D : Type 0} (d : disk.Ghosts D) where
-  -- it came before the commit: nothing changed, whatever a crash leaves
+  -- a fault came before the commit: nothing changed, whatever a crash leaves
   pub record StoodStill (old new : D) : Type 0 where
     pub same : reopened (d.files new) ≡ reopened (d.files old)
     pub stops : AreLawfulGroups (images d old) → LeavesIn d old new (StandsStill (images d old))
     pub images : LeavesIn d old new (ReopensAsOneOf (images d old))
 
-  -- with a fault of the disk nothing changed, or all lines were printed and no limit was met
+  -- a fault of the disk came before the commit, and nothing changed, or all lines were printed and no limit was met
   abbrev pub FaultIs : Bool → (State → Course) → Why → D → D → Outputs → Outputs → Type 0
   FaultIs anew course given old new before now = given ≡ why.DiskFault
       → StoodStill old new ⊎ ToldAll anew (IsLawfulGroup (d.files old)) course (reopened (d.files old)) before now

@@ -47,7 +47,7 @@ module _ {D : Type 0} (d : disk.Ghosts D) where
     pub reach : IsTrue d.tells → ReachesMade (units_for []) (d.files old).idx (d.files new).idx
     pub end : IsTrue d.tells → ReachesTo (room after) (d.files old).pkg (d.files new).pkg
 
-  -- it is opened to be changed: its index holds the rows where the database is lawful
+  -- a database was opened to be changed: its index holds the rows where the database is lawful
   pub record OpensOn (old new : D) (db : Database) : Type 0 where
     pub ready : IsReady d new db
     pub not_blank : is_blank db ≡ false

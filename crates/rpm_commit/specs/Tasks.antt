@@ -61,7 +61,7 @@ task_in Rebuilddb words a = Rebuilding
 task_in (Exercise n) words a = Exercising n
 task_in others words a = Making
 
--- of a command that changes anything
+-- a command that changes anything has this task
 abbrev pub asked_task : List (List ℕ) → AskParts → TaskParts
 asked_task words a = task_in a.mode words a
 
@@ -74,7 +74,8 @@ IsCountable others = Unit {0}
 
 -- ---- what it does
 
--- with the package files that a shelf holds, at this moment; making a database changes no package
+-- a task has this course, with the package files that a shelf holds, at this moment; making a database changes no
+-- package
 abbrev pub task_course : Paths → ℕ → TaskParts → State → Course
 task_course paths now Making s = idle
 task_course paths now (Adding files) s = add_files paths now s files
@@ -84,31 +85,31 @@ task_course paths now Importing s = import_list max_headers (bytes_at paths (cod
 task_course paths now Rebuilding s = rebuild s
 task_course paths now (Exercising n) s = exercise n s
 
--- of a command, by its words
+-- a command has the course of its task, by its words
 abbrev pub asked_course : Paths → ℕ → List (List ℕ) → AskParts → State → Course
 asked_course paths now words a s = task_course paths now (asked_task words a) s
 
--- it reads package files
+-- a task reads package files
 abbrev pub reads_shelf : TaskParts → Bool
 reads_shelf (Adding files) = true
 reads_shelf (Replacing n path) = true
 reads_shelf Importing = true
 reads_shelf others = false
 
--- it makes the index anew, whatever it is
+-- a task makes the index anew, whatever it is
 abbrev pub is_anew : TaskParts → Bool
 is_anew Rebuilding = true
 is_anew (Exercising n) = true
 is_anew others = false
 
--- it changes the index that it finds; another makes it anew, or changes no package
+-- a task changes the index that it finds; another makes it anew, or changes no package
 abbrev pub changes_index : TaskParts → Bool
 changes_index Making = false
 changes_index Rebuilding = false
 changes_index (Exercising n) = false
 changes_index others = true
 
--- it asks for a database without packages
+-- a task asks for a database without packages
 abbrev pub needs_none : TaskParts → Bool
 needs_none (Exercising n) = true
 needs_none others = false

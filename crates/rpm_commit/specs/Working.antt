@@ -40,7 +40,7 @@ OpensIn making needed s new (Err why.DiskFault) = Unit {0}
 OpensIn making needed s new (Err why.NoMemory) = Unit {0}
 OpensIn making needed s new (Err others) = ⊥
 
--- of these files, whose store is this
+-- a database is opened of these files, whose store is this
 abbrev pub OpensBy : Files → Result Store Damage → Files → Result Database Why → Type 0
 OpensBy old (Ok s) new result = OpensIn (must_make old.idx (Ok s)) (units_needed old.pkg (Ok s)) (state old.pkg s) new result
 OpensBy old (Err damage) new (Ok db) = ⊥
@@ -61,7 +61,7 @@ abbrev pub ended_as : Result Tally Halt → Result Tally Why
 ended_as (Ok tally) = Ok tally
 ended_as (Err halt) = Err (why_of_halt halt)
 
--- and one whose exercise did
+-- a command whose exercise ended ends like this
 abbrev pub exercise_ended : Result Tally ExerciseFault → Result Tally Why
 exercise_ended (Ok tally) = Ok tally
 exercise_ended (Err fault) = Err (why_of_exercise fault)
@@ -95,7 +95,8 @@ abbrev pub why_of : Result Tally Why → Why
 why_of (Ok tally) = done_why tally.failed
 why_of (Err given) = given
 
--- from these files to those, of a command that makes the index anew or doesn't, and that changes the one that it finds or doesn't
+-- a course worked from these files to those, of a command that makes the index anew or doesn't, and that changes the
+-- one that it finds or doesn't
 pub record WorkedWith (anew changing : Bool) (course : State → Course) (old new : Files) (ended : Result Tally Why) (before now : Outputs) : Type 0 where
   pub went : WorkedBy course old.pkg (store old.pkg) new ended before now
   pub bad : BadBy changing old.pkg old.idx (why_of ended)
@@ -117,7 +118,7 @@ GroupLeaves (Ok tally) before after = BeforeOrAfter before after
 GroupLeaves (Err given) before after = ReopensAs before
 
 module _ {D : Type 0} (d : disk.Ghosts D) where
-  -- its log is closed, and no stop from now on leaves other files
+  -- a database is shut: its log is closed, and no crash from now on leaves other files
   pub record IsShut (it : D) : Type 0 where
     pub closed : log_state (d.files it).log ≡ Closed
     pub settled : AreSettled (d.files it) (images d it)

@@ -5,7 +5,7 @@ use Rattle.rpm_db.specs.Database.{Database}
 use Rattle.rpm_db.specs.Frame.{Kept, KeptIndex}
 
 module _ {D : Type 0} (d : disk.Ghosts D) where
-  -- it can be asked: it is what both files say, and wasn't stopped
+  -- a database can be asked when it is what both files say, and wasn't stopped
   pub record IsAskable (at : D) (db : Database) : Type 0 where
     pub keeps : Kept d at db
     pub keeps_index : KeptIndex d at db

@@ -15,7 +15,7 @@ use Rattle.rpm_db.specs.State.{state}
 use Rattle.rpm_db.specs.Verdicts.{KeepsVerdicts}
 
 module _ {D : Type 0} (d : disk.Ghosts D) where
-  -- it can be changed: it has an index, wasn't stopped, and is what the disk's files say
+  -- a database can be changed when it has an index, wasn't stopped, and is what the disk's files say
   pub record IsReady (at : D) (db : Database) : Type 0 where
     pub indexed : is_indexed db ≡ true
     pub going : db.stopped ≡ false

@@ -12,7 +12,8 @@ use Rattle.rpm_pkgdb.specs.Costs as costs
 use Rattle.rpm_db.specs.Lawful.{HasRows, is_current_at}
 use Rattle.rpm_db.specs.State.{packages}
 
--- its store, the first units of the index where it keeps one, and whether it is stopped: a changing call failed at the disk, or a batch goes on
+-- a database is its store, the first units of the index where it keeps one, and whether it is stopped: a changing
+-- call failed at the disk, or a batch goes on
 pub record Database : Type 0 where
   store : Store
   pub index : Option hindex.State
@@ -51,7 +52,7 @@ abbrev pub KeepsUnits : Units → Option hindex.State → Type 0
 KeepsUnits idx None = Unit {0}
 KeepsUnits idx (Some state) = hindex.Keeps idx state
 
--- the same of Hindex.db, where an index is kept
+-- a database's index is what Hindex.db says, where one is kept
 abbrev pub KeepsIndex : Units → Database → Type 0
 KeepsIndex idx db = KeepsUnits idx db.index
 
@@ -96,11 +97,11 @@ next_number db = pkgdb.next_number (room db)
 abbrev pub cost : ℕ → Database → ℕ
 cost n db = costs.cost n (room db)
 
--- of all numbers up to this one
+-- a call costs the blocks of all numbers up to this one
 abbrev pub cost_to : ℕ → Database → ℕ
 cost_to n db = costs.cost_to n (room db)
 
--- of all numbers
+-- a call costs the blocks of all numbers
 abbrev pub cost_all : Database → ℕ
 cost_all db = costs.cost_all (room db)
 

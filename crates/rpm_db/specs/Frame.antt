@@ -19,7 +19,7 @@ module _ {D : Type 0} (d : disk.Ghosts D) where
   abbrev pub Runs : (Files → Files → Type 0) → D → D → Type 0
   Runs = runs.Runs d
 
-  -- so did they, and this answer comes only where the disk counted a fault
+  -- a call changed the files by this relation, and this answer comes only where the disk counted a fault
   pub record RunsOr (by : Files → Files → Type 0) (what : Type 0) (old new : D) : Type 0 where
     pub files : Runs by old new
     pub cause : DiskFault d what old new
@@ -28,15 +28,15 @@ module _ {D : Type 0} (d : disk.Ghosts D) where
   abbrev pub Kept : D → Database → Type 0
   Kept it db = IsTrue d.tells → Keeps (d.files it).pkg db
 
-  -- and that of Hindex.db
+  -- a database's index is what Hindex.db says on this disk
   abbrev pub KeptIndex : D → Database → Type 0
   KeptIndex it db = IsTrue d.tells → KeepsIndex (d.files it).idx db
 
-  -- and each crash leaves the same packages, and the index is settled
+  -- a database serves on this disk: each crash leaves the same packages, and the index is settled
   abbrev pub Serving : D → Database → Type 0
   Serving it db = IsTrue d.tells → changes.IsServing (d.files it) (d.left_since it (d.moment it)) db
 
-  -- its index is current, and holds the rows of its packages
+  -- a database's index on this disk is current, and holds the rows of its packages
   abbrev pub IsIndexed : D → Database → Type 0
   IsIndexed it db = database.IsIndexed (d.files it).pkg (d.files it).idx db
 
@@ -44,7 +44,7 @@ module _ {D : Type 0} (d : disk.Ghosts D) where
   abbrev pub state_in : D → Database → State
   state_in it db = state (d.files it).pkg (room db)
 
-  -- its packages
+  -- a database's packages on this disk
   abbrev pub packages_in : D → Database → FinMap nat_cmp Package
   packages_in it db = packages (d.files it).pkg (room db)
 

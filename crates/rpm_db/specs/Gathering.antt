@@ -26,7 +26,7 @@ abbrev pub sealed_in : Option hindex.State → ℕ
 sealed_in None = 0
 sealed_in (Some index) = hindex.sealed index.first
 
--- its first two units are in order
+-- an index that is kept has its first two units in order
 abbrev pub IsOrdered : Option hindex.State → Type 0
 IsOrdered None = Unit {0}
 IsOrdered (Some index) = hindex.is_in_order index ≡ true
@@ -35,7 +35,7 @@ IsOrdered (Some index) = hindex.is_in_order index ≡ true
 abbrev pub resumed : Database → Database
 resumed db = database_of (room db) db.index false
 
--- while it goes on
+-- a database while a batch goes on
 abbrev pub suspended : Database → Database
 suspended db = database_of (room db) db.index true
 

@@ -48,7 +48,7 @@ pub record IsIndexOf (pkg idx : Units) : Type 0 where
   pub sealed_at : sealed (unit_at idx 0) ≡ value.generation
   pub rows_are : HasRows (packages pkg value) idx
 
--- these are the rows of this Packages.db, which has this generation
+-- a list of rows is that of this Packages.db, which has this generation
 pub record IsOfRows (generation : ℕ) (all : List Row) (pkg : Units) : Type 0 where
   pub value : Store
   pub undamaged : store pkg ≡ Ok value

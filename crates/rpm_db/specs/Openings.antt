@@ -19,7 +19,7 @@ use Rattle.rpm_db.specs.Reaches.{ReachesMade}
 use Rattle.rpm_db.specs.Rows.{rows}
 use Rattle.rpm_db.specs.State.{packages}
 
--- this store, or its first damage, as a store that is opened
+-- a store that is opened is this one, or has this first damage
 abbrev pub StoreIs : Result Store Damage → Result Store DbOpenFault → Type 0
 StoreIs said (Ok value) = said ≡ Ok value
 StoreIs said (Err (Damaged d)) = said ≡ Err d
@@ -27,7 +27,7 @@ StoreIs said (Err (IndexFull needed)) = Unit {0}
 StoreIs said (Err DiskFault) = Unit {0}
 StoreIs said (Err NoMemory) = Unit {0}
 
--- and as a database
+-- a database that is opened has this store, or this first damage
 abbrev pub OpensAs : Result Store Damage → Result Database DbOpenFault → Type 0
 OpensAs said (Ok db) = said ≡ Ok (room db)
 OpensAs said (Err (Damaged d)) = said ≡ Err d
@@ -86,7 +86,8 @@ pub record IsFresh (db : Database) : Type 0 where
   pub going : db.stopped ≡ false
 
 module _ {D : Type 0} (d : disk.Ghosts D) where
-  -- it was opened on this disk: both files are settled, and the index is as long as it was or as one that was made
+  -- a database was opened on this disk: both files are settled, and the index is as long as it was or as one that was
+  -- made
   pub record IsOpenedOn (old new : D) (db : Database) : Type 0 where
     pub fresh : IsFresh db
     pub quiet : IsTrue d.tells → IsQuiet (room db) (d.files new) (d.left_since new (d.moment new))

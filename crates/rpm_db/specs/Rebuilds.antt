@@ -24,7 +24,7 @@ IsRebuilt old new before after (Err Stopped) = (new ≡ old) × (after ≡ befor
 IsRebuilt old new before after (Err DiskFault) = after.stopped ≡ true
 IsRebuilt old new before after (Err _) = ⊥
 
--- which cause it answers: Stopped comes first, and there is no other but these
+-- a rebuild answers one of these causes: Stopped comes first, and there is no other but these
 abbrev pub RebuildIs : Database → Result (Unit {0}) ChangeFault → Type 0
 RebuildIs db (Ok done) = db.stopped ≡ false
 RebuildIs db (Err Stopped) = db.stopped ≡ true

@@ -27,7 +27,7 @@ abbrev pub LaterIs : {A : Type 0} → ℕ → Type 0 → Result A ChangeFault �
 LaterIs generation full (Ok done) = (generation ≢ 4294967295) × ¬ full
 LaterIs generation full (Err fault) = LaterCause generation full fault
 
--- of a header that goes under a new number, or one that is there
+-- a header goes under a new number or under one that is there, or is refused for this
 pub record PutsHeader {A : Type 0} (db : Database) (is_new : Bool) (bytes : List ℕ) (result : Result A ChangeFault) : Type 0 where
   pub going : db.stopped ≡ false
   pub own : Header
@@ -67,7 +67,7 @@ EraseIs db n (Err fault) = EraseCause db n fault
 
 -- ---- the index
 
--- it is full exactly where so many units are too many, and where it holds the rows of the packages it isn't bad
+-- an index is full exactly where so many units are too many, and isn't bad where it holds the rows of the packages
 abbrev pub FullCause : ℕ → ChangeFault → Type 0
 FullCause needed (IndexFull told) = (2 ^ 28 < needed) × (told ≡ needed)
 FullCause needed (BadIndex unit) = ⊥

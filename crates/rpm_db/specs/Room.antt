@@ -7,7 +7,7 @@ use Rattle.rpm_db.specs.declared.change_fault.ChangeFault.{ChangeFault}
 use Rattle.rpm_db.specs.declared.change_fault.ChangeFault.TheVariants.{StoreFull, IndexFull, BadIndex}
 use Rattle.rpm_db.specs.Changes.{Change, Add, Put, Erase}
 
--- the same slots under the next generation
+-- a store with the same slots under the next generation
 abbrev pub raised : Store → Store
 raised value = with_generation (value.generation + 1) value
 

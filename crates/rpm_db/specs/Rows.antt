@@ -22,11 +22,11 @@ kinds =
 abbrev pub key_row : ℕ → Kind → List ℕ × ℕ → Row
 key_row n k key = record { kind = code_of k; key = key.0; number = n; place = key.1 }
 
--- those of the keys of one kind
+-- a header's rows of the keys of one kind
 abbrev pub kind_rows : ℕ → Header → Kind → List Row
 kind_rows n h k = map (key_row n k) (keys k h)
 
--- and of all kinds
+-- a header's rows of all kinds
 unfoldable pub header_rows : ℕ → Header → List Row
 header_rows n h = flat_map (kind_rows n h) kinds
 
@@ -35,12 +35,12 @@ abbrev pub rows_read : ℕ → Result Header HeaderFault → List Row
 rows_read n (Ok h) = header_rows n h
 rows_read n (Err fault) = []
 
--- those of a package's header; a Bad one has none
+-- a package has the rows of its header; a Bad one has none
 abbrev pub package_rows : ℕ → Package → List Row
 package_rows n (Good bytes) = rows_read n (header bytes)
 package_rows n Bad = []
 
--- those of a number, which has none where it isn't there
+-- a number has the rows of its package; one that isn't there has none
 abbrev pub rows_at : ℕ → Option Package → List Row
 rows_at n None = []
 rows_at n (Some p) = package_rows n p

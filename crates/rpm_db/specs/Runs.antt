@@ -20,7 +20,7 @@ pub record CameOf (P : Files → Files → Type 0) (images : Files → Type 0) (
   pub was : images from
   pub came : P from image
 
--- of the log no byte was read
+-- a call read no byte of the log
 pub record ReadsNoLog (old new : File → ℕ) : Type 0 where
   pub no_less : (f : File) → old f ≤ new f
   pub log : new Log ≤ old Log

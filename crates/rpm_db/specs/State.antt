@@ -18,7 +18,7 @@ abbrev pub read_as : Result Header HeaderFault → Package
 read_as (Ok h) = Good h.blob
 read_as (Err fault) = Bad
 
--- of its blob, where the blob's framing is right
+-- a number's package is what its blob says, where the blob's framing is right
 abbrev pub package_of : Option (List ℕ) → Package
 package_of None = Bad
 package_of (Some blob) = read_as (header blob)

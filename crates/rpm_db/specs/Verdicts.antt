@@ -14,7 +14,7 @@ use Rattle.rpm_db.specs.declared.verify.Verdict.{Verdict}
 use Rattle.rpm_db.specs.declared.verify.Verdict.TheVariants.{Sound, BadHeader, BadChecksum, BadDigest}
 use Rattle.rpm_db.specs.Database.{Database, room}
 
--- both are there, and the text isn't the digest in lower-case hex
+-- a digest differs from its text when both are there, and the text isn't the digest in lower-case hex
 abbrev pub differs : Option (List ℕ) → Option (List ℕ) → Bool
 differs (Some digest) (Some text) = not (bytes_eq text (encode_lower digest))
 differs _ _ = false

@@ -16,7 +16,7 @@ pick_halt (pick.BadIndex unit) = halt.BadIndex unit
 pick_halt pick.DiskFault = halt.DiskFault
 pick_halt pick.NoMemory = halt.NoMemory
 
--- of a question
+-- a question that failed halts the exercise with this
 abbrev pub stop_of : {X : Type 0} → Result X PickFault → Option Halt
 stop_of (Ok x) = None
 stop_of (Err fault) = Some (pick_halt fault)
@@ -27,7 +27,7 @@ IsOfReading halt.DiskFault = Unit {0}
 IsOfReading halt.NoMemory = Unit {0}
 IsOfReading others = ⊥
 
--- and any index
+-- a halt is one of a question, which may blame any unit of the index
 abbrev pub IsOfAsking : Halt → Type 0
 IsOfAsking (halt.BadIndex unit) = Unit {0}
 IsOfAsking halt.DiskFault = Unit {0}
@@ -46,13 +46,14 @@ OnceBegun P (Ok tally) = P (Ok tally)
 OnceBegun P (Err (Halted h)) = P (Err h)
 OnceBegun P (Err (NotEmpty number)) = Unit {0}
 
--- it wasn't begun: there is this number, the least
+-- an exercise wasn't begun: there is this package, the one of the least number
 abbrev pub IsRefused : (Option ℕ → Type 0) → Result Tally ExerciseFault → Type 0
 IsRefused IsFirst (Ok tally) = IsFirst None
 IsRefused IsFirst (Err (Halted h)) = IsFirst None
 IsRefused IsFirst (Err (NotEmpty number)) = IsFirst (Some number)
 
--- so of files whose index was rebuilt of these: it has the units that it had, or those that its rows need
+-- a property holds of files whose index was rebuilt of these: it has the units that it had, or those that its rows
+-- need
 pub record Renewed (needed : ℕ) (P : Files → Type 0) (old : Files) : Type 0 where
   pub mid : Files
   pub same : mid.pkg ≡ old.pkg

@@ -43,7 +43,7 @@ IsFound packages sel found = (found.count ≡ picked packages sel) × (found.dig
 abbrev pub count_line : List ℕ → ℕ → List ℕ
 count_line word n = word ++ (codes " " ++ (decimal n ++ codes "\n"))
 
--- in any version
+-- a capability of this name, in any version
 abbrev pub capability_named : List ℕ → CapabilityParts
 capability_named name = record { name = name; flags = 0; evr = [] }
 
@@ -60,7 +60,7 @@ capability_lines packages = flat_map (capability_line packages) (range_with_len 
 abbrev pub digest_text : List ℕ → List ℕ
 digest_text digest = codes "sha256 " ++ (encode_lower digest ++ codes "\n")
 
--- that of what an export writes
+-- a database's digest line is that of what an export writes
 abbrev pub digest_line : FinMap nat_cmp Package → List ℕ
 digest_line packages = digest_text (sha256 (export_bytes packages))
 
@@ -70,7 +70,7 @@ summary packages = count_line (codes "packages") (picked packages question.All) 
 
 -- ---- the course
 
--- its changes, and then what it tells of the packages that they leave, in one step
+-- an exercise makes its changes, and then tells in one step of the packages that they leave
 abbrev pub exercise : ℕ → State → Course
 exercise n s = record {
   steps = ToOut (whole 0) (summary (apply_all (changes n s) s).packages) ∷ [];

@@ -24,7 +24,7 @@ module _ {D : Type 0} (d : disk.Ghosts D) where
     pub runs : Runs d SameFiles old new
     pub disk : DiskFault d (stop ≡ Some halt.DiskFault) old new
 
-  -- these changes were made, or the first that is refused stopped them; and what is left
+  -- a list of changes was made, or the first that is refused stopped them; and this is left
   pub record WentThrough (changes : List Change) (old new : D) (before after : Database)
       (r : Result Tally Halt) : Type 0 where
     pub course : Went d (IsTrue d.tells) old new before after r EndedQuietly (making changes)
@@ -39,7 +39,7 @@ module _ {D : Type 0} (d : disk.Ghosts D) where
     pub spent : IfErr r (IsSpent after)
     pub kinds : IfErr r IsOfChanges
 
--- it was stopped for this: for nothing that the exercise doesn't do, for spent numbers only where they are, and the
+-- an exercise was halted for this: for nothing that it doesn't do, for spent numbers only where they are, and the
 -- index is kept
 pub record IsStop (db : Database) (h : Halt) : Type 0 where
   pub kind : IsOfExercise h

@@ -29,13 +29,13 @@ round_changes r b n = flat_map (turn r b) (range_with_len 1 n)
 abbrev pub changes_after : ℕ → ℕ → List Change
 changes_after b n = round_changes round.Adding b n ++ (round_changes round.Replacing b n ++ round_changes round.Erasing b n)
 
--- from a state
+-- an exercise makes these changes from a state
 unfoldable pub changes : ℕ → State → List Change
 changes n s = changes_after (next s - 1) n
 
 -- ---- what making changes leaves
 
--- these changes and no others, without a line and without a fault
+-- a course makes these changes and no others, without a line and without a fault
 abbrev pub making : List Change → Course
 making changes = record { steps = []; failed = 0; changes = changes }
 

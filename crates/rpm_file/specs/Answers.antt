@@ -22,7 +22,7 @@ IsFileFault found of_file.ReadFault = Unit {0}
 IsFileFault found of_file.NoMemory = Unit {0}
 IsFileFault found fault = found ≡ Err fault
 
--- at most so many bytes were taken from the front of what was left
+-- an item gave at most so many bytes from the front of what was left of it
 abbrev pub TakesAtMost : ℕ → Option (List ℕ) → Option (List ℕ) → Type 0
 TakesAtMost most old new = length (left old) ≤ most + length (left new)
 

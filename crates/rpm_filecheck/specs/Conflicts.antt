@@ -35,7 +35,7 @@ as_owner n (Some facts) = record { number = n; facts = facts } ∷ []
 abbrev pub owner_of : List ℕ → ℕ × Package → List Owner
 owner_of path (n, p) = as_owner n (said_of path (files_of p))
 
--- of these packages, one after the other
+-- a path has the owners that these packages have of it, one after the other
 abbrev pub owners : List ℕ → List (ℕ × Package) → List Owner
 owners path es = flat_map (owner_of path) es
 
@@ -43,7 +43,7 @@ owners path es = flat_map (owner_of path) es
 abbrev pub own_paths : ℕ × Package → List (List ℕ)
 own_paths (n, p) = map (λ f. f.path) (files_of p)
 
--- those of all packages
+-- a list of packages has all their paths
 abbrev pub all_paths : List (ℕ × Package) → List (List ℕ)
 all_paths es = flat_map own_paths es
 
@@ -55,7 +55,7 @@ path_order = slice_cmp nat_cmp
 unfoldable pub owned : FinMap nat_cmp Package → FinMap path_order (List Owner)
 owned packages = from_entries (map (λ path. (path, owners path (entries packages))) (all_paths (entries packages)))
 
--- by path, then by the first number, then by the second
+-- a database has these conflicts, by path, then by the first number, then by the second
 unfoldable pub conflicts : FinMap nat_cmp Package → List Conflict
 conflicts packages = flat_map (λ e. conflicts_on e.0 e.1) (entries (owned packages))
 
@@ -79,12 +79,12 @@ printed _ = codes "(none)"
 abbrev pub label : Header → List ℕ
 label h = printed (value h 0 Nvra)
 
--- the same of bytes that may be no header
+-- bytes have the label of their header: none where they are no header
 abbrev pub label_read : Result Header HeaderFault → Option (List ℕ)
 label_read (Ok h) = Some (label h)
 label_read (Err fault) = None
 
--- the same of a package
+-- a package has the label of its header: none where it is Bad
 abbrev pub label_of : Package → Option (List ℕ)
 label_of (Good bytes) = label_read (header bytes)
 label_of Bad = None

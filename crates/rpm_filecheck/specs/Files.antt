@@ -22,7 +22,7 @@ FILELINKTOS = 1036
 abbrev pub FILEFLAGS : ℕ
 FILEFLAGS = 1037
 
--- of one file
+-- a file's facts are what its conflicts hang on
 pub record Facts : Type 0 where
   pub mode : ℕ
   pub digest : List ℕ

@@ -49,11 +49,11 @@ may_share a b = (is_directory a && is_directory b) || (is_ghost a || is_ghost b)
 abbrev pub is_conflict : List ℕ → Owner → Owner → Bool
 is_conflict path a b = not (may_share a.facts b.facts) && differs (conflict path a b)
 
--- of an owner with each of these
+-- an owner has these conflicts with the owners of a list
 abbrev pub conflicts_with : List ℕ → Owner → List Owner → List Conflict
 conflicts_with path a os = map (conflict path a) (filter (is_conflict path a) os)
 
--- of each owner with those after it
+-- a path has the conflicts of each owner with those after it
 abbrev pub conflicts_on : List ℕ → List Owner → List Conflict
 conflicts_on path [] = []
 conflicts_on path (a ∷ os) = conflicts_with path a os ++ conflicts_on path os

@@ -6,16 +6,16 @@ use Rattle.rpm_group.specs.Groups as groups
 use Rattle.rpm_group.specs.LogReads as reads
 
 module _ {D : Type 0} (d : disk.Ghosts D) where
-  -- of the other files than the log nothing was read
+  -- a call read nothing of the other files than the log
   abbrev pub ReadsLog : D → D → Type 0
   ReadsLog = reads.ReadsLog d
 
-  -- of the other files than the log nothing was read, and an error comes only where the disk counted a fault
+  -- a call read nothing of the other files than the log, and an error comes only where the disk counted a fault
   pub record OnlyReadsLog {T E : Type 0} (result : Result T E) (old new : D) : Type 0 where
     pub log : ReadsLog old new
     pub cause : frame.DiskCause d result old new
 
-  -- the same for an answer of several errors, of which this comes only where the disk counted a fault
+  -- a call read nothing of the other files than the log, and this answer comes only where the disk counted a fault
   pub record OnlyReadsLogOr (what : Type 0) (old new : D) : Type 0 where
     pub log : ReadsLog old new
     pub cause : frame.DiskFault d what old new

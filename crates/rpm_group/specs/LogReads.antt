@@ -4,7 +4,7 @@ use Rattle.rpm_outside.specs.declared.disk.Disk as disk
 use Rattle.rpm_outside.specs.declared.disk.File.{File}
 use Rattle.rpm_outside.specs.declared.disk.File.TheVariants.{Pkg, Idx}
 
--- of the other two files nothing is read
+-- a call read nothing of the other two files than the log
 pub record ReadsLog {D : Type 0} (g : disk.Ghosts D) (old new : D) : Type 0 where
   pub later : g.moment old ≤ g.moment new
   pub pkg : g.bytes_read new Pkg ≡ g.bytes_read old Pkg
@@ -25,7 +25,7 @@ module _ {D : Type 0} (g : disk.Ghosts D) where
         trans a b c one.goes_on two.goes_on;
   }
 
--- of no file anything is read
+-- a call read nothing of any file
 pub record ReadsNothing {D : Type 0} (g : disk.Ghosts D) (old new : D) : Type 0 where
   pub later : g.moment old ≤ g.moment new
   pub same : (file : File) → g.bytes_read new file ≡ g.bytes_read old file

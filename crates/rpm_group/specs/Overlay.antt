@@ -34,11 +34,11 @@ pub record IsOver {D : Type 0} (below : D) (held : Layers) (it : Overlay D) : Ty
   pub moment : it.moment ≡ 0
   pub spared : (file : File) → spared_of it.spared file ≡ 0
 
--- under what is held each file reads as before
+-- each file reads under what is held as it did before
 abbrev pub HoldsSame : {D : Type 0} → Overlay D → Overlay D → Type 0
 HoldsSame old new = (files : Files) → laid_files new.held files ≡ laid_files old.held files
 
--- under what is held the units of a write stand too
+-- each file reads under what is held with the units of a write in it
 abbrev pub HoldsWrite : {D : Type 0} → File → ℕ → List ℕ → Overlay D → Overlay D → Type 0
 HoldsWrite file unit bytes old new =
     (files : Files) → laid_files new.held files ≡ with_file file (put unit (units_of bytes) (file_of file (laid_files old.held files)))

@@ -7,7 +7,7 @@ use Rattle.rpm_group.specs.Readings.{IsOpen}
 use Rattle.rpm_group.specs.declared.recovery.RecoverFault.{RecoverFault}
 use Rattle.rpm_group.specs.declared.recovery.RecoverFault.TheVariants.{BadLog, DiskFault}
 
--- it stands for these files, and its log isn't malformed
+-- an image represents these files, and its log isn't malformed
 pub record ReopensAs (files image : Files) : Type 0 where
   pub same : reopened image ≡ files
   pub sound : IsSound (log_state image.log)

@@ -14,13 +14,13 @@ use Rattle.rpm_print.specs.Classes.{is_done}
 abbrev pub IsAhead : State → Type 0
 IsAhead s = next s ≡ s.field
 
--- by several changes, one after the other
+-- a list of changes gives these numbers, one after the other
 abbrev pub numbers_given : List Change → State → List ℕ
 numbers_given [] s = []
 numbers_given (Add bytes ∷ changes) s = next s ∷ numbers_given changes (apply (Add bytes) s)
 numbers_given (other ∷ changes) s = numbers_given changes (apply other s)
 
--- by those of a course, from the state that a Packages.db says
+-- a course gives these numbers, from the state that a Packages.db says
 abbrev pub given_in : (State → Course) → Units → Result Store Damage → List ℕ
 given_in course pkg (Ok value) = numbers_given (course (state pkg value)).changes (state pkg value)
 given_in course pkg (Err damage) = []
@@ -29,7 +29,7 @@ given_in course pkg (Err damage) = []
 abbrev pub given_on : (State → Course) → Files → Why → List ℕ
 given_on course files why = if is_done why then given_in course (reopened files).pkg (store (reopened files).pkg) else []
 
--- from one number on they rise, each is given once, and all are below another number
+-- a list of numbers rises from one number on, each once, and all are below another
 abbrev pub RiseWithin : ℕ → List ℕ → ℕ → Type 0
 RiseWithin from [] to = from ≤ to
 RiseWithin from (n ∷ ns) to = (from ≤ n) × RiseWithin (n + 1) ns to

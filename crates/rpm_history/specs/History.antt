@@ -30,7 +30,8 @@ course_of paths now words (Some asked) s = if is_changing asked.0 then asked_cou
 abbrev pub made_by : Paths → ℕ → List (List ℕ) → State → State
 made_by paths now words s = after (course_of paths now words (asks words)) s
 
--- from this state: done, its changes are all made; after a fault of the disk all are or none; else none
+-- a line leaves this state: all its changes are made where it is done; all or none after a fault of the disk; else
+-- none
 abbrev pub Moves : Why → State → State → State → Type 0
 Moves why.Done made s t = t ≡ made
 Moves (why.Failed n) made s t = t ≡ made
@@ -51,7 +52,8 @@ calls_of lines [] = []
 calls_of [] (outcome ∷ outcomes) = []
 calls_of (line ∷ lines) (outcome ∷ outcomes) = record { words = line.words.now; moment = line.moment; outcome = outcome } ∷ calls_of lines outcomes
 
--- from state s to t: all changes of each line that was done, of none that was refused
+-- a list of lines leads from state s to t: by all changes of each line that was done, and none of one that was
+-- refused
 abbrev pub Leads : Paths → List RunCall → State → State → Type 0
 Leads paths [] s t = t ≡ s
 Leads paths (call ∷ calls) s t =

@@ -53,7 +53,7 @@ StepIs step (Err halt.ErrFault) old new = (is_out step ≡ false) × ((bytes : �
 StepIs step (Err halt.NoMemory) old new = Through [] old new
 StepIs step (Err others) old new = ⊥
 
--- the same of a part, with the answer whether the argument fails for it
+-- a portion was written, or part of it, with the answer whether the argument fails for it
 pub record PartIs (part : Portion) (result : Result Bool Halt) (old new : Outputs) (reads_to : Bearer → Type 0) : Type 0 where
   pub steps : Reached part.steps result old new reads_to
   pub fails : IfOk result (λ fails. part.fails ≡ fails)

@@ -27,7 +27,7 @@ deed_of Verify = deed.Unmet
 deed_of Order = deed.Order
 deed_of others = deed.Print
 
--- those that print packages, by the format or as they are
+-- a command prints packages, by the format or as they are
 abbrev pub prints_packages : Deed → Bool
 prints_packages deed.Print = true
 prints_packages deed.Export = true
@@ -110,7 +110,7 @@ KindIs (kind.Text text) a = (is_changing a ≡ false) × (of_files a ≡ false) 
 unfoldable pub label_format : List ℕ
 label_format = codes "%{NVRA}\\n"
 
--- of `-l`: the files, a line each, or that there are none
+-- the format of `-l` prints the files, a line each, or that there are none
 unfoldable pub list_format : List ℕ
 list_format = codes "%|FILENAMES?{[%{FILENAMES}\\n]}:{(contains no files)\\n}|"
 
@@ -119,7 +119,8 @@ abbrev pub given_format : List (List ℕ) → Option Span → List ℕ
 given_format words None = label_format
 given_format words (Some span) = bytes_from words span
 
--- of `-l` and the options that give a format the last one counts, and so a command never has both
+-- a command's format is the one that is given last among `-l` and the options that give one, and so a command never
+-- has both
 abbrev pub format_text : List (List ℕ) → AskParts → List ℕ
 format_text words a = if a.lists then list_format else given_format words a.format
 

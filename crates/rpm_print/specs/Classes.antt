@@ -112,6 +112,6 @@ IsUncommitted given = IsTrue (is_among (FullLog ∷ Disk ∷ Memory ∷ []) give
 abbrev pub IsOfPrint : Halt → Type 0
 IsOfPrint halt = IsTrue (is_among (MalformedIndex ∷ Disk ∷ Sink ∷ Memory ∷ []) (why_of_halt halt))
 
--- of these what halts a call that only reads
+-- a halt is one of a call that only reads
 abbrev pub IsOfRead : Halt → Type 0
 IsOfRead halt = IsOutside (why_of_halt halt)

@@ -51,7 +51,7 @@ module _ {D : Type 0} (d : disk.Ghosts D) where
     pub class : IfErr result IsOfRead
     pub disk : DiskFault d (result ≡ Err halt.DiskFault) old new
 
-  -- it read the database, with its index, and wrote to one sink alone, whose fault is the first of these two
+  -- a call read the database, with its index, and wrote to one sink alone, whose fault is the first of these two
   pub record TellsTo {S T : Type 0} (s : sink.Ghosts S) (own other : Halt) (result : Result T Halt) (old new : D) (from to : Buffered S) : Type 0 where
     pub looks : Peeks true old new
     pub class : IfErr result IsOfPrint
@@ -59,7 +59,7 @@ module _ {D : Type 0} (d : disk.Ghosts D) where
     pub disk : DiskFault d (result ≡ Err halt.DiskFault) old new
     pub hand : Hand s (result ≡ Err own) from to
 
-  -- to out alone, or to err
+  -- a call told something to out alone
   abbrev pub TellsOut : {O T : Type 0} → sink.Ghosts O → Result T Halt → D → D → Buffered O → Buffered O → Type 0
   TellsOut o = TellsTo o halt.OutFault halt.ErrFault
 
@@ -97,7 +97,7 @@ pub record PutsOut {O T : Type 0} (o : sink.Ghosts O) (result : Result T Halt) (
   pub no_err : result ≢ Err halt.ErrFault
   pub out : Hand o (result ≡ Err halt.OutFault) old new
 
--- or to err
+-- a call told something to err alone
 pub record PutsErr {E T : Type 0} (e : sink.Ghosts E) (result : Result T Halt) (old new : Buffered E) : Type 0 where
   pub class : IfErr result IsOfPrint
   pub no_read : result ≢ Err halt.DiskFault

@@ -33,12 +33,12 @@ abbrev pub header_step : Tree → ℕ → ℕ → Result Header HeaderFault → 
 header_step tree j n (Ok h) = printed (bearer j n) (meaning h n tree)
 header_step tree j n (Err fault) = bad_step j n
 
--- of a number, by a format
+-- a package's step prints it by a format
 abbrev pub step_of : Tree → ℕ → ℕ × Package → Step
 step_of tree j (n, Good bytes) = header_step tree j n (header bytes)
 step_of tree j (n, Bad) = bad_step j n
 
--- of the numbers above `after`, one after the other
+-- a part has the packages above `after`, one after the other
 abbrev pub packages_part : (ℕ × Package → Step) → ℕ → List (ℕ × Package) → Portion
 packages_part step after packages = told (map step (above after packages))
 
@@ -47,7 +47,7 @@ abbrev pub exported : ℕ → ℕ × Package → Step
 exported j (n, Good bytes) = ToOut (bearer j n) (magic ++ bytes)
 exported j (n, Bad) = bad_step j n
 
--- of a package: an export writes it out, all else prints it by a format
+-- a package's step writes it out in an export, and else prints it by a format
 abbrev pub step_by : Deed → Tree → ℕ → ℕ × Package → Step
 step_by deed.Export tree j e = exported j e
 step_by others tree j e = step_of tree j e

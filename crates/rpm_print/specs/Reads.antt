@@ -15,7 +15,7 @@ reached r db (Some n) = reach_to n r db
 abbrev pub ReadsIn : ℕ → ℕ → Reach → Database → ℕ → ℕ → Bearer → Type 0
 ReadsIn j n r db before now for = (for.argument ≡ j) × (now + reach_to n r db ≤ before + reached r db for.number)
 
--- the same of a whole argument
+-- a step within an argument was reached when no more was read than up to its package
 abbrev pub ReadsOf : ℕ → Reach → Database → ℕ → ℕ → Bearer → Type 0
 ReadsOf j r db before now for = (for.argument ≡ j) × (now ≤ before + reached r db for.number)
 
@@ -26,7 +26,7 @@ abbrev pub reach_sum : List Reach → Database → ℕ
 reach_sum [] db = 0
 reach_sum (r ∷ rs) db = reach_all r db + reach_sum rs db
 
--- of those before the argument j
+-- a question reads this much for the arguments before the argument j
 abbrev pub reach_before : List Reach → Database → ℕ → ℕ
 reach_before [] db j = 0
 reach_before (r ∷ rs) db zero = 0
@@ -37,6 +37,7 @@ abbrev pub reached_in : Option Reach → Database → Option ℕ → ℕ
 reached_in None db number = 0
 reached_in (Some r) db number = reached r db number
 
--- up to a step: those of each argument before, and of its own those up to its number
+-- a question reads this much up to a step: the packages of each argument before, and of its own those up to its
+-- number
 abbrev pub reached_by : List Reach → Database → Bearer → ℕ
 reached_by rs db for = reach_before rs db for.argument + reached_in (slice_get rs for.argument) db for.number

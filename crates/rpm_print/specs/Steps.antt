@@ -14,7 +14,7 @@ abbrev pub step_to : Bool → Bearer → List ℕ → Step
 step_to true for bytes = ToOut for bytes
 step_to false for bytes = ToErr for bytes
 
--- for which argument and package a step is
+-- a step is for this argument and this package
 abbrev pub bearer_of : Step → Bearer
 bearer_of (ToOut for bytes) = for
 bearer_of (ToErr for bytes) = for

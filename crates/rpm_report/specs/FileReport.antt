@@ -36,7 +36,7 @@ conflict_step labels c = ToOut (whole 0) (conflict_line (labels c.first) (labels
 abbrev pub report_steps : (ℕ → List ℕ) → List ℕ → List Conflict → List Step
 report_steps labels numbers found = map unread_step numbers ++ map (conflict_step labels) found
 
--- for each line the one argument fails
+-- a report on files has a line for each conflict and each Bad package, for which its one argument fails
 abbrev pub check_files : FinMap nat_cmp Package → Course
 check_files packages = before (together (map fails (report_steps (label packages) (bad packages) (conflicts packages)))) idle
 

@@ -20,11 +20,11 @@ tree_in (Err fault) = End
 unfoldable pub label_tree : Tree
 label_tree = tree_in (format (codes "%{NVRA}"))
 
--- of a number's header
+-- a number's header has this label
 abbrev pub header_label : ℕ → Header → List ℕ
 header_label n h = out_bytes (header_step label_tree 0 n (Ok h))
 
--- of its package
+-- a number's package has this label
 abbrev pub label_in : ℕ → Option Package → List ℕ
 label_in n None = []
 label_in n (Some p) = out_bytes (step_of label_tree 0 (n, p))

@@ -28,7 +28,7 @@ verdict_part n (Some BadHeader) = unsound n (codes "header cannot be read")
 verdict_part n (Some BadChecksum) = unsound n (codes "checksum differs")
 verdict_part n (Some BadDigest) = unsound n (codes "header digest differs")
 
--- of the number of an entry
+-- an entry has the verdict of its number
 abbrev pub entry_verdict : Units → Store → ℕ × Package → Portion
 entry_verdict file store e = verdict_part e.0 (verdict file (unindexed store) e.0)
 

@@ -38,7 +38,7 @@ abbrev pub read_text : (Header → List ℕ) → Result Header HeaderFault → L
 read_text text (Ok h) = text h
 read_text text (Err fault) = []
 
--- of its header; nothing where there is none
+-- a package has this text of its header, and none where there is no header
 abbrev pub package_text : (Header → List ℕ) → Option Package → List ℕ
 package_text text (Some (Good bytes)) = read_text text (header bytes)
 package_text text others = []
@@ -53,17 +53,17 @@ behind p q = record { steps = p.steps ++ q.steps; fails = p.fails || q.fails }
 
 -- ---- packages that can't be read
 
--- its line, for which the argument fails
+-- a Bad package has a line, for which the argument fails
 abbrev pub bad_part : ℕ × Package → Portion
 bad_part (n, Good bytes) = nothing
 bad_part (n, Bad) = fails (bad_step 0 n)
 
--- of a number, where there is such a package
+-- a number has the line of its package, where that is Bad
 abbrev pub bad_at : ℕ → Option Package → Portion
 bad_at n None = nothing
 bad_at n (Some p) = bad_part (n, p)
 
--- of all of them, by rising number
+-- a report has the lines of all Bad packages, by rising number
 abbrev pub bad_parts : FinMap nat_cmp Package → Portion
 bad_parts packages = together (map bad_part (entries packages))
 
@@ -82,11 +82,11 @@ abbrev pub line_of : List ℕ → Option Needed → List ℕ
 line_of label None = []
 line_of label (Some need) = unmet_line label need
 
--- of the requirement at a place of a number's header
+-- a line tells the requirement at a place of a number's header
 abbrev pub unmet_text : ℕ → ℕ → Header → List ℕ
 unmet_text place n h = line_of (header_label n h) (slice_get (required h) place)
 
--- of these requirements of a number's header, one line after the other
+-- a package's unmet requirements have a line each
 abbrev pub unmet_lines : List Unmet → ℕ → Header → List ℕ
 unmet_lines row n h = flat_map (λ u. unmet_text u.place n h) row
 
@@ -148,14 +148,14 @@ abbrev pub ClassesAre : FinMap nat_cmp Package → Result (Unit {0}) Halt → Ou
 ClassesAre packages result old new = (classes : List (List ℕ)) × IsListed (graph_of packages) (is_ok result) classes
     × Reached (classes_part packages classes).steps result old new Anywhere
 
--- and after the packages that can't be read
+-- a report tells the order after the packages that can't be read
 abbrev pub OrderPartIs : FinMap nat_cmp Package → Result Bool Halt → Outputs → Outputs → Type 0
 OrderPartIs packages result old new = (classes : List (List ℕ)) × IsListed (graph_of packages) (is_ok result) classes
     × PartIs (order_part packages classes) result old new Anywhere
 
 -- ---- an index that is malformed
 
--- it is told only with the fault of the chain of some key
+-- a malformed index is told only with the fault of the chain of some key
 abbrev pub IsOfSome : Units → Why → Type 0
 IsOfSome idx (why.BadIndex unit) = IsFaultOfSome idx unit
 IsOfSome idx others = Unit {0}
@@ -173,7 +173,7 @@ halt_of_check (check.BadIndex unit) = halt.BadIndex unit
 halt_of_check check.DiskFault = halt.DiskFault
 halt_of_check check.NoMemory = halt.NoMemory
 
--- of whether its one argument failed
+-- a report ends with this cause, by whether its one argument failed
 abbrev pub why_of_report : Result Bool Halt → Why
 why_of_report (Ok fails) = if fails then why.Failed 1 else why.Done
 why_of_report (Err what) = why_of_halt what

@@ -16,7 +16,8 @@ module _ {D : Type 0} (d : disk.Ghosts D) where
   abbrev pub HasRows : D → Database → Type 0
   HasRows at db = HasIndexRows db (d.files at).pkg (d.files at).idx
 
-  -- at most so many bytes of the packages were read and nothing else happened, and a fault is of the disk with its cause, or of memory
+  -- a call read at most so many bytes of the packages and did nothing else, and its fault is of the disk with its
+  -- cause, or of memory
   pub record AsksPackages {X : Type 0} (most : ℕ) (old new : D) (db : Database) (result : Result X PickFault) : Type 0 where
     pub kept : Kept d new db
     pub looks : outside.Looks d Pkg most old new

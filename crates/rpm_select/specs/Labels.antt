@@ -25,7 +25,7 @@ abbrev pub with_arch : Option (List ℕ) → List ℕ → List (List ℕ)
 with_arch None text = text ∷ []
 with_arch (Some arch) text = text ∷ (text ++ 46 ∷ arch) ∷ []
 
--- with N-V and N-V-R
+-- a label has its forms with the release too: N-V-R, and that with the architecture
 abbrev pub with_release : Option (List ℕ) → Option (List ℕ) → List ℕ → List (List ℕ)
 with_release arch None text = []
 with_release arch (Some release) text = with_arch arch (text ++ 45 ∷ release)

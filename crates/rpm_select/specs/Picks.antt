@@ -16,12 +16,12 @@ abbrev pub entry_in : Picked → ℕ × Package
 entry_in (Good number blob) = (number, state.Good blob)
 entry_in (Bad number) = (number, state.Bad)
 
--- its number
+-- the number of what was picked
 abbrev pub number_in : Picked → ℕ
 number_in (Good number blob) = number
 number_in (Bad number) = number
 
--- its package
+-- the package of what was picked
 abbrev pub package_in : Picked → Package
 package_in (Good number blob) = state.Good blob
 package_in (Bad number) = state.Bad

@@ -21,7 +21,7 @@ use Rattle.rpm_select.specs.Candidates.{has_keys, candidates}
 use Rattle.rpm_select.specs.Picks.{number_in}
 use Rattle.rpm_select.specs.Selections.{is_picked}
 
--- those of all numbers that are there, or those of these numbers
+-- a question goes over all numbers that are there, or over these
 pub data Reach : Type 0 where
   Everything : Reach
   These : List ℕ → Reach
@@ -68,17 +68,17 @@ abbrev pub reach_to : ℕ → Reach → Database → ℕ
 reach_to m Everything db = cost_to m db
 reach_to m (These ns) db = costs_to m ns db
 
--- and of all of them
+-- a question reads the blocks of all numbers that it goes over
 abbrev pub reach_all : Reach → Database → ℕ
 reach_all Everything db = cost_all db
 reach_all (These ns) db = sum_by (λ n. cost n db) ns
 
--- those above n, up to the one that is given
+-- a question reads the blocks of the numbers above n, up to the one that it gives
 abbrev pub reach_after : ℕ → Reach → Database → Result (Option Picked) PickFault → ℕ
 reach_after n r db (Ok (Some picked)) = reach_to (number_in picked) r db - reach_to n r db
 reach_after n r db _ = reach_all r db - reach_to n r db
 
--- the same where its number alone is given
+-- a question reads the blocks of the numbers above n, up to the one whose number alone it gives
 abbrev pub reach_next : ℕ → Reach → Database → Result (Option ℕ) PickFault → ℕ
 reach_next n r db (Ok (Some m)) = reach_to m r db - reach_to n r db
 reach_next n r db _ = reach_all r db - reach_to n r db

@@ -14,7 +14,7 @@ use Rattle.rpm_select.specs.Selections.{is_picked}
 abbrev pub IsHeld : ℕ → Recent → Type 0
 IsHeld n recent = option_map number_in recent.last ≡ Some n
 
--- it is the package of its number
+-- what was picked is the package of its number
 abbrev pub IsOf : finite.FinMap nat_cmp Package → Picked → Type 0
 IsOf packages picked = finite.get packages (number_in picked) ≡ Some (package_in picked)
 

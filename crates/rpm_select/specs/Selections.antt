@@ -73,12 +73,12 @@ takes_bad (Pattern p) n = true
 takes_bad (Number m) n = n == m
 takes_bad others n = false
 
--- it can't pick a package of this number, whatever that is
+-- a question by number can't pick a package of another one, whatever that is
 abbrev pub is_elsewhere : Selection → ℕ → Bool
 is_elsewhere (Number m) n = not (n == m)
 is_elsewhere others n = false
 
--- the same of bytes that may be no header
+-- a question takes bytes when they are a header that it takes
 abbrev pub takes_read : Selection → ℕ → Result Header HeaderFault → Bool
 takes_read sel n (Ok h) = takes_header sel n h
 takes_read sel n (Err fault) = false
@@ -88,6 +88,6 @@ abbrev pub is_picked : Selection → ℕ × Package → Bool
 is_picked sel (n, Good bytes) = takes_read sel n (header bytes)
 is_picked sel (n, Bad) = takes_bad sel n
 
--- by rising number
+-- a question picks these packages, by rising number
 unfoldable pub picks : FinMap nat_cmp Package → Selection → List (ℕ × Package)
 picks packages sel = filter (is_picked sel) (entries packages)

@@ -5,23 +5,23 @@ use Rattle.std.specs.Prelude.{ℕ}
 abbrev pub NAME : ℕ
 NAME = 1000
 
--- its version
+-- the tag of a package's version
 abbrev pub VERSION : ℕ
 VERSION = 1001
 
--- its release
+-- the tag of a package's release
 abbrev pub RELEASE : ℕ
 RELEASE = 1002
 
--- its epoch
+-- the tag of a package's epoch
 abbrev pub EPOCH : ℕ
 EPOCH = 1003
 
--- its group
+-- the tag of a package's group
 abbrev pub GROUP : ℕ
 GROUP = 1016
 
--- its architecture
+-- the tag of a package's architecture
 abbrev pub ARCH : ℕ
 ARCH = 1022
 
@@ -77,7 +77,7 @@ OBSOLETEFLAGS = 1114
 abbrev pub OBSOLETEVERSION : ℕ
 OBSOLETEVERSION = 1115
 
--- for each file the place of its directory
+-- the tag that has for each file the place of its directory
 abbrev pub DIRINDEXES : ℕ
 DIRINDEXES = 1116
 

@@ -44,7 +44,7 @@ table =
 
 -- ---- a name
 
--- without its prefix, in capitals or not
+-- a tag's plain name has no prefix, which may be in capitals or not
 abbrev pub plain : List ℕ → List ℕ
 plain name = if str_eq_ignore_ascii_case (take 7 name) (codes "RPMTAG_") then drop 7 name else name
 

@@ -31,7 +31,7 @@ count_of (NumberList ns) = length ns
 count_of (TextList ts) = length ts
 count_of (OneBlob bs) = 1
 
--- its elements, where they are of that class
+-- an entry's elements have these numbers, and none where they are of another class
 abbrev pub number_list : Elements → List ℕ
 number_list (NumberList ns) = ns
 number_list _ = []
@@ -48,7 +48,7 @@ blob_of _ = []
 
 -- ---- stored tags
 
--- of an I18n the first text counts alone
+-- an entry's values have these elements by its form; an I18n has its first text alone
 abbrev pub elements_by : Form → Values → Option Elements
 elements_by form.Null v = None
 elements_by form.Bin v = Some (OneBlob (bytes_of v))
@@ -61,7 +61,7 @@ elements_by _ v = Some (NumberList (numbers_of v))
 abbrev pub elements : Item → Option Elements
 elements e = elements_by e.form e.values
 
--- of several entries of a tag the last one counts
+-- a header has this under a tag: what the last of several entries of the tag has
 unfoldable pub stored : Header → ℕ → Option Elements
 stored h tag = option_and_then elements (last_of tag h.entries)
 
@@ -118,7 +118,7 @@ abbrev pub evr : Option ℕ → Option (List ℕ) → Option (List ℕ) → Opti
 evr e (Some v) (Some r) = Some (epoch_parts e ++ release_parts v r)
 evr e _ _ = None
 
--- with the name, an epoch where one is given, and an architecture where one is given
+-- a package's label is its name, version and release, with an epoch and an architecture where these are given
 abbrev pub label : Option (List ℕ) → Option ℕ → Option (List ℕ) → Option (List ℕ) → Option (List ℕ) → Option (List (List ℕ))
 label (Some n) e (Some v) (Some r) a = Some (name_parts n ++ epoch_parts e ++ release_parts v r ++ arch_parts a)
 label _ e _ _ a = None

@@ -43,7 +43,7 @@ abbrev pub reaches_of : Deed → Bool → FinMap nat_cmp Package → List (List 
 reaches_of deed.Print indexed packages words a = reaches_by (argument_reach indexed packages a.chosen) (map (text_at words) a.arguments)
 reaches_of others indexed packages words a = Everything ∷ []
 
--- of a store, by the words
+-- a command goes over these packages of a store, by its words
 abbrev pub asked_reaches : Bool → Units → Store → List (List ℕ) → AskParts → List Reach
 asked_reaches indexed file s words a = reaches_of (deed_of a.mode) indexed (packages file s) words a
 

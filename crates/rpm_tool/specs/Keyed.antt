@@ -43,7 +43,7 @@ pub record HasIndex (pkg idx : Units) : Type 0 where
   pub undamaged : store pkg ≡ Ok value
   pub index : (value.pages ≡ 0) ⊎ ((is_current_at value.generation idx ≡ true) × HasRows (packages pkg value) idx)
 
--- and nothing is left of a change
+-- a database has its index, and nothing is left of a change
 pub record IsReady (files : Files) : Type 0 where
   pub closed : log_state files.log ≡ Closed
   pub indexed : HasIndex files.pkg files.idx
@@ -71,12 +71,12 @@ pub record IsUsableGroup (files : Files) : Type 0 where
 
 -- ---- the endings
 
--- its index may have to be made, and be too large, and then nothing is done
+-- an index that has to be made may be too large, and then nothing is done
 abbrev pub WentBy : (Why → Outputs → Outputs → Type 0) → Why → Outputs → Outputs → Type 0
 WentBy Do (why.IndexFull needed) old new = Through [] old new
 WentBy Do others old new = Do others old new
 
--- on a usable database; of any that can be read no damage is told
+-- a question is answered on a usable database; of any that can be read no damage is told
 abbrev pub OnUsable : Type 0 → Deeds → Deeds
 OnUsable Usable Do s given old new = (is_refusal given ≡ false) × (Usable → WentBy (Do s) given old new)
 
@@ -101,7 +101,7 @@ CauseBy others chosen texts idx given = IsOfSome idx given
 abbrev pub CauseIs : List (List ℕ) → AskParts → Units → Why → Type 0
 CauseIs words a idx given = CauseBy (deed_of a.mode) a.chosen (map (text_at words) a.arguments) idx given
 
--- it is told only where it is current
+-- a malformed index is told only where it is current
 abbrev pub BadIs : List (List ℕ) → AskParts → Files → Why → Type 0
 BadIs words a files (why.BadIndex unit) = (s : Store) × (store files.pkg ≡ Ok s) × (is_current_at s.generation files.idx ≡ true)
     × CauseIs words a files.idx (why.BadIndex unit)
@@ -117,12 +117,14 @@ HasRoom files = must_make files.idx (store files.pkg) ≡ true → units_needed 
 abbrev pub has_index : Store → Bool
 has_index s = not (s.pages == 0)
 
--- up to a step: the pages, the packages where the index must be made of them, and those that the arguments go over
+-- a question reads this much up to a step: the pages, the packages where the index must be made of them, and those
+-- that the arguments go over
 abbrev pub keyed_to : Files → List (List ℕ) → AskParts → Store → Bearer → ℕ
 keyed_to files words a s for = opening_cost files.pkg + making_cost files.idx (store files.pkg)
     + reached_by (asked_reaches (has_index s) files.pkg s words a) (unindexed s) for
 
--- in all
+-- a question reads this much in all: the pages, the packages where the index must be made of them, and those that the
+-- arguments go over
 abbrev pub keyed_cost : Files → List (List ℕ) → AskParts → ℕ
 keyed_cost files words a =
     opening_cost files.pkg + making_cost files.idx (store files.pkg) + blocks_cost has_index files.pkg (store files.pkg) words a
@@ -139,7 +141,7 @@ pub record DoesOn {D : Type 0} (d : disk.Ghosts D) (deed : Deed) (tree : Tree) (
   pub bad : IsTrue d.tells → CauseBy deed a.chosen (map (text_at words) a.arguments) (d.files old).idx given
   pub looks : Peeks d (always_keyed deed || is_indexed db) old new
 
--- on these files, of whose Packages.db so many bytes were read before and then
+-- a question by key is answered on these files, of whose Packages.db so many bytes were read before and then
 abbrev pub DidByKey : Tree → List (List ℕ) → AskParts → Files → ℕ → ℕ → Deeds
 DidByKey tree words a r before now s given old new =
     DoesBy (deed_of a.mode) tree r.pkg s words a (λ for. now ≤ before + keyed_to r words a s for) given old new

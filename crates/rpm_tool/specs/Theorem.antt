@@ -116,7 +116,7 @@ module _ {D S : Type 0} {d : disk.Ghosts D} {s : shelf.Ghosts S} where
     pub looks : by_key a ≡ false → is_changing a ≡ false → Leaves d r.found r.left
     pub shelf_unread : of_files a ≡ false → reads_shelf (asked_task r.words a) ≡ false → r.shelf_left ≡ r.shelf_found
 
-  -- And for all words.
+  -- What `run` answers for all words.
   pub record Answers (r : Run d s) (mid : Outputs) : Type 0 where
     pub asked : (a : AskParts) (tree : Tree) → asks r.words ≡ Some (a, tree) → Does r a tree mid
     pub unasked : asks r.words ≡ None → mid ≡ r.before

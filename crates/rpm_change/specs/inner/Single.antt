@@ -57,7 +57,7 @@ no_room (Add bytes) v none = tt
 no_room (Put n bytes) v none = tt
 no_room (Erase n) v none = absurd cc
 
--- by what each of them says, one after the other
+-- a change is refused by the first of these that holds
 abbrev chosen : Bool → Bool → Bool → Bool → ℕ → Option Halt
 chosen spent last nowhere large units =
     if spent then Some halt.NumbersSpent

@@ -43,7 +43,7 @@ abbrev pub IsPlaced : Option ℕ → ℕ → Store → Result Plan ChangeFault �
 IsPlaced n length value (Ok plan) = (placed n length value ≡ Some (placement_of plan)) × IsFor n length plan
 IsPlaced n length value (Err fault) = RoomCause (placed n length value) fault
 
--- for a header of this length there was a generation left and room, or it was refused for the first that wasn't
+-- a header of this length had a generation left and room, or was refused for the first that it hadn't
 pub record FindsRoom {A : Type 0} (n : Option ℕ) (size : ℕ) (before after : Store)
     (result : Result A ChangeFault) : Type 0 where
   pub later : LaterIs before.generation (IsFull before (is_none n) size) result
@@ -58,7 +58,7 @@ module _ {D : Type 0} (d : disk.Ghosts D) where
     pub keeps : IsTrue d.tells → Keeps (d.files at).pkg value
     pub units : IsTrue d.tells → hindex.Keeps (d.files at).idx index
 
-  -- and can be changed: a crash leaves the same packages, the index is current and settled
+  -- a store and its index can be changed: a crash leaves the same packages, and the index is current and settled
   pub record CanChange (at : D) (value : Store) (index : hindex.State) : Type 0 where
     pub going : value.is_stopped ≡ false
     pub made : 1 ≤ value.pages

@@ -53,12 +53,12 @@ pub record CanPut (plan : Plan) (blob : List ℕ) (value : Store) : Type 0 where
   pub plan_is : IsPlan value plan
   pub length_is : plan.target.length ≡ length blob
 
--- it is one of this store
+-- an edit is one of this store
 abbrev pub Suits : Edit → List ℕ → Store → Type 0
 Suits (edit.Put plan) blob value = CanPut plan blob value
 Suits (edit.Erase n) blob value = IsSome (slot_with n value.slots)
 
--- and the generation can rise
+-- an edit is one of this store, whose generation can rise
 pub record CanEdit (it : Edit) (blob : List ℕ) (value : Store) : Type 0 where
   pub left : value.generation < 4294967295
   pub suits : Suits it blob value
@@ -82,7 +82,7 @@ EditsTo value (edit.Put plan) blob file image = PutsTo value plan.target blob fi
 EditsTo value (edit.Erase n) blob file image = ErasesTo value n file image
 
 module _ {D : Type 0} (d : disk.Ghosts D) where
-  -- it was written
+  -- an edit was written
   pub record IsEdited (old new : D) (before after : Store) (it : Edit) (blob : List ℕ) : Type 0 where
     pub written : IsWritten d new after (edited it blob (blobs (pkg d old) before))
     pub reach : EditReaches it after (pkg d old) (pkg d new)

@@ -24,7 +24,7 @@ use Rattle.rpm_pkgdb.specs.Quiet.{BlobMap, IsQuiet}
 abbrev pub AreOfRows : ℕ → FinMap nat_cmp Package → (Files → Type 0) → Type 0
 AreOfRows generation packages images = (image : Files) → images image → IsOfRows generation (rows packages) image.pkg
 
--- with the rows of one more change
+-- a change of rows with the rows of one more change
 abbrev pub with_rows : RowChange → List Row → List Row → RowChange
 with_rows owed drops adds = record { drops = owed.drops ++ drops; adds = owed.adds ++ adds }
 

@@ -65,7 +65,7 @@ module _ {D : Type 0} (d : disk.Ghosts D) where
     pub settled : IsTrue d.tells → IsSettled Idx (d.files new) (d.left_since new (d.moment new))
     pub reach : IsTrue d.tells → index.units ≤ max (length (d.files old).idx) (units_for [])
 
-  -- both files were made, with an index of no rows that is current
+  -- a database was made empty: both files are there, with an index of no rows that is current
   pub record IsMadeEmpty (at : D) (value : Store) (index : hindex.State) : Type 0 where
     pub kept : IsTrue d.tells → Keeps (d.files at).pkg value
     pub quiet : IsTrue d.tells → IsQuiet value (d.files at) (d.left_since at (d.moment at))

@@ -25,10 +25,10 @@ is_before a b = is_lt (row_cmp a b)
 abbrev pub AreInOrder : List Row → Type 0
 AreInOrder rows = IsSorted row_cmp rows
 
--- these rows without those, each as often as it is here more often
+-- a list has the rows that another has more often, each by as much
 abbrev pub AreWithout : List Row → List Row → List Row → Type 0
 AreWithout others rows rest = (row : Row) → times row rest ≡ times row rows - times row others
 
--- both lists without the rows that both have
+-- a change has both lists without the rows that both have
 abbrev pub AreNetted : List Row → List Row → RowChange → Type 0
 AreNetted drops adds net = AreWithout adds drops net.drops × AreWithout drops adds net.adds

@@ -29,7 +29,8 @@ state_with packages field = record { packages = packages; field = field }
 abbrev pub state_of : BlobMap → ℕ → State
 state_of blobs field = state_with (packages_of blobs) field
 
--- while a store's blobs change after a raise of its generation: those before, with the number field before or after, or those after
+-- a store's blobs change after a raise of its generation: an image has those before, with the number field before or
+-- after, or those after
 abbrev pub BlobsTo : ℕ → ℕ → ℕ → BlobMap → BlobMap → Units → Type 0
 BlobsTo generation field next before after image =
     StandsFor generation field before image
@@ -40,12 +41,12 @@ BlobsTo generation field next before after image =
 abbrev pub sealed_after : ℕ → Work → Units → Units
 sealed_after generation work file = put 0 (seal_unit generation (buckets_after work) ∷ []) (after work file)
 
--- it is sealed with the records that were written, where these are a well formed index
+-- an index is sealed with the records that were written, where these are a well formed index
 pub record IsSealedAfter (generation : ℕ) (work : Work) (file image : Units) : Type 0 where
   pub is : image ≡ sealed_after generation work file
   pub sealed : IsWellFormed (buckets_after work) (after work file) → IsSealed generation (buckets_after work) (after work file) image
 
--- while the index changes: it has no seal or the one from before, until it has the new one
+-- an index changes: it has no seal or the one from before, until it has the new one
 abbrev pub IndexTo : ℕ → Work → Units → Units → Units → Type 0
 IndexTo generation work file from image =
     (unit_at image 0 ≡ blank) ⊎ ((unit_at image 0 ≡ unit_at from 0) ⊎ IsSealedAfter generation work file image)
@@ -74,7 +75,7 @@ abbrev pub number_for : Option ℕ → Store → ℕ
 number_for None value = next_number value
 number_for (Some n) value = n
 
--- and what becomes of the number field
+-- a change leaves this number field
 abbrev pub field_for : Option ℕ → Store → ℕ
 field_for None value = next_number value + 1
 field_for (Some n) value = value.field

@@ -7,6 +7,6 @@ use Rattle.rpm_filecheck.specs.Owners.{Owner, is_directory}
 abbrev pub is_alike : Owner → Owner → Bool
 is_alike a b = (a.facts.mode == b.facts.mode) && (bytes_eq a.facts.digest b.facts.digest && bytes_eq a.facts.link b.facts.link)
 
--- they say the same, or both are directories
+-- two owners agree when they say the same of the file, or both are of directories
 abbrev pub agrees : Owner → Owner → Bool
 agrees a b = is_alike a b || (is_directory a.facts && is_directory b.facts)

@@ -15,7 +15,7 @@ use Rattle.rpm_filecheck.specs.Owners.{Owner}
 abbrev pub key_order : Vec ℕ Global → Vec ℕ Global → Ordering
 key_order x y = path_order x.items y.items
 
--- of some owners the number of the last, after this one
+-- a list of owners ends with this number: that of the last, or the one given where there is none
 abbrev pub last_from : ℕ → List Owner → ℕ
 last_from n [] = n
 last_from n (o ∷ os) = last_from o.number os
@@ -37,7 +37,7 @@ Paths = List (List ℕ × List Owner)
 abbrev pub with_owner : List ℕ → Owner → Paths → Paths
 with_owner path o es = put path_order path (joined_to (find path_order path es) o) es
 
--- with the files of a package
+-- a map of paths gets the files of a package
 abbrev pub with_files : ℕ → List OwnFile → Paths → Paths
 with_files n [] es = es
 with_files n (f ∷ fs) es = with_files n fs (with_owner f.path (record { number = n; facts = f.facts }) es)

@@ -15,7 +15,7 @@ use Rattle.rpm_group.specs.Orders.{InOrder, HeadsEndInZeros}
 abbrev pub with_held : Layers → Files → Files
 with_held held files = record { pkg = laid_file held.pkg files.pkg; idx = laid_file held.idx files.idx; log = files.log }
 
--- these entries write what is held of the two files
+-- a list of entries writes what is held of the two files
 pub record IsGroup (entries : List Entry) (held : Layers) : Type 0 where
   pub pkg : CoversHeld entries Pkg held.pkg.table.items held.pkg.end
   pub idx : CoversHeld entries Idx held.idx.table.items held.idx.end
@@ -23,7 +23,7 @@ pub record IsGroup (entries : List Entry) (held : Layers) : Type 0 where
   pub count : length entries ≡ runs_of held.pkg + runs_of held.idx
   pub order : InOrder held entries
 
--- these entries stand in a log as far as this tail
+-- a log has these entries as far as this tail
 pub record IsTail (entries : List Entry) (tail : Tail) (log : Units) : Type 0 where
   pub count : length entries ≡ tail.entries
   pub placed : EntriesIn entries 1 tail.at log

@@ -5,7 +5,7 @@ use Rattle.rpm_outside.specs.Files.{Units, blank}
 use Rattle.rpm_group.specs.Held.{Table, held_at}
 use Rattle.rpm_group.specs.Counts.{is_held}
 
--- so many units from this one on, as they are held
+-- a table's units from this one on, as they are held
 unfoldable pub units_held : Table → ℕ → ℕ → Units
 units_held table from n = map (λ i. unwrap_or (held_at table i) blank) (range_with_len from n)
 

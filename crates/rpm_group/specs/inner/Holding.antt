@@ -22,7 +22,7 @@ pub record LeafWrote (k at : ℕ) (bytes : List ℕ) (old new : Leaf) : Type 0 w
   pub outside : (m : ℕ) → (m < at) ⊎ (at + length bytes / 16 ≤ m) → in_paged (page_in new k) m ≡ in_paged (page_in old k) m
   pub other : (j : ℕ) → (j ≡ k → ⊥) → page_in new j ≡ page_in old j
 
--- the same pages by number
+-- two tables have the same pages by number
 abbrev pub SamePages : Table → Table → Type 0
 SamePages old new = (q : ℕ) → page_at new q ≡ page_at old q
 
@@ -30,7 +30,7 @@ SamePages old new = (q : ℕ) → page_at new q ≡ page_at old q
 abbrev pub SameHeld : Table → Table → Type 0
 SameHeld old new = (i : ℕ) → held_at new i ≡ held_at old i
 
--- these pages are there
+-- a table has each page of a range
 abbrev pub AreThere : ℕ → ℕ → Table → Type 0
 AreThere first end table = (q : ℕ) → first ≤ q → q < end → is_some (page_at table q) ≡ true
 
@@ -38,7 +38,7 @@ AreThere first end table = (q : ℕ) → first ≤ q → q < end → is_some (pa
 abbrev pub KeepsPages : Table → Table → Type 0
 KeepsPages old new = (q : ℕ) → is_some (page_at old q) ≡ true → is_some (page_at new q) ≡ true
 
--- these units are held from this one on, and the others as before
+-- a table holds these units from this one on, and the others as before
 pub record Holds (unit : ℕ) (bytes : List ℕ) (old new : Table) : Type 0 where
   pub inside : (k : ℕ) → k < length bytes / 16 → held_at new (unit + k) ≡ Some (unit_in bytes k)
   pub outside : (i : ℕ) → (i < unit) ⊎ (unit + length bytes / 16 ≤ i) → held_at new i ≡ held_at old i

@@ -4,6 +4,6 @@ use Rattle.rpm_outside.specs.Files.{Files}
 use Rattle.rpm_outside.specs.Logs.{Entry}
 use Rattle.rpm_outside.specs.Entries.{Within}
 
--- it is one of these images in which some of the entries may have been written
+-- one of these images became this one by a write of some of the entries
 abbrev pub WasWithin : List Entry → (Files → Type 0) → Files → Type 0
 WasWithin entries images image = (from : Files) × images from × Within entries from image

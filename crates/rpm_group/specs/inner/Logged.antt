@@ -9,7 +9,7 @@ use Rattle.rpm_group.specs.Counts.{is_held, begins_run, count_below}
 use Rattle.rpm_group.specs.Orders.{AreRuns}
 use Rattle.rpm_group.specs.inner.HeldUnits.{units_held}
 
--- these entries write what is held of a file below a unit, and nothing else
+-- a list of entries writes what is held of a file below a unit, and nothing else
 pub record Logged (entries : List Entry) (file : File) (table : Table) (below : ℕ) : Type 0 where
   pub covers : (i : ℕ) → i < below → is_held table i ≡ true → Covers entries file i
   pub units : (files : Files) (i : ℕ) → i < below → unit_at (file_of file (with_entries entries files)) i ≡ unit_over table (file_of file files) i
@@ -27,6 +27,6 @@ pub record Logged (entries : List Entry) (file : File) (table : Table) (below : 
 abbrev pub run_entry : File → Table → ℕ → ℕ → Entry
 run_entry file table first stop = record { file = file; first = first; units = units_held table first (stop - first) }
 
--- these entries write each unit that is held
+-- a list of entries writes each unit that is held
 abbrev pub CoversHeld : List Entry → File → Table → ℕ → Type 0
 CoversHeld entries file table end = (i : ℕ) → i < end → is_held table i ≡ true → Covers entries file i

@@ -50,7 +50,7 @@ fails_later false one unsound rest all same is = is ∙ ap (λ (b : Bool). b || 
 abbrev pub parts_above : (ℕ × Package → Portion) → ℕ → List (ℕ × Package) → Portion
 parts_above each n es = together (map each (above n es))
 
--- those up to a number were told, and whether one of them fails
+-- a report told the packages up to a number, and whether one of them fails
 pub record Told (ot et : Bool) (each : ℕ × Package → Portion) (es : List (ℕ × Package)) (n : ℕ) (fails : Bool) (o e o' e' : List ℕ) : Type 0 where
   pub goes : Goes ot et (parts_above each 0 es).steps (parts_above each n es).steps o e o' e'
   pub bad : (parts_above each 0 es).fails ≡ (fails || (parts_above each n es).fails)

@@ -31,7 +31,7 @@ is_row_of kind key n row = (kind == row.kind) && (bytes_eq key row.key && (row.n
 abbrev pub has_row : List Row → ℕ → Kind × List ℕ → Bool
 has_row rows n (kind, key) = list_any (is_row_of (code_of kind) key n) rows
 
--- to these numbers come those that have rows of a key
+-- a list of numbers gets those that have rows of a key
 abbrev pub Adds : List Row → Kind × List ℕ → List ℕ → List ℕ → Type 0
 Adds rows key old new = (n : ℕ) → is_in n new ≡ (is_in n old || has_row rows n key)
 

@@ -11,6 +11,6 @@ piece_in piece.Question = glob.Question
 piece_in (piece.Byte b) = glob.Byte b
 piece_in (piece.Set turned members) = glob.Set turned members.now
 
--- the same with its length
+-- a piece of a pattern as it is written, with its length
 abbrev pub written_in : Written → glob.Written
 written_in w = glob.written (piece_in w.piece) w.size

@@ -16,13 +16,13 @@ abbrev pub IsNumbered : ℕ → Result (Option Picked) PickFault → Type 0
 IsNumbered n (Ok (Some picked)) = number_in picked ≡ n
 IsNumbered n _ = Unit {0}
 
--- of one number
+-- a question picks the package of one number, or doesn't
 abbrev pub OneIs : Selection → ℕ → Package → Result (Option Picked) PickFault → Type 0
 OneIs sel n p (Ok None) = is_picked sel (n, p) ≡ false
 OneIs sel n p (Ok (Some picked)) = (is_picked sel (n, p) ≡ true) × (entry_in picked ≡ (n, p))
 OneIs sel n p (Err fault) = Unit {0}
 
--- of a number that may have no package
+-- a question picks the package of a number, which may have none, or doesn't
 abbrev pub OneOf : Selection → ℕ → Option Package → Result (Option Picked) PickFault → Type 0
 OneOf sel n (Some p) result = OneIs sel n p result
 OneOf sel n None (Ok None) = Unit {0}

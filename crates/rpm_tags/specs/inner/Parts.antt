@@ -18,7 +18,7 @@ abbrev pub IsPart : TextPart → Type 0
 IsPart (part.Text text) = Unit {0}
 IsPart (part.Number digits) = digits.start ≤ 20
 
--- so many of them
+-- a count of parts have these bytes
 abbrev pub parts_of : ℕ → List TextPart → List (List ℕ)
 parts_of count parts = take count (map bytes_of parts)
 

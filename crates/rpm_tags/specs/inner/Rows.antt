@@ -14,7 +14,7 @@ pub record KeepsTexts (count : ℕ) (e : Item) : Type 0 where
   pub some : 0 < count
   pub within : count ≤ e.count
 
--- from a place on there is an index for each name, and a directory for each index
+-- each name from a place on has an index, and each index a directory
 pub record AreLeft (dirs : List (List ℕ)) (indexes : List ℕ) (bases : List (List ℕ)) (place : ℕ) : Type 0 where
   pub matched : are_matched dirs (drop place indexes) bases ≡ true
   pub few : length indexes < 2 ^ 32
