@@ -90,10 +90,10 @@ module _ (y m d day : ℕ) (civil : IsCivilDate (pos y) m d) (low : 1970 ≤ y) 
 
 -- ---- the years of these days
 
-last_of_them : IsCivilDate (pos 2106) 2 28
+pub last_of_them : IsCivilDate (pos 2106) 2 28
 last_of_them = search arith
 
-last_count : day_count (pos 2106) 2 28 ≡ 4_371_953 + 49_731
+pub last_count : day_count (pos 2106) 2 28 ≡ 4_371_953 + 49_731
 last_count = day_count-early (pos 2106) 12105 2 28 refl (omega arith) (omega arith) (omega arith)
 
 pub year_within : (z : ℤ) (m d day : ℕ) → IsCivilDate z m d → day_count z m d ≡ day + 4_371_953 → day ≤ 49_710 → (y : ℕ) × (z ≡ pos y) × (1970 ≤ y) × (y ≤ 2106)

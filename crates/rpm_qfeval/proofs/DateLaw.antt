@@ -18,7 +18,7 @@ from_by : (first top rest : ℕ) (v : Bool) → first ≤ top → first ≤ rest
 from_by first top rest true h k = h
 from_by first top rest false h k = k
 
-from_first : (begun : ℕ → Bool) (first n : ℕ) → first ≤ last_begun begun first n
+pub from_first : (begun : ℕ → Bool) (first n : ℕ) → first ≤ last_begun begun first n
 from_first begun first zero = omega arith
 from_first begun first (suc n) = from_by first (first + suc n) (last_begun begun first n) (begun (first + suc n)) (omega arith) (from_first begun first n)
 
@@ -31,11 +31,11 @@ module _ (day : ℕ) where
   unfolding year_of
   year_begun = begun_is (λ y. nat_le (day_number y 1 1) day) 1970 136 epoch_begun
 
-  from_1970 : 1970 ≤ year_of day
+  pub from_1970 : 1970 ≤ year_of day
   unfolding year_of
   from_1970 = from_first (λ y. nat_le (day_number y 1 1) day) 1970 136
 
-  month_begun : nat_le (day_number (year_of day) (month_of day) 1) day ≡ true
+  pub month_begun : nat_le (day_number (year_of day) (month_of day) 1) day ≡ true
   unfolding month_of
   month_begun = begun_is (λ m. nat_le (day_number (year_of day) m 1) day) 1 11 year_begun
 

@@ -8,6 +8,7 @@ pub mod StoredTexts
 pub mod Plain
 pub mod Moments
 pub mod Calendar
+pub mod CivilLaw
 pub mod DateLaw
 pub mod Lists
 pub mod Glyphs

@@ -13,8 +13,8 @@ pub use Rattle.jiff_core.specs.declared.civil.date.Date.{Date}
 pub use Rattle.rpm_header.specs.Header.{Header, Numbers, Texts}
 pub use Rattle.rpm_outside.specs.SinkFrame.{Writes}
 pub use Rattle.rpm_outside.specs.inner.Upto.{both, first_stops, Upto, upto_done, upto_last, upto_more, upto_start, upto_stop}
-pub use Rattle.rpm_qfeval.specs.Dates.{day_number, four, last_begun, month_name, spaced, two, weekday_name}
-unfoldable pub use Rattle.rpm_qfeval.specs.Dates.{day_of, month_of, year_of}
+pub use Rattle.rpm_qfeval.specs.Dates.{day_number, four, last_begun, month_name, spaced, two, weekday_name, weekday_names}
+unfoldable pub use Rattle.rpm_qfeval.specs.Dates.{day_of, HasDate, month_of, year_of}
 pub use Rattle.rpm_qfeval.specs.Formatters.{blob_text, number_text, or_none, shown, text_text}
 pub use Rattle.rpm_qfeval.specs.Meaning.{counts, different, direct, meaning, part_bytes, part_sizes, rounds, text_or_none}
 unfoldable pub use Rattle.rpm_qfeval.specs.Meaning.{bytes, sizes}

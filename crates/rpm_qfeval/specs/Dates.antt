@@ -1,7 +1,7 @@
 -- The date and the time of a number of seconds since 1970-01-01T00:00:00, in UTC. The calendar is that of `jiff`.
 use Rattle.std.specs.Prelude.{ℕ, zero, suc, ◌+◌, ◌-◌, ◌/◌, ◌%◌, Bool, nat_lt, nat_le}
 use Rattle.std.specs.Prelude.{List, [], ◌∷◌, ◌++◌, codes, pos, unsigned_abs, slice_index_or, if◌then◌else◌}
-use Rattle.jiff_core.specs.Calendar.{days_from_civil, weekday_number}
+use Rattle.jiff_core.specs.Calendar.{days_from_civil, IsCivilDate, weekday_number}
 
 -- ---- the date of a day number
 
@@ -25,6 +25,10 @@ month_of day = last_begun (λ m. nat_le (day_number (year_of day) m 1) day) 1 11
 -- its place in the month
 unfoldable pub day_of : ℕ → ℕ
 day_of day = day + 1 - day_number (year_of day) (month_of day) 1
+
+-- the date of a day number is one of the calendar
+unfoldable pub HasDate : ℕ → Type 0
+HasDate day = IsCivilDate (pos (year_of day)) (month_of day) (day_of day)
 
 -- ---- texts
 

@@ -8,7 +8,7 @@ pub use Rattle.jiff_core.specs.Weekday.{monday_zero}
 pub use Rattle.rpm_header.specs.Header.{Header}
 pub use Rattle.rpm_outside.specs.SinkFrame.{Writes}
 pub use Rattle.rpm_tags.specs.Value.{TextList, class_of, count_of, value}
-pub use Rattle.rpm_qfeval.specs.Dates.{date_text, day_number, day_of, day_text, four, month_name, month_of, spaced}
+pub use Rattle.rpm_qfeval.specs.Dates.{date_text, day_number, day_of, day_text, four, HasDate, month_name, month_of, spaced}
 pub use Rattle.rpm_qfeval.specs.Dates.{two, weekday_name, weekday_names, year_of}
 pub use Rattle.rpm_qfeval.specs.Formatters.{blob_text, number_text, or_none, text_text}
 pub use Rattle.rpm_qfeval.specs.Meaning.{bracket_bytes, bytes, counts, different, direct, element_text, found_text}

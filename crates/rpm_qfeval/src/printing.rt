@@ -1,7 +1,7 @@
 //! A format is printed.
 
-ghost use Rattle.std.specs.Prelude.{◌≡◌, ℕ, [], Ok};
-ghost use Rattle.rpm_qfeval.specs.Prelude.{day_number, day_of, ending, eval_ending, meaning, month_of, Prints, year_of};
+ghost use Rattle.std.specs.Prelude.{◌≡◌, ℕ, ◌+◌, ◌%◌, ◌≤◌, [], codes, Ok, slice_index_or};
+ghost use Rattle.rpm_qfeval.specs.Prelude.{day_number, day_of, ending, eval_ending, HasDate, meaning, month_of, Prints, weekday_name, weekday_names, year_of};
 
 use crate::sizes::sizes;
 use crate::writing::put_parts;
@@ -59,7 +59,7 @@ pub enum EvalFault {
 /// after `=` counts apart; 1 MiB more where the files of `FILENAMES` go back often. These are the sizes of
 /// arrays, whatever the format. A tag for which an array has no place would be looked up in each round;
 /// there is none in a format that was read, which has at most two for each of the 89 tags with a name.
-#[tactic(auto, using(crate::proofs::DateLaw::date_is_day))]
+#[tactic(auto, using(crate::proofs::DateLaw::date_is_day, crate::proofs::CivilLaw::is_civil, crate::proofs::CivilLaw::weekday_is, crate::proofs::CivilLaw::first_weekday))]
 pub fn print_direct<O: Sink>(
     format: &Format,
     view: &View<'_>,
@@ -70,6 +70,13 @@ pub fn print_direct<O: Sink>(
 
     // The number of the date that is printed of a day is that of the day.
     ensures dates { (day : ℕ) → day_number (year_of day) (month_of day) (day_of day) ≡ day }
+
+    // Up to the last day whose seconds have 32 bits, that date is one of the calendar: its month has the day.
+    ensures civil { (day : ℕ) → day ≤ 49710 → HasDate day }
+
+    // Day 0 is a Thursday, and the days of the week follow one another.
+    ensures weekdays { (day : ℕ) → weekday_name day ≡ slice_index_or weekday_names ((day + 3) % 7) [] }
+    ensures first { weekday_name 0 ≡ codes "Thu" }
 {
     if let Some((first, second)) = sizes(format.parts(), view, number) {
         return Err(DirectFault::SizesDiffer { first, second });
