@@ -9,7 +9,7 @@ use Rattle.jiff_core.specs.Calendar.{days_from_civil, IsCivilDate, weekday_numbe
 abbrev pub day_number : ℕ → ℕ → ℕ → ℕ
 day_number y m d = unsigned_abs (days_from_civil (pos y) m d)
 
--- of so many numbers after the first, the last one that has begun; the first where none has
+-- the last of so many numbers after the first that has begun; the first where none has
 abbrev pub last_begun : (ℕ → Bool) → ℕ → ℕ → ℕ
 last_begun begun first zero = first
 last_begun begun first (suc n) = if begun (first + suc n) then first + suc n else last_begun begun first n
@@ -22,7 +22,7 @@ year_of day = last_begun (λ y. nat_le (day_number y 1 1) day) 1970 136
 unfoldable pub month_of : ℕ → ℕ
 month_of day = last_begun (λ m. nat_le (day_number (year_of day) m 1) day) 1 11
 
--- its place in the month
+-- a day has this place in its month
 unfoldable pub day_of : ℕ → ℕ
 day_of day = day + 1 - day_number (year_of day) (month_of day) 1
 

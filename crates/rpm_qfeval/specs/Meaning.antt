@@ -19,18 +19,19 @@ use Rattle.rpm_qfeval.specs.Padded.{in_width}
 
 -- ---- a tag
 
--- of a value in a round: the element of that round, the first one, or how many there are, which is shown as a number
+-- a value has this text in a round: the element of that round, the first one, or how many there are, which is shown
+-- as a number
 abbrev pub value_text : Role → Show → ℕ → Elements → List ℕ
 value_text role.Element f round v = or_none (shown f v round)
 value_text role.First f round v = or_none (shown f v 0)
 value_text role.Count f round v = number_text f (count_of v) (count_of v)
 
--- the same of a value that may be missing
+-- a value that may be missing has this text in a round
 abbrev pub text_or_none : Role → Show → ℕ → Option Elements → List ℕ
 text_or_none r f round None = or_none None
 text_or_none r f round (Some v) = value_text r f round v
 
--- of a value that may be missing, and the element at a place of one, in the width of the tag
+-- a value that may be missing has this text in a round, in the width of its tag
 abbrev pub found_text : TagPart → ℕ → Option Elements → List ℕ
 found_text p round v = in_width p (text_or_none p.role p.show round v)
 
@@ -39,7 +40,7 @@ element_text p v place = in_width p (or_none (shown p.show v place))
 
 -- ---- a bracket
 
--- of the tags whose elements are printed, and that are present, how many elements there are
+-- a tag that prints its elements counts them, where it is present
 abbrev pub count_in : Role → Option Elements → Option ℕ
 count_in role.Element v = option_map count_of v
 count_in _ v = None
@@ -70,7 +71,7 @@ module _ (h : Header) (number : ℕ) where
   direct (part.Tag p) = count_in p.role (value h number p.tag)
   direct _ = None
 
-  -- those of the tags of a bracket, but for tags in conditions
+  -- a bracket's counts are those of its tags, but for tags in conditions
   abbrev pub counts : Tree → List ℕ
   counts inner = filter_map direct (parts_of inner)
 

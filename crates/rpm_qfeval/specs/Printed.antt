@@ -29,8 +29,8 @@ eval_ending (Err eval.OutFault) = Fails
 eval_ending (Err eval.NoMemory) = Starves
 
 module _ {O : Type 0} (o : sink.Ghosts O) where
-  -- Of a format that means bytes they are written, or the first of them where the sink's count of faults rose. Of any other
-  -- one its counts are told, and nothing is written. Nothing else comes.
+  -- A format that means bytes writes them, or the first of them where the sink's count of faults rose. Any other one
+  -- has its counts told, and nothing is written. Nothing else comes.
   abbrev pub EndsSo : Result (List ℕ) (ℕ × ℕ) → O → O → Ending → Type 0
   EndsSo (Ok bytes) old new Done = Gained o.tells (o.taken old) (o.taken new) bytes
   EndsSo (Ok bytes) old new Fails = GainedPart o.tells (o.taken old) (o.taken new) bytes × Rose (o.faults old) (o.faults new)

@@ -5,7 +5,8 @@ use Rattle.hex.specs.Hex.{encode_lower}
 use Rattle.base64.specs.GeneralPurpose.{encode_of}
 use Rattle.base64.specs.Engines.{standard}
 
--- for a shell: a quote ends the quoted text, stands after a backslash, and the text goes on
+-- a byte is written like this within a shell's quotes: a quote ends the quoted text, stands after a backslash, and
+-- the text goes on
 abbrev pub escaped : ℕ → List ℕ
 escaped byte = if byte == 39 then codes "'\\''" else byte ∷ []
 
@@ -25,6 +26,6 @@ quoted text = in_quotes (escaped_text text)
 abbrev pub hex_text : List ℕ → List ℕ
 hex_text bytes = encode_lower bytes
 
--- by the standard alphabet, with padding
+-- a text in base64 by the standard alphabet, with padding
 abbrev pub base64_text : List ℕ → List ℕ
 base64_text bytes = encode_of standard bytes

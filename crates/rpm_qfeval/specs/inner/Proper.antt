@@ -8,7 +8,7 @@ use Rattle.rpm_qfparse.specs.declared.tree.Part.TheVariants as part
 abbrev pub AreProper : Bool → Tree → Type 0
 AreProper in_bracket tree = (depth : ℕ) × IsProper in_bracket depth tree
 
--- so no bracket is in a bracket
+-- a part is proper where no bracket is in a bracket
 abbrev pub PartIsProper : Bool → Part → Type 0
 PartIsProper in_bracket (part.Text text) = Unit {0}
 PartIsProper in_bracket (part.Tag p) = Unit {0}

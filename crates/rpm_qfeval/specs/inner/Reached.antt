@@ -3,13 +3,13 @@ use Rattle.std.specs.Prelude.{◌≡◌, ℕ, ◌+◌, ◌<◌, ◌^◌, List, d
 use Rattle.rpm_tags.specs.declared.values.Class.TheVariants as class
 use Rattle.rpm_tags.specs.Value.{Elements, class_of, text_list}
 
--- of a value of texts the one at a place, and those after it
+-- a value's text at a place was read, and those after it are left
 pub record IsReadTo (all : Elements) (present : Option (List ℕ)) (texts : List (List ℕ)) (place : ℕ) : Type 0 where
   pub are_texts : class_of all ≡ class.Text
   pub here : present ≡ slice_get (text_list all) place
   pub behind : texts ≡ drop (place + 1) (text_list all)
 
--- so many of all texts were read
+-- a count of all texts is known, and those from a place on are left
 pub record IsReached (all left : List (List ℕ)) (count place : ℕ) : Type 0 where
   pub whole : count ≡ length all
   pub few : count < 2 ^ 32

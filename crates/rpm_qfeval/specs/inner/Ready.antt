@@ -30,6 +30,6 @@ abbrev pub StandReady : Header → ℕ → Tree → List Ready → Type 0
 StandReady header number inner all = (k : ℕ) (part : Part) (one : Ready) → slice_get (parts_of inner) k ≡ Some part → slice_get all k ≡ Some one
     → StandsReady header number part one
 
--- these are the paths of the files, where they are given
+-- a header's files have these paths, where they are given
 abbrev pub AreFiles : Header → ℕ → Option (List (List ℕ)) → Type 0
 AreFiles header number files = IfSome files (λ paths. value header number Filenames ≡ Some (TextList paths))
