@@ -47,11 +47,11 @@ is_good Bad = false
 unfoldable pub good_numbers : FinMap nat_cmp Package → List ℕ
 good_numbers packages = map (λ e. e.0) (filter (λ e. is_good e.1) (entries packages))
 
--- those from n, by rising end
+-- a package has edges from it, by rising end
 abbrev pub edges_from : FinMap nat_cmp Package → ℕ → List Edge
 edges_from packages n = map (edge n) (filter (is_edge packages n) (good_numbers packages))
 
--- by rising beginning, and then by rising end
+-- a graph has the edges of all packages, by rising beginning, and then by rising end
 unfoldable pub all_edges : FinMap nat_cmp Package → List Edge
 all_edges packages = flat_map (λ e. edges_from packages e.0) (entries packages)
 

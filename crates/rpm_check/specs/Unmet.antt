@@ -19,7 +19,7 @@ required h = dependencies (record { names = REQUIRENAME; flags = REQUIREFLAGS; v
 
 -- ---- one requirement and all packages
 
--- the same of bytes that may be no header
+-- bytes give what is needed when they are a header that gives it
 abbrev pub read_gives : Needed → Result Header HeaderFault → Bool
 read_gives need (Ok h) = gives need h
 read_gives need (Err fault) = false
@@ -51,21 +51,21 @@ placed needs place = zip needs (range_with_len place (length needs))
 abbrev pub at_place : ℕ → Needed × ℕ → Unmet
 at_place n e = record { number = n; place = e.1 }
 
--- of a package of this number: those of its requirements, from this place on, that are lacking
+-- a package's requirements, from this place on, that are lacking
 abbrev pub unmet_in : (Needed → Bool) → ℕ → List Needed → ℕ → List Unmet
 unmet_in is_lacking n needs place = map (at_place n) (filter (λ e. is_lacking e.0) (placed needs place))
 
--- the same of bytes that may be no header
+-- a package's bytes have these unmet requirements: none where they are no header
 abbrev pub unmet_read : (Needed → Bool) → ℕ → Result Header HeaderFault → List Unmet
 unmet_read is_lacking n (Ok h) = unmet_in is_lacking n (required h) 0
 unmet_read is_lacking n (Err fault) = []
 
--- the same of a package
+-- a package has these unmet requirements: none where it is Bad
 abbrev pub unmet_of : (Needed → Bool) → ℕ × Package → List Unmet
 unmet_of is_lacking (n, Good bytes) = unmet_read is_lacking n (header bytes)
 unmet_of is_lacking (n, Bad) = []
 
--- by rising number and place
+-- a database has these unmet requirements, by rising number and place
 unfoldable pub unmet : FinMap nat_cmp Package → List Unmet
 unmet packages = flat_map (unmet_of (lacks packages)) (entries packages)
 

@@ -12,7 +12,7 @@ use Rattle.rpm_change.specs.Steps.{bearer, whole, ToErr, Course}
 use Rattle.rpm_print.specs.Steps.{Portion, fails, told, in_turn}
 use Rattle.rpm_print.specs.Printed.{printed}
 
--- its header is printed with the number 0, or it has a line, for which the argument fails
+-- a package file has its header printed with the number 0, or a line, for which the argument fails
 abbrev pub read_part : Tree → ℕ → List ℕ → Result Headed FileFault → Portion
 read_part tree j path (Ok found) = told (printed (bearer j 0) (meaning found.header 0 tree) ∷ [])
 read_part tree j path (Err fault) = fails (ToErr (whole j) (refused_line path fault))

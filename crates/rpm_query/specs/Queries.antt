@@ -124,7 +124,7 @@ abbrev pub query_of : Tree → FinMap nat_cmp Package → Chosen → ℕ → Lis
 query_of tree packages chosen after [] = before (packages_part (step_of tree 0) after (picks packages question.All)) idle
 query_of tree packages chosen after (x ∷ xs) = in_turn (argument_part tree packages chosen after) 0 (x ∷ xs)
 
--- by the words
+-- a query has this course by its words
 abbrev pub query : Tree → FinMap nat_cmp Package → List (List ℕ) → AskParts → Course
 query tree packages words a = query_of tree packages a.chosen a.after (map (text_at words) a.arguments)
 
@@ -134,7 +134,7 @@ export packages = before (packages_part (exported 0) 0 (picks packages question.
 
 -- ---- whom steps are for
 
--- these packages above a number, each once and rising
+-- a list of steps bears the numbers of these packages above a number, each once and rising
 abbrev pub AreOfEach : ℕ → List (ℕ × Package) → List Step → Type 0
 AreOfEach after packages steps =
     (numbers steps ≡ map (λ e. e.0) (above after packages)) × RisesFrom after (map (λ e. e.0) (above after packages))

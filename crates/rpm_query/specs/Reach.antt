@@ -24,14 +24,14 @@ reach_of indexed packages (Some sel) = reach (has_keys sel && indexed) sel packa
 unfoldable pub argument_reach : Bool → FinMap nat_cmp Package → Chosen → List ℕ → Reach
 argument_reach indexed packages chosen text = reach_of indexed packages (question_of chosen (lent text))
 
--- of each argument; without any, all packages
+-- a command goes over these packages for each argument; without any, over all
 abbrev pub reaches_by : (List ℕ → Reach) → List (List ℕ) → List Reach
 reaches_by each [] = Everything ∷ []
 reaches_by each (x ∷ xs) = map each (x ∷ xs)
 
 -- ---- a malformed index
 
--- this is the fault of the chain of a key that a question asks
+-- a unit has the fault of the chain of a key that a question asks
 abbrev pub IsFaultOf : Option Selection → Units → ℕ → Type 0
 IsFaultOf None idx unit = ⊥
 IsFaultOf (Some sel) idx unit = IsFaultOfOne (keys_asked sel) idx unit
@@ -41,7 +41,7 @@ abbrev pub IsOfChain : Option Selection → Units → Halt → Type 0
 IsOfChain asked idx (halt.BadIndex unit) = IsFaultOf asked idx unit
 IsOfChain asked idx others = Unit {0}
 
--- of a command: a key that one of its arguments asks
+-- a unit has the fault of the chain of a key that one of a command's arguments asks
 abbrev pub IsOfChains : Chosen → List (List ℕ) → Units → Why → Type 0
 IsOfChains chosen texts idx (why.BadIndex unit) =
     (j : ℕ) × (text : List ℕ) × (slice_get texts j ≡ Some text) × IsFaultOf (question_of chosen (lent text)) idx unit

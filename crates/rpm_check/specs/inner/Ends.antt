@@ -16,7 +16,7 @@ abbrev pub is_good_at : Option Package → Bool
 is_good_at None = false
 is_good_at (Some p) = is_good p
 
--- another of these numbers
+-- an edge ends at another number that is among these
 abbrev pub is_end : List ℕ → ℕ → ℕ → Bool
 is_end numbers n m = not (n == m) && is_in m numbers
 
@@ -25,7 +25,7 @@ abbrev pub good_if : Bool → ℕ → List ℕ
 good_if true n = n ∷ []
 good_if false n = []
 
--- the same of a number and its package
+-- a package's number, where it is Good
 abbrev pub good_of : ℕ × Package → List ℕ
 good_of e = good_if (is_good e.1) e.0
 

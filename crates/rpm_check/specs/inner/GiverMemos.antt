@@ -18,11 +18,11 @@ use Rattle.rpm_check.specs.inner.Offers.{KnowsSources}
 abbrev pub RemembersGivers : (Needed → List ℕ) → GiverMemo → Type 0
 RemembersGivers of memo = (key : Requirement) → IfSome (get key_order memo.numbers key) (λ known. known.items ≡ of (need_of key))
 
--- and what is kept for the next one
+-- a memo of givers is right: what it holds of requirements, and what it keeps of packages that were read
 pub record KnowsGivers (packages : FinMap nat_cmp Package) (memo : GiverMemo) : Type 0 where
   pub numbers : RemembersGivers (givers packages) memo
   pub sources : KnowsSources packages memo.sources
 
--- the same of the packages of a database whose index has their rows
+-- a memo of givers is right for a database whose index has the rows of its packages
 abbrev pub KnowsGiversOn : {D : Type 0} → disk.Ghosts D → D → Database → GiverMemo → Type 0
 KnowsGiversOn d at db memo = IsTrue d.tells → HasRows d at db → KnowsGivers (packages_in d at db) memo

@@ -19,7 +19,7 @@ use Rattle.rpm_check.specs.inner.Offers.{KnowsSources}
 abbrev pub need_of : Requirement → Needed
 need_of key = record { name = key.name.items; flags = key.flags; version = key.version.items }
 
--- by name, then flags, then version
+-- requirements stand in order of their names, then of their flags, then of their versions
 abbrev pub key_order : Requirement → Requirement → Ordering
 key_order a b =
     ordering_then (slice_cmp nat_cmp a.name.items b.name.items)
@@ -29,11 +29,11 @@ key_order a b =
 abbrev pub Remembers : (Needed → Bool) → Memo → Type 0
 Remembers is_so memo = (key : Requirement) → IfSome (get key_order memo.answers key) (λ known. known ≡ is_so (need_of key))
 
--- and what is kept for the next one
+-- a memo is right: what it holds of requirements, and what it keeps of packages that were read
 pub record Knows (packages : FinMap nat_cmp Package) (memo : Memo) : Type 0 where
   pub answers : Remembers (is_met packages) memo
   pub sources : KnowsSources packages memo.sources
 
--- the same of the packages of a database whose index has their rows
+-- a memo is right for a database whose index has the rows of its packages
 abbrev pub KnowsOn : {D : Type 0} → disk.Ghosts D → D → Database → Memo → Type 0
 KnowsOn d at db memo = IsTrue d.tells → HasRows d at db → Knows (packages_in d at db) memo

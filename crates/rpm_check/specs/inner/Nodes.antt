@@ -14,7 +14,7 @@ numbers_of nodes = map (λ v. v.number) nodes
 abbrev pub edges_of : List ℕ → Node → List Edge
 edges_of numbers v = map (edge v.number) (filter (is_end numbers v.number) v.ends.items)
 
--- their numbers rise, and so do the ends of each
+-- the nodes' numbers rise, and so do the ends of each node
 pub record AreRising (nodes : List Node) : Type 0 where
   pub numbers : IsRising (numbers_of nodes)
   pub ends : All (λ v. IsStrictlyIncreasing v.ends.items) nodes

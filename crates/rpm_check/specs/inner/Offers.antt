@@ -24,7 +24,7 @@ use Rattle.rpm_check.specs.Unmet.{meets, provided}
 abbrev pub is_named : List ℕ → Needed → Bool
 is_named name e = bytes_eq e.name name
 
--- its range: flags and a version
+-- a requirement's range is its flags and its version
 abbrev pub range_of : Needed → ℕ × List ℕ
 range_of e = (e.flags, e.version)
 
@@ -32,17 +32,17 @@ range_of e = (e.flags, e.version)
 abbrev pub ranges_in : List ℕ → Header → List (ℕ × List ℕ)
 ranges_in name h = map range_of (filter (is_named name) (provided h))
 
--- the same of bytes that may be no header
+-- bytes offer these ranges of a name: none where they are no header
 abbrev pub ranges_read : List ℕ → Result Header HeaderFault → List (ℕ × List ℕ)
 ranges_read name (Ok h) = ranges_in name h
 ranges_read name (Err fault) = []
 
--- the same of a package
+-- a package offers these ranges of a name: none where it is Bad
 abbrev pub ranges_given : List ℕ → Package → List (ℕ × List ℕ)
 ranges_given name (Good bytes) = ranges_read name (header bytes)
 ranges_given name Bad = []
 
--- its number beside them
+-- a package's number stands beside the ranges that it offers
 abbrev pub given : List ℕ → ℕ × Package → ℕ × List (ℕ × List ℕ)
 given name e = (e.0, ranges_given name e.1)
 
@@ -78,15 +78,15 @@ offer_in o = (o.number, map range_in o.ranges.items)
 abbrev pub AreOffered : FinMap nat_cmp Package → List ℕ → Option (Vec Offer Global) → Type 0
 AreOffered packages name o = IfSome o (λ offers. map offer_in offers.items ≡ offered name packages)
 
--- the same of a name that is kept
+-- a name that is kept has the ranges that the packages offer of it
 abbrev pub IsNamed : FinMap nat_cmp Package → Named → Type 0
 IsNamed packages named = AreOffered packages named.name.items named.offers
 
--- and of each of them
+-- each name that is kept has the ranges that the packages offer of it
 abbrev pub KnowsNames : FinMap nat_cmp Package → Names → Type 0
 KnowsNames packages names = All (IsNamed packages) names.kept.items
 
--- and what is held of the package that was read last
+-- the sources are right: the names that are kept, and the package that was read last
 pub record KnowsSources (packages : FinMap nat_cmp Package) (sources : Sources) : Type 0 where
   pub names : KnowsNames packages sources.names
   pub recent : Recalls packages sources.recent
