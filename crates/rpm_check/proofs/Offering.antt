@@ -33,7 +33,8 @@ module _ (need : Needed) (plain : (slice_index need.name 0 == 47) ≡ false) whe
   given_header : (h : Header) → gives need h ≡ list_any (is_hit need.flags need.version) (ranges_in need.name h)
   given_header h =
       let file : is_file_of need h ≡ false =
-      ap (λ (b : Bool). is_open need.flags need.version && (b && has_file h need.name)) plain ∙ never (is_open need.flags need.version) (has_file h need.name) in
+      ap (λ (b : Bool). is_open need.flags need.version && (b && has_file h need.name)) plain
+      ∙ never (is_open need.flags need.version) (has_file h need.name) in
       ap (λ (b : Bool). list_any (answers need) (provided h) || b) file ∙ or_never (list_any (answers need) (provided h)) ∙ answered need (provided h)
 
   given_read : (r : Result Header HeaderFault) → read_gives need r ≡ list_any (is_hit need.flags need.version) (ranges_read need.name r)

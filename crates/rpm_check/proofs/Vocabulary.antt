@@ -21,7 +21,8 @@ pub use Rattle.rpm_check.specs.inner.Headers.{header_at, header_read}
 pub use Rattle.rpm_check.specs.inner.Memos.{key_order, Knows, KnowsOn, need_of}
 pub use Rattle.rpm_check.specs.inner.Needs.{needed_in}
 pub use Rattle.rpm_check.specs.inner.Nodes.{AreRising, edges_of, numbers_of}
-pub use Rattle.rpm_check.specs.inner.Offers.{AreOffered, given, hits, is_hit, is_named, IsNamed, KnowsNames, KnowsSources, offer_in, offered, range_in, range_of}
+pub use Rattle.rpm_check.specs.inner.Offers.{AreOffered, given, hits, is_hit, is_named, IsNamed, KnowsNames, KnowsSources}
+pub use Rattle.rpm_check.specs.inner.Offers.{offer_in, offered, range_in, range_of}
 pub use Rattle.rpm_check.specs.inner.Offers.{ranges_given, ranges_in, ranges_read, unranged}
 pub use Rattle.rpm_check.specs.inner.Picking.{is_some_of}
 pub use Rattle.rpm_check.specs.inner.Rounds.{IsFirst, unmet_at}

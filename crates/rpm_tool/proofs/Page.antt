@@ -109,7 +109,8 @@ module _ {D S : Type 0} {d : disk.Ghosts D} {s : shelf.Ghosts S} {r : Run d s} {
   does_text {text = text} said went looks = record {
     plain = λ _f _k _c none told. none_said none said;
     files = λ is. absurd (files_untold a text is said);
-    text = λ other is. let both : Some text ≡ Some other = sym said ∙ is in subst (λ (t : List ℕ). AnswersText r t mid) (let same : text ≡ other = cc in same) went;
+    text = λ other is. let both : Some text ≡ Some other = sym said ∙ is in
+        subst (λ (t : List ℕ). AnswersText r t mid) (let same : text ≡ other = cc in same) went;
     keyed = λ is told. absurd (keyed_untold a text is said);
     changes = λ is told reads. absurd (change_untold a text is said);
     empty = λ is told. absurd (change_untold a text is said);
