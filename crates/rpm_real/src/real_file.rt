@@ -137,10 +137,10 @@ impl RealFile {
     {
         self.read = self.read.saturating_add(into.len() as u64);
         entered?;
-        self.open_to_read(rt)?;
         if unit < UNITS && self.fill_by_page(16 * unit, into) {
             return Ok(());
         }
+        self.open_to_read(rt)?;
         match &self.file {
             Some(file) if unit < UNITS => fill(file, 16 * unit, into),
             _ => Err(Failed),
