@@ -14,7 +14,7 @@ use rpm_select::Recent;
 use rpm_tags::Dependency;
 use std::alloc::Global;
 
-/// What is kept between requirements: the package that was read last for one, and the names that were looked up last.
+/// What is kept between requirements: the package that was read last for one, and the names that were looked up again.
 #[derive(Drop)]
 pub struct Sources {
     recent: Recent,
@@ -49,16 +49,12 @@ fn offers_again<D: Disk>(
         → KnowsNames (packages_in D.Disk disk.old db.now) names.new }
     ensures asks { Asks D.Disk disk.old disk.new db.now result }
 {
-    if is_path(name) {
+    if is_path(name) || !names.is_again(name) {
         return Ok(None);
     }
     match names.take(name) {
+        Some(offers) => Ok(Some(offers)),
         None => {
-            names.keep(alloc, name, None)?;
-            Ok(None)
-        }
-        Some(Some(offers)) => Ok(Some(offers)),
-        Some(None) => {
             let offers = offers_under(alloc, db, disk, name)?;
             Ok(Some(offers))
         }
@@ -85,7 +81,7 @@ pub fn is_met_by_name<D: Disk>(
     match offers_again(alloc, db, disk, &mut sources.names, needed.name)? {
         Some(offers) => {
             let met = any_hits(&offers, needed);
-            sources.names.keep(alloc, needed.name, Some(offers))?;
+            sources.names.keep(alloc, needed.name, offers)?;
             Ok(met)
         }
         None => is_met(alloc, db, disk, &mut sources.recent, needed),
@@ -112,7 +108,7 @@ pub fn givers_by_name<D: Disk>(
     match offers_again(alloc, db, disk, &mut sources.names, needed.name)? {
         Some(offers) => {
             let numbers = numbers_of_hits(alloc, &offers, needed)?;
-            sources.names.keep(alloc, needed.name, Some(offers))?;
+            sources.names.keep(alloc, needed.name, offers)?;
             Ok(numbers)
         }
         None => givers(alloc, db, disk, &mut sources.recent, needed),

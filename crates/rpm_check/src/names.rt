@@ -1,6 +1,6 @@
-//! The names that were looked up last.
+//! The names that were looked up again.
 
-ghost use Rattle.std.specs.Prelude.{◌≡◌, IfSome, map};
+ghost use Rattle.std.specs.Prelude.{◌≡◌, Some, map};
 ghost use Rattle.rpm_check.specs.Prelude.{AreOffered, FinMap, KnowsNames, nat_cmp, Package};
 
 use crate::offers::Offer;
@@ -9,17 +9,31 @@ use std::alloc::{AllocError, Global};
 // How many names are kept.
 const MOST: usize = 8;
 
-/// A name, and what the packages provide under it, if that was read.
+// How many marks are kept.
+const MARKS: usize = 64;
+
+/// A name, and what the packages provide under it.
 #[derive(Drop)]
 pub struct Named {
     name: Vec<u8>,
-    offers: Option<Vec<Offer>>,
+    offers: Vec<Offer>,
 }
 
-/// The names that were looked up last, at most eight, each with what the packages provide under it, if that was read.
+/// The names that were looked up again, the last eight at most, each with what the packages provide under it.
 #[derive(Drop)]
 pub struct Names {
     kept: Vec<Named>,
+    // The marks of names that were looked up, each in its place: names with the same mark are rare.
+    marks: [u32; MARKS],
+}
+
+/// A number that a name has, and few other names.
+fn mark_of(name: &[u8]) -> u32 {
+    let mut mark = 0u32;
+    for byte in name {
+        mark = mark.wrapping_mul(31).wrapping_add(*byte as u32);
+    }
+    mark
 }
 
 impl Names {
@@ -28,12 +42,24 @@ impl Names {
     {
         Names {
             kept: Vec::new(alloc),
+            marks: [0; MARKS],
         }
     }
 
-    /// Takes out a name that is kept, and gives what the packages provide under it, if that was read.
-    pub fn take(&mut self, name: &[u8]) -> Option<Option<Vec<Offer>>>
-        ensures taken { (packages : FinMap nat_cmp Package) → KnowsNames packages self.old → IfSome result (AreOffered packages name.now) }
+    /// Notes that a name is looked up, and tells whether it seems to have been before.
+    pub fn is_again(&mut self, name: &[u8]) -> bool
+        ensures { (packages : FinMap nat_cmp Package) → KnowsNames packages self.old → KnowsNames packages self.new }
+    {
+        let mark = mark_of(name);
+        let place = mark as usize % MARKS;
+        let again = self.marks[place] == mark;
+        self.marks[place] = mark;
+        again
+    }
+
+    /// Takes out a name that is kept, and gives what the packages provide under it.
+    pub fn take(&mut self, name: &[u8]) -> Option<Vec<Offer>>
+        ensures taken { (packages : FinMap nat_cmp Package) → KnowsNames packages self.old → AreOffered packages name.now result }
         ensures rest { (packages : FinMap nat_cmp Package) → KnowsNames packages self.old → KnowsNames packages self.new }
     {
         for at in 0..self.kept.len() {
@@ -45,7 +71,7 @@ impl Names {
         None
     }
 
-    /// Lets go of the name that was looked up first, where there is no room for another.
+    /// Lets go of the name that wasn't looked up for the longest time, where there is no room for another.
     fn make_room(&mut self)
         ensures { (packages : FinMap nat_cmp Package) → KnowsNames packages self.old → KnowsNames packages self.new }
     {
@@ -54,14 +80,10 @@ impl Names {
         }
     }
 
-    /// Keeps a name as the one that was looked up last, with what the packages provide under it, if that was read.
-    pub fn keep(
-        &mut self,
-        alloc: Global,
-        name: &[u8],
-        offers: Option<Vec<Offer>>,
-    ) -> Result<(), AllocError>
-        ensures { (packages : FinMap nat_cmp Package) → KnowsNames packages self.old → AreOffered packages name.now offers → KnowsNames packages self.new }
+    /// Keeps a name as the one that was looked up last, with what the packages provide under it.
+    pub fn keep(&mut self, alloc: Global, name: &[u8], offers: Vec<Offer>) -> Result<(), AllocError>
+        ensures { (packages : FinMap nat_cmp Package) → KnowsNames packages self.old → AreOffered packages name.now (Some offers)
+            → KnowsNames packages self.new }
     {
         self.make_room();
         let name = Vec::from_slice(alloc, name)?;

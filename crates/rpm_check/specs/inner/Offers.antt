@@ -1,5 +1,5 @@
 -- What the packages provide under one name.
-use Rattle.std.specs.Prelude.{◌≡◌, ℕ, List, [], map, filter, Bool, IfSome, Option, Result, Ok, Err, Vec}
+use Rattle.std.specs.Prelude.{◌≡◌, ℕ, List, [], map, filter, Bool, IfSome, Option, Some, Result, Ok, Err, Vec}
 use Rattle.std.specs.FinMap.{FinMap, entries}
 use Rattle.std.specs.List.{All, list_any}
 use Rattle.std.specs.Ordering.{nat_cmp}
@@ -80,7 +80,7 @@ AreOffered packages name o = IfSome o (λ offers. map offer_in offers.items ≡ 
 
 -- a name that is kept has the ranges that the packages offer of it
 abbrev pub IsNamed : FinMap nat_cmp Package → Named → Type 0
-IsNamed packages named = AreOffered packages named.name.items named.offers
+IsNamed packages named = AreOffered packages named.name.items (Some named.offers)
 
 -- each name that is kept has the ranges that the packages offer of it
 abbrev pub KnowsNames : FinMap nat_cmp Package → Names → Type 0

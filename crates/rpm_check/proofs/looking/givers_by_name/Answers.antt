@@ -17,3 +17,17 @@ returns-in_ok-keep-in-Some-clause-told g c = λ told has knows.
     ∙ ap (λ (os : List Offer). map (λ (o : Offer). o.number) (filter (λ (o : Offer). hits need (offer_in o)) os)) c.deref.ensures.value
     ∙ numbers_seen need c.in-Some.offers.items ∙ ap (λ (os : List (ℕ × List (ℕ × List ℕ))). map (λ o. o.0) (filter (hits need) os)) offers
     ∙ givers_by_offers all need plain
+
+pub returns-in_err-keep-in-Some-clause-knows : goal.returns-in_err-keep-in-Some-clause-knows
+returns-in_err-keep-in-Some-clause-knows g c = λ told has knows.
+    let all = packages (g.D.Disk.files c.args.disk.now).pkg (room c.args.db.now) in
+    let found = c.in_ok-offers.ensures in
+    let offers = subst (AreOffered all c.args.needed.now.name.now) c.in-Some.is (found.told told has knows.names) in
+    record { names = c.keep.ensures all (found.knows told has knows.names) offers; recent = knows.recent }
+
+pub returns-in_ok-keep-in-Some-clause-knows : goal.returns-in_ok-keep-in-Some-clause-knows
+returns-in_ok-keep-in-Some-clause-knows g c = λ told has knows.
+    let all = packages (g.D.Disk.files c.args.disk.now).pkg (room c.args.db.now) in
+    let found = c.in_ok-offers.ensures in
+    let offers = subst (AreOffered all c.args.needed.now.name.now) c.in-Some.is (found.told told has knows.names) in
+    record { names = c.keep.ensures all (found.knows told has knows.names) offers; recent = knows.recent }

@@ -2,7 +2,7 @@ use Rattle.std.proofs.Common.{subst}
 use Rattle.rpm_check.proofs.Vocabulary.{AreOffered, packages, room}
 use Rattle.rpm_check.proofs.looking.offers_again.Goals as goal
 
-pub returns-in-Some-Some-clause-told : goal.returns-in-Some-Some-clause-told
-returns-in-Some-Some-clause-told g c = λ told has knows.
+pub returns-in-Some-clause-told : goal.returns-in-Some-clause-told
+returns-in-Some-clause-told g c = λ told has knows.
     let all = packages (g.D.Disk.files c.args.disk.now).pkg (room c.args.db.now) in
-    subst (AreOffered all c.args.name.now) c.in-Some-Some.field-0-is (c.in-Some-Some.ensures.taken all knows)
+    subst (AreOffered all c.args.name.now) c.in-Some.is (c.take.ensures.taken all (c.is_again.ensures all knows))

@@ -8,11 +8,11 @@ use Rattle.rpm_check.proofs.names.Names.take.Goals as goal
 
 -- what stands at a place, read twice
 taken_is : (all : FinMap nat_cmp Package) (items : List Named) (i : ℕ) (a b : Named) (name : List ℕ) → All (IsNamed all) items → i < length items
-    → b ≡ get_or items i b → a ≡ get_or items i a → a.name.items ≡ name → AreOffered all name b.offers
+    → b ≡ get_or items i b → a ≡ get_or items i a → a.name.items ≡ name → AreOffered all name (Some b.offers)
 taken_is all items i a b name knows lt b_is a_is is =
     let same : a ≡ b = a_is ∙ get_or_default items i a b lt ∙ sym b_is in
     let named : b.name.items ≡ name = sym (ap (λ (n : Named). n.name.items) same) ∙ is in
-    subst (λ (ns : List ℕ). AreOffered all ns b.offers) named (subst (IsNamed all) (sym b_is) (knows i b lt))
+    subst (λ (ns : List ℕ). AreOffered all ns (Some b.offers)) named (subst (IsNamed all) (sym b_is) (knows i b lt))
 
 -- what is left after one was taken
 all_left : {X : Type 0} (P : X → Type 0) (xs ys : List X) (i : ℕ) → ((k : ℕ) (d : X) → k < i → get_or ys k d ≡ get_or xs k d)
