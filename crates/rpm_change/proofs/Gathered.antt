@@ -1,5 +1,5 @@
 -- One change of a batch that was made, or refused.
-use Rattle.std.proofs.Common.{◌≡◌, ◌≢◌, ◌≤◌, Bool, true, false, Ok, Err, refl}
+use Rattle.std.proofs.Common.{◌≡◌, ◌≢◌, ◌≤◌, List, Bool, true, false, Ok, Err, refl}
 use Rattle.std.specs.Prelude.{IsTrue}
 use Rattle.rpm_outside.specs.declared.disk.Disk as disk
 use Rattle.rpm_change.proofs.Vocabulary.{Change, ChangeFault, changing, Database, fault_kind, fault_spent, FaultIs, FullCause, GathersOne, Gathers}
@@ -7,6 +7,7 @@ use Rattle.rpm_change.proofs.Vocabulary.{generation_of, halt_of, halted_went, Ha
 use Rattle.rpm_change.proofs.Vocabulary.{needed, next-state, next_number, one_made, one_refused, ReachesTo, refused_quietly, room, RowChange, Runs}
 use Rattle.rpm_change.proofs.Vocabulary.{SameLog, state_in, Tally, through_none, WholeCause}
 use Rattle.rpm_db.specs.declared.change_fault.ChangeFault.TheVariants as fault
+use Rattle.rpm_hindex.specs.Rows.{Row}
 
 abbrev changed : Tally
 changed = record { failed = 0; changes = 1 }
@@ -39,8 +40,8 @@ module _ {D : Type 0} (d : disk.Ghosts D) {A : Type 0} (change : Change) {old ne
         spent = tt;
       }
 
-  pub ungathered_one : {X : Type 0} {kept : Database} (f : ChangeFault) → Gathers d {A = A} old new change before after owed more (Err f)
-      → IsLeftSuspended d {A = A} old new after kept (Err f)
+  pub ungathered_one : {X : Type 0} {kept : Database} {drops : List Row} (f : ChangeFault) → Gathers d {A = A} old new change before after owed more (Err f)
+      → IsLeftSuspended d {A = A} old new after kept drops (Err f)
       → ((i : Bool) → (i ≡ true → FullCause (needed (state_in d old before) change) f) → FaultIs i (state_in d old before) change (room before) f)
       → next_number kept ≡ next_number before → generation_of kept ≡ generation_of before
       → (IsTrue d.tells → IsWholeIndex (d.files old).idx → WholeCause f)
