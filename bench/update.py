@@ -15,8 +15,6 @@ valgrind, and 3 GB below $TMPDIR; it takes a quarter of an hour.
 """
 import argparse
 import datetime
-import hashlib
-import json
 import os
 import shutil
 import subprocess
@@ -28,9 +26,8 @@ from pathlib import Path
 sys.dont_write_bytecode = True
 import update_costs
 import update_work
+from tables import Kept, line, number, put_into_page, share, version_of_rpm
 
-PAGE = update_work.HERE.parent / "docs" / "FIGURES.md"
-MADE = "<!-- made by bench/update.py --write -->\n", "<!-- end of what it made -->\n"
 # A command may take so many seconds of the processor; a work that takes more seconds of the processor than MOST_RUN is run once.
 MOST, MOST_RUN, MOST_COUNTED, MOST_LINES, MOST_TRACED = 300, 10, 2, 3, 300_000
 SYNCS = ("fsync", "fdatasync")
@@ -84,37 +81,6 @@ class Bench:
         return found
 
 
-class Kept:
-    """The costs that runs noted in a file, by what they are of."""
-
-    def __init__(self, path, program):
-        self.path, self.program = path, hashlib.sha256(program.read_bytes()).hexdigest()[:16]
-        self.rows = json.loads(path.read_text(encoding="utf-8")) if path and path.exists() else {}
-
-    def cost(self, work, side, measure):
-        whose = self.program if side.name == "here" else f"rpm over {side.name}"
-        key = f"{whose}: {work.name}: {work.shown}"
-        if key not in self.rows:
-            self.rows[key] = {**measure(work, side), "load": os.getloadavg()[0]}
-            print(f"{key}: {self.rows[key]}", file=sys.stderr, flush=True)
-            if self.path:
-                self.path.write_text(json.dumps(self.rows, indent=1), encoding="utf-8")
-        return self.rows[key]
-
-
-def line(*cells):
-    return "| " + " | ".join(str(cell) for cell in cells) + " |\n"
-
-
-def number(cost, name, shape, by=1):
-    """A cell: a cost in its unit, or a bar where it wasn't measured."""
-    return shape.format(cost[name] / by) if cost and name in cost else "-"
-
-
-def share(ours, theirs):
-    return f"{ours['seconds'] / theirs['seconds']:.3f}" if "seconds" in ours and "seconds" in theirs else "-"
-
-
 def counts_table(rows):
     text = line("What is done", "By", "Reads", "Calls", "Fsyncs", "Million instructions") + "|---" * 6 + "|\n"
     for work, costs in rows:
@@ -142,8 +108,7 @@ def memory_table(rows, others):
 def told(rows, others, digest):
     """The tables, and what was measured of which programs when."""
     loads = [cost["load"] for _, costs in rows for cost in costs.values() if cost]
-    version = subprocess.run(["rpm", "--version"], stdout=subprocess.PIPE, text=True, check=True).stdout.split()[-1]
-    beside = f", and of rpm {version} over {' and over '.join(others)}" if others else ""
+    beside = f", and of rpm {version_of_rpm()} over {' and over '.join(others)}" if others else ""
     head = f"Measured on {datetime.date.today():%-d %B %Y}, of the program with the digest `{digest}`{beside}; "
     head += f"the load of the machine was {min(loads):.0f} to {max(loads):.0f}."
     text = textwrap.fill(head, 158, break_on_hyphens=False) + "\n\n" + counts_table(rows)
@@ -169,12 +134,6 @@ def options():
     return found
 
 
-def put_into_page(text):
-    """Puts the tables between the marks that the page has for them."""
-    before, rest = PAGE.read_text(encoding="utf-8").split(MADE[0])
-    PAGE.write_text(before + MADE[0] + "\n" + text + "\n" + MADE[1] + rest.split(MADE[1], 1)[1], encoding="utf-8")
-
-
 def main():
     asked = options()
     program = asked.program.resolve()
@@ -189,7 +148,7 @@ def main():
     text = told(rows, [side.name for side in all_sides[1:]], kept.program)
     print(text, end="")
     if asked.write:
-        put_into_page(text)
+        put_into_page("bench/update.py", text)
 
 
 main()

@@ -18,6 +18,7 @@ SYSTEM = Path("/usr/share/gocode/src/github.com/knqyf263/go-rpmdb/pkg/testdata/c
 # What of rpm's transaction isn't the database's work is left out.
 QUIETLY = ["--justdb", "--nodeps", "--noscripts", "--notriggers"]
 UNREAD = ["--nodigest", "--nosignature", "--ignoresize", "--ignorearch", "--ignoreos", "--force"]
+DATABASES = {"own": ["make_database.py", "--own"], "states": ["make_database.py", "--states"], "like_real": ["make_database.py", "--real"]}
 LABEL = "%{NAME}-%{VERSION}-%{RELEASE}.%{ARCH}"
 
 
@@ -86,7 +87,7 @@ class Bases:
         else:
             away = self.folder / "away"
             away.mkdir(exist_ok=True)
-            maker = ["make_database.py", "--own"] if what == "own" else ["make_reports.py", what]
+            maker = DATABASES.get(what) or ["make_reports.py", what]
             subprocess.run([sys.executable, HERE / maker[0], *maker[1:], count, away, path], check=True)
             shutil.rmtree(away)
         return path
