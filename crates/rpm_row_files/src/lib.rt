@@ -19,6 +19,7 @@ pub use fixtures::Fixtures;
 pub use reader::rows_of;
 pub use records::{Record, records_of};
 pub use row::{
-    Ending, Fails, Files, Left, LeftAt, Line, NOTHING_FAILS, Output, Row, Shelved, Shown, Start, Taken, Wrong,
+    Ending, Fails, Files, Left, LeftAt, Line, NOTHING_FAILS, Output, Row, Shelved, Shown, Start,
+    Taken, Wrong,
 };
 pub use statement::{Statement, statements_of};
