@@ -2,11 +2,11 @@
 use Rattle.std.proofs.Common.{ℕ, Option, Some, None}
 use Rattle.rpm_change.proofs.Vocabulary.{ChangeFault, Halt, halt_of, IsOfIndex, WholeCause}
 use Rattle.rpm_change.specs.Adding.{IsOfPutting}
-use Rattle.rpm_change.specs.Endings.{IsOfErasing}
+use Rattle.rpm_change.specs.Erasing.{IsOfErasing}
 use Rattle.rpm_change.specs.Rebuilding.{IsOfRebuilding}
 use Rattle.rpm_db.specs.Refusals as db
 use Rattle.rpm_db.specs.declared.change_fault.ChangeFault.TheVariants as fault
-use Rattle.rpm_change.specs.declared.tally.Halt.TheVariants as halt
+use Rattle.rpm_effects.specs.declared.tally.Halt.TheVariants as halt
 
 pub kind_of_erasing : (f : ChangeFault) → db.IsOfErasing f → IsOfErasing (halt_of f)
 kind_of_erasing fault.NoSuch kind = tt

@@ -7,7 +7,7 @@ use Rattle.rpm_change.proofs.Vocabulary.{State, state_in, stop_by, Store, Tally,
 use Rattle.rpm_outside.specs.declared.disk.Disk as disk
 use Rattle.rpm_outside.specs.declared.sink.Sink as sink
 use Rattle.rpm_db.specs.declared.change_fault.ChangeFault.TheVariants as fault
-use Rattle.rpm_change.specs.declared.tally.Halt.TheVariants as halt
+use Rattle.rpm_effects.specs.declared.tally.Halt.TheVariants as halt
 use Rattle.rpm_change.specs.Limits.{needed}
 
 -- a header that is refused

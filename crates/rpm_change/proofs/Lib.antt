@@ -9,6 +9,5 @@ pub mod Listed
 pub mod Rebuilt
 pub mod Stops
 pub mod Texts
-pub mod Told
 pub mod Turned
 pub mod Vocabulary

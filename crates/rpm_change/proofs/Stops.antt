@@ -2,7 +2,7 @@
 use Rattle.std.proofs.Common.{◌≡◌, ◌⊎◌, inl, inr, Some}
 use Rattle.rpm_change.proofs.Vocabulary.{FileFault, Halt, stop_in}
 use Rattle.rpm_file.specs.declared.fault.FileFault.TheVariants as file
-use Rattle.rpm_change.specs.declared.tally.Halt.TheVariants as halt
+use Rattle.rpm_effects.specs.declared.tally.Halt.TheVariants as halt
 
 -- a stop of reading: nothing was done
 abbrev pub IsOfReading : Halt → Type 0

@@ -2,7 +2,7 @@
 use Rattle.std.proofs.Common.{◌≡◌, Some, None, Result, Err, refl, inl, inr}
 use Rattle.rpm_change.proofs.Vocabulary.{Halt, IsListFault, ListFault, StopIs}
 use Rattle.rpm_file.specs.declared.fault.ListFault.TheVariants as list
-use Rattle.rpm_change.specs.declared.tally.Halt.TheVariants as halt
+use Rattle.rpm_effects.specs.declared.tally.Halt.TheVariants as halt
 use Rattle.rpm_change.proofs.Stops.{IsOfReading}
 
 -- it has a line

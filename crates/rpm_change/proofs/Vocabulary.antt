@@ -1,28 +1,26 @@
 -- The words of proofs, from one place.
-pub use Rattle.rpm_change.specs.Adding.{add_file, add_files, as_installed, change_at, GivesInstalled, put_file, replace}
-pub use Rattle.rpm_change.specs.Adding.{stop_in}
-pub use Rattle.rpm_change.specs.Endings.{Done, Ended, halt_of, outputs}
+pub use Rattle.rpm_change.specs.Adding.{add_file, add_files, as_installed, change_at, GivesInstalled, put_file, replace, stop_in}
+pub use Rattle.rpm_effects.specs.Progress.{halt_of}
 pub use Rattle.rpm_change.specs.Erasing.{erase, erase_one, missing}
 pub use Rattle.rpm_change.specs.Exercise.{generated, numbered, package_items, version}
 pub use Rattle.rpm_change.specs.Importing.{ending, import_list, import_listed, imported, Listed, listed, listed_in, listed_next, once, place_fails, with_blob}
 pub use Rattle.rpm_change.specs.Limits.{is_limit, LimitsTurn}
 pub use Rattle.rpm_change.specs.Rebuilding.{drop_each, dropped, dropped_line, rebuild}
 pub use Rattle.rpm_change.specs.Singles.{GathersOne, IsHeld}
-pub use Rattle.rpm_change.specs.Steps.{apply_all, Bearer, bearer, changing, Course, failing, idle, in_turn, joined, ToErr, whole}
-pub use Rattle.rpm_change.specs.Texts.{absent_line, header_text, refused_line}
-unfoldable pub use Rattle.rpm_change.specs.Texts.{file_text}
+pub use Rattle.rpm_effects.specs.Steps.{apply_all, bearer, changing, Course, failing, idle, in_turn, joined, ToErr, whole}
+pub use Rattle.rpm_effects.specs.Texts.{absent_line, header_text, refused_line}
 pub use Rattle.rpm_change.specs.Turns.{from_place, Leaves, StopIs, turn, turn_found}
-pub use Rattle.rpm_change.specs.Went.{CarriedOn, EndedOnErr, EndedOnOut, IsOwing, LeftBy, Went, WentOwing}
-pub use Rattle.rpm_change.specs.declared.tally.Halt.{Halt}
-pub use Rattle.rpm_change.specs.declared.tally.Tally.{Tally}
-pub use Rattle.rpm_change.specs.inner.Courses.{refused_quietly, stop_by, through_none}
+pub use Rattle.rpm_change.specs.Went.{CarriedOn, IsOwing, LeftBy, Went, WentOwing}
+pub use Rattle.rpm_effects.specs.Shown.{EndedOnErr, EndedOnOut}
+pub use Rattle.rpm_effects.specs.declared.tally.Halt.{Halt}
+pub use Rattle.rpm_effects.specs.declared.tally.Tally.{Tally}
+pub use Rattle.rpm_effects.specs.inner.Courses.{refused_quietly, stop_by, through_none}
 pub use Rattle.rpm_change.specs.inner.Going.{Going, going_end, going_more, going_start, going_stop, halted_went, line_went, none_went, reading_went}
 pub use Rattle.rpm_change.specs.inner.Going.{stopped_went, went_as, went_behind}
 pub use Rattle.rpm_change.specs.inner.Handing.{err_is}
-pub use Rattle.rpm_change.specs.inner.Joins.{err_joins, err_none, err_refused, err_stopped, hand_then, out_gone, out_joins, out_none, out_refused}
-pub use Rattle.rpm_change.specs.inner.Joins.{out_stopped, took, uncounted}
-pub use Rattle.rpm_change.specs.inner.Leaving.{halted_by, left_after, none_by, remade_log, remade_then}
-pub use Rattle.rpm_change.specs.inner.Leaving.{then_by, whole_halt}
+pub use Rattle.rpm_effects.specs.inner.Joins.{err_joins, err_none, err_refused, err_stopped, hand_then, out_gone, out_joins, out_none, out_refused}
+pub use Rattle.rpm_effects.specs.inner.Joins.{out_stopped, took, uncounted}
+pub use Rattle.rpm_change.specs.inner.Leaving.{halted_by, left_after, none_by, remade_log, remade_then, then_by, whole_halt}
 pub use Rattle.rpm_change.specs.inner.LimitLaws.{limits_counted, makes_small}
 pub use Rattle.rpm_change.specs.inner.ReachLaws.{idx_more, reached_anew}
 pub use Rattle.rpm_change.specs.inner.Reading.{looks_run, serving_read}
@@ -67,10 +65,8 @@ pub use Rattle.rpm_outside.specs.Causes.{HasCauseAt, Rose}
 pub use Rattle.rpm_outside.specs.Files.{blank, Files}
 pub use Rattle.rpm_outside.specs.Frame.{Looks}
 pub use Rattle.rpm_outside.specs.Shelves.{bytes_at, Paths}
-pub use Rattle.rpm_outside.specs.Sinks.{Gained, GainedPart}
 pub use Rattle.rpm_outside.specs.declared.buffered.Buffered.{Buffered}
 pub use Rattle.rpm_outside.specs.declared.disk.File.TheVariants.{Pkg}
-pub use Rattle.rpm_outside.specs.inner.Taken.{gained_none}
 pub use Rattle.rpm_pkgdb.specs.Reaches.{ReachesTo}
 pub use Rattle.rpm_pkgdb.specs.Store.{Store}
 pub use Rattle.std.specs.Cmp.{unsigned_tied}

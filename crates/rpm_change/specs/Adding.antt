@@ -10,12 +10,12 @@ use Rattle.rpm_file.specs.Package.{Headed, package_header, read_again}
 use Rattle.rpm_db.specs.Changes.{Change, Add, Put}
 use Rattle.rpm_db.specs.State.{State, Package}
 use Rattle.rpm_change.specs.declared.add.Placing.{Placing}
-use Rattle.rpm_change.specs.declared.tally.Halt.{Halt}
-use Rattle.rpm_change.specs.declared.tally.Halt.TheVariants as halt
+use Rattle.rpm_effects.specs.declared.tally.Halt.{Halt}
+use Rattle.rpm_effects.specs.declared.tally.Halt.TheVariants as halt
 use Rattle.rpm_change.specs.Installs.{installed}
-use Rattle.rpm_change.specs.Steps.{Course, ToErr, whole, changing, failing, in_turn}
+use Rattle.rpm_effects.specs.Steps.{Course, ToErr, whole, changing, failing, in_turn}
 use Rattle.rpm_change.specs.Erasing.{missing}
-use Rattle.rpm_change.specs.Texts.{refused_line, absent_line}
+use Rattle.rpm_effects.specs.Texts.{refused_line, absent_line}
 
 -- a header goes under a new number, or in place of this number's package
 abbrev pub change_at : Option ℕ → List ℕ → Change

@@ -3,7 +3,9 @@ use Rattle.std.specs.Prelude.{ℕ, List, codes, ◌++◌, decimal, Option, Some,
 use Rattle.std.specs.FinMap as finite
 use Rattle.rpm_db.specs.Changes.{Erase}
 use Rattle.rpm_db.specs.State.{State, Package}
-use Rattle.rpm_change.specs.Steps.{Course, ToErr, whole, changing, failing, in_turn}
+use Rattle.rpm_effects.specs.declared.tally.Halt.{Halt}
+use Rattle.rpm_effects.specs.declared.tally.Halt.TheVariants as halt
+use Rattle.rpm_effects.specs.Steps.{Course, ToErr, whole, changing, failing, in_turn}
 
 -- the line of a number that no package has
 unfoldable pub missing_line : ℕ → List ℕ
@@ -25,3 +27,11 @@ erase_one s j n = erased (finite.get s.packages n) j n
 -- each number in turn: one that is named twice is missing the second time
 abbrev pub erase : State → List ℕ → Course
 erase s numbers = in_turn erase_one s 0 numbers
+
+-- erasing takes no new number and no room in the store, reads no shelf and writes no line to out
+abbrev pub IsOfErasing : Halt → Type 0
+IsOfErasing halt.NumbersSpent = ⊥
+IsOfErasing halt.StoreFull = ⊥
+IsOfErasing halt.ShelfFault = ⊥
+IsOfErasing halt.OutFault = ⊥
+IsOfErasing others = Unit {0}

@@ -5,8 +5,9 @@ use Rattle.rpm_header.specs.Header.{Header, header}
 use Rattle.rpm_file.specs.declared.fault.ListFault.{ListFault}
 use Rattle.rpm_file.specs.List.{Found, list_head}
 use Rattle.rpm_db.specs.Changes.{Add}
-use Rattle.rpm_change.specs.Steps.{Course, ToErr, whole, idle, joined, changing, failing}
-use Rattle.rpm_change.specs.Texts.{header_text, list_text, place_line, absent_line}
+use Rattle.rpm_effects.specs.Steps.{Course, ToErr, whole, idle, joined, changing, failing}
+use Rattle.rpm_effects.specs.Texts.{header_text, absent_line}
+use Rattle.rpm_change.specs.Places.{list_text, place_line}
 
 -- ---- the list
 

@@ -3,9 +3,9 @@ use Rattle.std.specs.Prelude.{ℕ, List, [], ◌∷◌, ◌++◌, codes, decimal
 use Rattle.std.specs.FinMap as finite
 use Rattle.rpm_db.specs.Changes.{Erase}
 use Rattle.rpm_db.specs.State.{State, Package, Good, Bad, above}
-use Rattle.rpm_change.specs.declared.tally.Halt.{Halt}
-use Rattle.rpm_change.specs.declared.tally.Halt.TheVariants as halt
-use Rattle.rpm_change.specs.Steps.{Course, ToOut, bearer, idle, joined}
+use Rattle.rpm_effects.specs.declared.tally.Halt.{Halt}
+use Rattle.rpm_effects.specs.declared.tally.Halt.TheVariants as halt
+use Rattle.rpm_effects.specs.Steps.{Course, ToOut, bearer, idle, joined}
 
 -- the line that reports a package that a rebuild drops
 unfoldable pub dropped_line : ℕ → List ℕ

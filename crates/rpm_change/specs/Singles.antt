@@ -3,12 +3,13 @@ use Rattle.std.specs.Prelude.{◌≡◌, ◌≢◌, ℕ, true, IsTrue, IfOk, IfE
 use Rattle.rpm_outside.specs.declared.disk.Disk as disk
 use Rattle.rpm_db.specs.Changes.{Change, Put, Erase}
 use Rattle.rpm_db.specs.Database.{Database, generation_of, holds, next_number}
-use Rattle.rpm_change.specs.declared.tally.Tally.{Tally}
-use Rattle.rpm_change.specs.declared.tally.Halt.{Halt}
-use Rattle.rpm_change.specs.declared.tally.Halt.TheVariants as halt
+use Rattle.rpm_effects.specs.declared.tally.Tally.{Tally}
+use Rattle.rpm_effects.specs.declared.tally.Halt.{Halt}
+use Rattle.rpm_effects.specs.declared.tally.Halt.TheVariants as halt
 use Rattle.rpm_db.specs.declared.netting.RowChange.{RowChange}
-use Rattle.rpm_change.specs.Steps.{changing}
-use Rattle.rpm_change.specs.Went.{EndedQuietly, WentOwing}
+use Rattle.rpm_effects.specs.Steps.{changing}
+use Rattle.rpm_effects.specs.Shown.{EndedQuietly}
+use Rattle.rpm_change.specs.Went.{WentOwing}
 
 -- a header goes under a new number, or under one that a package has
 abbrev pub IsHeld : Option ℕ → Database → Type 0

@@ -4,13 +4,13 @@ use Rattle.rpm_header.specs.Header.{header}
 use Rattle.rpm_file.specs.declared.fault.ListFault.{ListFault}
 use Rattle.rpm_file.specs.declared.fault.ListFault.TheVariants as list
 use Rattle.rpm_file.specs.List.{Found}
-use Rattle.rpm_change.specs.declared.tally.Tally.{Tally}
-use Rattle.rpm_change.specs.declared.tally.Halt.{Halt}
-use Rattle.rpm_change.specs.declared.tally.Halt.TheVariants as halt
+use Rattle.rpm_effects.specs.declared.tally.Tally.{Tally}
+use Rattle.rpm_effects.specs.declared.tally.Halt.{Halt}
+use Rattle.rpm_effects.specs.declared.tally.Halt.TheVariants as halt
 use Rattle.rpm_change.specs.declared.turn.Turn.{Turn}
-use Rattle.rpm_change.specs.Steps.{Course, idle}
+use Rattle.rpm_effects.specs.Steps.{Course, idle}
 use Rattle.rpm_change.specs.Importing.{Listed, place_fails, imported, import_from}
-use Rattle.rpm_change.specs.Texts.{list_text}
+use Rattle.rpm_change.specs.Places.{list_text}
 
 -- a header at place k of a list that may have so many
 abbrev pub turn_found : ℕ → ℕ → List ℕ → Course

@@ -1,10 +1,7 @@
 -- How a course went on a disk and a database: how far, which limit stopped it, and what it left.
-use Rattle.std.specs.Prelude.{◌≡◌, ℕ, List, Bool, true, false, IsTrue, IfOk, Result, Err}
+use Rattle.std.specs.Prelude.{◌≡◌, List, Bool, true, false, IsTrue, IfOk, Result, Ok, Err}
 use Rattle.rpm_outside.specs.declared.disk.Disk as disk
-use Rattle.rpm_outside.specs.declared.sink.Sink as sink
-use Rattle.rpm_outside.specs.declared.buffered.Buffered.{Buffered}
-use Rattle.rpm_outside.specs.Buffered.{inner}
-use Rattle.rpm_outside.specs.Files.{Files}
+use Rattle.rpm_outside.specs.Files.{Files, Units}
 use Rattle.rpm_outside.specs.Frame.{DiskFault}
 use Rattle.rpm_db.specs.Changed.{IsReady}
 use Rattle.rpm_db.specs.Changes.{Change}
@@ -15,40 +12,19 @@ use Rattle.rpm_db.specs.Lawful.{IsWholeIndex}
 use Rattle.rpm_db.specs.State.{State}
 use Rattle.rpm_db.specs.declared.netting.RowChange.{RowChange}
 use Rattle.rpm_db.specs.Runs.{SameLog}
-use Rattle.rpm_change.specs.declared.tally.Tally.{Tally}
-use Rattle.rpm_change.specs.declared.tally.Halt.{Halt}
-use Rattle.rpm_change.specs.declared.tally.Halt.TheVariants as halt
-use Rattle.rpm_change.specs.Endings.{Outputs, outputs, Ended, WholeTurn}
+use Rattle.rpm_effects.specs.declared.tally.Tally.{Tally}
+use Rattle.rpm_effects.specs.declared.tally.Halt.{Halt}
+use Rattle.rpm_effects.specs.declared.tally.Halt.TheVariants as halt
 use Rattle.rpm_change.specs.Limits.{LimitsTurn}
-use Rattle.rpm_change.specs.Steps.{Course}
+use Rattle.rpm_effects.specs.Steps.{Course}
 
--- ---- the sinks
+-- ---- an index that is broken
 
--- nothing was written: both sinks have what they had
-abbrev pub EndedQuietly : Course → State → State → Result Tally Halt → Type 0
-EndedQuietly course s t r = (out_tells err_tells : Bool) (out err : List ℕ)
-    → Ended course s t r (outputs out_tells out err_tells err) (outputs out_tells out err_tells err)
-
-module _ {S : Type 0} (of : sink.Ghosts S) where
-  -- what both took, where err is the sink behind this buffer
-  abbrev pub with_err : Bool → List ℕ → Buffered S → Outputs
-  with_err tells out err = outputs tells out of.tells (of.taken (inner err))
-
-  -- the outputs are these of err, beside what out has
-  abbrev pub with_out : Bool → List ℕ → Buffered S → Outputs
-  with_out tells err out = outputs of.tells (of.taken (inner out)) tells err
-
-  -- what was written went to err: out has what it had
-  abbrev pub EndedOnErr : Buffered S → Buffered S → Course → State → State → Result Tally Halt
-      → Type 0
-  EndedOnErr old new course s t r = (tells : Bool) (out : List ℕ)
-      → Ended course s t r (with_err tells out old) (with_err tells out new)
-
-  -- a course went to out, and err has what it had
-  abbrev pub EndedOnOut : Buffered S → Buffered S → Course → State → State → Result Tally Halt
-      → Type 0
-  EndedOnOut old new course s t r = (tells : Bool) (err : List ℕ)
-      → Ended course s t r (with_out tells err old) (with_out tells err new)
+-- a command that begins with an index that is well formed as a whole leaves one, and is never stopped for it
+abbrev pub WholeTurn : Units → Result Tally Halt → Type 0
+WholeTurn idx (Ok tally) = IsWholeIndex idx
+WholeTurn idx (Err (halt.BadIndex unit)) = ⊥
+WholeTurn idx (Err others) = Unit {0}
 
 -- ---- the disk and the database
 

@@ -1,8 +1,6 @@
 -- Laws on the definitions, for the crates above.
-pub mod Courses
 pub mod Going
 pub mod Handing
-pub mod Joins
 pub mod Leaving
 pub mod LimitLaws
 pub mod Owing

@@ -3,11 +3,10 @@
 ghost use Rattle.std.specs.Prelude.{◌≡◌, ℕ, ◌+◌, ◌^◌, ◌<◌, Some, None, length, map, IsTrue, Ok, Err, IfOk, IfErr};
 ghost use Rattle.rpm_change.specs.Prelude.{add_files, EndedOnErr, Hand, IsGathering, IsHeld, KeepsShelf, IsOfPutting, IsReady, put_file, state_in, stop_in, Went, WentOwing};
 
-use crate::faults::{put_absent, put_refused};
 use crate::install::read_installed;
 use crate::single::put_within;
-use crate::tally::{Halt, Tally};
 use rpm_db::{Batch, Db};
+use rpm_effects::{Halt, Tally, put_absent, put_refused};
 use rpm_file::FileFault;
 use rpm_outside::{Absent, Buffered, Disk, Shelf, Sink};
 use std::alloc::Global;

@@ -3,9 +3,9 @@
 ghost use Rattle.std.specs.Prelude.{◌≡◌, ℕ, ◌+◌, ◌^◌, ◌<◌, length, IsTrue, Err, IfOk, IfErr};
 ghost use Rattle.rpm_change.specs.Prelude.{EndedOnErr, erase, erase_one, Hand, IsGathering, IsOfErasing, IsReady, state_in, Went, WentOwing};
 
-use crate::lines::put_missing;
-use crate::tally::{CHANGED, Halt, Tally};
+use crate::missing::put_missing;
 use rpm_db::{Batch, Db};
+use rpm_effects::{CHANGED, Halt, Tally};
 use rpm_outside::{Buffered, Disk, Sink};
 use std::alloc::Global;
 

@@ -3,10 +3,9 @@
 ghost use Rattle.std.specs.Prelude.{◌≡◌, ◌^◌, ◌<◌, codes, IsTrue, Err, IfErr};
 ghost use Rattle.rpm_change.specs.Prelude.{bytes_at, EndedOnErr, Hand, KeepsShelf, import_list, import_listed, IsGathering, IsOfImporting, IsReady, left, listed, max_headers, Went, WentOwing};
 
-use crate::lines::put_failing;
-use crate::tally::{Halt, Tally};
 use crate::turn::import_next;
 use rpm_db::{Batch, Db};
+use rpm_effects::{Halt, Tally, put_failing};
 use rpm_outside::{Absent, Buffered, Disk, Shelf, Sink};
 use std::alloc::Global;
 

@@ -7,25 +7,20 @@
 mod add;
 mod erase;
 mod exercise;
-mod faults;
 mod import;
 mod install;
-mod lines;
+mod missing;
 mod places;
 mod rebuilding;
 mod replace;
 mod single;
-mod tally;
 mod turn;
 
 pub use add::add_files;
 pub use erase::erase_numbers;
 pub use exercise::generated;
-pub use faults::{
-    absent_line, push_file_text, push_header_text, put_absent, put_refused, refused_line,
-};
 pub use import::{import_list, import_most};
 pub use rebuilding::rebuild;
 pub use replace::replace_package;
+pub use rpm_effects::{Halt, IDLE, Tally};
 pub use single::{put_within, take_within};
-pub use tally::{Halt, IDLE, Tally};

@@ -3,17 +3,15 @@
 ghost use Rattle.std.specs.Prelude.{◌≡◌, IfOk};
 ghost use Rattle.rpm_change.specs.Prelude.{Fails, header_text, list_text, place_line};
 
-use crate::faults::push_header_text;
-use crate::lines::put_failing;
-use crate::tally::{Halt, Tally};
 use itoa::Buffer;
+use rpm_effects::{Halt, Tally, push_header_text, put_failing};
 use rpm_file::ListFault;
 use rpm_header::HeaderFault;
 use rpm_outside::{Buffered, Sink};
 use std::alloc::{AllocError, Global};
 
 /// What is told of a fault of a list: of `ReadFault` and `NoMemory`, which are none, nothing.
-#[tactic(auto, unfolding(crate::specs::Texts::list_text))]
+#[tactic(auto, unfolding(crate::specs::Places::list_text))]
 pub fn list_text(fault: ListFault) -> &'static [u8]
     ensures { result.now ≡ list_text fault }
 {
@@ -28,7 +26,7 @@ pub fn list_text(fault: ListFault) -> &'static [u8]
 }
 
 /// The line of the header at a place, from 1.
-#[tactic(auto, unfolding(crate::specs::Texts::place_line))]
+#[tactic(auto, unfolding(crate::specs::Places::place_line))]
 fn place_line(alloc: Global, place: u32, text: &[u8]) -> Result<Vec<u8>, AllocError>
     ensures { IfOk result (λ line. line.items ≡ place_line place text.now) }
 {

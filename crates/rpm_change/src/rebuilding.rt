@@ -5,9 +5,9 @@ ghost use Rattle.std.specs.FinMap as finite;
 ghost use Rattle.rpm_change.specs.Prelude.{Bad, DiskFault, dropped, dropped_line, EndedOnOut, first_limit, Hand, holds, is_indexed, IsCurrent, IsGathering, IsOfRebuilding, IsReady, next_stores, Package, ReachedAnew, rebuild, room, RoomBecomes, Runs, SameLog, state_in, StopsAt, Went, WentOwing};
 
 use crate::single::take_within;
-use crate::tally::{Halt, IDLE, Tally};
 use itoa::Buffer;
 use rpm_db::{Batch, Db, GetFault};
+use rpm_effects::{Halt, IDLE, Tally};
 use rpm_outside::{Buffered, Disk, Sink, put_and_flush};
 use std::alloc::{AllocError, Global};
 use std::mem;

@@ -4,9 +4,9 @@ ghost use Rattle.std.specs.Prelude.{◌≡◌, ◌+◌, Some, false, IsTrue, Err
 ghost use Rattle.rpm_change.specs.Prelude.{EndedOnErr, Hand, IsHeld, KeepsShelf, holds, IsOfPutting, IsReady, put_file, replace, state_in, Went};
 
 use crate::add::{Placing, put_file};
-use crate::lines::put_missing;
-use crate::tally::{Halt, Tally};
+use crate::missing::put_missing;
 use rpm_db::{Batch, Db};
+use rpm_effects::{Halt, Tally};
 use rpm_outside::{Buffered, Disk, Shelf, Sink};
 use std::alloc::Global;
 

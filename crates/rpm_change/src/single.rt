@@ -3,8 +3,8 @@
 ghost use Rattle.std.specs.Prelude.{◌≡◌, true, Ok};
 ghost use Rattle.rpm_change.specs.Prelude.{change_at, Erase, GathersOne, header, holds, IsGathering, IsHeld, read_again};
 
-use crate::tally::{CHANGED, Halt, Tally};
 use rpm_db::{Batch, Db};
+use rpm_effects::{CHANGED, Halt, Tally};
 use rpm_header::View;
 use rpm_outside::Disk;
 use std::alloc::Global;

@@ -4,8 +4,8 @@ ghost use Rattle.std.specs.Prelude.{◌≡◌, ◌+◌, ◌<◌, ◌≤◌, true
 ghost use Rattle.rpm_change.specs.Prelude.{EndedOnErr, Hand, IsGathering, IsOfHeaders, IsOfImporting, KeepsShelf, Leaves, left, list_head, StopIs, tally_of, turn, turn_found, WentOwing};
 
 use crate::places::{list_text, put_bad_header, put_place};
-use crate::tally::{CHANGED, Halt, IDLE, Tally};
 use rpm_db::{Batch, ChangeFault, Db};
+use rpm_effects::{CHANGED, Halt, IDLE, Tally};
 use rpm_file::{ListFault, read_header};
 use rpm_outside::{Buffered, Disk, Shelf, Sink};
 use std::alloc::Global;

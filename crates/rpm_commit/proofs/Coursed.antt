@@ -21,8 +21,8 @@ use Rattle.rpm_commit.specs.inner.Works.{halt_stopped, if_found, plain_stops, st
 use Rattle.rpm_print.specs.inner.Verified.{no_entry, from_one}
 use Rattle.rpm_commit.specs.inner.ByEnding.{by_opening}
 use Rattle.rpm_outside.specs.declared.disk.Disk as disk
-use Rattle.rpm_change.specs.declared.tally.Halt.TheVariants as halt
-use Rattle.rpm_print.specs.declared.answer.Why.TheVariants as why
+use Rattle.rpm_effects.specs.declared.tally.Halt.TheVariants as halt
+use Rattle.rpm_effects.specs.declared.answer.Why.TheVariants as why
 use Rattle.std.specs.FinMap as finite
 use Rattle.rpm_hindex.specs.Sizes as sizes
 

@@ -4,7 +4,7 @@ use Rattle.std.specs.Prelude.{IsTrue}
 use Rattle.rpm_outside.specs.declared.disk.Disk as disk
 use Rattle.rpm_commit.proofs.Vocabulary.{EndsGroup, File, Files, images, is_done, is_halt, IsShut, IsSound, KeepsBelow, LeavesIn, Log, log_state, LooksAt}
 use Rattle.rpm_commit.proofs.Vocabulary.{reopened, ReopensAs, started, unless_starved, unlogged, Why}
-use Rattle.rpm_print.specs.declared.answer.Why.TheVariants as why
+use Rattle.rpm_effects.specs.declared.answer.Why.TheVariants as why
 use Rattle.rpm_commit.specs.inner.ByEnding.{by_starved}
 use Rattle.rpm_commit.specs.inner.Starved.{starved_is}
 use Rattle.rpm_commit.specs.inner.Regrouped.{leaves_on}

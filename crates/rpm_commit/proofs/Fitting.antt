@@ -4,7 +4,7 @@ use Rattle.std.specs.Prelude.{◌==◌, ◌&&◌, if◌then◌else◌, is_none, 
 use Rattle.std.proofs.lemmas.Bool.Decides.{nat_tests}
 use Rattle.rpm_commit.proofs.Vocabulary.{apply, apply_all, Change, first_limit, first_refusal, Halt, is_large, is_spent, needed, next_store, option_or}
 use Rattle.rpm_commit.proofs.Vocabulary.{refusal, rows, State, Store, units_for}
-use Rattle.rpm_change.specs.declared.tally.Halt.TheVariants as halt
+use Rattle.rpm_effects.specs.declared.tally.Halt.TheVariants as halt
 
 abbrev Fits : State → Type 0
 Fits s = units_for (rows s.packages) ≤ 2 ^ 28

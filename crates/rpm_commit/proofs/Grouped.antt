@@ -20,7 +20,7 @@ use Rattle.rpm_commit.specs.inner.Standing.{begins, current_lawful, if_ok, if_ok
 use Rattle.rpm_commit.specs.inner.Unmade.{still_one}
 use Rattle.rpm_group.specs.inner.KeptLogs.{sound_kept}
 use Rattle.rpm_outside.specs.declared.disk.Disk as disk
-use Rattle.rpm_print.specs.declared.answer.Why.TheVariants as why
+use Rattle.rpm_effects.specs.declared.answer.Why.TheVariants as why
 
 -- what was done was done of a database that can be read
 worked_store : (course : State → Course) (pkg : Units) (new : Files) (tally : Tally) (before now : Outputs) (sr : Result Store Damage)

@@ -6,8 +6,8 @@ use Rattle.std.proofs.Common.{◌≡◌, ℕ, ◌≤◌, Bool, true, false, List
 use Rattle.std.specs.Prelude.{IsTrue, IfErr}
 use Rattle.rpm_outside.specs.declared.shelf.Shelf as shelf
 use Rattle.rpm_outside.specs.declared.sink.Sink as sink
-use Rattle.rpm_change.specs.declared.tally.Halt.TheVariants as halt
-use Rattle.rpm_print.specs.declared.answer.Why.TheVariants as why
+use Rattle.rpm_effects.specs.declared.tally.Halt.TheVariants as halt
+use Rattle.rpm_effects.specs.declared.answer.Why.TheVariants as why
 use Rattle.rpm_commit.specs.inner.Emptied.{done_unheld}
 
 -- ---- the halt that an ending tells

@@ -1,24 +1,24 @@
 -- The words of proofs, from one place.
 pub use Rattle.rpm_change.specs.Adding.{add_files, IsOfPutting, replace}
-pub use Rattle.rpm_change.specs.Endings.{Done, Ended, IsOfErasing, Outputs, Through}
-pub use Rattle.rpm_change.specs.Erasing.{erase}
-pub use Rattle.rpm_change.specs.Hands.{Hand}
+pub use Rattle.rpm_effects.specs.Progress.{Done, Ended, Outputs, Through}
+pub use Rattle.rpm_change.specs.Erasing.{IsOfErasing, erase}
+pub use Rattle.rpm_effects.specs.Hands.{Hand}
 pub use Rattle.rpm_change.specs.Importing.{import_list, max_headers}
 pub use Rattle.rpm_change.specs.Limits.{first_limit, first_refusal, is_large, is_spent, LimitsTurn, needed, next_stores, refusal, StopsAt}
 pub use Rattle.rpm_change.specs.Reaches.{idx_reach, pkg_reach, ReachedAnew}
 pub use Rattle.rpm_change.specs.Rebuilding.{IsOfRebuilding, rebuild}
-pub use Rattle.rpm_change.specs.Steps.{apply_all, Course, idle}
+pub use Rattle.rpm_effects.specs.Steps.{apply_all, Course, idle}
 pub use Rattle.rpm_change.specs.Turns.{IsOfImporting}
 pub use Rattle.rpm_change.specs.Went.{IsCurrent}
-pub use Rattle.rpm_change.specs.declared.tally.Halt.{Halt}
-pub use Rattle.rpm_change.specs.declared.tally.Tally.{Tally}
-pub use Rattle.rpm_change.specs.inner.Courses.{none_gone}
+pub use Rattle.rpm_effects.specs.declared.tally.Halt.{Halt}
+pub use Rattle.rpm_effects.specs.declared.tally.Tally.{Tally}
+pub use Rattle.rpm_effects.specs.inner.Courses.{none_gone}
 pub use Rattle.rpm_change.specs.inner.LimitLaws.{makes_small, never_bad_made}
 pub use Rattle.rpm_change.specs.inner.ReachLaws.{idx_more, pkg_more, reached_anew, reached_none}
 pub use Rattle.rpm_change.specs.inner.Stores.{stores_paged}
 pub use Rattle.rpm_commit.specs.Changing.{after, AllFit, BadBy, Did, DidLoaded, DidOn, DidOpened, EmptyBy, HasCurrent, HasState, IsMade, makes}
 pub use Rattle.rpm_commit.specs.Changing.{HasChanges, IsAllOrNone, RowsFit, StandsStillOr}
-pub use Rattle.rpm_commit.specs.Endings.{unless_starved, why_of_load, why_of_recover}
+pub use Rattle.rpm_effects.specs.Endings.{unless_starved, why_of_load, why_of_recover, why_of_halt}
 pub use Rattle.rpm_commit.specs.Lawful.{AreLawfulGroups, IsLawfulGroup, MayBegin}
 pub use Rattle.rpm_commit.specs.Limits.{command_limit, LimitsBy, LogIs, LogOn, MeetsFirst, OneChange}
 pub use Rattle.rpm_commit.specs.Reaches.{begun, HasStore, ReachedOn, ReachesBy, ReachesOn, StoresOn}
@@ -68,10 +68,10 @@ pub use Rattle.rpm_pkgdb.specs.Reaches.{store_end}
 pub use Rattle.rpm_pkgdb.specs.Store.{in_file, Store, store}
 pub use Rattle.rpm_pkgdb.specs.Written.{with_spare}
 pub use Rattle.rpm_pkgdb.specs.declared.slot.Damage.{Damage}
-pub use Rattle.rpm_print.specs.Answers.{why_of_halt}
-pub use Rattle.rpm_print.specs.Classes.{is_done, is_done_or_fault, is_halt, is_held, is_of_lawful, is_of_streams, IsOfOpening, IsUncommitted}
-pub use Rattle.rpm_print.specs.Frame.{DiskFault, Runs, shown, state_in}
-pub use Rattle.rpm_print.specs.declared.answer.Why.{Why}
+pub use Rattle.rpm_effects.specs.Classes.{is_done, is_done_or_fault, is_halt, is_held, is_of_lawful, is_of_streams, IsOfOpening, IsUncommitted}
+pub use Rattle.rpm_print.specs.Frame.{DiskFault, Runs, state_in}
+pub use Rattle.rpm_effects.specs.Shown.{shown}
+pub use Rattle.rpm_effects.specs.declared.answer.Why.{Why}
 pub use Rattle.rpm_words.specs.Number.{number}
 pub use Rattle.rpm_words.specs.Words.{text_at}
 pub use Rattle.std.specs.List.{filter_map}

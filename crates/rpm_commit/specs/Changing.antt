@@ -16,12 +16,12 @@ use Rattle.rpm_db.specs.Lawful.{HasRows, IsWholeIndex, is_current_at}
 use Rattle.rpm_db.specs.Openings.{must_make, units_needed}
 use Rattle.rpm_db.specs.Database.{IsNext}
 use Rattle.rpm_db.specs.State.{State, Package, state, packages}
-use Rattle.rpm_change.specs.Steps.{Course, apply_all}
-use Rattle.rpm_change.specs.Endings.{Outputs, Through, ThroughSome, StoppedWithin}
-use Rattle.rpm_print.specs.declared.answer.Why.{Why}
-use Rattle.rpm_print.specs.declared.answer.Why.TheVariants as why
-use Rattle.rpm_print.specs.Answers.{Misread, Refused}
-use Rattle.rpm_print.specs.Classes.{is_done, is_done_or_fault, is_held, is_of_lawful}
+use Rattle.rpm_effects.specs.Steps.{Course, apply_all}
+use Rattle.rpm_effects.specs.Progress.{Outputs, Through, ThroughSome, StoppedWithin}
+use Rattle.rpm_effects.specs.declared.answer.Why.{Why}
+use Rattle.rpm_effects.specs.declared.answer.Why.TheVariants as why
+use Rattle.rpm_effects.specs.Answers.{Misread, Refused}
+use Rattle.rpm_effects.specs.Classes.{is_done, is_done_or_fault, is_held, is_of_lawful}
 use Rattle.rpm_group.specs.Loads.{IsSound}
 use Rattle.rpm_group.specs.Settled.{KeepsLog, ReopensAsOneOf}
 use Rattle.rpm_commit.specs.Lawful.{IsLawfulGroup, AreLawfulGroups, MayBegin, StandsStill}

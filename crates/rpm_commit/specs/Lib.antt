@@ -1,5 +1,4 @@
 pub mod Changing
-pub mod Endings
 pub mod Lawful
 pub mod Limits
 pub mod OneChange

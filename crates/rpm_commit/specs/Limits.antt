@@ -10,13 +10,13 @@ use Rattle.rpm_group.specs.Groups.{longest_log}
 use Rattle.rpm_group.specs.Settled.{ReopensAsOneOf}
 use Rattle.rpm_db.specs.Changes.{Change, Says}
 use Rattle.rpm_db.specs.State.{State, state}
-use Rattle.rpm_change.specs.declared.tally.Halt.{Halt}
-use Rattle.rpm_change.specs.declared.tally.Halt.TheVariants as halt
-use Rattle.rpm_change.specs.Endings.{Outputs, Through}
+use Rattle.rpm_effects.specs.declared.tally.Halt.{Halt}
+use Rattle.rpm_effects.specs.declared.tally.Halt.TheVariants as halt
+use Rattle.rpm_effects.specs.Progress.{Outputs, Through}
 use Rattle.rpm_change.specs.Limits.{first_refusal, first_limit}
-use Rattle.rpm_change.specs.Steps.{Course}
-use Rattle.rpm_print.specs.declared.answer.Why.{Why}
-use Rattle.rpm_print.specs.declared.answer.Why.TheVariants as why
+use Rattle.rpm_effects.specs.Steps.{Course}
+use Rattle.rpm_effects.specs.declared.answer.Why.{Why}
+use Rattle.rpm_effects.specs.declared.answer.Why.TheVariants as why
 use Rattle.rpm_commit.specs.Lawful.{IsLawfulGroup, AreLawfulGroups, MayBegin, StandsStill}
 use Rattle.rpm_commit.specs.Changing.{DidOn, ChangesWith, makes, after}
 use Rattle.rpm_commit.specs.Reaches.{ReachedOn, begun}

@@ -15,15 +15,16 @@ use Rattle.rpm_db.specs.Lawful.{IsLawful, IsWholeIndex}
 use Rattle.rpm_db.specs.Reaches.{ReachesMade}
 use Rattle.rpm_db.specs.State.{State}
 use Rattle.rpm_db.specs.Runs.{SameLog}
-use Rattle.rpm_change.specs.declared.tally.Tally.{Tally}
-use Rattle.rpm_change.specs.Endings.{Outputs}
-use Rattle.rpm_change.specs.Steps.{Course}
-use Rattle.rpm_print.specs.declared.answer.Why.{Why}
-use Rattle.rpm_print.specs.declared.answer.Why.TheVariants as why
+use Rattle.rpm_effects.specs.declared.tally.Tally.{Tally}
+use Rattle.rpm_effects.specs.Progress.{Outputs}
+use Rattle.rpm_effects.specs.Steps.{Course}
+use Rattle.rpm_effects.specs.declared.answer.Why.{Why}
+use Rattle.rpm_effects.specs.declared.answer.Why.TheVariants as why
 use Rattle.rpm_commit.specs.declared.changing.CommandEnding.{CommandEnding}
 use Rattle.rpm_commit.specs.Changing.{EmptyBy, IsBroken}
-use Rattle.rpm_print.specs.Classes.{is_done, is_halt, is_of_words}
-use Rattle.rpm_print.specs.Frame.{DiskFault, ShelfFault, Hands, IsIndexed, Runs, state_in}
+use Rattle.rpm_effects.specs.Classes.{is_done, is_halt, is_of_words}
+use Rattle.rpm_print.specs.Frame.{DiskFault, IsIndexed, Runs, state_in}
+use Rattle.rpm_effects.specs.Hands.{ShelfFault, Hands}
 use Rattle.rpm_commit.specs.Limits.{LimitsBy}
 use Rattle.rpm_commit.specs.Reaches.{begun}
 use Rattle.rpm_commit.specs.Working.{OpensWithin, WorkedWith, why_of}

@@ -12,11 +12,11 @@ pub use Rattle.rpm_words.specs.Number.{number}
 pub use Rattle.rpm_words.specs.Words.{text_at}
 pub use Rattle.std.specs.List.{filter_map}
 pub use Rattle.rpm_commit.specs.Changing.{EmptyBy}
-pub use Rattle.rpm_commit.specs.Endings.{unless_starved, why_of_load, why_of_open, why_of_recover}
 pub use Rattle.rpm_commit.specs.Limits.{LogIs, OneChange}
 pub use Rattle.rpm_commit.specs.Tasks.{IsCountable, asked_task, changes_index, is_anew, needs_none, numbers_asked, reads_shelf, replacing}
 pub use Rattle.rpm_commit.specs.Tasks.{task_course, task_parts}
 pub use Rattle.rpm_commit.specs.Working.{EndsGroup, IsShut, OpensBy, done_why, ended_as, exercise_ended}
 pub use Rattle.rpm_commit.specs.OneChange.{BeginsOn, Keeps, OpensOn, Streams, WorksOn}
-pub use Rattle.rpm_print.specs.Classes.{IsOfOpening, IsOutside, is_done, is_halt, is_of_streams, is_of_words}
-pub use Rattle.rpm_print.specs.Frame.{DiskFault, Runs, Serving, images, shown}
+pub use Rattle.rpm_effects.specs.Classes.{IsOfOpening, IsOutside, is_done, is_halt, is_of_streams, is_of_words}
+pub use Rattle.rpm_print.specs.Frame.{DiskFault, Runs, Serving, images}
+pub use Rattle.rpm_effects.specs.Shown.{shown}

@@ -11,7 +11,7 @@ use Rattle.rpm_db.specs.Rows.{rows}
 use Rattle.rpm_db.specs.State.{State, state}
 use Rattle.rpm_change.specs.Limits.{next_stores}
 use Rattle.rpm_change.specs.Reaches.{pkg_reach, idx_reach}
-use Rattle.rpm_change.specs.Steps.{Course}
+use Rattle.rpm_effects.specs.Steps.{Course}
 use Rattle.rpm_commit.specs.Lawful.{MayBegin}
 
 -- ---- the store

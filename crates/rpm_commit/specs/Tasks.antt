@@ -9,7 +9,7 @@ use Rattle.rpm_words.specs.declared.ask.Mode.TheVariants.{Addpkg, Replacepkg, Er
 use Rattle.rpm_words.specs.Ask.{AskParts}
 use Rattle.rpm_words.specs.Number.{number}
 use Rattle.rpm_words.specs.Words.{text_at}
-use Rattle.rpm_change.specs.Steps.{Course, idle}
+use Rattle.rpm_effects.specs.Steps.{Course, idle}
 use Rattle.rpm_change.specs.Adding.{add_files, replace}
 use Rattle.rpm_change.specs.Erasing.{erase}
 use Rattle.rpm_change.specs.Importing.{import_list, max_headers}

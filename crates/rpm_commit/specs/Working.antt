@@ -16,18 +16,19 @@ use Rattle.rpm_db.specs.Database.{Database}
 use Rattle.rpm_db.specs.Lawful.{IsLawful}
 use Rattle.rpm_db.specs.Openings.{must_make, units_needed}
 use Rattle.rpm_db.specs.State.{State, state}
-use Rattle.rpm_change.specs.declared.tally.Halt.{Halt}
-use Rattle.rpm_change.specs.declared.tally.Tally.{Tally}
-use Rattle.rpm_change.specs.Steps.{Course}
-use Rattle.rpm_change.specs.Endings.{Outputs, Through, Done}
+use Rattle.rpm_effects.specs.declared.tally.Halt.{Halt}
+use Rattle.rpm_effects.specs.declared.tally.Tally.{Tally}
+use Rattle.rpm_effects.specs.Steps.{Course}
+use Rattle.rpm_effects.specs.Progress.{Outputs, Through, Done}
 use Rattle.rpm_exercise.specs.declared.running.ExerciseFault.{ExerciseFault}
 use Rattle.rpm_exercise.specs.declared.running.ExerciseFault.TheVariants.{NotEmpty, Halted}
-use Rattle.rpm_print.specs.declared.answer.Why.{Why}
-use Rattle.rpm_print.specs.declared.answer.Why.TheVariants as why
-use Rattle.rpm_print.specs.Answers.{Refused, why_of_halt}
+use Rattle.rpm_effects.specs.declared.answer.Why.{Why}
+use Rattle.rpm_effects.specs.declared.answer.Why.TheVariants as why
+use Rattle.rpm_effects.specs.Answers.{Refused}
+use Rattle.rpm_effects.specs.Endings.{why_of_halt}
 use Rattle.rpm_commit.specs.Changing.{Did, BadBy, HasCurrent, IsMade}
 use Rattle.rpm_commit.specs.Lawful.{MayBegin}
-use Rattle.rpm_print.specs.Classes.{is_done, is_done_or_fault, IsUncommitted}
+use Rattle.rpm_effects.specs.Classes.{is_done, is_done_or_fault, IsUncommitted}
 use Rattle.rpm_commit.specs.Reaches.{ReachesBy, StoresOn}
 
 -- ---- opening

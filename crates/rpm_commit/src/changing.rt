@@ -4,12 +4,10 @@ ghost use Rattle.std.specs.Prelude.{◌≡◌, ◌⊎◌, ◌≤◌, true, false
 ghost use Rattle.rpm_commit.specs.Prelude.{asked_task, done_why, EmptyBy, EndsGroup, is_done, is_halt, is_of_streams, is_of_words, IsShut, IsSound, Keeps, laid_files, LogIs, needs_none, OneChange, overlay_below, overlay_held, overlay_starved, reads_shelf, reopened, Rose, shown, Streams, task_course, unlogged};
 
 use crate::courses::change_on;
-use crate::endings::{unless_starved, why_of_load, why_of_recover};
 use crate::task::task_of;
-use rpm_change::Tally;
+use rpm_effects::{Tally, Why, unless_starved, why_of_load, why_of_recover};
 use rpm_group::{CommitFault, Overlay, recover};
 use rpm_outside::{Buffered, Disk, Shelf, Sink};
-use rpm_print::Why;
 use rpm_words::{Ask, Words};
 use std::alloc::{AllocError, Global};
 

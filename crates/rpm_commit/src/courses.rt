@@ -5,10 +5,10 @@ ghost use Rattle.rpm_commit.specs.Prelude.{changes_index, ended_as, exercise_end
 
 use crate::opening::open_to_change;
 use crate::task::Task;
-use rpm_change::{Halt, Tally, add_files, erase_numbers, import_list, rebuild, replace_package};
+use rpm_change::{add_files, erase_numbers, import_list, rebuild, replace_package};
+use rpm_effects::{Halt, Tally, Why};
 use rpm_exercise::{ExerciseFault, exercise};
 use rpm_outside::{Buffered, Disk, Shelf, Sink};
-use rpm_print::Why;
 use std::alloc::Global;
 
 /// How a command ended whose course was gone through, or was stopped.

@@ -3,9 +3,8 @@
 
 mod changing;
 mod courses;
-mod endings;
 mod opening;
 mod task;
 
 pub use changing::{CommandEnding, change_asked};
-pub use endings::{unless_starved, why_of_load, why_of_open, why_of_recover};
+pub use rpm_effects::Why;

@@ -3,10 +3,9 @@
 ghost use Rattle.std.specs.Prelude.{◌≡◌, false, not, IsTrue, Err, IfOk, IfErr, OnOk};
 ghost use Rattle.rpm_commit.specs.Prelude.{BeginsOn, DiskFault, images, is_blank, is_indexed, IsOfOpening, IsOutside, IsSettled, OpensBy, OpensOn, Runs, SameLog, Serving, store};
 
-use crate::endings::why_of_open;
 use rpm_db::{ChangeFault, Db};
+use rpm_effects::{Why, why_of_open};
 use rpm_outside::{Disk, File};
-use rpm_print::Why;
 use std::alloc::Global;
 
 /// Makes a database where there is none, without packages.

@@ -5,7 +5,7 @@ use Rattle.rpm_outside.specs.declared.disk.Disk as disk
 use Rattle.rpm_exercise.proofs.Vocabulary.{Asks, cause_then, Database, DiskFault, Halt, HasRows, Idx, is_broken, IsAskable, IsOfAsking, IsOfReading}
 use Rattle.rpm_exercise.proofs.Vocabulary.{LooksAt, PickFault, reads_on, Runs, runs_looks, runs_none, SameFiles, stop_of}
 use Rattle.rpm_select.specs.declared.picked.PickFault.TheVariants as pick
-use Rattle.rpm_change.specs.declared.tally.Halt.TheVariants as halt
+use Rattle.rpm_effects.specs.declared.tally.Halt.TheVariants as halt
 
 at_disk : {X : Type 0} (r : Result X PickFault) → stop_of r ≡ Some halt.DiskFault → r ≡ Err pick.DiskFault
 at_disk (Ok x) is = absurd cc

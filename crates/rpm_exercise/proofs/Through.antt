@@ -7,7 +7,7 @@ use Rattle.rpm_exercise.proofs.Vocabulary.{halt_of, IsGathering, IsOfChange, IsO
 use Rattle.rpm_exercise.proofs.Vocabulary.{none_went, OwesOn, owing_none, owing_then, plus, quiet_joins, quiet_none, RowChange, state_in}
 use Rattle.rpm_exercise.proofs.Vocabulary.{stopped_went, Tally, through_none, WentBy, went_ahead, went_then}
 use Rattle.rpm_db.specs.declared.change_fault.ChangeFault.TheVariants as fault
-use Rattle.rpm_change.specs.declared.tally.Halt.TheVariants as halt
+use Rattle.rpm_effects.specs.declared.tally.Halt.TheVariants as halt
 
 one_kinds : (change : Change) (r : Result Tally Halt) → IfErr r (IsOfChange change) → IfErr r IsOfChanges
 one_kinds change (Ok tally) kinds = tt

@@ -1,18 +1,19 @@
 -- The words of proofs, from one place.
-pub use Rattle.rpm_change.specs.Endings.{halt_of, WholeTurn}
+pub use Rattle.rpm_effects.specs.Progress.{halt_of}
+pub use Rattle.rpm_change.specs.Went.{WholeTurn, IsOwing, Went, WentBy}
 pub use Rattle.rpm_change.specs.Exercise.{numbered}
 pub use Rattle.rpm_change.specs.Limits.{is_limit}
 pub use Rattle.rpm_change.specs.Singles.{GathersOne, IsOfChange, IsSpent}
-pub use Rattle.rpm_change.specs.Steps.{apply_all, Course, whole}
-pub use Rattle.rpm_change.specs.Went.{EndedOnOut, EndedQuietly, IsOwing, Went, WentBy}
-pub use Rattle.rpm_change.specs.declared.tally.Halt.{Halt}
-pub use Rattle.rpm_change.specs.declared.tally.Tally.{Tally}
-pub use Rattle.rpm_change.specs.inner.Courses.{none_gone, plus, stopped_by, through_none}
+pub use Rattle.rpm_effects.specs.Steps.{apply_all, Course, whole}
+pub use Rattle.rpm_effects.specs.Shown.{EndedOnOut, EndedQuietly}
+pub use Rattle.rpm_effects.specs.declared.tally.Halt.{Halt}
+pub use Rattle.rpm_effects.specs.declared.tally.Tally.{Tally}
+pub use Rattle.rpm_effects.specs.inner.Courses.{none_gone, plus, stopped_by, through_none}
 pub use Rattle.rpm_change.specs.inner.Going.{counted_went, Going, going_begin, going_end, going_more, going_stop, none_went, stopped_went, went_ahead}
 pub use Rattle.rpm_change.specs.inner.Going.{went_then}
 pub use Rattle.rpm_change.specs.inner.Handing.{err_is}
-pub use Rattle.rpm_change.specs.inner.Joins.{out_gone, quiet_joins, quiet_none, quiet_stopped}
-pub use Rattle.rpm_change.specs.inner.Leaving.{cause_then, current_left, none_by, remade_log, remade_then, state_remade}
+pub use Rattle.rpm_effects.specs.inner.Joins.{out_gone, quiet_joins, quiet_none, quiet_stopped, cause_then}
+pub use Rattle.rpm_change.specs.inner.Leaving.{current_left, none_by, remade_log, remade_then, state_remade}
 pub use Rattle.rpm_change.specs.inner.Owing.{list_settled, list_stopped, list_unsettled, owing_begun, owing_none, owing_then}
 pub use Rattle.rpm_change.specs.inner.Reading.{left_read, looks_run, reads_on}
 pub use Rattle.rpm_change.specs.inner.Single.{other_stop}
@@ -31,8 +32,7 @@ pub use Rattle.rpm_db.specs.State.{above, Package, State}
 pub use Rattle.rpm_db.specs.declared.change_fault.ChangeFault.{ChangeFault}
 pub use Rattle.rpm_db.specs.declared.netting.RowChange.{RowChange}
 pub use Rattle.rpm_exercise.specs.Endings.{IsOfAsking, IsOfExercise, IsOfReading, stop_of}
-pub use Rattle.rpm_exercise.specs.Exercised.{capability_line, capability_lines, capability_named, count_line, digest_line, exercise}
-pub use Rattle.rpm_exercise.specs.Exercised.{exported, picked}
+pub use Rattle.rpm_exercise.specs.Exercised.{capability_line, capability_lines, capability_named, count_line, digest_line, exercise, exported, picked}
 unfoldable pub use Rattle.rpm_exercise.specs.Exercised.{summary}
 pub use Rattle.rpm_exercise.specs.Ready.{Asks, GathersThrough, IsStop}
 pub use Rattle.rpm_exercise.specs.Rounds.{changes_after, IsOfChanges, making, round_changes, turn}

@@ -4,9 +4,9 @@ use Rattle.rpm_outside.specs.Files.{Files}
 use Rattle.rpm_db.specs.Reaches.{ReachesMade}
 use Rattle.rpm_select.specs.declared.picked.PickFault.{PickFault}
 use Rattle.rpm_select.specs.declared.picked.PickFault.TheVariants as pick
-use Rattle.rpm_change.specs.declared.tally.Tally.{Tally}
-use Rattle.rpm_change.specs.declared.tally.Halt.{Halt}
-use Rattle.rpm_change.specs.declared.tally.Halt.TheVariants as halt
+use Rattle.rpm_effects.specs.declared.tally.Tally.{Tally}
+use Rattle.rpm_effects.specs.declared.tally.Halt.{Halt}
+use Rattle.rpm_effects.specs.declared.tally.Halt.TheVariants as halt
 use Rattle.rpm_exercise.specs.declared.running.ExerciseFault.{ExerciseFault}
 use Rattle.rpm_exercise.specs.declared.running.ExerciseFault.TheVariants.{NotEmpty, Halted}
 

@@ -2,17 +2,17 @@
 pub use Rattle.std.specs.Result.{result_err}
 pub use Rattle.std.specs.String.{string_bytes}
 pub use Rattle.rpm_change.specs.Adding.{change_at}
-pub use Rattle.rpm_change.specs.Endings.{Ended}
+pub use Rattle.rpm_effects.specs.Progress.{Ended}
 pub use Rattle.rpm_change.specs.Exercise.{numbered}
-pub use Rattle.rpm_change.specs.Hands.{Hand}
+pub use Rattle.rpm_effects.specs.Hands.{Hand}
 pub use Rattle.rpm_change.specs.Limits.{LimitsTurn}
-pub use Rattle.rpm_db.specs.Frame.{room}
+pub use Rattle.rpm_db.specs.Frame.{room, Runs, packages_in, state_in}
 pub use Rattle.rpm_change.specs.Singles.{IsHeld}
-pub use Rattle.rpm_change.specs.Went.{EndedOnOut, IsCurrent, Went, with_out}
+pub use Rattle.rpm_effects.specs.Shown.{EndedOnOut, with_out}
+pub use Rattle.rpm_change.specs.Went.{IsCurrent, Went}
 pub use Rattle.rpm_db.specs.Asked.{IsAskable}
 pub use Rattle.rpm_db.specs.Changed.{IsReady}
 pub use Rattle.rpm_db.specs.Database.{IsNext, holds, is_indexed}
-pub use Rattle.rpm_db.specs.Frame.{Runs, packages_in, state_in}
 pub use Rattle.rpm_db.specs.Gathering.{IsGathering}
 pub use Rattle.rpm_db.specs.Lawful.{Remade}
 pub use Rattle.rpm_db.specs.Openings.{units_needed}
@@ -23,8 +23,7 @@ pub use Rattle.rpm_select.specs.Frame.{HasRows}
 pub use Rattle.rpm_select.specs.Picks.{entry_in}
 pub use Rattle.rpm_version.specs.Capability.{capability}
 pub use Rattle.sha2.specs.Hashers.{Holds256}
-pub use Rattle.rpm_exercise.specs.Endings.{IsOfReading, IsRefused, OnceBegun}
-pub use Rattle.rpm_exercise.specs.Endings.{Renewed, pick_halt}
+pub use Rattle.rpm_exercise.specs.Endings.{IsOfReading, IsRefused, OnceBegun, Renewed, pick_halt}
 pub use Rattle.rpm_exercise.specs.Exercised.{capability_line, capability_lines, capability_named, count_line}
 pub use Rattle.rpm_exercise.specs.Exercised.{digest_text, exercise, exported, IsFound, picked, summary}
 pub use Rattle.rpm_exercise.specs.Ready.{Asks, GathersThrough, IsStop, WentThrough}

@@ -8,11 +8,12 @@ use Rattle.rpm_db.specs.Frame.{Runs}
 use Rattle.rpm_db.specs.Runs.{SameFiles}
 use Rattle.rpm_db.specs.declared.netting.RowChange.{RowChange}
 use Rattle.rpm_select.specs.Frame.{HasRows}
-use Rattle.rpm_change.specs.declared.tally.Tally.{Tally}
-use Rattle.rpm_change.specs.declared.tally.Halt.{Halt}
-use Rattle.rpm_change.specs.declared.tally.Halt.TheVariants as halt
+use Rattle.rpm_effects.specs.declared.tally.Tally.{Tally}
+use Rattle.rpm_effects.specs.declared.tally.Halt.{Halt}
+use Rattle.rpm_effects.specs.declared.tally.Halt.TheVariants as halt
 use Rattle.rpm_change.specs.Singles.{IsSpent}
-use Rattle.rpm_change.specs.Went.{EndedQuietly, Went, WentOwing}
+use Rattle.rpm_effects.specs.Shown.{EndedQuietly}
+use Rattle.rpm_change.specs.Went.{Went, WentOwing}
 use Rattle.rpm_exercise.specs.Endings.{IsOfReading, IsOfAsking, IsOfExercise}
 use Rattle.rpm_exercise.specs.Rounds.{IsOfChanges, making}
 

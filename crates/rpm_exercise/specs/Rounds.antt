@@ -4,10 +4,10 @@ use Rattle.std.specs.List.{flat_map, range_with_len}
 use Rattle.rpm_header.specs.Laid.{laid}
 use Rattle.rpm_db.specs.Changes.{Change, Add, Put, Erase, next}
 use Rattle.rpm_db.specs.State.{State}
-use Rattle.rpm_change.specs.declared.tally.Halt.{Halt}
-use Rattle.rpm_change.specs.declared.tally.Halt.TheVariants as halt
+use Rattle.rpm_effects.specs.declared.tally.Halt.{Halt}
+use Rattle.rpm_effects.specs.declared.tally.Halt.TheVariants as halt
 use Rattle.rpm_change.specs.Exercise.{generated}
-use Rattle.rpm_change.specs.Steps.{Course}
+use Rattle.rpm_effects.specs.Steps.{Course}
 use Rattle.rpm_exercise.specs.declared.rounds.Round.{Round}
 use Rattle.rpm_exercise.specs.declared.rounds.Round.TheVariants as round
 

@@ -3,8 +3,9 @@
 ghost use Rattle.std.specs.Prelude.{◌≡◌, ◌+◌, ◌<◌, ◌≤◌, [], ◌∷◌, true, IfOk, IfErr};
 ghost use Rattle.rpm_exercise.specs.Prelude.{change_at, changes, changes_after, GathersThrough, holds, IsGathering, IsHeld, IsReady, made, round_changes, state_in, turn, WentThrough};
 
-use rpm_change::{Halt, IDLE, Tally, generated, put_within, take_within};
+use rpm_change::{generated, put_within, take_within};
 use rpm_db::{Batch, Db};
+use rpm_effects::{Halt, IDLE, Tally};
 use rpm_outside::Disk;
 use std::alloc::Global;
 

@@ -6,8 +6,8 @@ ghost use Rattle.rpm_db.specs.Database as database;
 
 use crate::rounds::change_all;
 use crate::summary::summary;
-use rpm_change::{Halt, Tally};
 use rpm_db::{ChangeFault, Db};
+use rpm_effects::{Halt, Tally};
 use rpm_outside::{Buffered, Disk, Sink, put_and_flush};
 use std::alloc::Global;
 

@@ -5,8 +5,8 @@ ghost use Rattle.rpm_exercise.specs.Prelude.{Asks, capability_line, capability_l
 
 use crate::lines::{capability_name, push_count, push_digest};
 use crate::survey::{count_provided, survey};
-use rpm_change::Halt;
 use rpm_db::Db;
+use rpm_effects::Halt;
 use rpm_outside::Disk;
 use rpm_select::Selection;
 use std::alloc::Global;

@@ -4,8 +4,8 @@ ghost use Rattle.std.specs.Prelude.{◌≡◌, ◌++◌, ℕ, List, IsTrue, Ok, 
 ghost use Rattle.rpm_exercise.specs.Prelude.{Asks, capability, capability_named, entry_in, exported, HasRows, Holds256, IsAskable, IsFound, packages_in, pick_halt, picked, result_err};
 ghost use Rattle.rpm_select.specs.declared.selection.Selection.TheVariants as question;
 
-use rpm_change::Halt;
 use rpm_db::Db;
+use rpm_effects::Halt;
 use rpm_header::MAGIC;
 use rpm_outside::Disk;
 use rpm_select::{Capability, PickFault, Picked, Picker, Selection};

@@ -15,7 +15,7 @@ use Rattle.rpm_commit.specs.inner.Standing.{if_ok_at, ok_is}
 use Rattle.rpm_outside.specs.declared.disk.Disk as disk
 use Rattle.rpm_outside.specs.declared.shelf.Shelf as shelf
 use Rattle.rpm_outside.specs.declared.sink.Sink as sink
-use Rattle.rpm_print.specs.declared.answer.Why.TheVariants as why
+use Rattle.rpm_effects.specs.declared.answer.Why.TheVariants as why
 
 -- one more
 pub in_turn_more : {X : Type 0} (Each : RunCall → X → X → Type 0) (calls : List RunCall) (call : RunCall) (old mid new : X) → InTurn Each calls old mid

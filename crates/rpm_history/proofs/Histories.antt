@@ -2,13 +2,12 @@
 use Rattle.std.proofs.Common.{◌≡◌, ◌⊎◌, ℕ, ◌≤◌, Bool, false, refl, sym, ap, subst, inl, inr, ⊎_elim, arith, true}
 use Rattle.rpm_history.proofs.Vocabulary.{after, AllFit, AllStand, apply_all, AreLawfulGroups, ChangesWith, Course, Files, HasState, idle, images, is_done}
 use Rattle.rpm_history.proofs.Vocabulary.{is_done_or_fault, leaves_weaker, LeavesIn, Moves, reopened, RowsFit, Says, StandsIn, StandsStill, StandsStillOr}
-use Rattle.rpm_history.proofs.Vocabulary.{State}
-use Rattle.rpm_history.proofs.Vocabulary.{state, store, Units, Why}
+use Rattle.rpm_history.proofs.Vocabulary.{State, state, store, Units, Why}
 use Rattle.rpm_commit.specs.inner.Brokens.{by_bool}
 use Rattle.rpm_commit.specs.inner.Regrouped.{still_fits}
 use Rattle.rpm_commit.specs.inner.Standing.{if_ok_at}
 use Rattle.rpm_outside.specs.declared.disk.Disk as disk
-use Rattle.rpm_print.specs.declared.answer.Why.TheVariants as why
+use Rattle.rpm_effects.specs.declared.answer.Why.TheVariants as why
 
 -- made, or made where the disk failed; left as it was, unless it was done; and nothing else
 pub moves_are : (w : Why) (s made : State) → (is_done w ≡ true → Moves w made s made) × (is_done_or_fault w ≡ true → Moves w made s made)

@@ -3,7 +3,7 @@ pub use Rattle.rpm_change.specs.Adding.{add_file, as_installed, put_found, put_i
 pub use Rattle.rpm_change.specs.Erasing.{erase_one, erased}
 pub use Rattle.rpm_change.specs.Importing.{import_end, import_from, import_list, imported, listed, max_headers, place_fails}
 pub use Rattle.rpm_change.specs.Rebuilding.{drop_each}
-pub use Rattle.rpm_change.specs.Steps.{apply_all, Course, idle, in_turn}
+pub use Rattle.rpm_effects.specs.Steps.{apply_all, Course, idle, in_turn}
 pub use Rattle.rpm_change.specs.declared.add.Placing.{Placing}
 pub use Rattle.rpm_commit.specs.Changing.{after, AllFit, ChangesWith, HasState, LeavesState, RowsFit, StandsStillOr}
 pub use Rattle.rpm_commit.specs.Lawful.{AreLawfulGroups, IsLawfulGroup, StandsStill}
@@ -33,10 +33,10 @@ pub use Rattle.rpm_pkgdb.specs.Store.{store, Store}
 pub use Rattle.rpm_pkgdb.specs.declared.slot.Damage.{Damage}
 pub use Rattle.rpm_print.specs.Asked.{by_key, is_changing, of_files}
 unfoldable pub use Rattle.rpm_print.specs.Asked.{asks}
-pub use Rattle.rpm_print.specs.Classes.{is_done, is_done_or_fault}
+pub use Rattle.rpm_effects.specs.Classes.{is_done, is_done_or_fault}
 pub use Rattle.rpm_print.specs.Frame.{Leaves}
-pub use Rattle.rpm_print.specs.declared.answer.Outcome.{Outcome}
-pub use Rattle.rpm_print.specs.declared.answer.Why.{Why}
+pub use Rattle.rpm_effects.specs.declared.answer.Outcome.{Outcome}
+pub use Rattle.rpm_effects.specs.declared.answer.Why.{Why}
 pub use Rattle.rpm_qfparse.specs.Tree.{Tree}
 pub use Rattle.rpm_tool.specs.Theorem.{Does}
 pub use Rattle.rpm_words.specs.Ask.{AskParts}

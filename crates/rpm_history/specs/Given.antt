@@ -6,9 +6,9 @@ use Rattle.rpm_pkgdb.specs.declared.slot.Damage.{Damage}
 use Rattle.rpm_pkgdb.specs.Store.{Store, store}
 use Rattle.rpm_db.specs.Changes.{Change, Add, apply, next}
 use Rattle.rpm_db.specs.State.{State, state}
-use Rattle.rpm_change.specs.Steps.{Course}
-use Rattle.rpm_print.specs.declared.answer.Why.{Why}
-use Rattle.rpm_print.specs.Classes.{is_done}
+use Rattle.rpm_effects.specs.Steps.{Course}
+use Rattle.rpm_effects.specs.declared.answer.Why.{Why}
+use Rattle.rpm_effects.specs.Classes.{is_done}
 
 -- the field is the number of the next package, as it is where there are no packages and the field is 1
 abbrev pub IsAhead : State → Type 0

@@ -9,10 +9,10 @@ use Rattle.rpm_db.specs.Changes.{Says}
 use Rattle.rpm_db.specs.State.{State}
 use Rattle.rpm_words.specs.Ask.{AskParts}
 use Rattle.rpm_qfparse.specs.Tree.{Tree}
-use Rattle.rpm_change.specs.Steps.{Course, idle}
-use Rattle.rpm_print.specs.declared.answer.Outcome.{Outcome}
-use Rattle.rpm_print.specs.declared.answer.Why.{Why}
-use Rattle.rpm_print.specs.declared.answer.Why.TheVariants as why
+use Rattle.rpm_effects.specs.Steps.{Course, idle}
+use Rattle.rpm_effects.specs.declared.answer.Outcome.{Outcome}
+use Rattle.rpm_effects.specs.declared.answer.Why.{Why}
+use Rattle.rpm_effects.specs.declared.answer.Why.TheVariants as why
 use Rattle.rpm_history.specs.declared.several.Line.{Line}
 use Rattle.rpm_print.specs.Asked.{of_files, is_changing, asks}
 use Rattle.rpm_commit.specs.Tasks.{asked_task, asked_course, reads_shelf}

@@ -10,11 +10,13 @@ use Rattle.rpm_pkgdb.specs.Store.{store}
 use Rattle.rpm_db.specs.State.{state}
 use Rattle.rpm_words.specs.Ask.{AskParts}
 use Rattle.rpm_qfparse.specs.Tree.{Tree}
-use Rattle.rpm_print.specs.Answers.{Ends}
+use Rattle.rpm_effects.specs.Answers.{Ends}
 use Rattle.rpm_print.specs.Asked.{is_changing, asks}
-use Rattle.rpm_print.specs.Classes.{is_done}
-use Rattle.rpm_print.specs.Closing.{status_of, closing}
-use Rattle.rpm_print.specs.Frame.{images, outs, LeavesIn}
+use Rattle.rpm_effects.specs.Classes.{is_done}
+use Rattle.rpm_effects.specs.Endings.{status_of}
+use Rattle.rpm_print.specs.Closing.{closing}
+use Rattle.rpm_print.specs.Frame.{images, LeavesIn}
+use Rattle.rpm_effects.specs.Shown.{outs}
 use Rattle.rpm_history.specs.Given.{given_on}
 use Rattle.rpm_history.specs.History.{RunCall, course_of, made_by, Cuts, FromOneOf, StandsIn}
 use Rattle.rpm_tool.specs.Theorem.{Run, ran, AnswersWords, Answers, Causes}

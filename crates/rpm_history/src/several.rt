@@ -3,8 +3,8 @@
 ghost use Rattle.std.specs.Prelude.{◌≡◌, ℕ, List, [], length, IsTrue, IfOk, OnErr, OnOk};
 ghost use Rattle.rpm_history.specs.Prelude.{AllFit, AllStand, AreLawfulGroups, between, calls_of, Cuts, FromOneOf, HasState, images, InTurn, InTurnBefore, IsAhead, Leads, LeavesIn, LineIs, LineStays, next, RiseWithin, RowsFit, StandsIn, State, TellsLines};
 
+use rpm_effects::Outcome;
 use rpm_outside::{Disk, Shelf, Sink};
-use rpm_print::Outcome;
 use rpm_tool::run;
 use rpm_words::Words;
 use std::alloc::{AllocError, Global};

@@ -1,5 +1,5 @@
 -- The words of proofs, from one place.
-pub use Rattle.rpm_change.specs.Steps.{bearer, ToErr, ToOut}
+pub use Rattle.rpm_effects.specs.Steps.{bearer, ToErr, ToOut}
 pub use Rattle.rpm_db.specs.State.{Bad, Good, package_of, read_as}
 unfoldable pub use Rattle.rpm_header.specs.Bytes.{are_ended, number_at, numbers, texts}
 pub use Rattle.rpm_header.specs.Header.{Header, Texts}

@@ -1,5 +1,5 @@
 -- The status of an ending, and the line that closes it: `status` of `run`, and the line of its `answers`.
-use Rattle.std.specs.Prelude.{ℕ, ◌*◌, min, List, [], ◌∷◌, codes, decimal}
+use Rattle.std.specs.Prelude.{ℕ, ◌*◌, List, [], ◌∷◌, codes, decimal}
 use Rattle.std.specs.List.{concat}
 use Rattle.rpm_words.specs.declared.fault.WordsKind.{WordsKind}
 use Rattle.rpm_words.specs.declared.fault.WordsKind.TheVariants as kind
@@ -11,29 +11,8 @@ use Rattle.rpm_qfparse.specs.declared.fault.FormatFault.{FormatFault}
 use Rattle.rpm_pkgdb.specs.declared.slot.Damage.{Damage}
 use Rattle.rpm_pkgdb.specs.declared.slot.Reason.{Reason}
 use Rattle.rpm_pkgdb.specs.declared.slot.Reason.TheVariants.{BadMagic, BadVersion, BadPages, BadSlot, BadNumber, BadRange, SameNumber, Overlap}
-use Rattle.rpm_print.specs.declared.answer.Why.{Why}
-use Rattle.rpm_print.specs.declared.answer.Why.TheVariants as why
-
--- the exit status of each answer
-abbrev pub status_of : Why → ℕ
-status_of why.Done = 0
-status_of (why.Failed n) = min n 250
-status_of (why.Usage fault) = 251
-status_of (why.BadFormat fault) = 251
-status_of (why.BadLog unit) = 252
-status_of (why.Damaged damage) = 252
-status_of why.NumbersSpent = 252
-status_of why.GenerationSpent = 252
-status_of why.StoreFull = 252
-status_of (why.NotEmpty held) = 252
-status_of (why.BadIndex unit) = 252
-status_of (why.IndexFull needed) = 252
-status_of (why.LogFull needed) = 252
-status_of why.DiskFault = 252
-status_of why.ShelfFault = 253
-status_of why.OutFault = 253
-status_of why.ErrFault = 253
-status_of why.NoMemory = 254
+use Rattle.rpm_effects.specs.declared.answer.Why.{Why}
+use Rattle.rpm_effects.specs.declared.answer.Why.TheVariants as why
 
 -- the words of each reason for which a store is damaged
 unfoldable pub reason_text : Reason → List ℕ

@@ -1,11 +1,9 @@
 pub mod Answers
 pub mod Asked
-pub mod Classes
 pub mod Closing
 pub mod Frame
 pub mod Printed
 pub mod Reads
-pub mod Steps
 pub mod Texts
 pub mod inner
 pub mod Prelude

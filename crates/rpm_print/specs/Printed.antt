@@ -5,8 +5,8 @@ use Rattle.rpm_header.specs.Header.{Header, header}
 use Rattle.rpm_qfparse.specs.Tree.{Tree}
 use Rattle.rpm_qfeval.specs.Meaning.{meaning}
 use Rattle.rpm_db.specs.State.{Package, Good, Bad, above, packages}
-use Rattle.rpm_change.specs.Steps.{Bearer, bearer, Step, ToOut, ToErr}
-use Rattle.rpm_print.specs.Steps.{Portion, told}
+use Rattle.rpm_effects.specs.Steps.{Bearer, bearer, Step, ToOut, ToErr}
+use Rattle.rpm_effects.specs.Portions.{Portion, told}
 use Rattle.rpm_header.specs.Digest.{magic}
 use Rattle.rpm_print.specs.declared.reading.Deed.{Deed}
 use Rattle.rpm_print.specs.declared.reading.Deed.TheVariants as deed

@@ -2,7 +2,7 @@
 use Rattle.std.specs.Prelude.{◌≡◌, ℕ, zero, suc, ◌+◌, ◌≤◌, List, [], ◌∷◌, slice_get, Option, Some, None}
 use Rattle.rpm_db.specs.Database.{Database}
 use Rattle.rpm_select.specs.Reach.{Reach, reach_to, reach_all}
-use Rattle.rpm_change.specs.Steps.{Bearer}
+use Rattle.rpm_effects.specs.Steps.{Bearer}
 
 -- ---- one argument
 

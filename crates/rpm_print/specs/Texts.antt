@@ -3,8 +3,8 @@
 use Rattle.std.specs.Prelude.{ℕ, List, [], ◌∷◌, Option, Some, None}
 use Rattle.rpm_words.specs.declared.ask.Mode.{Mode}
 use Rattle.rpm_words.specs.declared.ask.Mode.TheVariants.{Help, Version}
-use Rattle.rpm_change.specs.Steps.{whole, ToOut}
-pub use Rattle.rpm_change.specs.Steps.{Course}
+use Rattle.rpm_effects.specs.Steps.{whole, ToOut}
+pub use Rattle.rpm_effects.specs.Steps.{Course}
 use Rattle.rpm_print.specs.declared.texts.TheConstants.{HELP, VERSION}
 
 -- the text of a mode that opens nothing

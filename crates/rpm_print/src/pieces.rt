@@ -3,7 +3,7 @@
 ghost use Rattle.std.specs.Prelude.{◌≡◌, map};
 ghost use Rattle.rpm_print.specs.Prelude.{Bearer, concat, fails, inner, OutTakes, PartIs, PutsOut, ToOut, Writes};
 
-use rpm_change::Halt;
+use rpm_effects::Halt;
 use rpm_outside::{Buffered, Failed, Sink, put_all};
 
 /// Writes these pieces, one after the other. It takes no memory.

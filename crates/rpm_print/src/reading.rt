@@ -3,8 +3,8 @@
 ghost use Rattle.std.specs.Prelude.{◌≡◌, true, Some, Ok, IfOk, IfErr};
 ghost use Rattle.rpm_print.specs.Prelude.{ask, asks_format, format_text, IsSound, KindIs, needs_no_index, Undone};
 
-use crate::answer::Why;
 use crate::texts::{HELP, VERSION};
+use rpm_effects::Why;
 use rpm_qfparse::{Format, FormatKind, parse};
 use rpm_words::{Ask, Chosen, Mode, Words, WordsKind, read};
 use std::alloc::Global;

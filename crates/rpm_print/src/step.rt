@@ -5,7 +5,7 @@ ghost use Rattle.rpm_print.specs.Prelude.{bad_line, Bearer, bearer, entry_in, Er
 
 use crate::reading::Deed;
 use itoa::Buffer;
-use rpm_change::Halt;
+use rpm_effects::Halt;
 use rpm_header::{MAGIC, View};
 use rpm_outside::{Buffered, Failed, Sink, put_and_flush};
 use rpm_qfeval::{DirectFault, print_direct};

@@ -3,7 +3,7 @@
 ghost use Rattle.std.specs.Prelude.{◌≡◌, ◌⊎◌};
 ghost use Rattle.rpm_print.specs.Prelude.{Anywhere, Hand, OutTakes, text_course, Went};
 
-use crate::answer::Why;
+use rpm_effects::Why;
 use rpm_outside::{Buffered, Failed, Sink, put_and_flush};
 
 /// The text of `--help`, at most 24 lines of at most 80 columns.

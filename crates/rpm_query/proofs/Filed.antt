@@ -1,11 +1,10 @@
 -- What is said of package files.
 use Rattle.std.proofs.Common.{◌≡◌, ℕ, Bool, true, false, not, ◌||◌, List, [], Option, Some, None, Result, Err, refl, sym, ap, ◌∙◌, subst}
 use Rattle.rpm_query.proofs.Vocabulary.{Anywhere, file_part, FileFault, found_part, Headed, is_bad, is_of_words, is_out}
-use Rattle.rpm_query.proofs.Vocabulary.{IsFileFault, left, Outputs, package_header, PartIs, Paths, Reached, read_part, Step, Halt, Through}
-use Rattle.rpm_query.proofs.Vocabulary.{Tree, why_of_halt}
+use Rattle.rpm_query.proofs.Vocabulary.{IsFileFault, left, Outputs, package_header, PartIs, Paths, Reached, read_part, Step, Halt, Through, Tree, why_of_halt}
 use Rattle.rpm_change.specs.Adding.{stop_in}
 use Rattle.rpm_file.specs.declared.fault.FileFault.TheVariants as file
-use Rattle.rpm_change.specs.declared.tally.Halt.TheVariants as halt
+use Rattle.rpm_effects.specs.declared.tally.Halt.TheVariants as halt
 
 pub found_open : (tree : Tree) (j : ℕ) (path : List ℕ) (found rest : Option (List ℕ)) → rest ≡ found → (found ≡ None → ⊥)
     → found_part tree j path found ≡ read_part tree j path (package_header (left rest))

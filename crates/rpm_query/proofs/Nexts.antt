@@ -2,11 +2,11 @@
 use Rattle.std.proofs.Common.{◌≡◌, ℕ, ◌||◌, Bool, true, false, not, List, [], ◌∷◌, map, Option, Result, Ok, Err, refl, sym, ap, ◌∙◌, subst}
 use Rattle.rpm_query.proofs.Vocabulary.{above, Bearer, bearer_of, Files, Halt, is_bad, is_some_of, IsOfRead, list_any, NextIs, outputs, Package, packages}
 use Rattle.rpm_query.proofs.Vocabulary.{packages_part, PartIs, Picked, PickFault, picks, Reach, Reached, Selection, Serves, Step, StepIs, Store}
-use Rattle.rpm_change.specs.declared.tally.Halt.TheVariants as halt
+use Rattle.rpm_effects.specs.declared.tally.Halt.TheVariants as halt
 use Rattle.rpm_print.specs.inner.Printed.{fails_more, some_more, none_more}
 use Rattle.rpm_print.specs.inner.Reached.{served}
-use Rattle.rpm_print.specs.inner.Reaching.{Goes, goes_start, goes_more, goes_stop, goes_end}
-use Rattle.rpm_print.specs.inner.Stopping.{reached_first}
+use Rattle.rpm_effects.specs.inner.Reaching.{Goes, goes_start, goes_more, goes_stop, goes_end}
+use Rattle.rpm_effects.specs.inner.Stopping.{reached_first}
 
 module _ (sel : Selection) (s : Store) (n : ℕ) {p q : Reach} {f f' : Files} (same : p ≡ q) (files : f ≡ f') where
   -- what is next of the files as they read is next of the files as they were

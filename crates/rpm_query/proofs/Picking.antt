@@ -8,7 +8,7 @@ use Rattle.rpm_print.specs.Frame.{HasRows}
 use Rattle.rpm_query.proofs.Vocabulary.{answered, argument_part, argument_reach, Chosen, Database, Files, Halt, Idx, is_indexed, not_asked, Outputs}
 use Rattle.rpm_query.proofs.Vocabulary.{packages, packages_in, PartIs, Peeks, picks, Pkg, pkg_read, question_of, reach, Reach, reach_all, ReadsOf, room}
 use Rattle.rpm_query.proofs.Vocabulary.{Selection, Serves, Tree}
-use Rattle.rpm_print.specs.inner.Parts.{part_reads}
+use Rattle.rpm_effects.specs.inner.Parts.{part_reads}
 use Rattle.rpm_print.specs.inner.Peeking.{peeks_index, peeks_packages, peeks_then}
 use Rattle.rpm_query.proofs.Questions.{picked_is, reach_is}
 use Rattle.rpm_print.specs.inner.Reached.{served}

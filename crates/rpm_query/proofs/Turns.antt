@@ -5,11 +5,11 @@ use Rattle.rpm_query.proofs.Vocabulary.{Went, why_of_halt}
 use Rattle.std.proofs.Common.{◌≡◌, ℕ, ◌+◌, ◌<◌, ◌≤◌, ◌≢◌, Bool, true, false, if◌then◌else◌, List, [], ◌++◌, map, drop, length, Result, Ok, Err, Some, refl, ap}
 use Rattle.std.proofs.Common.{◌∙◌, subst, arith}
 use Rattle.std.specs.Prelude.{slice_get}
-use Rattle.rpm_print.specs.Steps.{before, in_turn}
-use Rattle.rpm_print.specs.inner.Parts.{drop_get, none_left, went_stop}
+use Rattle.rpm_effects.specs.Portions.{before, in_turn}
+use Rattle.rpm_effects.specs.inner.Parts.{drop_get, none_left, went_stop}
 use Rattle.rpm_print.specs.inner.Reached.{rows_at}
-use Rattle.rpm_print.specs.inner.Reaching.{Goes, goes_start, goes_more, goes_stop, goes_end}
-use Rattle.rpm_print.specs.inner.Stopping.{reached_reads}
+use Rattle.rpm_effects.specs.inner.Reaching.{Goes, goes_start, goes_more, goes_stop, goes_end}
+use Rattle.rpm_effects.specs.inner.Stopping.{reached_reads}
 use Rattle.rpm_query.specs.inner.Sums.{reads_by, before_next, before_some, get_map}
 
 -- ---- what is done for them

@@ -1,8 +1,8 @@
 -- The words of proofs, from one place.
-pub use Rattle.rpm_change.specs.Endings.{outputs, Outputs, Through}
-pub use Rattle.rpm_change.specs.Steps.{Bearer, bearer, Course, idle, is_out, Step, ToErr, whole}
-pub use Rattle.rpm_change.specs.Texts.{refused_line}
-pub use Rattle.rpm_change.specs.declared.tally.Halt.{Halt}
+pub use Rattle.rpm_effects.specs.Progress.{outputs, Outputs, Through}
+pub use Rattle.rpm_effects.specs.Steps.{Bearer, bearer, Course, idle, is_out, Step, ToErr, whole}
+pub use Rattle.rpm_effects.specs.Texts.{refused_line}
+pub use Rattle.rpm_effects.specs.declared.tally.Halt.{Halt}
 pub use Rattle.rpm_db.specs.Database.{cost_all, cost_to, Database, is_indexed}
 pub use Rattle.rpm_db.specs.Frame.{room}
 pub use Rattle.rpm_db.specs.FromOne.{from_one}
@@ -22,13 +22,16 @@ pub use Rattle.rpm_outside.specs.Shelves.{bytes_at, Paths}
 pub use Rattle.rpm_outside.specs.declared.disk.File.TheVariants.{Idx, Pkg}
 pub use Rattle.rpm_outside.specs.inner.Looking.{looks_then}
 pub use Rattle.rpm_pkgdb.specs.Store.{Store}
-pub use Rattle.rpm_print.specs.Answers.{Anywhere, is_some_of, PartIs, Reached, StepIs, Went, why_of_halt}
-pub use Rattle.rpm_print.specs.Classes.{is_of_words, IsOfRead}
-pub use Rattle.rpm_print.specs.Frame.{Looks, packages_in, Peeks, pkg_read, shown}
+pub use Rattle.rpm_effects.specs.Answers.{Anywhere, PartIs, Reached, StepIs, Went}
+pub use Rattle.rpm_print.specs.Answers.{is_some_of}
+pub use Rattle.rpm_effects.specs.Endings.{why_of_halt}
+pub use Rattle.rpm_effects.specs.Classes.{is_of_words, IsOfRead}
+pub use Rattle.rpm_print.specs.Frame.{Looks, packages_in, Peeks, pkg_read}
+pub use Rattle.rpm_effects.specs.Shown.{shown}
 pub use Rattle.rpm_print.specs.Printed.{packages_part, printed, step_by}
 pub use Rattle.rpm_print.specs.Reads.{reach_before, reach_sum, reached_by, ReadsIn, ReadsOf}
-pub use Rattle.rpm_print.specs.Steps.{bearer_of, before, fails, is_bad, Portion}
-pub use Rattle.rpm_print.specs.declared.answer.Why.{Why}
+pub use Rattle.rpm_effects.specs.Portions.{bearer_of, before, fails, is_bad, Portion}
+pub use Rattle.rpm_effects.specs.declared.answer.Why.{Why}
 pub use Rattle.rpm_qfeval.specs.Meaning.{meaning}
 pub use Rattle.rpm_qfparse.specs.Tree.{Tree}
 pub use Rattle.rpm_query.specs.PackageFiles.{file_part, found_part, read_part}

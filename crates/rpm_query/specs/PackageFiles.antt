@@ -7,9 +7,9 @@ use Rattle.rpm_words.specs.Words.{text_at}
 use Rattle.rpm_words.specs.Ask.{AskParts}
 use Rattle.rpm_qfparse.specs.Tree.{Tree}
 use Rattle.rpm_qfeval.specs.Meaning.{meaning}
-use Rattle.rpm_change.specs.Texts.{refused_line, absent_line}
-use Rattle.rpm_change.specs.Steps.{bearer, whole, ToErr, Course}
-use Rattle.rpm_print.specs.Steps.{Portion, fails, told, in_turn}
+use Rattle.rpm_effects.specs.Texts.{refused_line, absent_line}
+use Rattle.rpm_effects.specs.Steps.{bearer, whole, ToErr, Course}
+use Rattle.rpm_effects.specs.Portions.{Portion, fails, told, in_turn}
 use Rattle.rpm_print.specs.Printed.{printed}
 
 -- a package file has its header printed with the number 0, or a line, for which the argument fails

@@ -18,13 +18,13 @@ use Rattle.rpm_db.specs.State.{Package, above, packages}
 use Rattle.rpm_select.specs.declared.selection.Selection.{Selection}
 use Rattle.rpm_select.specs.declared.selection.Selection.TheVariants as question
 use Rattle.rpm_select.specs.Selections.{picks}
-use Rattle.rpm_change.specs.Steps.{whole, Step, ToOut, ToErr, Course, idle}
-use Rattle.rpm_print.specs.Steps.{Portion, nothing, fails, before, in_turn, numbers, RisesFrom}
+use Rattle.rpm_effects.specs.Steps.{whole, Step, ToOut, ToErr, Course, idle}
+use Rattle.rpm_effects.specs.Portions.{Portion, nothing, fails, before, in_turn, numbers, RisesFrom}
 use Rattle.rpm_print.specs.Printed.{packages_part, step_of, exported}
 use Rattle.rpm_select.specs.declared.picked.PickFault.{PickFault}
 use Rattle.rpm_select.specs.declared.picked.PickFault.TheVariants as pick
-use Rattle.rpm_change.specs.declared.tally.Halt.{Halt}
-use Rattle.rpm_change.specs.declared.tally.Halt.TheVariants as halt
+use Rattle.rpm_effects.specs.declared.tally.Halt.{Halt}
+use Rattle.rpm_effects.specs.declared.tally.Halt.TheVariants as halt
 use Rattle.rpm_query.specs.declared.printing.PrintedPackages.{PrintedPackages}
 
 -- ---- an argument

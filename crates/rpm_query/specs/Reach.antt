@@ -9,10 +9,10 @@ use Rattle.rpm_words.specs.declared.switch.Chosen.{Chosen}
 use Rattle.rpm_select.specs.declared.selection.Selection.{Selection}
 use Rattle.rpm_select.specs.Candidates.{has_keys, keys_asked}
 use Rattle.rpm_select.specs.Reach.{Reach, Everything, These, reach, IsFaultOfOne}
-use Rattle.rpm_change.specs.declared.tally.Halt.{Halt}
-use Rattle.rpm_change.specs.declared.tally.Halt.TheVariants as halt
-use Rattle.rpm_print.specs.declared.answer.Why.{Why}
-use Rattle.rpm_print.specs.declared.answer.Why.TheVariants as why
+use Rattle.rpm_effects.specs.declared.tally.Halt.{Halt}
+use Rattle.rpm_effects.specs.declared.tally.Halt.TheVariants as halt
+use Rattle.rpm_effects.specs.declared.answer.Why.{Why}
+use Rattle.rpm_effects.specs.declared.answer.Why.TheVariants as why
 use Rattle.rpm_query.specs.Queries.{lent, question_of}
 
 -- what a question goes over, with an index or without; an argument that is none goes over nothing

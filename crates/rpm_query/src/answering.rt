@@ -5,8 +5,8 @@ ghost use Rattle.rpm_query.specs.Prelude.{above, argument_part, argument_reach, 
 
 use crate::missing::put_missing_part;
 use crate::printing::{halt_of_pick, print_above};
-use rpm_change::Halt;
 use rpm_db::Db;
+use rpm_effects::Halt;
 use rpm_outside::{Buffered, Disk, File, Sink};
 use rpm_print::Deed;
 use rpm_qfparse::Format;

@@ -5,11 +5,11 @@ ghost use Rattle.rpm_change.specs.Adding.{stop_in};
 ghost use Rattle.rpm_query.specs.Prelude.{absent_line, Anywhere, bearer, concat, EndHands, ErrTakes, fails, file_part, HaltHands, is_of_words, IsOfPrint, left, meaning, package_header, PartIs, printed, PutsErr, query_files, read_part, refused_line, ShelfFault, shown, ToErr, told, Went, whole};
 
 use crate::querying::count;
-use rpm_change::{Halt, refused_line};
+use rpm_effects::{Halt, Why, refused_line};
 use rpm_file::{FileFault, Package, read_package};
 use rpm_header::View;
 use rpm_outside::{Absent, Buffered, Shelf, Sink};
-use rpm_print::{Why, print_header, put_line};
+use rpm_print::{print_header, put_line};
 use rpm_qfparse::Format;
 use rpm_words::{Ask, Words};
 use std::alloc::Global;

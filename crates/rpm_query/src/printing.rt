@@ -4,8 +4,8 @@ ghost use Rattle.std.specs.Prelude.{◌≡◌, ◌≢◌, ℕ, ◌+◌, ◌-◌,
 ghost use Rattle.rpm_query.specs.Prelude.{above, cost_all, cost_to, DiskFault, fails_in, HaltHands, HasRows, is_some_of, IsAskable, IsOfPrint, Looks, packages_in, packages_part, PartIs, picks, Pkg, pkg_read, prints_packages, reach_all, reach_to, ReadsIn, Serves, shown, step_by, halt_of_pick, unasked};
 ghost use Rattle.rpm_select.specs.Reach.{asks};
 
-use rpm_change::Halt;
 use rpm_db::Db;
+use rpm_effects::Halt;
 use rpm_outside::{Buffered, Disk, File, Sink};
 use rpm_print::{Deed, print_picked};
 use rpm_qfparse::Format;

@@ -9,8 +9,8 @@ use Rattle.rpm_select.specs.Frame.{HasRows}
 use Rattle.std.proofs.lemmas.List.{append-nil}
 use Rattle.rpm_report.specs.inner.Checked.{broken_stops, lawful_stops}
 use Rattle.rpm_print.specs.inner.Reached.{rows_at}
-use Rattle.rpm_print.specs.inner.Reaching.{through_none, through_more, goes_start, goes_stop}
-use Rattle.rpm_print.specs.inner.Stopping.{reached_unsunk}
+use Rattle.rpm_effects.specs.inner.Reaching.{through_none, through_more, goes_start, goes_stop}
+use Rattle.rpm_effects.specs.inner.Stopping.{reached_unsunk}
 
 -- what stops the second stops both
 both_stop : (ot et : Bool) (p q : List Step) (T T' : Type 0) (what : Halt) (o o' o'' e e' e'' : List ℕ) → Through p (outputs ot o et e) (outputs ot o' et e')

@@ -12,7 +12,7 @@ use Rattle.std.proofs.lemmas.Grind.{flat_map-append}
 use Rattle.std.proofs.lemmas.List.{append-nil, get_or-take, map-append, take-append-le}
 use Rattle.std.proofs.lemmas.List.Folds.{flat_map-map, length-prefix_len}
 use Rattle.std.proofs.lemmas.List.Sums.{prefix_len_passes}
-use Rattle.rpm_change.specs.declared.tally.Halt.TheVariants as halt
+use Rattle.rpm_effects.specs.declared.tally.Halt.TheVariants as halt
 
 -- ---- lines in one piece
 

@@ -3,7 +3,7 @@ use Rattle.std.proofs.Common.{◌≡◌, ℕ, ◌≤◌, true, Result, Ok, Err, 
 use Rattle.rpm_outside.specs.declared.disk.Disk as disk
 use Rattle.rpm_outside.specs.declared.sink.Sink as sink
 use Rattle.rpm_report.proofs.Vocabulary.{Buffered, DiskFault, Glances, Halt, Hand, inner, Rose, Peeks}
-use Rattle.rpm_change.specs.declared.tally.Halt.TheVariants as halt
+use Rattle.rpm_effects.specs.declared.tally.Halt.TheVariants as halt
 use Rattle.rpm_print.specs.Frame.{Peeks, TellsTo}
 use Rattle.rpm_print.specs.inner.Peeking.{peeks_none, peeks_then}
 

@@ -3,11 +3,10 @@ use Rattle.std.proofs.Common.{◌≡◌, ℕ, ◌+◌, ◌<◌, Bool, true, fals
 use Rattle.std.proofs.Common.{◌∙◌, subst, add-one, drop-cons, arith}
 use Rattle.std.specs.Prelude.{codes, slice_index_or}
 use Rattle.rpm_report.proofs.Vocabulary.{Anywhere, Bearer, class_steps, cycle_line, fails, flat_map, Halt, header, Header, header-own, HeaderFault, label_step}
-use Rattle.rpm_report.proofs.Vocabulary.{nat_cmp, Outputs, Package, package_of, package_text, PartIs, Reached, read_as, read_text, Step, StepIs}
-use Rattle.rpm_report.proofs.Vocabulary.{ToOut, whole}
+use Rattle.rpm_report.proofs.Vocabulary.{nat_cmp, Outputs, Package, package_of, package_text, PartIs, Reached, read_as, read_text, Step, StepIs, ToOut, whole}
 use Rattle.std.proofs.lemmas.Bool.Decides.{nat_tests}
 use Rattle.std.specs.FinMap as finite
-use Rattle.rpm_print.specs.inner.Stopping.{reached_first, reached_reads}
+use Rattle.rpm_effects.specs.inner.Stopping.{reached_first, reached_reads}
 
 -- ---- a package
 

@@ -1,8 +1,8 @@
 -- The words of proofs, from one place.
-pub use Rattle.rpm_change.specs.Endings.{Outputs, outputs, Through}
-pub use Rattle.rpm_change.specs.Hands.{Hand}
-pub use Rattle.rpm_change.specs.Steps.{bearer, Bearer, err_bytes, out_bytes, Step, ToOut, whole}
-pub use Rattle.rpm_change.specs.declared.tally.Halt.{Halt}
+pub use Rattle.rpm_effects.specs.Progress.{Outputs, outputs, Through}
+pub use Rattle.rpm_effects.specs.Hands.{Hand}
+pub use Rattle.rpm_effects.specs.Steps.{bearer, Bearer, err_bytes, out_bytes, Step, ToOut, whole}
+pub use Rattle.rpm_effects.specs.declared.tally.Halt.{Halt}
 pub use Rattle.rpm_check.specs.Edges.{graph_of}
 pub use Rattle.rpm_check.specs.Frame.{Glances}
 pub use Rattle.rpm_check.specs.Unmet.{required, unmet}
@@ -29,11 +29,13 @@ pub use Rattle.rpm_outside.specs.Sinks.{Gained}
 pub use Rattle.rpm_outside.specs.declared.buffered.Buffered.{Buffered}
 pub use Rattle.rpm_outside.specs.declared.disk.File.TheVariants.{Pkg}
 pub use Rattle.rpm_outside.specs.inner.Looking.{looks_more, looks_none, looks_then}
-pub use Rattle.rpm_print.specs.Answers.{Anywhere, is_some_of, PartIs, Reached, StepIs, StoppedWithin, Went}
-pub use Rattle.rpm_print.specs.Frame.{DiskFault, Looks, OutTakes, packages_in, Peeks, pkg_read, shown, TellsOut}
+pub use Rattle.rpm_effects.specs.Answers.{Anywhere, PartIs, Reached, StepIs, StoppedWithin, Went}
+pub use Rattle.rpm_print.specs.Answers.{is_some_of}
+pub use Rattle.rpm_print.specs.Frame.{DiskFault, Looks, packages_in, Peeks, pkg_read, TellsOut}
+pub use Rattle.rpm_effects.specs.Shown.{OutTakes, shown}
 pub use Rattle.rpm_print.specs.Printed.{bad_step, header_step, printed}
 pub use Rattle.rpm_print.specs.Reads.{reached_by}
-pub use Rattle.rpm_print.specs.Steps.{fails, Portion, together}
+pub use Rattle.rpm_effects.specs.Portions.{fails, Portion, together}
 pub use Rattle.rpm_qfeval.specs.Meaning.{meaning, text_or_none}
 unfoldable pub use Rattle.rpm_qfeval.specs.Meaning.{bytes, sizes}
 pub use Rattle.rpm_qfeval.specs.Numbers.{depflags, has, letters}

@@ -6,8 +6,8 @@ use Rattle.std.specs.FinMap.{FinMap}
 use Rattle.rpm_db.specs.State.{Package}
 use Rattle.rpm_filecheck.specs.Owners.{Conflict}
 use Rattle.rpm_filecheck.specs.Conflicts.{Report, conflicts, bad, told_label}
-use Rattle.rpm_change.specs.Steps.{whole, Step, ToOut, ToErr, Course, idle}
-use Rattle.rpm_print.specs.Steps.{fails, together, before}
+use Rattle.rpm_effects.specs.Steps.{whole, Step, ToOut, ToErr, Course, idle}
+use Rattle.rpm_effects.specs.Portions.{fails, together, before}
 use Rattle.rpm_print.specs.Printed.{bad_line}
 use Rattle.rpm_report.specs.Labels.{label}
 

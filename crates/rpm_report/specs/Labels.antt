@@ -8,7 +8,7 @@ use Rattle.rpm_qfparse.specs.declared.fault.FormatFault.{FormatFault}
 use Rattle.rpm_qfparse.specs.Tree.{Tree, End}
 use Rattle.rpm_qfparse.specs.Format.{format}
 use Rattle.rpm_db.specs.State.{Package}
-use Rattle.rpm_change.specs.Steps.{out_bytes}
+use Rattle.rpm_effects.specs.Steps.{out_bytes}
 use Rattle.rpm_print.specs.Printed.{header_step, step_of}
 
 -- the format that was read, else the empty one

@@ -1,6 +1,6 @@
 -- The words of clauses, from one place.
-pub use Rattle.rpm_change.specs.Hands.{Hand}
-pub use Rattle.rpm_change.specs.Steps.{bearer, whole}
+pub use Rattle.rpm_effects.specs.Hands.{Hand, EndHands, HaltHands, PutsOut}
+pub use Rattle.rpm_effects.specs.Steps.{bearer, whole}
 pub use Rattle.rpm_check.specs.Unmet.{required}
 pub use Rattle.rpm_check.specs.inner.Needs.{needed_in}
 pub use Rattle.rpm_db.specs.Database.{cost, cost_all}
@@ -14,12 +14,13 @@ pub use Rattle.rpm_select.specs.Reach.{Everything}
 pub use Rattle.rpm_version.specs.Range.{is_open}
 pub use Rattle.std.specs.List.{flat_map}
 pub use Rattle.std.specs.Option.{option_map}
-pub use Rattle.rpm_print.specs.Answers.{Anywhere, PartIs, Reached, Went}
-pub use Rattle.rpm_print.specs.Classes.{IsOfPrint, is_foreign, is_of_opening}
-pub use Rattle.rpm_print.specs.Frame.{DiskFault, EndHands, ErrTakes, HaltHands, HasRows, IsAskable, Looks, OutTakes, Peeks, PutsOut}
-pub use Rattle.rpm_print.specs.Frame.{ReadsBy, TellsErr, TellsOut, packages_in, pkg_read, shown}
+pub use Rattle.rpm_effects.specs.Answers.{Anywhere, PartIs, Reached, Went}
+pub use Rattle.rpm_effects.specs.Classes.{IsOfPrint, is_foreign, is_of_opening}
+pub use Rattle.rpm_print.specs.Frame.{DiskFault, HasRows, IsAskable, Looks, Peeks}
+pub use Rattle.rpm_effects.specs.Shown.{ErrTakes, OutTakes, shown}
+pub use Rattle.rpm_print.specs.Frame.{ReadsBy, TellsErr, TellsOut, packages_in, pkg_read}
 pub use Rattle.rpm_print.specs.Reads.{reached_by}
-pub use Rattle.rpm_print.specs.Steps.{fails, together}
+pub use Rattle.rpm_effects.specs.Portions.{fails, together}
 pub use Rattle.rpm_report.specs.FileReport.{check_files, conflict_step, if_differs, label_told, told_steps}
 pub use Rattle.rpm_report.specs.Reports.{unsound, verdict_part, verify}
 pub use Rattle.rpm_report.specs.Requirements.{HaltsOfSome, IsRead, OrderPartIs, bad_at, bad_parts, class_steps, halt_of_check, label_step}

@@ -9,8 +9,8 @@ use Rattle.rpm_db.specs.Database.{unindexed}
 use Rattle.rpm_db.specs.declared.verify.Verdict.{Verdict}
 use Rattle.rpm_db.specs.declared.verify.Verdict.TheVariants.{Sound, BadHeader, BadChecksum, BadDigest}
 use Rattle.rpm_db.specs.Verdicts.{verdict}
-use Rattle.rpm_change.specs.Steps.{bearer, ToOut, Course, idle}
-use Rattle.rpm_print.specs.Steps.{Portion, nothing, fails, together, before}
+use Rattle.rpm_effects.specs.Steps.{bearer, ToOut, Course, idle}
+use Rattle.rpm_effects.specs.Portions.{Portion, nothing, fails, together, before}
 
 -- what verifying says of a package, as a line
 unfoldable pub verdict_line : ℕ → List ℕ → List ℕ

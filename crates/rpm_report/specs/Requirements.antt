@@ -20,16 +20,18 @@ use Rattle.rpm_check.specs.declared.faults.CheckFault.{CheckFault}
 use Rattle.rpm_check.specs.declared.faults.CheckFault.TheVariants as check
 use Rattle.rpm_check.specs.Answers.{IsFaultOfSome}
 use Rattle.rpm_qfeval.specs.Numbers.{letters, depflags}
-use Rattle.rpm_change.specs.declared.tally.Halt.{Halt}
-use Rattle.rpm_change.specs.declared.tally.Halt.TheVariants as halt
-use Rattle.rpm_print.specs.declared.answer.Why.{Why}
-use Rattle.rpm_print.specs.declared.answer.Why.TheVariants as why
-use Rattle.rpm_change.specs.Endings.{Outputs}
-use Rattle.rpm_change.specs.Steps.{bearer, whole, Step, ToOut, Course, idle}
-use Rattle.rpm_print.specs.Steps.{Portion, nothing, fails, together, before}
+use Rattle.rpm_effects.specs.declared.tally.Halt.{Halt}
+use Rattle.rpm_effects.specs.declared.tally.Halt.TheVariants as halt
+use Rattle.rpm_effects.specs.declared.answer.Why.{Why}
+use Rattle.rpm_effects.specs.declared.answer.Why.TheVariants as why
+use Rattle.rpm_effects.specs.Progress.{Outputs}
+use Rattle.rpm_effects.specs.Steps.{bearer, whole, Step, ToOut, Course, idle}
+use Rattle.rpm_effects.specs.Portions.{Portion, nothing, fails, together, before}
 use Rattle.rpm_print.specs.Printed.{bad_step}
 use Rattle.rpm_report.specs.Labels.{header_label}
-use Rattle.rpm_print.specs.Answers.{PartIs, Reached, Anywhere, is_some_of, why_of_halt}
+use Rattle.rpm_effects.specs.Answers.{PartIs, Reached, Anywhere}
+use Rattle.rpm_print.specs.Answers.{is_some_of}
+use Rattle.rpm_effects.specs.Endings.{why_of_halt}
 
 -- ---- what is said of a package
 

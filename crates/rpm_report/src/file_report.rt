@@ -3,11 +3,11 @@
 ghost use Rattle.std.specs.Prelude.{◌≡◌, ◌≢◌, ◌+◌, ◌≤◌, [], ◌∷◌, map, false, IsTrue, Err, IfErr};
 ghost use Rattle.rpm_report.specs.Prelude.{check_files, conflict_step, cost_all, DiskFault, EndHands, Everything, fails, HaltHands, if_differs, is_foreign, is_of_opening, IsAskable, IsOfPrint, label_told, Looks, OutTakes, packages_in, PartIs, Pkg, pkg_read, PutsOut, reached_by, shown, together, told_steps, Went, whole};
 
-use rpm_change::Halt;
 use rpm_db::Db;
+use rpm_effects::{Halt, Why};
 use rpm_filecheck::{Conflict, ConflictList, FileCheckFault, conflicts};
 use rpm_outside::{Buffered, Disk, File, Sink};
-use rpm_print::{Why, put_bad, put_out};
+use rpm_print::{put_bad, put_out};
 use std::alloc::Global;
 
 /// A word, where what it names differs.

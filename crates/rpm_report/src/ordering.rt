@@ -5,9 +5,9 @@ ghost use Rattle.rpm_report.specs.Prelude.{Anywhere, class_steps, DiskFault, fla
 
 use crate::unreadable::{halt_of_check, read_into, tell_each_bad};
 use itoa::Buffer;
-use rpm_change::Halt;
 use rpm_check::read_graph;
 use rpm_db::Db;
+use rpm_effects::Halt;
 use rpm_filecheck::label_of;
 use rpm_graph::{ClassList, order};
 use rpm_header::View;

@@ -5,9 +5,9 @@ ghost use Rattle.std.specs.Prelude.{◌≡◌, map, IsTrue, IfOk};
 ghost use Rattle.std.specs.FinMap as finite;
 ghost use Rattle.rpm_report.specs.Prelude.{Anywhere, bad_at, bad_parts, ErrTakes, fails, IsAskable, IsOfPrint, IsRead, packages_in, PartIs, ReadsBy, halt_of_check, TellsErr};
 
-use rpm_change::Halt;
 use rpm_check::CheckFault;
 use rpm_db::{Db, GetFault};
+use rpm_effects::Halt;
 use rpm_outside::{Buffered, Disk, Sink};
 use rpm_print::{put_bad, put_line};
 use std::alloc::Global;

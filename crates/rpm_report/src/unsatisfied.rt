@@ -5,9 +5,9 @@ ghost use Rattle.std.specs.List.{All, prefix_len};
 ghost use Rattle.rpm_report.specs.Prelude.{Anywhere, DiskFault, HaltHands, has, HasRows, header, is_open, IsAskable, IsOfPrint, line_of, needed_in, option_map, OutTakes, packages_in, PartIs, Peeks, range_text, Reached, read_text, required, shown, HaltsOfSome, TellsOut, unmet_lines, unmet_step, unsatisfied_part};
 
 use crate::unreadable::{halt_of_check, read_into, tell_each_bad};
-use rpm_change::Halt;
 use rpm_check::{Unmet, unmet};
 use rpm_db::Db;
+use rpm_effects::Halt;
 use rpm_filecheck::label_of;
 use rpm_header::View;
 use rpm_outside::{Buffered, Disk, Sink};

@@ -5,10 +5,10 @@ ghost use Rattle.rpm_report.specs.Prelude.{bearer, cost, cost_all, DiskFault, Ev
 ghost use Rattle.rpm_db.specs.Database as database;
 
 use itoa::Buffer;
-use rpm_change::Halt;
 use rpm_db::{Db, GetFault, Verdict};
+use rpm_effects::{Halt, Why};
 use rpm_outside::{Buffered, Disk, File, Sink};
-use rpm_print::{Why, put_out};
+use rpm_print::put_out;
 use std::alloc::Global;
 
 /// Writes the line of a package that isn't sound, for which the argument fails.

@@ -6,10 +6,10 @@ use Rattle.rpm_tool.proofs.Vocabulary.{is_query, log_state, Mode, needs_no_index
 use Rattle.rpm_tool.proofs.Vocabulary.{text_of, Tree, Why}
 use Rattle.rpm_words.specs.declared.switch.Chosen.TheVariants as by
 use Rattle.rpm_words.specs.declared.ask.Mode.TheVariants as mode
-use Rattle.rpm_print.specs.declared.answer.Why.TheVariants as why
+use Rattle.rpm_effects.specs.declared.answer.Why.TheVariants as why
 use Rattle.rpm_tool.proofs.Deeds.{does_memory}
 use Rattle.rpm_tool.proofs.Loading.{loaded_memory}
-use Rattle.rpm_print.specs.inner.Reaching.{through_none}
+use Rattle.rpm_effects.specs.inner.Reaching.{through_none}
 
 -- where memory was wanting before, its database has not been opened
 pub not_begun : (tree : Tree) (words : List (List ℕ)) (a : AskParts) (files : Files) (out_tells err_tells : Bool) (o e : List ℕ) (n : ℕ)

@@ -3,7 +3,7 @@ use Rattle.std.proofs.Common.{◌≡◌, ℕ, ◌+◌, ◌^◌, ◌≤◌, Bool,
 use Rattle.rpm_tool.proofs.Vocabulary.{AskParts, Damage, deed_of, Deeds, DidByKey, Files, FullByUnits, FullIs, HasRoom, is_done_or_outside}
 use Rattle.rpm_tool.proofs.Vocabulary.{is_foreign, IsSound, IsUsable, IsUsableGroup, keyed_to, KeyedIs, Loaded, log_state, LogState, Malformed, OnUsable}
 use Rattle.rpm_tool.proofs.Vocabulary.{Opened, Outputs, reopened, Store, store, Tree, WentBy, Why}
-use Rattle.rpm_print.specs.declared.answer.Why.TheVariants as why
+use Rattle.rpm_effects.specs.declared.answer.Why.TheVariants as why
 use Rattle.rpm_tool.proofs.Deeds.{does_outside}
 
 module _ (Usable : Type 0) (Do : Deeds) (s : Store) (w : Why) (old new : Outputs) where

@@ -4,7 +4,7 @@ use Rattle.rpm_tool.proofs.Vocabulary.{always_keyed, Anywhere, AskParts, Bearer,
 use Rattle.rpm_tool.proofs.Vocabulary.{is_done_or_outside, is_foreign, is_query, Mode, opens_index, ordering, Outputs, packages, query, Store, Through, Tree}
 use Rattle.rpm_tool.proofs.Vocabulary.{Units, unless_starved, unsatisfied, verify, Went, Why}
 use Rattle.rpm_words.specs.declared.ask.Mode.TheVariants as mode
-use Rattle.rpm_print.specs.declared.answer.Why.TheVariants as why
+use Rattle.rpm_effects.specs.declared.answer.Why.TheVariants as why
 use Rattle.rpm_print.specs.declared.reading.Deed.TheVariants as deed
 use Rattle.rpm_commit.specs.inner.ByEnding.{by_starved}
 use Rattle.rpm_tool.proofs.Loading.{went_reads}

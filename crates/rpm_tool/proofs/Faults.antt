@@ -1,7 +1,7 @@
 -- Faults that an object counts, over several calls.
 use Rattle.std.proofs.Common.{◌≡◌, ◌∙◌, ℕ, ◌+◌, ◌≤◌, true, false, sym, ap, arith}
 use Rattle.rpm_outside.specs.declared.sink.Sink as sink
-use Rattle.rpm_print.specs.Frame.{EndHands}
+use Rattle.rpm_effects.specs.Hands.{EndHands}
 use Rattle.rpm_tool.proofs.Vocabulary.{Buffered, HasCauseAt, inner, is_of_streams, Rose, Why}
 
 pub le_self : (n : ℕ) → n ≤ n

@@ -1,9 +1,8 @@
 -- A command on the files that a disk's files stand for.
 use Rattle.std.proofs.Common.{ℕ, ◌+◌, ◌≤◌, true, false, [], Result, Ok, Err, arith}
-use Rattle.rpm_tool.proofs.Vocabulary.{Bearer, Course, Damage, Deeds, IsSound, Loaded, LogState, Malformed, Opened, Outputs, Refused}
-use Rattle.rpm_tool.proofs.Vocabulary.{Store, Through, Went, Why}
-use Rattle.rpm_print.specs.declared.answer.Why.TheVariants as why
-use Rattle.rpm_print.specs.inner.Stopping.{within_reads}
+use Rattle.rpm_tool.proofs.Vocabulary.{Bearer, Course, Damage, Deeds, IsSound, Loaded, LogState, Malformed, Opened, Outputs, Refused, Store, Through, Went, Why}
+use Rattle.rpm_effects.specs.declared.answer.Why.TheVariants as why
+use Rattle.rpm_effects.specs.inner.Stopping.{within_reads}
 
 module _ (Do : Deeds) (s : Result Store Damage) where
   -- nothing was done, for a fault of the disk or for want of memory

@@ -8,8 +8,8 @@ use Rattle.rpm_tool.proofs.Vocabulary.{picks, query_of, question_of, RisesFrom, 
 use Rattle.std.specs.FinMap as finite
 use Rattle.rpm_words.specs.declared.switch.Chosen.TheVariants as by
 use Rattle.rpm_select.specs.declared.selection.Selection.TheVariants as question
-use Rattle.rpm_change.specs.Steps.{Step}
-use Rattle.rpm_print.specs.Steps.{bearer_of, in_turn, numbers}
+use Rattle.rpm_effects.specs.Steps.{Step}
+use Rattle.rpm_effects.specs.Portions.{bearer_of, in_turn, numbers}
 use Rattle.rpm_tool.specs.Deeds.{is_above, steps_above}
 use Rattle.rpm_print.specs.inner.Printed.{bearer-step_of}
 use Rattle.rpm_query.specs.inner.Rising.{rises_above}

@@ -9,7 +9,7 @@ use Rattle.rpm_outside.specs.Frame.{LeavesIn}
 use Rattle.std.proofs.Common.{◌≡◌, ℕ, ◌≤◌, Bool, true, false, not, List, Ok, refl, sym, ap, ◌∙◌, subst, inl, inr, arith}
 use Rattle.std.specs.Prelude.{IsTrue, ◌⊎◌}
 use Rattle.std.proofs.lemmas.Bool.{cases_Bool}
-use Rattle.rpm_print.specs.declared.answer.Why.TheVariants as why
+use Rattle.rpm_effects.specs.declared.answer.Why.TheVariants as why
 use Rattle.rpm_query.specs.inner.Sums.{store_by, store_sum}
 
 -- ---- a run of calls that opened the database, and then looked things up

@@ -8,13 +8,12 @@ use Rattle.rpm_tool.proofs.Vocabulary.{Answers, AnswersByKey, AnswersChange, Ans
 use Rattle.rpm_tool.proofs.Vocabulary.{AskParts, asks_change, asks_format, Buffered, by_key, changes_in, Does, EmptyBy, is_changing, is_done, is_foreign}
 use Rattle.rpm_tool.proofs.Vocabulary.{HasCauseAt, inner, is_of_words, Leaves, needs_none, of_files, OneChange, Outputs, outputs, Pkg, query_files, ran, reads_shelf, reopened, Run, Streams}
 use Rattle.rpm_tool.proofs.Vocabulary.{task_course, text_course, text_of, Tree, Why}
-use Rattle.rpm_change.specs.Hands.{Hand}
-use Rattle.rpm_print.specs.Frame.{EndHands}
-use Rattle.rpm_print.specs.declared.answer.Why.TheVariants as why
+use Rattle.rpm_effects.specs.Hands.{Hand, EndHands}
+use Rattle.rpm_effects.specs.declared.answer.Why.TheVariants as why
 use Rattle.rpm_tool.proofs.Begun.{change_untold, files_unchanging, files_unkeyed, files_untold, keyed_unchanging, keyed_untold, not_begun, unforeign}
 use Rattle.rpm_commit.specs.inner.Emptied.{memory_empty}
 use Rattle.rpm_print.specs.inner.Peeking.{leaves_none}
-use Rattle.rpm_print.specs.inner.Reaching.{through_none}
+use Rattle.rpm_effects.specs.inner.Reaching.{through_none}
 use Rattle.rpm_tool.proofs.Faults.{never_cause}
 use Rattle.rpm_tool.proofs.Recovered.{unbegun}
 use Rattle.rpm_tool.proofs.Undone.{asked_is, asked_some, same_asked}

@@ -15,14 +15,14 @@ use Rattle.rpm_group.specs.inner.KeptLogs.{same_kept, sound_kept}
 use Rattle.rpm_db.specs.declared.open_fault.DbOpenFault.{DbOpenFault}
 use Rattle.rpm_db.specs.declared.open_fault.DbOpenFault.TheVariants as opening
 use Rattle.rpm_tool.specs.Keyed.{DoesOn}
-use Rattle.rpm_commit.specs.Endings.{why_of_open}
-use Rattle.rpm_print.specs.declared.answer.Why.TheVariants as why
+use Rattle.rpm_effects.specs.Endings.{why_of_open}
+use Rattle.rpm_effects.specs.declared.answer.Why.TheVariants as why
 use Rattle.rpm_tool.proofs.Completed.{completes}
 use Rattle.rpm_tool.proofs.Deeds.{does_fault, does_memory, does_reads, does_unbroken, query_deed}
 use Rattle.rpm_tool.proofs.Endings.{full_opened, unrefused, went_by}
 use Rattle.rpm_tool.proofs.Loading.{loaded_memory, opened_fault, opened_memory}
 use Rattle.rpm_tool.proofs.OpeningLaws.{bad_opened, keyed_by, keyed_sum, opened_index, opened_rows}
-use Rattle.rpm_print.specs.inner.Reaching.{through_none}
+use Rattle.rpm_effects.specs.inner.Reaching.{through_none}
 use Rattle.rpm_commit.specs.inner.Regrouped.{recovered_sound, recovering_packages, recovering_still}
 use Rattle.rpm_commit.specs.inner.Standing.{shut_lawful, shut_stands}
 use Rattle.rpm_tool.proofs.Unrecovered.{loaded_by}

@@ -1,12 +1,11 @@
 -- What the answers to words say, to those that aren't done and to those that are.
 use Rattle.std.proofs.Common.{◌≡◌, ◌∙◌, ℕ, true, false, List, Option, Some, None, Result, Ok, Err, refl, sym, ap, subst, inl, inr}
 use Rattle.std.specs.Prelude.{◌≢◌}
-use Rattle.rpm_tool.proofs.Vocabulary.{ask, AskParts, asks, asks_format, command_in, format_in, FormatFault, is_of_words, Tree, Undone, Why}
-use Rattle.rpm_tool.proofs.Vocabulary.{WordsFault}
+use Rattle.rpm_tool.proofs.Vocabulary.{ask, AskParts, asks, asks_format, command_in, format_in, FormatFault, is_of_words, Tree, Undone, Why, WordsFault}
 use Rattle.rpm_tool.specs.Theorem.{AnswersWords}
 use Rattle.rpm_words.specs.declared.fault.WordsKind.TheVariants as kind
 use Rattle.rpm_qfparse.specs.declared.fault.FormatKind.TheVariants as wrong
-use Rattle.rpm_print.specs.declared.answer.Why.TheVariants as why
+use Rattle.rpm_effects.specs.declared.answer.Why.TheVariants as why
 
 none_some : (p : AskParts × Tree) (o : Option (AskParts × Tree)) → o ≡ None → o ≡ Some p → ⊥
 none_some p o none some = cc

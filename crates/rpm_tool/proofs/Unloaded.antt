@@ -1,15 +1,14 @@
 -- What is said where the log's changes can't be loaded, or the database not be opened.
 use Rattle.std.proofs.Common.{◌≡◌, ◌+◌, ◌≤◌, ℕ, false, List, [], Result, Err, refl, sym, subst}
 use Rattle.rpm_tool.proofs.Vocabulary.{AskParts, deed_of, DidPlain, is_foreign, is_of_streams, Loaded, LogState, Opened, Outputs}
-use Rattle.rpm_tool.proofs.Vocabulary.{read_to, store, Store, Through}
-use Rattle.rpm_tool.proofs.Vocabulary.{Tree, Units}
-use Rattle.rpm_commit.specs.Endings.{why_of_load, why_of_open}
+use Rattle.rpm_tool.proofs.Vocabulary.{read_to, store, Store, Through, Tree, Units}
+use Rattle.rpm_effects.specs.Endings.{why_of_load, why_of_open}
 use Rattle.rpm_db.specs.declared.open_fault.DbOpenFault.{DbOpenFault}
 use Rattle.rpm_db.specs.declared.open_fault.DbOpenFault.TheVariants as opening
 use Rattle.rpm_group.specs.Loads.{LoadSays}
 use Rattle.rpm_group.specs.declared.load.LoadFault.{LoadFault}
 use Rattle.rpm_group.specs.declared.load.LoadFault.TheVariants as load
-use Rattle.rpm_print.specs.declared.answer.Why.TheVariants as why
+use Rattle.rpm_effects.specs.declared.answer.Why.TheVariants as why
 use Rattle.rpm_tool.proofs.Deeds.{does_fault, does_memory}
 use Rattle.rpm_tool.proofs.Loading.{loaded_fault, loaded_memory, opened_fault, opened_memory}
 

@@ -4,7 +4,7 @@ use Rattle.rpm_tool.proofs.Vocabulary.{AskParts, BadIs, Damage, Deeds, Files, Fu
 use Rattle.rpm_tool.proofs.Vocabulary.{is_of_streams, IsSound, Loaded, LogState}
 use Rattle.rpm_tool.proofs.Vocabulary.{Opened, Outputs, RecoverFault, RecoverSays, Store, Through, Why, why_of_recover}
 use Rattle.rpm_group.specs.declared.recovery.RecoverFault.TheVariants as recover
-use Rattle.rpm_print.specs.declared.answer.Why.TheVariants as why
+use Rattle.rpm_effects.specs.declared.answer.Why.TheVariants as why
 use Rattle.rpm_tool.proofs.Loading.{loaded_fault}
 
 module _ (Do : Deeds) (s : Result Store Damage) where

@@ -1,9 +1,9 @@
 -- The words of proofs, from one place.
-pub use Rattle.rpm_change.specs.Endings.{Outputs, outputs, Through}
-pub use Rattle.rpm_change.specs.Steps.{Bearer, Course}
+pub use Rattle.rpm_effects.specs.Progress.{Outputs, outputs, Through}
+pub use Rattle.rpm_effects.specs.Steps.{Bearer, Course}
 pub use Rattle.rpm_check.specs.Edges.{graph_of}
 pub use Rattle.rpm_commit.specs.Changing.{EmptyBy}
-pub use Rattle.rpm_commit.specs.Endings.{unless_starved, why_of_recover}
+pub use Rattle.rpm_effects.specs.Endings.{unless_starved, why_of_recover}
 pub use Rattle.rpm_commit.specs.Lawful.{AreLawfulGroups, KeepsPackages, StandsStill}
 pub use Rattle.rpm_commit.specs.Limits.{OneChange}
 pub use Rattle.rpm_commit.specs.Tasks.{asked_course, asked_task, needs_none, reads_shelf, task_course}
@@ -32,18 +32,20 @@ pub use Rattle.rpm_outside.specs.inner.Looking.{looks_then}
 pub use Rattle.rpm_outside.specs.inner.Moments.{leaves_then, leaves_weaker, started}
 pub use Rattle.rpm_pkgdb.specs.Store.{Store, store}
 pub use Rattle.rpm_pkgdb.specs.declared.slot.Damage.{Damage}
-pub use Rattle.rpm_print.specs.Answers.{Anywhere, Closes, Ends, Refused, Undone, Went}
+pub use Rattle.rpm_effects.specs.Answers.{Anywhere, Closes, Ends, Refused, Went}
+pub use Rattle.rpm_print.specs.Answers.{Undone}
 pub use Rattle.rpm_print.specs.Asked.{always_keyed, by_key, changes_in, command_in, deed_of, format_in, is_changing, is_changing_in, is_package}
 pub use Rattle.rpm_print.specs.Asked.{is_query, needs_no_index, of_files, opens_index}
 unfoldable pub use Rattle.rpm_print.specs.Asked.{asks, asks_change, asks_format}
-pub use Rattle.rpm_print.specs.Classes.{is_done, is_done_or_outside, is_foreign, is_of_opening, is_of_streams, is_of_words, is_refusal}
+pub use Rattle.rpm_effects.specs.Classes.{is_done, is_done_or_outside, is_foreign, is_of_opening, is_of_streams, is_of_words, is_refusal}
 unfoldable pub use Rattle.rpm_print.specs.Closing.{closing}
-pub use Rattle.rpm_print.specs.Frame.{Leaves, outs, packages_in, Peeks, pkg_read, Runs, shown}
+pub use Rattle.rpm_print.specs.Frame.{Leaves, packages_in, Peeks, pkg_read, Runs}
+pub use Rattle.rpm_effects.specs.Shown.{outs, shown}
 pub use Rattle.rpm_print.specs.Printed.{step_of}
 pub use Rattle.rpm_print.specs.Reads.{reach_sum, reached_by}
-pub use Rattle.rpm_print.specs.Steps.{RisesFrom, with_number}
+pub use Rattle.rpm_effects.specs.Portions.{RisesFrom, with_number}
 pub use Rattle.rpm_print.specs.Texts.{text_course, text_of}
-pub use Rattle.rpm_print.specs.declared.answer.Why.{Why}
+pub use Rattle.rpm_effects.specs.declared.answer.Why.{Why}
 pub use Rattle.rpm_print.specs.declared.reading.Deed.{Deed}
 pub use Rattle.rpm_qfparse.specs.Tree.{Tree}
 pub use Rattle.rpm_qfparse.specs.declared.fault.FormatFault.{FormatFault}

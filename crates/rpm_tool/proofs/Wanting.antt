@@ -2,7 +2,7 @@
 use Rattle.std.specs.Prelude.{IsTrue, ◌↔◌}
 use Rattle.rpm_tool.proofs.Vocabulary.{Damage, Refused, Rose, unless_starved, Why}
 use Rattle.std.proofs.Common.{◌≡◌, ℕ, zero, suc, ◌+◌, ◌<◌, ◌≤◌, Bool, true, false, refl, arith}
-use Rattle.rpm_print.specs.declared.answer.Why.TheVariants as why
+use Rattle.rpm_effects.specs.declared.answer.Why.TheVariants as why
 use Rattle.rpm_commit.specs.inner.ByEnding.{by_starved}
 use Rattle.rpm_commit.specs.inner.Starved.{starved_fault}
 

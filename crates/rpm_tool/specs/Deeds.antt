@@ -18,21 +18,20 @@ use Rattle.rpm_select.specs.Reach.{Reach, Everything}
 use Rattle.rpm_print.specs.declared.reading.Deed.{Deed}
 use Rattle.rpm_print.specs.declared.reading.Deed.TheVariants as deed
 use Rattle.rpm_print.specs.Asked.{deed_of}
-use Rattle.rpm_change.specs.Endings.{Through}
-use Rattle.rpm_change.specs.Steps.{Bearer, Step}
-use Rattle.rpm_print.specs.Steps.{bearer_of}
-use Rattle.rpm_print.specs.Answers.{Went, Misread, Refused, Anywhere}
-use Rattle.rpm_print.specs.Classes.{is_done}
+use Rattle.rpm_effects.specs.Progress.{Through}
+use Rattle.rpm_effects.specs.Steps.{Bearer, Step}
+use Rattle.rpm_effects.specs.Portions.{bearer_of}
+use Rattle.rpm_effects.specs.Answers.{Went, Misread, Refused, Anywhere}
+use Rattle.rpm_effects.specs.Classes.{is_done}
 use Rattle.rpm_report.specs.FileReport.{check_files}
-use Rattle.rpm_query.specs.Queries.{query}
+use Rattle.rpm_query.specs.Queries.{query, export}
 use Rattle.rpm_print.specs.Reads.{reach_sum, reached_by}
 use Rattle.rpm_query.specs.Reach.{argument_reach, reaches_by}
 use Rattle.rpm_report.specs.Reports.{verify}
-use Rattle.rpm_query.specs.Queries.{export}
-pub use Rattle.rpm_change.specs.Endings.{Outputs}
+pub use Rattle.rpm_effects.specs.Progress.{Outputs}
 pub use Rattle.rpm_db.specs.State.{Package, State}
 pub use Rattle.rpm_outside.specs.Logs.{reopened}
-pub use Rattle.rpm_print.specs.declared.answer.Why.{Why}
+pub use Rattle.rpm_effects.specs.declared.answer.Why.{Why}
 pub use Rattle.rpm_qfparse.specs.Tree.{Tree}
 use Rattle.rpm_report.specs.Requirements.{unsatisfied, ordering, IsListed}
 

@@ -18,18 +18,18 @@ use Rattle.rpm_db.specs.Openings.{must_make, units_needed, making_cost}
 use Rattle.rpm_words.specs.Words.{text_at}
 use Rattle.rpm_words.specs.Ask.{AskParts}
 use Rattle.rpm_qfparse.specs.Tree.{Tree}
-use Rattle.rpm_print.specs.declared.answer.Why.{Why}
-use Rattle.rpm_print.specs.declared.answer.Why.TheVariants as why
+use Rattle.rpm_effects.specs.declared.answer.Why.{Why}
+use Rattle.rpm_effects.specs.declared.answer.Why.TheVariants as why
 use Rattle.rpm_print.specs.declared.reading.Deed.{Deed}
 use Rattle.rpm_print.specs.declared.reading.Deed.TheVariants as deed
 use Rattle.rpm_print.specs.Asked.{always_keyed, is_query, deed_of}
-use Rattle.rpm_change.specs.Steps.{Bearer}
+use Rattle.rpm_effects.specs.Steps.{Bearer}
 use Rattle.rpm_report.specs.Requirements.{IsOfSome}
 use Rattle.rpm_print.specs.Frame.{HasRows as HasIndexRows, packages_in, Peeks, pkg_read}
 use Rattle.rpm_print.specs.Reads.{reach_sum, reached_by}
 use Rattle.rpm_query.specs.Reach.{IsOfChains}
-use Rattle.rpm_change.specs.Endings.{Outputs, Through}
-use Rattle.rpm_print.specs.Classes.{is_done, is_done_or_outside, is_foreign, is_refusal}
+use Rattle.rpm_effects.specs.Progress.{Outputs, Through}
+use Rattle.rpm_effects.specs.Classes.{is_done, is_done_or_outside, is_foreign, is_refusal}
 use Rattle.rpm_tool.specs.Deeds.{Deeds, Loaded, DoesBy, reaches_of, asked_reaches, blocks_cost}
 pub use Rattle.rpm_commit.specs.Lawful.{AreLawfulGroups, IsLawfulGroup, KeepsPackages, StandsStill}
 pub use Rattle.rpm_group.specs.Settled.{KeepsLog}

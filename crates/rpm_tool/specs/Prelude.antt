@@ -2,13 +2,15 @@
 pub use Rattle.rpm_outside.specs.Logs.{reopened}
 pub use Rattle.rpm_outside.specs.declared.disk.File.TheVariants.{Pkg}
 pub use Rattle.rpm_pkgdb.specs.Store.{store}
-pub use Rattle.rpm_commit.specs.Endings.{unless_starved, why_of_load, why_of_recover}
+pub use Rattle.rpm_effects.specs.Endings.{unless_starved, why_of_load, why_of_recover, status_of}
 pub use Rattle.rpm_commit.specs.OneChange.{Streams}
-pub use Rattle.rpm_print.specs.Answers.{Ends}
+pub use Rattle.rpm_effects.specs.Answers.{Ends}
 pub use Rattle.rpm_print.specs.Asked.{always_keyed, asks, deed_of}
-pub use Rattle.rpm_print.specs.Classes.{IsOfPrint, is_foreign, is_of_opening}
-pub use Rattle.rpm_print.specs.Closing.{closing, status_of}
-pub use Rattle.rpm_print.specs.Frame.{DiskFault, EndHands, IsAskable, Leaves, Looks, outs, pkg_read, shown}
+pub use Rattle.rpm_effects.specs.Classes.{IsOfPrint, is_foreign, is_of_opening}
+pub use Rattle.rpm_print.specs.Closing.{closing}
+pub use Rattle.rpm_print.specs.Frame.{DiskFault, IsAskable, Leaves, Looks, pkg_read}
+pub use Rattle.rpm_effects.specs.Hands.{EndHands}
+pub use Rattle.rpm_effects.specs.Shown.{outs, shown}
 pub use Rattle.rpm_report.specs.Requirements.{why_of_report}
 pub use Rattle.rpm_tool.specs.Deeds.{DidPlain, Opened, Queried, query_cost}
 pub use Rattle.rpm_tool.specs.Keyed.{AnswersByKey, DoesOn}

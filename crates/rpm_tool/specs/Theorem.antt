@@ -17,11 +17,12 @@ use Rattle.rpm_words.specs.declared.fault.WordsKind.TheVariants as kind
 use Rattle.rpm_words.specs.Ask.{AskParts, ask}
 use Rattle.rpm_qfparse.specs.declared.fault.FormatFault.{FormatFault}
 use Rattle.rpm_qfparse.specs.declared.fault.FormatKind.TheVariants as wrong
-use Rattle.rpm_print.specs.declared.answer.Why.TheVariants as why
-use Rattle.rpm_print.specs.Answers.{ComesWhere, Anywhere, Went}
+use Rattle.rpm_effects.specs.declared.answer.Why.TheVariants as why
+use Rattle.rpm_print.specs.Answers.{ComesWhere}
+use Rattle.rpm_effects.specs.Answers.{Anywhere, Went}
 use Rattle.rpm_print.specs.Asked.{is_query, of_files, by_key, is_changing, asks_change, asks_format, asks}
 use Rattle.rpm_commit.specs.Changing.{DidOn, ChangesWith, EmptyBy}
-use Rattle.rpm_print.specs.Classes.{is_done, is_done_or_outside, is_foreign}
+use Rattle.rpm_effects.specs.Classes.{is_done, is_done_or_outside, is_foreign}
 use Rattle.rpm_print.specs.Texts.{Course, text_course, text_of}
 use Rattle.rpm_tool.specs.Deeds.{Outputs, Package, Queried, query_cost, reopened, State, steps_above, Tree, Why}
 use Rattle.rpm_print.specs.Frame.{images, pkg_read, Leaves, LeavesIn}

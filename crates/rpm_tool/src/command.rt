@@ -6,8 +6,9 @@ ghost use Rattle.rpm_tool.specs.Prelude.{Answers, AnswersWords, asks, Causes, cl
 use crate::keyed::answer_keyed;
 use crate::loaded::answer_loaded;
 use rpm_commit::{CommandEnding, change_asked};
+use rpm_effects::{Outcome, Why, status_of};
 use rpm_outside::{Buffered, Disk, File, Shelf, Sink};
-use rpm_print::{Kind, Outcome, Why, kind_of, print_text, put_closing, read_command, status_of};
+use rpm_print::{Kind, kind_of, print_text, put_closing, read_command};
 use rpm_query::print_files;
 use rpm_words::Words;
 use std::alloc::Global;

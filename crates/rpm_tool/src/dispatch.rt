@@ -3,10 +3,10 @@
 ghost use Rattle.std.specs.Prelude.{◌≡◌, [], false, Err, IfErr};
 ghost use Rattle.rpm_tool.specs.Prelude.{deed_of, DiskFault, DoesOn, EndHands, is_foreign, is_of_opening, IsAskable, IsOfPrint, shown, why_of_report};
 
-use rpm_change::Halt;
 use rpm_db::Db;
+use rpm_effects::{Halt, Why};
 use rpm_outside::{Buffered, Disk, File, Sink};
-use rpm_print::{Deed, Why};
+use rpm_print::Deed;
 use rpm_qfparse::Format;
 use rpm_query::{query_all, query_each};
 use rpm_report::{check_files, report, report_order, report_unmet};
@@ -14,7 +14,7 @@ use rpm_words::{Ask, Words};
 use std::alloc::Global;
 
 /// The ending of a report, of whether its one argument failed.
-#[tactic(auto, using(rpm_print::specs::inner::Halts::of_report))]
+#[tactic(auto, using(rpm_effects::specs::inner::Halts::of_report))]
 fn why_of_report(told: Result<bool, Halt>) -> Why
     requires class { IfErr told IsOfPrint }
     ensures value { result ≡ why_of_report told }

@@ -5,11 +5,11 @@ ghost use Rattle.std.specs.Prelude.{◌≡◌, false, IsTrue};
 ghost use Rattle.rpm_tool.specs.Prelude.{AnswersByKey, deed_of, DiskFault, EndHands, is_foreign, shown};
 
 use crate::dispatch::answer_opened;
-use rpm_commit::{why_of_open, why_of_recover};
 use rpm_db::Db;
+use rpm_effects::{Why, why_of_open, why_of_recover};
 use rpm_group::recover;
 use rpm_outside::{Buffered, Disk, File, Sink};
-use rpm_print::{Deed, Why};
+use rpm_print::Deed;
 use rpm_qfparse::Format;
 use rpm_words::{Ask, Words};
 use std::alloc::Global;

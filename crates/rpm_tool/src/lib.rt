@@ -11,6 +11,6 @@ mod unindexed;
 
 pub use command::run;
 pub use rpm_db::{Damage, Reason};
-pub use rpm_print::{Outcome, Why};
+pub use rpm_effects::{Outcome, Why};
 pub use rpm_qfparse::{FormatFault, FormatKind};
 pub use rpm_words::{WordsFault, WordsKind};

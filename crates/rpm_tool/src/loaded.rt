@@ -4,10 +4,10 @@ ghost use Rattle.std.specs.Prelude.{◌≡◌, ◌+◌, ◌≤◌, [], false, Is
 ghost use Rattle.rpm_tool.specs.Prelude.{always_keyed, deed_of, DiskFault, EndHands, is_foreign, Leaves, pkg_read, Queried, query_cost, reopened, shown};
 
 use crate::unindexed::answer_unindexed;
-use rpm_commit::{unless_starved, why_of_load};
+use rpm_effects::{Why, unless_starved, why_of_load};
 use rpm_group::Overlay;
 use rpm_outside::{Buffered, Disk, File, Sink};
-use rpm_print::{Deed, Why};
+use rpm_print::Deed;
 use rpm_qfparse::Format;
 use rpm_words::{Ask, Words};
 use std::alloc::Global;

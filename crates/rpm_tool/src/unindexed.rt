@@ -5,8 +5,9 @@ ghost use Rattle.rpm_tool.specs.Prelude.{always_keyed, deed_of, DidPlain, DiskFa
 
 use crate::dispatch::answer_opened;
 use rpm_db::{Db, DbOpenFault};
+use rpm_effects::Why;
 use rpm_outside::{Buffered, Disk, File, Sink};
-use rpm_print::{Deed, Why};
+use rpm_print::Deed;
 use rpm_qfparse::Format;
 use rpm_words::{Ask, Words};
 use std::alloc::Global;

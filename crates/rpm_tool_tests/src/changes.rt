@@ -4,8 +4,9 @@ ghost use Rattle.std.specs.Prelude.{IfSome};
 ghost use Rattle.rpm_db.specs.Changed.{IsReady};
 
 use crate::fixtures::{HEADER, MAGIC, joined};
-use rpm_change::{Halt, Tally, import_most};
+use rpm_change::import_most;
 use rpm_db::Db;
+use rpm_effects::{Halt, Tally};
 use rpm_outside::{Buffered, Disk, MemDisk, MemShelf, MemSink};
 use std::alloc::{AllocError, Global};
 

@@ -12,25 +12,25 @@ use Rattle.rpm_db.specs.declared.change_fault.ChangeFault.{ChangeFault}
 use Rattle.rpm_db.specs.declared.change_fault.ChangeFault.TheVariants as fault
 use Rattle.rpm_db.specs.Changes.{Change}
 use Rattle.rpm_db.specs.Database.{Database, is_indexed}
-use Rattle.rpm_db.specs.Frame.{Runs, state_in}
+use Rattle.rpm_db.specs.Frame.{Runs, state_in, room}
 use Rattle.rpm_db.specs.Lawful.{IsWholeIndex}
 use Rattle.rpm_db.specs.Refusals.{WholeCause}
 use Rattle.rpm_db.specs.State.{State}
 use Rattle.rpm_db.specs.Runs.{SameLog}
-use Rattle.rpm_change.specs.declared.tally.Tally.{Tally}
-use Rattle.rpm_change.specs.declared.tally.Halt.{Halt}
-use Rattle.rpm_change.specs.declared.tally.Halt.TheVariants as halt
-use Rattle.rpm_change.specs.Endings.{WholeTurn, IsOfLines, halt_of}
+use Rattle.rpm_effects.specs.declared.tally.Tally.{Tally}
+use Rattle.rpm_effects.specs.declared.tally.Halt.{Halt}
+use Rattle.rpm_effects.specs.declared.tally.Halt.TheVariants as halt
+use Rattle.rpm_change.specs.Went.{WholeTurn, LeftBy, WentBy}
+use Rattle.rpm_effects.specs.Progress.{IsOfLines, halt_of}
 use Rattle.rpm_change.specs.Limits.{LimitsTurn, is_limit}
-use Rattle.rpm_change.specs.Lines.{Fails}
-use Rattle.rpm_change.specs.Steps.{Bearer, Course, ToErr, failing, idle, joined, apply_all}
-use Rattle.rpm_change.specs.Went.{EndedOnErr, LeftBy, WentBy}
+use Rattle.rpm_effects.specs.Lines.{Fails}
+use Rattle.rpm_effects.specs.Steps.{Bearer, Course, ToErr, failing, idle, joined, apply_all}
+use Rattle.rpm_effects.specs.Shown.{EndedOnErr}
 use Rattle.rpm_change.specs.inner.Leaving.{none_by, after_by, then_by, halted_by, whole_halt}
 use Rattle.rpm_change.specs.inner.LimitLaws.{limits_none, limits_more, limits_stop, limits_counted}
 use Rattle.rpm_change.specs.inner.Single.{none_made, other_stop}
-use Rattle.rpm_change.specs.inner.Courses.{plus, joined_idle, idle_joined, joined_assoc}
-use Rattle.rpm_change.specs.inner.Joins.{Joins, err_gone, uncounted}
-use Rattle.rpm_db.specs.Frame.{room}
+use Rattle.rpm_effects.specs.inner.Courses.{plus, joined_idle, idle_joined, joined_assoc}
+use Rattle.rpm_effects.specs.inner.Joins.{Joins, err_gone, uncounted}
 
 -- ---- lines
 

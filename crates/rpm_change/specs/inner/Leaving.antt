@@ -1,25 +1,25 @@
 -- What is left of a database where nothing was done, where a change was refused, and after one call and then another.
-use Rattle.std.proofs.Common.{◌≡◌, ℕ, ◌≤◌, true, Result, Ok, Err, refl, ap, ◌∙◌, arith}
+use Rattle.std.proofs.Common.{◌≡◌, ◌≤◌, true, Result, Ok, Err, refl, ap, ◌∙◌, arith}
 use Rattle.std.specs.Prelude.{IsTrue, IfOk}
 use Rattle.rpm_outside.specs.declared.disk.Disk as disk
-use Rattle.rpm_outside.specs.Causes.{HasCauseAt, Rose}
+use Rattle.rpm_outside.specs.Causes.{Rose}
 use Rattle.rpm_db.specs.declared.change_fault.ChangeFault.{ChangeFault}
 use Rattle.rpm_db.specs.declared.change_fault.ChangeFault.TheVariants as fault
 use Rattle.rpm_db.specs.Changed.{IsReady}
 use Rattle.rpm_db.specs.Database.{Database, is_indexed}
-use Rattle.rpm_db.specs.Frame.{IsIndexed, Runs}
+use Rattle.rpm_db.specs.Frame.{IsIndexed, Runs, room}
 use Rattle.rpm_db.specs.Running.{runs_none, runs_then}
 use Rattle.rpm_db.specs.Runs.{SameLog}
-use Rattle.rpm_change.specs.declared.tally.Tally.{Tally}
-use Rattle.rpm_change.specs.declared.tally.Halt.{Halt}
-use Rattle.rpm_change.specs.declared.tally.Halt.TheVariants as halt
+use Rattle.rpm_effects.specs.declared.tally.Tally.{Tally}
+use Rattle.rpm_effects.specs.declared.tally.Halt.{Halt}
+use Rattle.rpm_effects.specs.declared.tally.Halt.TheVariants as halt
 use Rattle.rpm_outside.specs.Files.{Files, Units}
 use Rattle.rpm_db.specs.Lawful.{Remade}
 use Rattle.rpm_db.specs.State.{state}
 use Rattle.rpm_db.specs.Refusals.{WholeCause}
-use Rattle.rpm_change.specs.Endings.{WholeTurn, halt_of}
-use Rattle.rpm_change.specs.Went.{CarriedOn, IsCurrent, LeftBy, LeftOn}
-use Rattle.rpm_db.specs.Frame.{room}
+use Rattle.rpm_change.specs.Went.{WholeTurn, CarriedOn, IsCurrent, LeftBy, LeftOn}
+use Rattle.rpm_effects.specs.inner.Joins.{cause_then}
+use Rattle.rpm_effects.specs.Progress.{halt_of}
 
 of_disk : (f : ChangeFault) → halt_of f ≡ halt.DiskFault → f ≡ fault.DiskFault
 of_disk fault.DiskFault is = refl
@@ -29,13 +29,6 @@ of_disk others is = absurd cc
 pub whole_halt : (idx : Units) (f : ChangeFault) → WholeCause f → WholeTurn idx (Err (halt_of f))
 whole_halt idx (fault.BadIndex unit) cause = cause
 whole_halt idx others cause = tt
-
--- something that comes only where a later call has its cause
-pub cause_then : {X : Type 0} {x y z : ℕ} → x ≤ y → HasCauseAt X y z → HasCauseAt X x z
-cause_then {x = x} {y = y} {z = z} le cause = record {
-  later = omega (arith, le, cause.later);
-  rose = λ is. (let rose : Rose y z = cause.rose is in omega (arith, le, rose));
-}
 
 -- once the index was rebuilt the files say the same state
 pub state_remade : (old new : Files) (before after : Database) → Remade old new → (room after) ≡ (room before)

@@ -12,11 +12,11 @@ use Rattle.rpm_db.specs.Room.{next_store}
 use Rattle.rpm_db.specs.Rows.{rows}
 use Rattle.rpm_db.specs.State.{State}
 use Rattle.rpm_db.specs.RoomLaws.{next_spare}
-use Rattle.rpm_change.specs.declared.tally.Tally.{Tally}
-use Rattle.rpm_change.specs.declared.tally.Halt.{Halt}
-use Rattle.rpm_change.specs.declared.tally.Halt.TheVariants as halt
+use Rattle.rpm_effects.specs.declared.tally.Tally.{Tally}
+use Rattle.rpm_effects.specs.declared.tally.Halt.{Halt}
+use Rattle.rpm_effects.specs.declared.tally.Halt.TheVariants as halt
 use Rattle.rpm_change.specs.Limits.{is_spent, is_large, needed, refusal, first_refusal, first_limit, next_stores, is_limit, StopsAt, LimitsTurn}
-use Rattle.rpm_change.specs.Steps.{apply_all}
+use Rattle.rpm_effects.specs.Steps.{apply_all}
 use Rattle.rpm_change.specs.inner.ReachLaws.{reached_more}
 use Rattle.rpm_change.specs.inner.Single.{none_made}
 use Rattle.rpm_change.specs.inner.Stores.{stores_behind}

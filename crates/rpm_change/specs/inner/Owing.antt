@@ -19,11 +19,11 @@ use Rattle.rpm_db.specs.Refusals.{IsOfIndex, IsOfReading, WholeCause}
 use Rattle.rpm_db.specs.RowLaws.{times_none}
 use Rattle.rpm_db.specs.Runs.{SameLog}
 use Rattle.rpm_db.specs.State.{State, packages}
-use Rattle.rpm_change.specs.declared.tally.Tally.{Tally}
-use Rattle.rpm_change.specs.declared.tally.Halt.{Halt}
-use Rattle.rpm_change.specs.Endings.{halt_of}
+use Rattle.rpm_effects.specs.declared.tally.Tally.{Tally}
+use Rattle.rpm_effects.specs.declared.tally.Halt.{Halt}
+use Rattle.rpm_effects.specs.Progress.{halt_of}
 use Rattle.rpm_change.specs.Limits.{is_limit}
-use Rattle.rpm_change.specs.Steps.{Course}
+use Rattle.rpm_effects.specs.Steps.{Course}
 use Rattle.rpm_change.specs.Went.{CarriedOn, IsOwing, Went, WentOwing}
 use Rattle.rpm_change.specs.inner.Leaving.{halted_by, then_by, whole_halt}
 use Rattle.rpm_change.specs.inner.ReachLaws.{idx_more}

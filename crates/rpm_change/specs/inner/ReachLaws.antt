@@ -15,7 +15,7 @@ use Rattle.rpm_db.specs.State.{State}
 use Rattle.rpm_db.specs.RoomLaws.{next_spare}
 use Rattle.rpm_change.specs.Limits.{next_stores}
 use Rattle.rpm_change.specs.Reaches.{pkg_reach, idx_reach, Reached, ReachedAnew}
-use Rattle.rpm_change.specs.Steps.{apply_all}
+use Rattle.rpm_effects.specs.Steps.{apply_all}
 
 -- ---- from further on they reach further
 

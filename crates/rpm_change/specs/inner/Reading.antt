@@ -8,14 +8,14 @@ use Rattle.rpm_outside.specs.Frame.{Looks}
 use Rattle.rpm_db.specs.Changes.{IsServing}
 use Rattle.rpm_db.specs.Database.{Database, IsIndexed}
 use Rattle.rpm_db.specs.Frame.{Runs}
-use Rattle.rpm_db.specs.Runs.{CameOf}
+use Rattle.rpm_db.specs.Runs.{CameOf, SameFiles, SameLog}
 use Rattle.rpm_db.specs.Running.{runs_looks, runs_then}
-use Rattle.rpm_db.specs.Runs.{SameFiles, SameLog}
-use Rattle.rpm_change.specs.declared.tally.Tally.{Tally}
-use Rattle.rpm_change.specs.declared.tally.Halt.{Halt}
-use Rattle.rpm_change.specs.declared.tally.Halt.TheVariants as halt
+use Rattle.rpm_effects.specs.declared.tally.Tally.{Tally}
+use Rattle.rpm_effects.specs.declared.tally.Halt.{Halt}
+use Rattle.rpm_effects.specs.declared.tally.Halt.TheVariants as halt
 use Rattle.rpm_change.specs.Went.{LeftOn}
-use Rattle.rpm_change.specs.inner.Leaving.{carried_any, cause_then}
+use Rattle.rpm_change.specs.inner.Leaving.{carried_any}
+use Rattle.rpm_effects.specs.inner.Joins.{cause_then}
 
 -- the value serves as before
 pub serving_read : (old new : Files) (past since : Files → Type 0) (db : Database) → new ≡ old

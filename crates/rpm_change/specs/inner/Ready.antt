@@ -5,11 +5,12 @@ use Rattle.rpm_outside.specs.declared.sink.Sink as sink
 use Rattle.rpm_outside.specs.declared.buffered.Buffered.{Buffered}
 use Rattle.rpm_db.specs.Changed.{IsReady}
 use Rattle.rpm_db.specs.Database.{Database}
-use Rattle.rpm_change.specs.declared.tally.Tally.{Tally}
-use Rattle.rpm_change.specs.declared.tally.Halt.{Halt}
-use Rattle.rpm_change.specs.Lines.{Fails}
-use Rattle.rpm_change.specs.Steps.{Bearer, ToErr, failing}
-use Rattle.rpm_change.specs.Went.{EndedOnErr, Went}
+use Rattle.rpm_effects.specs.declared.tally.Tally.{Tally}
+use Rattle.rpm_effects.specs.declared.tally.Halt.{Halt}
+use Rattle.rpm_effects.specs.Lines.{Fails}
+use Rattle.rpm_effects.specs.Steps.{Bearer, ToErr, failing}
+use Rattle.rpm_effects.specs.Shown.{EndedOnErr}
+use Rattle.rpm_change.specs.Went.{Went}
 use Rattle.rpm_change.specs.inner.Going.{line_went}
 use Rattle.rpm_change.specs.inner.Leaving.{unchanged}
 

@@ -15,10 +15,10 @@ use Rattle.rpm_db.specs.Reaches.{Reaches}
 use Rattle.rpm_db.specs.Refusals.{AddIs, PutIs, EraseCause, FullCause, IsRefusal}
 use Rattle.rpm_db.specs.Room.{RoomBecomes, RoomCause, next_store}
 use Rattle.rpm_db.specs.State.{State}
-use Rattle.rpm_change.specs.declared.tally.Tally.{Tally}
-use Rattle.rpm_change.specs.declared.tally.Halt.{Halt}
-use Rattle.rpm_change.specs.declared.tally.Halt.TheVariants as halt
-use Rattle.rpm_change.specs.Endings.{halt_of}
+use Rattle.rpm_effects.specs.declared.tally.Tally.{Tally}
+use Rattle.rpm_effects.specs.declared.tally.Halt.{Halt}
+use Rattle.rpm_effects.specs.declared.tally.Halt.TheVariants as halt
+use Rattle.rpm_effects.specs.Progress.{halt_of}
 use Rattle.rpm_change.specs.Limits.{is_spent, is_large, needed, refusal, next_stores, is_limit, LimitsTurn}
 use Rattle.rpm_change.specs.Singles.{IsOfChange, IsRefusing, IsSpent}
 use Rattle.rpm_change.specs.inner.ReachLaws.{reached_none, reached_one}

@@ -11,13 +11,14 @@ use Rattle.rpm_outside.specs.inner.Taken.{gained_none}
 use Rattle.rpm_db.specs.Changes.{Change}
 use Rattle.rpm_db.specs.Database.{Database}
 use Rattle.rpm_db.specs.Frame.{state_in}
-use Rattle.rpm_change.specs.declared.tally.Tally.{Tally}
-use Rattle.rpm_change.specs.declared.tally.Halt.{Halt}
-use Rattle.rpm_change.specs.declared.tally.Halt.TheVariants as halt
-use Rattle.rpm_change.specs.Steps.{Bearer, Course, ToOut}
-use Rattle.rpm_change.specs.Went.{EndedOnOut, EndedQuietly, WentBy}
-use Rattle.rpm_change.specs.inner.Courses.{stopped_by}
-use Rattle.rpm_change.specs.inner.Joins.{out_gone, took}
+use Rattle.rpm_effects.specs.declared.tally.Tally.{Tally}
+use Rattle.rpm_effects.specs.declared.tally.Halt.{Halt}
+use Rattle.rpm_effects.specs.declared.tally.Halt.TheVariants as halt
+use Rattle.rpm_effects.specs.Steps.{Bearer, Course, ToOut}
+use Rattle.rpm_effects.specs.Shown.{EndedOnOut, EndedQuietly}
+use Rattle.rpm_change.specs.Went.{WentBy}
+use Rattle.rpm_effects.specs.inner.Courses.{stopped_by}
+use Rattle.rpm_effects.specs.inner.Joins.{out_gone, took}
 use Rattle.rpm_change.specs.inner.Leaving.{after_by}
 use Rattle.rpm_change.specs.inner.Single.{other_stop}
 

@@ -1,6 +1,6 @@
 -- A command that finds the index bad: it was broken when the command found it.
 use Rattle.std.proofs.Common.{◌≡◌, ℕ, Bool, true, false, Result, Ok, Err, refl, sym, ◌∙◌, subst}
-use Rattle.rpm_change.specs.declared.tally.Halt.{Halt}
+use Rattle.rpm_effects.specs.declared.tally.Halt.{Halt}
 use Rattle.rpm_db.specs.Database.{Database, is_blank}
 use Rattle.rpm_db.specs.Lawful.{IsWholeIndex}
 use Rattle.rpm_db.specs.Openings.{IsOpened, must_make}
@@ -8,14 +8,14 @@ use Rattle.rpm_outside.specs.Files.{Files, Units}
 use Rattle.rpm_pkgdb.specs.declared.slot.Damage.{Damage}
 use Rattle.rpm_commit.specs.Changing.{IsBroken}
 use Rattle.rpm_commit.specs.Working.{done_why, OpensBy}
-use Rattle.rpm_change.specs.Endings.{WholeTurn}
+use Rattle.rpm_change.specs.Went.{WholeTurn}
 use Rattle.rpm_db.specs.Frame.{room}
 use Rattle.rpm_db.specs.RoomLaws.{kept_current}
 use Rattle.rpm_pkgdb.specs.Store.{Store, store}
-use Rattle.rpm_print.specs.Answers.{why_of_halt}
-use Rattle.rpm_print.specs.declared.answer.Why.{Why}
-use Rattle.rpm_change.specs.declared.tally.Halt.TheVariants as halt
-use Rattle.rpm_print.specs.declared.answer.Why.TheVariants as why
+use Rattle.rpm_effects.specs.Endings.{why_of_halt}
+use Rattle.rpm_effects.specs.declared.answer.Why.{Why}
+use Rattle.rpm_effects.specs.declared.tally.Halt.TheVariants as halt
+use Rattle.rpm_effects.specs.declared.answer.Why.TheVariants as why
 use Rattle.rpm_commit.specs.inner.Outcomes.{by_done_why}
 
 -- ---- it isn't bad

@@ -4,7 +4,7 @@ use Rattle.std.specs.Prelude.{IfOk}
 use Rattle.std.specs.FinMap.{FinMap}
 use Rattle.std.specs.Ordering.{nat_cmp}
 use Rattle.std.specs.FinMap as finite
-use Rattle.rpm_change.specs.declared.tally.Halt.{Halt}
+use Rattle.rpm_effects.specs.declared.tally.Halt.{Halt}
 use Rattle.rpm_db.specs.Database.{Database, holds, IsNext}
 use Rattle.rpm_exercise.specs.declared.running.ExerciseFault.{ExerciseFault}
 use Rattle.rpm_exercise.specs.declared.running.ExerciseFault.TheVariants.{Halted, NotEmpty}
@@ -18,17 +18,17 @@ use Rattle.rpm_db.specs.Openings.{must_make, units_needed}
 use Rattle.rpm_db.specs.PackageLaws.{is_there}
 use Rattle.rpm_db.specs.State.{Package, packages, State, state}
 use Rattle.rpm_exercise.specs.Endings.{IsRefused}
-use Rattle.rpm_print.specs.Classes.{is_held}
-use Rattle.rpm_change.specs.declared.tally.Tally.{Tally}
+use Rattle.rpm_effects.specs.Classes.{is_held}
+use Rattle.rpm_effects.specs.declared.tally.Tally.{Tally}
 use Rattle.rpm_pkgdb.specs.Store.{Store, store}
-use Rattle.rpm_print.specs.Answers.{why_of_halt}
-use Rattle.rpm_print.specs.declared.answer.Why.{Why}
+use Rattle.rpm_effects.specs.Endings.{why_of_halt}
+use Rattle.rpm_effects.specs.declared.answer.Why.{Why}
 use Rattle.rpm_commit.specs.inner.Standing.{if_ok, if_ok_at}
 use Rattle.rpm_commit.specs.inner.ByEnding.{by_ends, by_opening, by_uncommitted}
 use Rattle.rpm_commit.specs.inner.Outcomes.{by_done_why}
 use Rattle.rpm_commit.specs.inner.Works.{if_found}
-use Rattle.rpm_print.specs.declared.answer.Why.TheVariants as why
-use Rattle.rpm_change.specs.declared.tally.Halt.TheVariants as halt
+use Rattle.rpm_effects.specs.declared.answer.Why.TheVariants as why
+use Rattle.rpm_effects.specs.declared.tally.Halt.TheVariants as halt
 
 -- a command that was done isn't refused so
 pub done_unheld : (k : ℕ) → is_held (done_why k) ≡ false

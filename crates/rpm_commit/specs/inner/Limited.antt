@@ -3,8 +3,8 @@ use Rattle.std.proofs.Common.{◌≡◌, ℕ, ◌^◌, ◌<◌, ◌≤◌, ◌&&
 use Rattle.std.proofs.Common.{◌∙◌, subst}
 use Rattle.std.specs.Prelude.{nat_lt}
 use Rattle.rpm_change.specs.Limits.{first_limit, first_refusal, is_limit, StopsAt}
-use Rattle.rpm_change.specs.Steps.{Course}
-use Rattle.rpm_change.specs.declared.tally.Halt.{Halt}
+use Rattle.rpm_effects.specs.Steps.{Course}
+use Rattle.rpm_effects.specs.declared.tally.Halt.{Halt}
 use Rattle.rpm_db.specs.Changes.{Change}
 use Rattle.rpm_outside.specs.Files.{Files, Units}
 use Rattle.rpm_pkgdb.specs.declared.slot.Damage.{Damage}
@@ -16,12 +16,12 @@ use Rattle.rpm_db.specs.Openings.{must_make}
 use Rattle.rpm_db.specs.Rows.{rows}
 use Rattle.rpm_db.specs.State.{State, state}
 use Rattle.rpm_commit.specs.Changing.{makes}
-use Rattle.rpm_change.specs.declared.tally.Tally.{Tally}
+use Rattle.rpm_effects.specs.declared.tally.Tally.{Tally}
 use Rattle.rpm_hindex.specs.Sizes.{units_for}
 use Rattle.rpm_pkgdb.specs.Store.{Store, store}
-use Rattle.rpm_print.specs.Answers.{why_of_halt}
-use Rattle.rpm_print.specs.declared.answer.Why.{Why}
-use Rattle.rpm_change.specs.declared.tally.Halt.TheVariants as halt
+use Rattle.rpm_effects.specs.Endings.{why_of_halt}
+use Rattle.rpm_effects.specs.declared.answer.Why.{Why}
+use Rattle.rpm_effects.specs.declared.tally.Halt.TheVariants as halt
 use Rattle.rpm_commit.specs.inner.Standing.{if_ok}
 use Rattle.rpm_commit.specs.inner.ByEnding.{by_opening}
 use Rattle.rpm_commit.specs.inner.Outcomes.{by_done_why}

@@ -2,17 +2,17 @@
 use Rattle.std.proofs.Common.{◌≡◌, ℕ, ◌<◌, Bool, true, [], ◌==◌, if◌then◌else◌, refl, sym, ◌∙◌, subst, inl, inr, append-nil, arith, Option, length}
 use Rattle.std.proofs.lemmas.Bool.{cases_Bool, eqb-true}
 use Rattle.std.proofs.lemmas.Bool.Decides.{nat_tests}
-use Rattle.rpm_change.specs.Steps.{Course}
-use Rattle.rpm_change.specs.declared.tally.Halt.{Halt}
+use Rattle.rpm_effects.specs.Steps.{Course}
+use Rattle.rpm_effects.specs.declared.tally.Halt.{Halt}
 use Rattle.rpm_outside.specs.Files.{Files}
 use Rattle.rpm_commit.specs.Changing.{after, Did, HasState, LeavesState}
-use Rattle.rpm_print.specs.Classes.{is_done, is_done_or_fault, is_of_lawful}
+use Rattle.rpm_effects.specs.Classes.{is_done, is_done_or_fault, is_of_lawful}
 use Rattle.rpm_commit.specs.Limits.{MeetsFirst}
 use Rattle.rpm_commit.specs.Working.{done_why, Stopped}
-use Rattle.rpm_change.specs.Endings.{Outputs, Through, ThroughSome}
+use Rattle.rpm_effects.specs.Progress.{Outputs, Through, ThroughSome}
 use Rattle.rpm_db.specs.State.{State}
-use Rattle.rpm_print.specs.declared.answer.Why.{Why}
-use Rattle.rpm_print.specs.declared.answer.Why.TheVariants as why
+use Rattle.rpm_effects.specs.declared.answer.Why.{Why}
+use Rattle.rpm_effects.specs.declared.answer.Why.TheVariants as why
 
 -- ---- one ending
 

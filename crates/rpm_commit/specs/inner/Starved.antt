@@ -1,9 +1,9 @@
 -- Want of memory in place of a fault of the disk, by the ending.
 use Rattle.std.proofs.Common.{◌≡◌, ◌⊎◌, Bool, true, false, refl, inl, inr}
-use Rattle.rpm_print.specs.Classes.{is_of_streams}
-use Rattle.rpm_commit.specs.Endings.{unless_starved}
-use Rattle.rpm_print.specs.declared.answer.Why.{Why}
-use Rattle.rpm_print.specs.declared.answer.Why.TheVariants as why
+use Rattle.rpm_effects.specs.Classes.{is_of_streams}
+use Rattle.rpm_effects.specs.Endings.{unless_starved}
+use Rattle.rpm_effects.specs.declared.answer.Why.{Why}
+use Rattle.rpm_effects.specs.declared.answer.Why.TheVariants as why
 use Rattle.rpm_commit.specs.inner.ByEnding.{by_starved}
 
 pub starved_is : (starved : Bool) (w : Why) → (unless_starved starved w ≡ w) ⊎ ((w ≡ why.DiskFault) × (unless_starved starved w ≡ why.NoMemory))

@@ -1,32 +1,32 @@
 -- A command that changed nothing: each that was stopped, and one that didn't begin, or whose database wasn't recovered, or wasn't loaded.
 use Rattle.std.proofs.Common.{◌≡◌, ℕ, true, [], Result, Ok, Err, refl, sym, ap, ◌∙◌, subst, inl, append-nil}
 use Rattle.rpm_outside.specs.declared.disk.Disk as disk
-use Rattle.rpm_change.specs.Steps.{Course}
+use Rattle.rpm_effects.specs.Steps.{Course}
 use Rattle.rpm_outside.specs.Files.{Files}
 use Rattle.rpm_outside.specs.Frame.{images, LeavesIn}
 use Rattle.rpm_outside.specs.Logs.{Closed, log_state, LogState, Malformed, reopened}
 use Rattle.rpm_pkgdb.specs.declared.slot.Damage.{Damage}
 use Rattle.rpm_commit.specs.Changing.{after, BadBy, Did, DidLoaded, DidOn, HasChanges, IsAllOrNone}
-use Rattle.rpm_print.specs.Classes.{is_done, is_of_lawful}
+use Rattle.rpm_effects.specs.Classes.{is_done, is_of_lawful}
 use Rattle.rpm_commit.specs.Tasks.{changes_index, is_anew, TaskParts}
 use Rattle.rpm_group.specs.Loads.{IsSound, LoadSays}
 use Rattle.rpm_group.specs.declared.load.LoadFault.{LoadFault}
 use Rattle.rpm_commit.specs.Lawful.{IsLawfulGroup}
 use Rattle.rpm_commit.specs.Limits.{LimitsBy, LogBy, OneChange}
-use Rattle.rpm_change.specs.Endings.{Outputs, Through}
-use Rattle.rpm_change.specs.inner.Courses.{none_gone}
+use Rattle.rpm_effects.specs.Progress.{Outputs, Through}
+use Rattle.rpm_effects.specs.inner.Courses.{none_gone}
 use Rattle.rpm_db.specs.State.{State, state}
 use Rattle.rpm_group.specs.Settled.{KeepsLog, RecoverSays, ReopensAsOneOf}
 use Rattle.rpm_group.specs.declared.recovery.RecoverFault.{RecoverFault}
 use Rattle.rpm_outside.specs.inner.Moments.{leaves_weaker, started}
-use Rattle.rpm_print.specs.Answers.{Misread, Refused}
+use Rattle.rpm_effects.specs.Answers.{Misread, Refused}
 use Rattle.rpm_pkgdb.specs.Store.{Store, store}
-use Rattle.rpm_commit.specs.Endings.{why_of_load, why_of_recover}
-use Rattle.rpm_print.specs.declared.answer.Why.{Why}
+use Rattle.rpm_effects.specs.Endings.{why_of_load, why_of_recover}
+use Rattle.rpm_effects.specs.declared.answer.Why.{Why}
 use Rattle.rpm_group.specs.declared.load.LoadFault.TheVariants as load
 use Rattle.rpm_group.specs.declared.recovery.RecoverFault.TheVariants as recover
 use Rattle.rpm_group.specs.inner.KeptLogs.{same_kept}
-use Rattle.rpm_print.specs.declared.answer.Why.TheVariants as why
+use Rattle.rpm_effects.specs.declared.answer.Why.TheVariants as why
 use Rattle.rpm_commit.specs.inner.Outcomes.{leaves_start}
 use Rattle.rpm_commit.specs.inner.Regrouped.{recovering, recovering_fits, recovering_still}
 use Rattle.rpm_commit.specs.inner.Standing.{if_ok}

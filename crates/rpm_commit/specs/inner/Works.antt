@@ -1,10 +1,10 @@
 -- From the opening of a database to the last change of a command: how its courses end.
 use Rattle.std.proofs.Common.{◌≡◌, ◌^◌, ◌≤◌, Bool, true, false, Option, Result, Ok, Err, refl, sym, subst}
 use Rattle.std.specs.Prelude.{IfOk}
-use Rattle.rpm_change.specs.Endings.{Ended, Outputs}
+use Rattle.rpm_effects.specs.Progress.{Ended, Outputs}
 use Rattle.rpm_change.specs.Limits.{first_refusal, StopsAt}
-use Rattle.rpm_change.specs.Steps.{Course}
-use Rattle.rpm_change.specs.declared.tally.Halt.{Halt}
+use Rattle.rpm_effects.specs.Steps.{Course}
+use Rattle.rpm_effects.specs.declared.tally.Halt.{Halt}
 use Rattle.rpm_db.specs.Database.{Database}
 use Rattle.rpm_outside.specs.Files.{Files, Units}
 use Rattle.rpm_pkgdb.specs.Blobs.{blobs}
@@ -19,11 +19,11 @@ use Rattle.rpm_db.specs.Rows.{rows}
 use Rattle.rpm_db.specs.State.{packages, State, state}
 use Rattle.rpm_commit.specs.Changing.{makes}
 use Rattle.rpm_commit.specs.Working.{OpensBy, Stopped, WorkedBy, WorkedOn}
-use Rattle.rpm_change.specs.declared.tally.Tally.{Tally}
+use Rattle.rpm_effects.specs.declared.tally.Tally.{Tally}
 use Rattle.rpm_hindex.specs.Sizes.{units_for}
-use Rattle.rpm_print.specs.Answers.{why_of_halt}
-use Rattle.rpm_print.specs.declared.answer.Why.{Why}
-use Rattle.rpm_change.specs.declared.tally.Halt.TheVariants as halt
+use Rattle.rpm_effects.specs.Endings.{why_of_halt}
+use Rattle.rpm_effects.specs.declared.answer.Why.{Why}
+use Rattle.rpm_effects.specs.declared.tally.Halt.TheVariants as halt
 use Rattle.rpm_commit.specs.inner.Limited.{small_command}
 use Rattle.rpm_commit.specs.inner.Standing.{ok_is}
 

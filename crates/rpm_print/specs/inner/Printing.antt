@@ -1,18 +1,18 @@
 -- What the calls that print say.
 use Rattle.std.proofs.Common.{◌≡◌, ℕ, ◌≤◌, Bool, true, List, [], Result, Ok, Err, refl, ap, inl, inr, arith, rules}
 use Rattle.std.specs.Prelude.{IsTrue}
-use Rattle.rpm_change.specs.Endings.{Outputs, outputs}
-use Rattle.rpm_change.specs.Steps.{Bearer, ToOut}
-use Rattle.rpm_change.specs.declared.tally.Halt.{Halt}
+use Rattle.rpm_effects.specs.Progress.{Outputs, outputs}
+use Rattle.rpm_effects.specs.Steps.{Bearer, ToOut}
+use Rattle.rpm_effects.specs.declared.tally.Halt.{Halt}
 use Rattle.rpm_outside.specs.Buffered.{buffered, Flushes, inner, holds}
 use Rattle.rpm_outside.specs.Sinks.{Begins}
 use Rattle.rpm_outside.specs.declared.buffered.Buffered.{Buffered}
 use Rattle.rpm_outside.specs.inner.Flushed.{flushed, stopped}
 use Rattle.rpm_qfeval.specs.Printed.{Differs, EndsSo, Fails, Prints, Done}
-use Rattle.rpm_print.specs.Answers.{Closes, StepIs}
+use Rattle.rpm_effects.specs.Answers.{Closes, StepIs}
 use Rattle.rpm_outside.specs.SinkFrame.{Writes}
 use Rattle.rpm_print.specs.Printed.{printed}
-use Rattle.rpm_change.specs.declared.tally.Halt.TheVariants as halt
+use Rattle.rpm_effects.specs.declared.tally.Halt.TheVariants as halt
 use Rattle.rpm_outside.specs.declared.sink.Sink as sink
 
 module _ {S : Type 0} (s : sink.Ghosts S) where

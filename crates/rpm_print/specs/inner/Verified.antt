@@ -4,22 +4,22 @@ use Rattle.std.proofs.Common.{◌≡◌, ℕ, ◌+◌, ◌||◌, Bool, true, fal
 use Rattle.std.proofs.Common.{sym, ap, ◌∙◌, subst, arith}
 use Rattle.std.proofs.lemmas.List.{append-nil}
 use Rattle.std.specs.FinMap as finite
-use Rattle.rpm_change.specs.Steps.{Bearer, idle, Step}
-use Rattle.rpm_change.specs.declared.tally.Halt.{Halt}
+use Rattle.rpm_effects.specs.Steps.{Bearer, idle, Step}
+use Rattle.rpm_effects.specs.declared.tally.Halt.{Halt}
 use Rattle.rpm_db.specs.Above.{all_above_zero, next_above, none_is, nothing_above}
 use Rattle.rpm_db.specs.Database.{Database, IsNext, Keeps}
 use Rattle.rpm_db.specs.PackageLaws.{is_there}
 use Rattle.rpm_db.specs.State.{above, Package, packages}
-use Rattle.rpm_print.specs.Steps.{before, Portion, together}
-use Rattle.rpm_change.specs.Endings.{outputs, Outputs, Through}
+use Rattle.rpm_effects.specs.Portions.{before, Portion, together}
+use Rattle.rpm_effects.specs.Progress.{outputs, Outputs, Through}
 use Rattle.rpm_db.specs.Frame.{room}
 use Rattle.rpm_outside.specs.Files.{Units}
-use Rattle.rpm_print.specs.Answers.{PartIs, Reached, Went}
+use Rattle.rpm_effects.specs.Answers.{PartIs, Reached, Went}
 use Rattle.rpm_db.specs.FromOne.{from_one as none_zero}
-use Rattle.rpm_print.specs.declared.answer.Why.TheVariants as why
+use Rattle.rpm_effects.specs.declared.answer.Why.TheVariants as why
 use Rattle.rpm_print.specs.inner.Printed.{none_more}
-use Rattle.rpm_print.specs.inner.Reaching.{Goes, goes_start, goes_more, goes_stop, goes_end}
-use Rattle.rpm_print.specs.inner.Stopping.{reached_reads}
+use Rattle.rpm_effects.specs.inner.Reaching.{Goes, goes_start, goes_more, goes_stop, goes_end}
+use Rattle.rpm_effects.specs.inner.Stopping.{reached_reads}
 
 some_is : (o : Option Package) → is_some o ≡ true → (p : Package) × (o ≡ Some p)
 some_is None some = absurd cc

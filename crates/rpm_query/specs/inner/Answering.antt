@@ -2,23 +2,24 @@
 use Rattle.std.proofs.Common.{◌≡◌, ℕ, ◌≢◌, Bool, true, false, List, [], ◌∷◌, map, length, Result, Ok, Err, refl, sym, subst, arith}
 use Rattle.std.specs.FinMap.{FinMap}
 use Rattle.std.specs.Ordering.{nat_cmp}
-use Rattle.rpm_change.specs.Endings.{Outputs, outputs}
-use Rattle.rpm_change.specs.Steps.{Bearer, idle, whole}
-use Rattle.rpm_change.specs.declared.tally.Halt.{Halt}
+use Rattle.rpm_effects.specs.Progress.{Outputs, outputs}
+use Rattle.rpm_effects.specs.Steps.{Bearer, idle, whole}
+use Rattle.rpm_effects.specs.declared.tally.Halt.{Halt}
 use Rattle.rpm_db.specs.State.{Package}
 use Rattle.rpm_qfparse.specs.Tree.{Tree}
 use Rattle.rpm_select.specs.Reach.{Everything, Reach}
 use Rattle.rpm_select.specs.Selections.{picks}
-use Rattle.rpm_print.specs.Answers.{is_some_of, PartIs}
-use Rattle.rpm_print.specs.Classes.{IsOfRead}
+use Rattle.rpm_print.specs.Answers.{is_some_of}
+use Rattle.rpm_effects.specs.Answers.{PartIs}
+use Rattle.rpm_effects.specs.Classes.{IsOfRead}
 use Rattle.rpm_print.specs.Printed.{packages_part, step_of}
 use Rattle.rpm_query.specs.Queries.{answered, argument_part, missing_part, query_of}
 use Rattle.rpm_query.specs.Reach.{reaches_by}
-use Rattle.rpm_print.specs.Steps.{before, in_turn}
+use Rattle.rpm_effects.specs.Portions.{before, in_turn}
 use Rattle.rpm_words.specs.declared.switch.Chosen.{Chosen}
 use Rattle.rpm_select.specs.declared.selection.Selection.TheVariants as question
-use Rattle.rpm_print.specs.inner.Stopping.{reached_empty, reached_later, reached_over, reached_unsunk}
-use Rattle.rpm_print.specs.inner.Parts.{part_reads}
+use Rattle.rpm_effects.specs.inner.Stopping.{reached_empty, reached_later, reached_over, reached_unsunk}
+use Rattle.rpm_effects.specs.inner.Parts.{part_reads}
 
 -- an argument by what became of its packages
 module _ (tree : Tree) (chosen : Chosen) (after j : ℕ) (text : List ℕ) {P Q : Bearer → Type 0} where

@@ -1,7 +1,7 @@
 -- What is read for several arguments.
 use Rattle.std.proofs.Common.{◌≡◌, ℕ, zero, suc, ◌+◌, ◌≤◌, List, [], ◌∷◌, map, Option, Some, None, refl, add-one, ap, ◌∙◌, arith}
 use Rattle.std.specs.Prelude.{slice_get}
-use Rattle.rpm_change.specs.Steps.{Bearer}
+use Rattle.rpm_effects.specs.Steps.{Bearer}
 use Rattle.rpm_db.specs.Database.{Database, unindexed}
 use Rattle.rpm_select.specs.Reach.{Everything, Reach, reach_all, These}
 use Rattle.rpm_print.specs.Reads.{reach_before, reach_sum, reached, reached_by, reached_in, ReadsIn, ReadsOf}

@@ -1,25 +1,26 @@
 -- Answers that don't say that the index is malformed.
 use Rattle.std.proofs.Common.{◌≡◌, ℕ, List, Bool, false, Result, Ok, Err, Option, Some, refl}
 use Rattle.std.specs.Prelude.{slice_get, IfErr}
-use Rattle.rpm_change.specs.Endings.{Outputs}
-use Rattle.rpm_change.specs.Steps.{Bearer, Step}
-use Rattle.rpm_change.specs.declared.tally.Halt.{Halt}
+use Rattle.rpm_effects.specs.Progress.{Outputs}
+use Rattle.rpm_effects.specs.Steps.{Bearer, Step}
+use Rattle.rpm_effects.specs.declared.tally.Halt.{Halt}
 use Rattle.rpm_outside.specs.Files.{Units}
 use Rattle.rpm_select.specs.Candidates.{keys_asked}
 use Rattle.rpm_select.specs.declared.picked.PickFault.{PickFault}
 use Rattle.rpm_select.specs.declared.selection.Selection.{Selection}
-use Rattle.rpm_print.specs.Answers.{PartIs, Reached, StepIs, why_of_halt}
-use Rattle.rpm_print.specs.Classes.{IsOfRead}
+use Rattle.rpm_effects.specs.Answers.{PartIs, Reached, StepIs}
+use Rattle.rpm_effects.specs.Endings.{why_of_halt}
+use Rattle.rpm_effects.specs.Classes.{IsOfRead}
 use Rattle.rpm_query.specs.Queries.{lent, question_of, halt_of_pick}
 use Rattle.rpm_query.specs.Reach.{IsOfChain, IsOfChains}
-use Rattle.rpm_print.specs.Steps.{Portion}
-use Rattle.rpm_print.specs.declared.answer.Why.{Why}
+use Rattle.rpm_effects.specs.Portions.{Portion}
+use Rattle.rpm_effects.specs.declared.answer.Why.{Why}
 use Rattle.rpm_words.specs.declared.switch.Chosen.{Chosen}
 use Rattle.rpm_select.specs.declared.picked.PickFault.TheVariants as pick
 use Rattle.rpm_select.specs.Picks.{is_of_index}
 use Rattle.rpm_select.specs.Reach.{IsBroken}
-use Rattle.rpm_change.specs.declared.tally.Halt.TheVariants as halt
-use Rattle.rpm_print.specs.declared.answer.Why.TheVariants as why
+use Rattle.rpm_effects.specs.declared.tally.Halt.TheVariants as halt
+use Rattle.rpm_effects.specs.declared.answer.Why.TheVariants as why
 
 pub stop_unsunk : (fault : PickFault) → is_of_index fault ≡ false → IsOfRead (halt_of_pick fault)
 stop_unsunk (pick.BadIndex unit) is = absurd cc

@@ -1,18 +1,19 @@
 -- What stops a report.
 use Rattle.std.proofs.Common.{◌≡◌, Bool, true, false, List, Ok, Err, Result, refl}
 use Rattle.std.specs.Prelude.{IfErr, is_ok}
-use Rattle.rpm_change.specs.Endings.{Outputs}
-use Rattle.rpm_change.specs.Steps.{Bearer, Step}
-use Rattle.rpm_change.specs.declared.tally.Halt.{Halt}
+use Rattle.rpm_effects.specs.Progress.{Outputs}
+use Rattle.rpm_effects.specs.Steps.{Bearer, Step}
+use Rattle.rpm_effects.specs.declared.tally.Halt.{Halt}
 use Rattle.rpm_check.specs.Answers.{is_of_index, IsBroken}
 use Rattle.rpm_check.specs.declared.faults.CheckFault.{CheckFault}
-use Rattle.rpm_print.specs.Answers.{PartIs, Reached, why_of_halt}
-use Rattle.rpm_print.specs.Classes.{is_done, IsOfRead}
+use Rattle.rpm_effects.specs.Answers.{PartIs, Reached}
+use Rattle.rpm_effects.specs.Endings.{why_of_halt}
+use Rattle.rpm_effects.specs.Classes.{is_done, IsOfRead}
 use Rattle.rpm_report.specs.Requirements.{halt_of_check, HaltsOfSome, IsOfSome, why_of_report}
 use Rattle.rpm_outside.specs.Files.{Units}
-use Rattle.rpm_print.specs.Steps.{Portion}
+use Rattle.rpm_effects.specs.Portions.{Portion}
 use Rattle.rpm_check.specs.declared.faults.CheckFault.TheVariants as check
-use Rattle.rpm_change.specs.declared.tally.Halt.TheVariants as halt
+use Rattle.rpm_effects.specs.declared.tally.Halt.TheVariants as halt
 
 pub broken_stops : (idx : Units) (f : CheckFault) → IsBroken idx f → HaltsOfSome idx (halt_of_check f)
 broken_stops idx (check.BadIndex unit) is = is

@@ -1,19 +1,19 @@
 -- A report, and an order that was told.
 use Rattle.std.proofs.Common.{Bool, true, false, List, Result, Ok, Err, sym, subst, ℕ, [], arith, ◌≡◌, refl}
 use Rattle.std.proofs.lemmas.List.{append-nil}
-use Rattle.rpm_change.specs.Endings.{Outputs}
-use Rattle.rpm_change.specs.Steps.{Bearer, idle, Step, Course}
-use Rattle.rpm_change.specs.declared.tally.Halt.{Halt}
+use Rattle.rpm_effects.specs.Progress.{Outputs}
+use Rattle.rpm_effects.specs.Steps.{Bearer, idle, Step, Course}
+use Rattle.rpm_effects.specs.declared.tally.Halt.{Halt}
 use Rattle.rpm_graph.specs.Networks.{Network}
 use Rattle.rpm_graph.specs.Orders.{IsOrder}
 use Rattle.rpm_outside.specs.Files.{Units}
-use Rattle.rpm_print.specs.Answers.{PartIs, Reached, Went}
+use Rattle.rpm_effects.specs.Answers.{PartIs, Reached, Went}
 use Rattle.rpm_report.specs.Requirements.{why_of_report, IsListed, IsOfSome}
-use Rattle.rpm_print.specs.Steps.{before, Portion}
-use Rattle.rpm_print.specs.declared.answer.Why.{Why}
+use Rattle.rpm_effects.specs.Portions.{before, Portion}
+use Rattle.rpm_effects.specs.declared.answer.Why.{Why}
 use Rattle.rpm_print.specs.inner.Verified.{went_failing, went_sound}
-use Rattle.rpm_print.specs.inner.Parts.{went_stop}
-use Rattle.rpm_print.specs.declared.answer.Why.TheVariants as why
+use Rattle.rpm_effects.specs.inner.Parts.{went_stop}
+use Rattle.rpm_effects.specs.declared.answer.Why.TheVariants as why
 
 -- a report of one part
 pub went_report : (p : Portion) (told : Result Bool Halt) (old new : Outputs) (reads_to : Bearer → Type 0) → PartIs p told old new reads_to

@@ -1,8 +1,7 @@
 use Rattle.std.proofs.Common.{[], ◌∷◌, Err, refl, ◌∙◌}
-use Rattle.rpm_change.proofs.Vocabulary.{Bad, bearer, dropped, dropped_line, Erase, err_is, none_by, out_gone, stopped_went, told_all, told_none}
-use Rattle.rpm_change.proofs.Vocabulary.{told_part}
+use Rattle.rpm_change.proofs.Vocabulary.{Bad, bearer, dropped, dropped_line, Erase, err_is, none_by, out_gone, stopped_went, told_all, told_none, told_part}
 use Rattle.rpm_change.specs.inner.Owing.{owing_none}
-use Rattle.rpm_change.specs.declared.tally.Halt.TheVariants as halt
+use Rattle.rpm_effects.specs.declared.tally.Halt.TheVariants as halt
 use Rattle.rpm_change.proofs.rebuilding.drop_bad.Goals as goal
 
 pub returns-in-Ok-clause-went : goal.returns-in-Ok-clause-went

@@ -1,6 +1,6 @@
 use Rattle.std.proofs.Common.{◌≡◌, refl, Err}
 use Rattle.rpm_change.proofs.Vocabulary.{Bad, Good, dropped, EndedOnOut, idle, out_gone, out_joins, out_none, stopped_went, went_as, went_behind}
-use Rattle.rpm_change.specs.declared.tally.Halt.TheVariants as halt
+use Rattle.rpm_effects.specs.declared.tally.Halt.TheVariants as halt
 use Rattle.rpm_change.proofs.Dropped.{gathering_looked, left_looked, looked_went}
 use Rattle.rpm_change.specs.inner.Owing.{owing_then}
 use Rattle.rpm_change.proofs.rebuilding.drop_one.Goals as goal

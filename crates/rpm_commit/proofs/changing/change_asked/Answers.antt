@@ -5,7 +5,7 @@ use Rattle.rpm_commit.proofs.Vocabulary.{KeepsLog, log_state, needs_none, OneCha
 use Rattle.rpm_commit.proofs.Vocabulary.{recovered_kept, reopened, same_kept}
 use Rattle.rpm_commit.proofs.Vocabulary.{ReopensAsOneOf, Rose, shown, State, task_course, task_parts, TaskParts, unlogged, why_of, why_of_load, why_of_recover}
 use Rattle.rpm_commit.proofs.Vocabulary.{with_file, WorkedWith}
-use Rattle.rpm_print.specs.declared.answer.Why.TheVariants as why
+use Rattle.rpm_effects.specs.declared.answer.Why.TheVariants as why
 use Rattle.rpm_commit.specs.inner.Emptied.{group_empty, same_empty}
 use Rattle.rpm_commit.proofs.Ends.{below_same, below_run}
 use Rattle.rpm_commit.proofs.Grouped.{group_one}

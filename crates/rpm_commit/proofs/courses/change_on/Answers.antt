@@ -4,7 +4,7 @@ use Rattle.std.proofs.lemmas.Result.{err_from_is_err_and}
 use Rattle.rpm_commit.proofs.Vocabulary.{add_files, bytes_at, changes_index, ended_as, erase, exercise_ended, Halted, import_list, inner, is_anew}
 use Rattle.rpm_commit.proofs.Vocabulary.{IsOfErasing, IsOfImporting, IsOfPutting, IsOfRebuilding, IsStop, max_headers, needs_none, Outputs, reads_shelf}
 use Rattle.rpm_commit.proofs.Vocabulary.{rebuild, replace, runs_none, SameLog, shown, task_course, task_parts, Through}
-use Rattle.rpm_change.specs.declared.tally.Halt.TheVariants as halt
+use Rattle.rpm_effects.specs.declared.tally.Halt.TheVariants as halt
 use Rattle.rpm_commit.proofs.Coursed.{unopened_works, made_works, went_works, anew_works, exercise_works}
 use Rattle.rpm_commit.proofs.Halting.{course_empty, ended_back, exercise_back, idle_hand, never_cause, never_of, never_of_exercise, streams_by}
 use Rattle.rpm_commit.proofs.Halting.{unopened_streams}

@@ -2,7 +2,7 @@ use Rattle.std.proofs.Common.{◌≡◌, ℕ, ◌+◌, List, [], ◌∷◌, ◌+
 use Rattle.std.specs.Prelude.{slice_get}
 use Rattle.rpm_commit.proofs.Vocabulary.{filter_map, number, text_at}
 use Rattle.std.proofs.lemmas.List.Elements.{filter_map-append}
-use Rattle.rpm_print.specs.inner.Parts.{drop_get}
+use Rattle.rpm_effects.specs.inner.Parts.{drop_get}
 use Rattle.rpm_commit.proofs.task.numbers_of.Goals as goal
 
 -- one more is gone over

@@ -2,7 +2,7 @@ use Rattle.std.proofs.Common.{◌≡◌, ℕ, ◌+◌, List, [], ◌∷◌, ◌+
 use Rattle.std.specs.Prelude.{slice_get}
 use Rattle.std.proofs.lemmas.List.{length-append, map-append}
 use Rattle.rpm_commit.proofs.Vocabulary.{text_at}
-use Rattle.rpm_print.specs.inner.Parts.{drop_get}
+use Rattle.rpm_effects.specs.inner.Parts.{drop_get}
 use Rattle.rpm_commit.proofs.task.texts_of.Goals as goal
 
 abbrev bytes : Bor (List ℕ) → List ℕ

@@ -1,9 +1,9 @@
 use Rattle.rpm_query.proofs.Vocabulary.{Halt, IsOfChain, missing_part, packages_in, picks, Selection, shown, whole}
 use Rattle.std.proofs.Common.{◌≡◌, Option, Some, Err, refl, sym, ◌∙◌, subst, arith}
 use Rattle.std.proofs.lemmas.Result.{err_from_is_err_and}
-use Rattle.rpm_change.specs.inner.Joins.{hand_then}
+use Rattle.rpm_effects.specs.inner.Joins.{hand_then}
 use Rattle.rpm_query.specs.inner.Answering.{answered_done, answered_halt, answered_missed, answered_stop}
-use Rattle.rpm_print.specs.inner.Parts.{part_reads}
+use Rattle.rpm_effects.specs.inner.Parts.{part_reads}
 use Rattle.rpm_query.proofs.Looked.{both_read}
 use Rattle.rpm_query.proofs.Nexts.{any_here}
 use Rattle.rpm_query.proofs.Picking.{picking_part, picking_peeks, picking_peeks_both, picking_reads}

@@ -1,7 +1,7 @@
 use Rattle.std.proofs.Common.{◌≡◌, Some, Result, Err, sym, ap, ◌∙◌, subst}
 use Rattle.rpm_query.proofs.Vocabulary.{Anywhere, FileFault, Headed, inner, left, outputs, package_header, PartIs, read_part}
-use Rattle.rpm_change.specs.declared.tally.Halt.TheVariants as halt
-use Rattle.rpm_print.specs.inner.Reaching.{through_none}
+use Rattle.rpm_effects.specs.declared.tally.Halt.TheVariants as halt
+use Rattle.rpm_effects.specs.inner.Reaching.{through_none}
 use Rattle.rpm_query.proofs.Filed.{read_stop, own_fault, unread}
 use Rattle.rpm_query.proofs.package_files.print_opened.Goals as goal
 

@@ -1,6 +1,6 @@
 use Rattle.std.proofs.Common.{◌≡◌, false, [], ◌∷◌, map}
 use Rattle.rpm_query.proofs.Vocabulary.{Anywhere, concat, inner, outputs, ToErr, whole}
-use Rattle.rpm_print.specs.inner.Stopping.{err_cut, within_reads}
+use Rattle.rpm_effects.specs.inner.Stopping.{err_cut, within_reads}
 use Rattle.rpm_query.proofs.package_files.put_failing.Goals as goal
 
 pub returns-in-Err-clause-part : goal.returns-in-Err-clause-part

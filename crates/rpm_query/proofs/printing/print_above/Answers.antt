@@ -2,7 +2,7 @@ use Rattle.rpm_query.proofs.Vocabulary.{Bearer, entry_in, Halt, inner, next_pick
 use Rattle.rpm_query.proofs.Vocabulary.{reach_to, ReadsIn, shown, step_by}
 use Rattle.std.proofs.Common.{◌≡◌, ◌+◌, ◌-◌, ◌<◌, ◌≤◌, Bool, Result, Ok, Err, Some, None, refl, sym, ap, ◌∙◌, subst, arith, rules}
 use Rattle.std.proofs.lemmas.Result.{err_from_is_err_and}
-use Rattle.rpm_change.specs.declared.tally.Halt.TheVariants as halt
+use Rattle.rpm_effects.specs.declared.tally.Halt.TheVariants as halt
 use Rattle.rpm_query.proofs.Looked.{looks_next, looks_rest, looks_within, rest_read}
 use Rattle.rpm_query.proofs.Nexts.{next_here, printed_none, printed_next, printed_last, some_last, printed_stops}
 use Rattle.rpm_print.specs.inner.Printed.{bearer-step_by, number-entry}

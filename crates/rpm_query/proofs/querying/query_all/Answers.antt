@@ -6,8 +6,8 @@ use Rattle.rpm_db.specs.Database.{cost_all, cost_to}
 use Rattle.rpm_outside.specs.inner.Looking.{looks_then}
 use Rattle.rpm_select.specs.declared.selection.Selection.TheVariants as question
 use Rattle.rpm_query.specs.inner.Sums.{reads_one}
-use Rattle.rpm_print.specs.inner.Stopping.{reached_reads}
-use Rattle.rpm_print.specs.inner.Parts.{went_stop}
+use Rattle.rpm_effects.specs.inner.Stopping.{reached_reads}
+use Rattle.rpm_effects.specs.inner.Parts.{went_stop}
 use Rattle.rpm_print.specs.inner.Askable.{asked_still}
 use Rattle.rpm_query.proofs.querying.query_all.Goals as goal
 

@@ -1,7 +1,7 @@
 use Rattle.rpm_query.proofs.Vocabulary.{argument_reach, Files, inner, is_indexed, IsOfChain, lent, packages_in, question_of, text_at}
 use Rattle.std.proofs.Common.{map, sym, ap, ◌∙◌, subst, Err, arith}
-use Rattle.rpm_change.specs.inner.Joins.{hand_then}
-use Rattle.rpm_print.specs.inner.Halts.{of_out, of_err}
+use Rattle.rpm_effects.specs.inner.Joins.{hand_then}
+use Rattle.rpm_effects.specs.inner.Halts.{of_out, of_err}
 use Rattle.rpm_print.specs.inner.Peeking.{peeks_none, peeks_then}
 use Rattle.rpm_query.specs.inner.Sums.{before_some, get_map}
 use Rattle.rpm_query.proofs.Turns.{few_more, turned_none, turned_more, turned_stop, part_here, reads_here, read_more, read_sum, read_by}

@@ -4,9 +4,9 @@ use Rattle.rpm_report.proofs.Vocabulary.{why_of_report}
 use Rattle.std.proofs.Common.{◌≡◌, ◌+◌, ◌≤◌, true, false, Bool, List, [], ◌∷◌, map, Result, Ok, Err, refl, sym, subst, arith}
 use Rattle.rpm_report.specs.Labels.{label}
 use Rattle.rpm_report.specs.inner.Reporting.{went_report}
-use Rattle.rpm_print.specs.inner.Parts.{part_reads}
+use Rattle.rpm_effects.specs.inner.Parts.{part_reads}
 use Rattle.rpm_report.proofs.Labels.{same_steps}
-use Rattle.rpm_print.specs.inner.Reaching.{through_none}
+use Rattle.rpm_effects.specs.inner.Reaching.{through_none}
 use Rattle.rpm_report.proofs.file_report.check_files.Goals as goal
 
 -- what was told of a report was told of the packages

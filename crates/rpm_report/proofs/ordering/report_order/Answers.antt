@@ -8,7 +8,7 @@ use Rattle.rpm_report.proofs.Behind.{behind_first, behind_stop, behind_sound, qu
 use Rattle.rpm_report.specs.inner.Checked.{part_unbroken, reached_unbroken}
 use Rattle.rpm_report.specs.inner.Reporting.{none_listed, order_listed}
 use Rattle.rpm_print.specs.inner.Reached.{rows_at}
-use Rattle.rpm_print.specs.inner.Reaching.{through_none}
+use Rattle.rpm_effects.specs.inner.Reaching.{through_none}
 use Rattle.rpm_report.proofs.SoFar.{glances, peeks_more}
 use Rattle.rpm_report.proofs.ordering.report_order.Given.{Over}
 use Rattle.rpm_report.proofs.ordering.report_order.Goals.{After-put_classes}

@@ -3,7 +3,7 @@ use Rattle.rpm_report.proofs.Vocabulary.{pkg_read, reached_by, room}
 use Rattle.std.proofs.Common.{◌≡◌, ◌+◌, ◌≤◌, [], ◌∷◌, Err, sym, ap, ◌∙◌, subst, arith}
 use Rattle.rpm_report.specs.inner.Reporting.{went_report}
 use Rattle.rpm_print.specs.inner.Askable.{asked_still}
-use Rattle.rpm_print.specs.inner.Halts.{of_err}
+use Rattle.rpm_effects.specs.inner.Halts.{of_err}
 use Rattle.rpm_print.specs.inner.Verified.{next_entry, no_entry, from_one, told_none, told_more, told_stop, told_end, went_failing, went_sound}
 use Rattle.rpm_report.proofs.verdicts.report.Goals as goal
 

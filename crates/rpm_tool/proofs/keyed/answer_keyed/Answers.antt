@@ -2,7 +2,7 @@ use Rattle.std.proofs.Common.{[], ap, ◌∙◌, arith}
 use Rattle.rpm_tool.proofs.Vocabulary.{Files, inner, is_foreign, is_of_streams, log_state, pkg_read, reopened, shown, store, Through}
 use Rattle.rpm_tool.proofs.Faults.{cause_then, hands_none}
 use Rattle.rpm_tool.proofs.OpeningLaws.{leaves_peeks, runs_peeks}
-use Rattle.rpm_print.specs.inner.Reaching.{through_none}
+use Rattle.rpm_effects.specs.inner.Reaching.{through_none}
 use Rattle.rpm_tool.proofs.Recovered.{deeds, did_opened, did_unopened, recovered, rest_same, undone_fault, unwritten}
 use Rattle.rpm_commit.specs.inner.Regrouped.{recovering_packages, recovering_still}
 use Rattle.rpm_group.specs.inner.KeptLogs.{recovered_kept}

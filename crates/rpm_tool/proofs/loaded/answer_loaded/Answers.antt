@@ -1,10 +1,10 @@
 use Rattle.std.proofs.Common.{◌≡◌, ◌+◌, ◌≤◌, true, refl, sym, ap, ◌∙◌, subst, arith}
 use Rattle.rpm_tool.proofs.Vocabulary.{deed_of, DidPlain, Files, Idx, inner, is_of_streams, laid_files, log_state, Opened, Pkg, pkg_read, query_cost, read_to}
 use Rattle.rpm_tool.proofs.Vocabulary.{reopened, shown, store, Units, unless_starved, Why}
-use Rattle.rpm_print.specs.declared.answer.Why.TheVariants as why
+use Rattle.rpm_effects.specs.declared.answer.Why.TheVariants as why
 use Rattle.rpm_commit.specs.inner.Starved.{starved_streams}
 use Rattle.rpm_tool.proofs.Deeds.{does_reads, does_starved}
-use Rattle.rpm_print.specs.inner.Reaching.{through_none}
+use Rattle.rpm_effects.specs.inner.Reaching.{through_none}
 use Rattle.rpm_tool.proofs.Faults.{hands_none, le_more, le_none}
 use Rattle.rpm_tool.proofs.Loading.{opened_as, loaded_sound, below_reads}
 use Rattle.rpm_tool.proofs.Unloaded.{load_fault, load_own, load_streams, unloaded}

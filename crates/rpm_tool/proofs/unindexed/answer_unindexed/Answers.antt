@@ -2,13 +2,13 @@ use Rattle.rpm_tool.proofs.Vocabulary.{always_keyed, asked_reaches, Bearer, bloc
 use Rattle.rpm_tool.proofs.Vocabulary.{Files, inner, is_indexed, looks_then}
 use Rattle.rpm_tool.proofs.Vocabulary.{no_index_rows, Opened, Pkg, pkg_read, reach_sum, reached_by, read_to, room, shown, store, Store, Units}
 use Rattle.std.proofs.Common.{◌≡◌, ◌+◌, ◌-◌, ◌^◌, ◌≤◌, ◌||◌, false, Result, refl, sym, ap, ◌∙◌, subst, arith}
-use Rattle.rpm_print.specs.declared.answer.Why.TheVariants as why
+use Rattle.rpm_effects.specs.declared.answer.Why.TheVariants as why
 use Rattle.rpm_print.specs.inner.Askable.{keeps_none}
 use Rattle.rpm_tool.proofs.Faults.{cause_then, hands_none, le_first}
 use Rattle.rpm_tool.proofs.Deeds.{does_reads}
 use Rattle.rpm_print.specs.inner.Peeking.{looks_unindexed}
 use Rattle.rpm_pkgdb.specs.Costs.{opening_cost}
-use Rattle.rpm_print.specs.inner.Reaching.{through_none}
+use Rattle.rpm_effects.specs.inner.Reaching.{through_none}
 use Rattle.rpm_tool.proofs.Unloaded.{unopened_fault, unopened_memory}
 use Rattle.rpm_query.specs.inner.Sums.{store_by, store_sum}
 use Rattle.rpm_tool.proofs.unindexed.answer_unindexed.Goals as goal

@@ -1,0 +1,19 @@
+use Rattle.std.proofs.Common.{rules, inl, refl}
+use Rattle.rpm_effects.proofs.Told.{line_done, line_cut}
+use Rattle.rpm_effects.proofs.lines.put_failing.Goals as goal
+
+pub returns-in-Ok : goal.returns-in-Ok
+returns-in-Ok g c = record {
+  ended = λ for s ot o. line_done ot g.E.Sink.tells o _ _ c.args.line.now for s (rw c.clear.ensures.inner at c.in-Ok.ensures.writes.ok);
+  one = refl;
+  kinds = tt;
+  err = search rules;
+}
+
+pub returns-in-Err : goal.returns-in-Err
+returns-in-Err g c = record {
+  ended = λ for s ot o. line_cut ot g.E.Sink.tells o _ _ c.args.line.now for s (rw c.clear.ensures.inner at c.in-Err.ensures.writes.err);
+  one = tt;
+  kinds = inl refl;
+  err = search rules;
+}

@@ -1,0 +1,70 @@
+-- How a command ends: its status, and the ending that a halt, or a database that isn't recovered, loaded or opened, makes of it. Of them `status` of `run`
+-- is on the page (`rpm_tool`, Theorem.antt).
+use Rattle.std.specs.Prelude.{ℕ, min, Bool, true}
+use Rattle.rpm_effects.specs.declared.tally.Halt.{Halt}
+use Rattle.rpm_effects.specs.declared.tally.Halt.TheVariants as halt
+use Rattle.rpm_group.specs.declared.load.LoadFault.{LoadFault}
+use Rattle.rpm_group.specs.declared.load.LoadFault.TheVariants as load
+use Rattle.rpm_effects.specs.declared.answer.Why.{Why}
+use Rattle.rpm_effects.specs.declared.answer.Why.TheVariants as why
+use Rattle.rpm_group.specs.declared.recovery.RecoverFault.{RecoverFault}
+use Rattle.rpm_group.specs.declared.recovery.RecoverFault.TheVariants as recover
+use Rattle.rpm_db.specs.declared.open_fault.DbOpenFault.{DbOpenFault}
+use Rattle.rpm_db.specs.declared.open_fault.DbOpenFault.TheVariants as opening
+
+-- the ending of a command that was halted
+abbrev pub why_of_halt : Halt → Why
+why_of_halt halt.NumbersSpent = why.NumbersSpent
+why_of_halt halt.GenerationSpent = why.GenerationSpent
+why_of_halt halt.StoreFull = why.StoreFull
+why_of_halt (halt.IndexFull needed) = why.IndexFull needed
+why_of_halt (halt.BadIndex unit) = why.BadIndex unit
+why_of_halt halt.DiskFault = why.DiskFault
+why_of_halt halt.ShelfFault = why.ShelfFault
+why_of_halt halt.OutFault = why.OutFault
+why_of_halt halt.ErrFault = why.ErrFault
+why_of_halt halt.NoMemory = why.NoMemory
+
+-- the exit status of each answer
+abbrev pub status_of : Why → ℕ
+status_of why.Done = 0
+status_of (why.Failed n) = min n 250
+status_of (why.Usage fault) = 251
+status_of (why.BadFormat fault) = 251
+status_of (why.BadLog unit) = 252
+status_of (why.Damaged damage) = 252
+status_of why.NumbersSpent = 252
+status_of why.GenerationSpent = 252
+status_of why.StoreFull = 252
+status_of (why.NotEmpty held) = 252
+status_of (why.BadIndex unit) = 252
+status_of (why.IndexFull needed) = 252
+status_of (why.LogFull needed) = 252
+status_of why.DiskFault = 252
+status_of why.ShelfFault = 253
+status_of why.OutFault = 253
+status_of why.ErrFault = 253
+status_of why.NoMemory = 254
+
+-- an answer of loading
+abbrev pub why_of_load : LoadFault → Why
+why_of_load (load.BadLog unit) = why.BadLog unit
+why_of_load load.DiskFault = why.DiskFault
+why_of_load load.NoMemory = why.NoMemory
+
+-- where a write found no memory, a fault of the disk is that
+abbrev pub unless_starved : Bool → Why → Why
+unless_starved true why.DiskFault = why.NoMemory
+unless_starved starved given = given
+
+-- the answer of a command for each fault of recovery
+abbrev pub why_of_recover : RecoverFault → Why
+why_of_recover (recover.BadLog unit) = why.BadLog unit
+why_of_recover recover.DiskFault = why.DiskFault
+
+-- the answer of a command for each fault of opening
+abbrev pub why_of_open : DbOpenFault → Why
+why_of_open (opening.Damaged damage) = why.Damaged damage
+why_of_open (opening.IndexFull needed) = why.IndexFull needed
+why_of_open opening.DiskFault = why.DiskFault
+why_of_open opening.NoMemory = why.NoMemory

@@ -1,0 +1,12 @@
+pub mod Answers
+pub mod Classes
+pub mod Endings
+pub mod Hands
+pub mod Lines
+pub mod Portions
+pub mod Progress
+pub mod Shown
+pub mod Steps
+pub mod Texts
+pub mod inner
+pub mod Prelude

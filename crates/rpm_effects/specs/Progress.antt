@@ -1,0 +1,74 @@
+-- How far a command went, and why it was stopped.
+use Rattle.std.specs.Prelude.{◌≡◌, ◌⊎◌, ℕ, List, [], ◌∷◌, ◌++◌, length, Bool, true, false, Result, Ok, Err}
+use Rattle.std.specs.List.{flat_map}
+use Rattle.rpm_outside.specs.Sinks.{Gained}
+use Rattle.rpm_db.specs.State.{State}
+use Rattle.rpm_db.specs.declared.change_fault.ChangeFault.{ChangeFault}
+use Rattle.rpm_db.specs.declared.change_fault.ChangeFault.TheVariants as fault
+use Rattle.rpm_effects.specs.declared.tally.Tally.{Tally}
+use Rattle.rpm_effects.specs.declared.tally.Halt.{Halt}
+use Rattle.rpm_effects.specs.declared.tally.Halt.TheVariants as halt
+use Rattle.rpm_effects.specs.Steps.{Step, Course, out_bytes, err_bytes, is_out, cut, apply_all}
+
+-- what out and err took, and whether they tell it
+pub record Outputs : Type 0 where
+  pub out_tells : Bool
+  pub out : List ℕ
+  pub err_tells : Bool
+  pub err : List ℕ
+
+-- what both sinks took, where they tell it
+abbrev pub outputs : Bool → List ℕ → Bool → List ℕ → Outputs
+outputs out_tells out err_tells err = record { out_tells = out_tells; out = out; err_tells = err_tells; err = err }
+
+-- out and err gained exactly the bytes of these steps
+pub record Through (done : List Step) (old new : Outputs) : Type 0 where
+  pub out : Gained old.out_tells old.out new.out (flat_map out_bytes done)
+  pub err : Gained old.err_tells old.err new.err (flat_map err_bytes done)
+
+-- some of the steps were gone through
+pub record ThroughSome (all : List Step) (old new : Outputs) : Type 0 where
+  pub done : List Step
+  pub rest : List Step
+  pub all_is : all ≡ done ++ rest
+  pub through : Through done old new
+
+-- some of the steps were gone through, and of the next one the first bytes
+pub record StoppedWithin (all : List Step) (to_out : Bool) (old new : Outputs) : Type 0 where
+  pub done : List Step
+  pub step : Step
+  pub rest : List Step
+  pub all_is : all ≡ done ++ step ∷ rest
+  pub sink : is_out step ≡ to_out
+  pub bytes : ℕ
+  pub through : Through (done ++ cut bytes step ∷ []) old new
+
+-- all was done, and the state is the one after the changes
+pub record Done (course : Course) (s t : State) (tally : Tally) (old new : Outputs) : Type 0 where
+  pub steps : Through course.steps old new
+  pub failed : course.failed ≡ tally.failed
+  pub changes : length course.changes ≡ tally.changes
+  pub state_is : t ≡ apply_all course.changes s
+
+-- how a course ended
+abbrev pub Ended : Course → State → State → Result Tally Halt → Outputs → Outputs → Type 0
+Ended course s t (Ok tally) old new = Done course s t tally old new
+Ended course s t (Err halt.OutFault) old new = StoppedWithin course.steps true old new
+Ended course s t (Err halt.ErrFault) old new = StoppedWithin course.steps false old new
+Ended course s t (Err others) old new = ThroughSome course.steps old new
+
+-- ---- faults
+
+-- a line can't be written, or there is no memory for it
+abbrev pub IsOfLines : Halt → Type 0
+IsOfLines h = (h ≡ halt.ErrFault) ⊎ (h ≡ halt.NoMemory)
+
+-- what a fault of a change makes of a command
+abbrev pub halt_of : ChangeFault → Halt
+halt_of fault.NumbersSpent = halt.NumbersSpent
+halt_of fault.GenerationSpent = halt.GenerationSpent
+halt_of fault.StoreFull = halt.StoreFull
+halt_of (fault.IndexFull needed) = halt.IndexFull needed
+halt_of (fault.BadIndex unit) = halt.BadIndex unit
+halt_of fault.DiskFault = halt.DiskFault
+halt_of others = halt.NoMemory

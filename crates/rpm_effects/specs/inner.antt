@@ -1,0 +1,7 @@
+-- Laws on the definitions, for the crates above.
+pub mod Courses
+pub mod Halts
+pub mod Joins
+pub mod Parts
+pub mod Reaching
+pub mod Stopping

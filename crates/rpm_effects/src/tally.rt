@@ -1,0 +1,86 @@
+//! How a command that changes ends.
+
+ghost use Rattle.std.specs.Prelude.{◌≡◌};
+ghost use Rattle.rpm_effects.specs.Prelude.{halt_of, NoMemory};
+
+use rpm_db::ChangeFault;
+use std::alloc::AllocError;
+
+/// How many arguments of a command failed, and how many changes it made.
+#[derive(Clone, Copy, PartialEq, Eq)]
+pub struct Tally {
+    pub failed: u32,
+    pub changes: u32,
+}
+
+/// Nothing failed, and nothing was changed.
+pub const IDLE: Tally = Tally {
+    failed: 0,
+    changes: 0,
+};
+
+/// One change was made.
+pub const CHANGED: Tally = Tally {
+    failed: 0,
+    changes: 1,
+};
+
+/// An argument failed.
+pub const FAILED: Tally = Tally {
+    failed: 1,
+    changes: 0,
+};
+
+/// Why a command was stopped before its end.
+#[derive(Clone, Copy, PartialEq, Eq)]
+pub enum Halt {
+    /// No package number is left.
+    NumbersSpent,
+    /// No generation is left.
+    GenerationSpent,
+    /// There is no room in `Packages.db`.
+    StoreFull,
+    /// The index would need so many units: too many.
+    IndexFull { needed: u64 },
+    /// A chain of the index isn't well formed: the unit of its first fault; or unit 1 counts too little.
+    BadIndex { unit: u64 },
+    /// A call of the disk failed.
+    DiskFault,
+    /// A read of the shelf failed.
+    ShelfFault,
+    /// A write to `out` failed.
+    OutFault,
+    /// A write to `err` failed.
+    ErrFault,
+    /// There was no memory.
+    NoMemory,
+}
+
+/// What a fault of a change makes of a command. `BadHeader` doesn't come of a header that was read, `NoSuch` of a
+/// number that a package has, nor `Stopped` of a database that can be changed: so these three have no answer of their
+/// own.
+impl From<ChangeFault> for Halt {
+    ghost from_gives = { λ fault e. e ≡ halt_of fault };
+
+    fn from(fault: ChangeFault) -> Halt {
+        match fault {
+            ChangeFault::NumbersSpent => Halt::NumbersSpent,
+            ChangeFault::GenerationSpent => Halt::GenerationSpent,
+            ChangeFault::StoreFull => Halt::StoreFull,
+            ChangeFault::IndexFull { needed } => Halt::IndexFull { needed },
+            ChangeFault::BadIndex { unit } => Halt::BadIndex { unit },
+            ChangeFault::DiskFault => Halt::DiskFault,
+            ChangeFault::NoMemory => Halt::NoMemory,
+            ChangeFault::BadHeader(_) | ChangeFault::NoSuch | ChangeFault::Stopped =>
+                Halt::NoMemory,
+        }
+    }
+}
+
+impl From<AllocError> for Halt {
+    ghost from_gives = { λ _ e. e ≡ NoMemory };
+
+    fn from(_: AllocError) -> Halt {
+        Halt::NoMemory
+    }
+}
