@@ -7,13 +7,13 @@ use Rattle.std.specs.FinMap as finite
 use Rattle.std.proofs.lemmas.Bool.{cases_Bool}
 use Rattle.std.proofs.lemmas.Bool.Decides.{nat_tests}
 
-find_here : {X : Type 0} (e : ℕ × X) (es : List (ℕ × X)) → finite.find nat_cmp e.0 (e ∷ es) ≡ Some e.1
+pub find_here : {X : Type 0} (e : ℕ × X) (es : List (ℕ × X)) → finite.find nat_cmp e.0 (e ∷ es) ≡ Some e.1
 find_here e es =
     let test : eq_by_cmp nat_cmp e.0 e.0 ≡ true = unsigned_tied e.0 e.0 ∙ grind (arith, nat_tests) in
     rw test refl
 
 -- what is found after the first is found with it too
-find_later : {X : Type 0} (q : ℕ) (v : X) (e : ℕ × X) (es : List (ℕ × X)) → T (below_all nat_cmp e.0 es) → finite.find nat_cmp q es ≡ Some v
+pub find_later : {X : Type 0} (q : ℕ) (v : X) (e : ℕ × X) (es : List (ℕ × X)) → T (below_all nat_cmp e.0 es) → finite.find nat_cmp q es ≡ Some v
     → finite.find nat_cmp q (e ∷ es) ≡ Some v
 find_later q v e es t found = elim (cases_Bool (eq_by_cmp nat_cmp q e.0)) [
   | inl same ↦

@@ -26,10 +26,10 @@ pub use Rattle.rpm_select.specs.Frame.{AsksPackages}
 pub use Rattle.rpm_select.specs.Glob.{Byte, is_close, is_member, Piece, pieces, Question, Set, stands_for, Star, takes, Written}
 unfoldable pub use Rattle.rpm_select.specs.Glob.{glob, piece_at, pieces_behind}
 pub use Rattle.rpm_select.specs.Labels.{is_dash, is_dash_or_dot, with_name, without}
-pub use Rattle.rpm_select.specs.Picks.{entry_in, number_in, package_in, ReadsOwn}
+pub use Rattle.rpm_select.specs.Picks.{entry_in, NextIs, NextNumberIs, number_in, package_in, ReadsOwn}
 pub use Rattle.rpm_select.specs.Reach.{asks, Everything, HasChain, is_in, IsFaultOfOne, keys_cost, Reach, reach, reach_all, reach_to, reaches, Serves, These}
 pub use Rattle.rpm_select.specs.Reach.{unasked}
-pub use Rattle.rpm_select.specs.Recents.{IsHeld, IsOf, picks_at, Recalls}
+pub use Rattle.rpm_select.specs.Recents.{has_number, IsHeld, IsOf, picks_at, Recalls}
 pub use Rattle.rpm_select.specs.Selections.{has_any, is_among, is_elsewhere, is_picked, meets, takes_read}
 unfoldable pub use Rattle.rpm_select.specs.Selections.{picks, takes_header}
 pub use Rattle.rpm_select.specs.declared.picked.PickFault.{PickFault}

@@ -48,6 +48,11 @@ abbrev pub cost_after : ℕ → Database → Result (Option Picked) PickFault �
 cost_after n db (Ok (Some picked)) = cost_to (number_in picked) db - cost_to n db
 cost_after n db _ = cost_all db - cost_to n db
 
+-- the blocks of the numbers above n, up to the one whose number alone is given
+abbrev pub cost_next : ℕ → Database → Result (Option ℕ) PickFault → ℕ
+cost_next n db (Ok (Some m)) = cost_to m db - cost_to n db
+cost_next n db _ = cost_all db - cost_to n db
+
 -- where a number is asked for, the blocks of that number alone
 abbrev pub ReadsOwn : Selection → Database → ℕ → ℕ → Type 0
 ReadsOwn sel db before now = (m : ℕ) → sel ≡ Number m → now ≤ before + cost m db

@@ -22,11 +22,11 @@ pub use Rattle.rpm_select.specs.Glob.{bracketed, glob, is_close, is_member, is_t
 pub use Rattle.rpm_select.specs.Glob.{takes}
 pub use Rattle.rpm_select.specs.Labels.{is_dash, is_dash_or_dot, labels, matches, with_arch, with_name, with_release}
 pub use Rattle.rpm_select.specs.Labels.{with_version, without}
-pub use Rattle.rpm_select.specs.Picks.{AnyIs, NextIs, NextNumberIs, ReadsOwn, cost_after, is_broken, is_of_index}
+pub use Rattle.rpm_select.specs.Picks.{AnyIs, NextIs, NextNumberIs, ReadsOwn, cost_after, cost_next, is_broken, is_of_index}
 pub use Rattle.rpm_select.specs.Picks.{number_in, package_in}
 pub use Rattle.rpm_select.specs.Reach.{IsBroken, KeysCost, Serves, These, asks, is_in, reach, reach_after, reach_next}
 pub use Rattle.rpm_select.specs.Reach.{reach_to, reaches, unasked}
-pub use Rattle.rpm_select.specs.Recents.{IsHeld, IsOf, Recalls, picks_at}
+pub use Rattle.rpm_select.specs.Recents.{has_number, IsHeld, IsOf, Recalls, picks_at}
 pub use Rattle.rpm_select.specs.Providing.{is_file_of}
 pub use Rattle.rpm_select.specs.Selections.{has_any, is_among, is_elsewhere, is_first, is_picked, meets, needed_by}
 pub use Rattle.rpm_select.specs.Selections.{picks, takes_bad, takes_header}

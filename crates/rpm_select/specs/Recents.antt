@@ -1,6 +1,5 @@
--- What is held of the package that was read last.
-use Rattle.std.specs.Prelude.{◌≡◌, ℕ, Bool, false, Option, Some, None, IfSome}
-use Rattle.std.specs.Option.{option_map}
+-- What is held of the packages that were read.
+use Rattle.std.specs.Prelude.{◌≡◌, ◌==◌, ◌||◌, ℕ, Bool, true, false, Option, Some, None, IfSome}
 use Rattle.std.specs.Ordering.{nat_cmp}
 use Rattle.std.specs.FinMap as finite
 use Rattle.rpm_db.specs.State.{Package}
@@ -10,17 +9,22 @@ use Rattle.rpm_select.specs.declared.selection.Selection.{Selection}
 use Rattle.rpm_select.specs.Picks.{number_in, package_in}
 use Rattle.rpm_select.specs.Selections.{is_picked}
 
--- what is held is the package of this number
+-- what is held, if anything is, has this number
+abbrev pub has_number : ℕ → Option Picked → Bool
+has_number n None = false
+has_number n (Some picked) = number_in picked == n
+
+-- the package of this number is held
 abbrev pub IsHeld : ℕ → Recent → Type 0
-IsHeld n recent = option_map number_in recent.last ≡ Some n
+IsHeld n recent = (has_number n recent.last || has_number n recent.longest) ≡ true
 
 -- what was picked is the package of its number
 abbrev pub IsOf : finite.FinMap nat_cmp Package → Picked → Type 0
 IsOf packages picked = finite.get packages (number_in picked) ≡ Some (package_in picked)
 
--- what is held, if anything is, is the package of its number
+-- what is held is the package of its number
 abbrev pub Recalls : finite.FinMap nat_cmp Package → Recent → Type 0
-Recalls packages recent = IfSome recent.last (IsOf packages)
+Recalls packages recent = IfSome recent.last (IsOf packages) × IfSome recent.longest (IsOf packages)
 
 -- a selection picks what a number has
 abbrev pub picks_at : Selection → ℕ → Option Package → Bool

@@ -1,7 +1,7 @@
 //! The package that was read last.
 
-ghost use Rattle.std.specs.Prelude.{◌≡◌, ◌≢◌, ◌<◌, ℕ, IsTrue, is_some, true, false, Ok, Err, Some, IfOk, IfSome};
-ghost use Rattle.rpm_select.specs.Prelude.{above, AsksPackages, cost, is_broken, is_picked, IsHeld, IsNext, IsOf, Kept, nat_cmp, NextNumberIs, number_in, Package, package_in, packages_in, picks, picks_at, reach_next, reaches, Recalls, Serves};
+ghost use Rattle.std.specs.Prelude.{◌≡◌, ◌≢◌, ◌<◌, ◌≤◌, ◌+◌, ℕ, IsTrue, is_some, true, false, Ok, Err, Some, IfOk, IfSome};
+ghost use Rattle.rpm_select.specs.Prelude.{above, AsksPackages, cost, is_broken, is_picked, cost_next, has_number, IsHeld, IsNext, IsOf, Kept, nat_cmp, NextIs, NextNumberIs, number_in, Package, package_in, packages_in, picks, picks_at, reach_next, reaches, Recalls, Serves};
 ghost use Rattle.std.specs.FinMap as finite;
 
 use crate::picked::{PickFault, Picked, pick, takes_bad};
@@ -11,11 +11,15 @@ use crate::selection::Selection;
 use rpm_db::Db;
 use rpm_outside::{Disk, File};
 use std::alloc::Global;
+use std::mem::swap;
 
-/// The package that was read last. Whoever asks about it again needn't read it, nor parse it.
+/// The package that was read last, and where the longest is kept, that one of those read before. Whoever asks about one
+/// of them again needn't read it, nor parse it.
 #[derive(Drop)]
 pub struct Recent {
     last: Option<Picked>,
+    longest: Option<Picked>,
+    keeps_longest: bool,
 }
 
 /// Whether a selection picks a package.
@@ -32,37 +36,72 @@ fn takes(alloc: Global, selection: &Selection<'_>, picked: &Picked) -> Result<bo
     }
 }
 
+/// How many bytes a package has, if it is there and can be read.
+fn length_of(held: &Option<Picked>) -> usize {
+    match held {
+        Some(Picked::Good { blob, .. }) => blob.as_slice().len(),
+        _ => 0,
+    }
+}
+
+/// The package that is held, if it is the one of this number.
+fn of_number(held: &Option<Picked>, number: u32) -> Option<&Picked>
+    ensures given { has_number number held.now ≡ is_some result }
+    ensures number { IfSome result (λ picked. number_in picked.now ≡ number) }
+    ensures same { IfSome result (λ picked. held.now ≡ Some picked.now) }
+{
+    match held {
+        Some(picked) if picked.number() == number => Some(picked),
+        _ => None,
+    }
+}
+
 impl Recent {
-    /// Nothing was read.
+    /// Nothing was read. The package that is read last will be held.
     pub fn new() -> Recent
         ensures { (packages : finite.FinMap nat_cmp Package) → Recalls packages result }
     {
-        Recent { last: None }
+        Recent {
+            last: None,
+            longest: None,
+            keeps_longest: false,
+        }
     }
 
-    /// The package of this number, if it is the one that is held.
-    fn recall(&self, number: u32) -> Option<&Picked>
+    /// Nothing was read. The package that is read last will be held, and the longest one beside it.
+    pub fn with_longest() -> Recent
+        ensures { (packages : finite.FinMap nat_cmp Package) → Recalls packages result }
+    {
+        Recent {
+            last: None,
+            longest: None,
+            keeps_longest: true,
+        }
+    }
+
+    /// The package of this number, if it is held.
+    pub fn recall(&self, number: u32) -> Option<&Picked>
         ensures given { IsHeld number self.now → is_some result ≡ true }
         ensures number { IfSome result (λ held. number_in held.now ≡ number) }
         ensures held { IfSome result (λ held. IsHeld number self.now) }
         ensures same { IfSome result (λ held. (packages : finite.FinMap nat_cmp Package) → Recalls packages self.now → IsOf packages held.now) }
+        ensures next { IfSome result (λ held. (packages : finite.FinMap nat_cmp Package) (sel : Selection) (n : ℕ) → Recalls packages self.now
+            → NextNumberIs (above n (picks packages sel)) (Ok (Some number)) → NextIs (above n (picks packages sel)) (Ok (Some held.now))) }
     {
-        match &self.last {
-            Some(held) => {
-                if held.number() == number {
-                    Some(held)
-                } else {
-                    None
-                }
-            }
-            None => None,
+        match of_number(&self.last, number) {
+            Some(held) => Some(held),
+            None => of_number(&self.longest, number),
         }
     }
 
-    /// Lets go of what is held. Its room is for the next one.
+    /// Lets go of the package that was read last; where the longest is kept, of the shorter one. Its room is for the
+    /// next one.
     fn take_room(&mut self, alloc: Global) -> Vec<u8>
-        ensures { (packages : finite.FinMap nat_cmp Package) → Recalls packages self.new }
+        ensures { (packages : finite.FinMap nat_cmp Package) → Recalls packages self.old → Recalls packages self.new }
     {
+        if self.keeps_longest && length_of(&self.longest) < length_of(&self.last) {
+            swap(&mut self.last, &mut self.longest);
+        }
         match self.last.take() {
             Some(Picked::Good { blob, .. }) => blob.into_bytes(),
             _ => Vec::new(alloc),
@@ -127,6 +166,7 @@ impl Picker {
         ensures unread { (m : ℕ) → IsHeld m recent.old → IsNext (reaches self.now db.now) n (Some m)
             → result ≡ Ok (Some m) → D.bytes_read disk.new File.Pkg ≡ D.bytes_read disk.old File.Pkg }
         ensures rises { IfOk result (λ o. IfSome o (λ next. n < next)) }
+        ensures within { D.bytes_read disk.new File.Pkg ≤ D.bytes_read disk.old File.Pkg + cost_next n db.now result }
         ensures asks { AsksPackages D.Disk (reach_next n self.now db.now result) disk.old disk.new db.now result }
     {
         let mut passed = n;

@@ -1,4 +1,4 @@
-use Rattle.rpm_select.proofs.Vocabulary.{cost, Files, IsHeld, looks_then, packages, picks_at, Pkg, reach_all, reach_more, reach_some, reach_to, reaches}
+use Rattle.rpm_select.proofs.Vocabulary.{cost, cost_more, cost_some, Files, IsHeld, looks_then, packages, picks_at, Pkg, reach_all, reach_more, reach_some, reach_to, reaches}
 use Rattle.rpm_select.proofs.Vocabulary.{Recalls, Recent, room}
 use Rattle.std.proofs.Common.{◌≡◌, ℕ, ◌<◌, ◌-◌, true, false, Some, None, refl, sym, subst, ◌∙◌, arith}
 use Rattle.std.specs.FinMap as finite
@@ -19,9 +19,12 @@ loop-next-preserved g c =
     let inv = c.loop-next.invariant in
     let done = c.in-Ok-false.ensures in
     let more = reach_more r db k m c.in-Some.ensures in
+    let costs = cost_more db k m c.in-Some.ensures.0 in
     record {
       keeps = done.asks.kept;
       later = omega (arith, inv.later, c.in-Some.ensures.0);
+      more = omega (arith, costs, inv.more);
+      within = omega (arith, costs, inv.more, inv.within, done.asks.looks.reads.pkg);
       up = omega (arith, inv.up, more);
       looks =
           looks_then g.D.Disk Pkg g.met.D.Disk.follows_trans
@@ -68,6 +71,29 @@ returns-in-Ok-true-clause-asks g c =
     let more = reach_more r db k m c.in-Some.ensures in
     asks_then g.D.Disk g.met.D.Disk.follows_trans (reach_to k r db - reach_to n r db) (cost m db) (reach_to m r db - reach_to n r db) c.args.disk.now
     c.loop-next.disk c.picks.new.disk db (omega (arith, more, inv.up)) inv.looks inv.faults (Some m) c.in-Ok-true.ensures.asks
+
+pub returns-in-Ok-true-clause-within : goal.returns-in-Ok-true-clause-within
+returns-in-Ok-true-clause-within g c =
+    let inv = c.loop-next.invariant in
+    omega (
+      arith,
+      cost_more c.args.db.now c.loop-next.passed c.in-Some.next c.in-Some.ensures.0,
+      inv.more,
+      inv.within,
+      c.in-Ok-true.ensures.asks.looks.reads.pkg,
+    )
+
+pub returns-in-Err-clause-within : goal.returns-in-Err-clause-within
+returns-in-Err-clause-within g c =
+    let db = c.args.db.now in
+    let m = c.in-Some.next in
+    let inv = c.loop-next.invariant in
+    omega (arith, cost_more db c.loop-next.passed m c.in-Some.ensures.0, cost_some db m, inv.more, inv.within, c.in-Err.ensures.asks.looks.reads.pkg)
+
+pub returns-clause-within : goal.returns-clause-within
+returns-clause-within g c =
+    let inv = c.loop-next.invariant in
+    omega (arith, cost_some c.args.db.now c.loop-next.passed, inv.more, inv.within)
 
 pub returns-in-Ok-true-clause-held : goal.returns-in-Ok-true-clause-held
 returns-in-Ok-true-clause-held g c = (rw c.in-Ok-true.field-0-test at c.in-Ok-true.ensures.held) refl

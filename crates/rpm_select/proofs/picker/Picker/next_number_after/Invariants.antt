@@ -1,5 +1,5 @@
-use Rattle.rpm_select.proofs.Vocabulary.{Keeps, Looks, packages, Pkg, reach_to, reaches, Recalls, room, Serves}
-use Rattle.std.proofs.Common.{◌≡◌, ◌<◌, ◌≤◌, ◌-◌, ◌^◌, true}
+use Rattle.rpm_select.proofs.Vocabulary.{cost_to, Keeps, Looks, packages, Pkg, reach_to, reaches, Recalls, room, Serves}
+use Rattle.std.proofs.Common.{◌≡◌, ◌<◌, ◌≤◌, ◌+◌, ◌-◌, ◌^◌, true}
 use Rattle.std.specs.Prelude.{IsTrue}
 use Rattle.rpm_select.proofs.Picking.{left}
 use Rattle.rpm_select.proofs.picker.Picker.next_number_after.Given as goal
@@ -9,6 +9,8 @@ invariant-loop-next g l = record {
   keeps : IsTrue g.D.Disk.tells → Keeps (g.D.Disk.files l.disk).pkg l.db;
   later : l.n ≤ l.passed;
   up : reach_to l.n l.self l.db ≤ reach_to l.passed l.self l.db;
+  more : cost_to l.n l.db ≤ cost_to l.passed l.db;
+  within : g.D.Disk.bytes_read l.disk Pkg ≤ g.D.Disk.bytes_read l.initial.disk Pkg + (cost_to l.passed l.db - cost_to l.n l.db);
   looks : Looks g.D.Disk Pkg
       (reach_to l.passed l.self l.db - reach_to l.n l.self l.db) l.initial.disk l.disk;
   faults : g.D.Disk.faults l.initial.disk ≤ g.D.Disk.faults l.disk;
