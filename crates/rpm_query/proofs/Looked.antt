@@ -1,7 +1,8 @@
 -- Calls that look packages up, one after the other.
-use Rattle.std.proofs.Common.{ℕ, ◌+◌, ◌-◌, ◌<◌, ◌≤◌, ◌≡◌, subst, arith}
+use Rattle.std.proofs.Common.{ℕ, ◌+◌, ◌-◌, ◌<◌, ◌≤◌, arith}
 use Rattle.rpm_outside.specs.declared.disk.Disk as disk
-use Rattle.rpm_query.proofs.Vocabulary.{cost_all, cost_some, cost_to, cost_up, Database, Looks, looks_then, Pkg, Reach, reach_all, reach_some, reach_to}
+use Rattle.rpm_query.proofs.Vocabulary.{cost_all, cost_some, cost_to, cost_up, Database, Looks, looks_at_from, looks_more}
+use Rattle.rpm_query.proofs.Vocabulary.{looks_then, Pkg, Reach, reach_all, reach_some, reach_to}
 
 module _ {D : Type 0} (d : disk.Ghosts D) (trans : (a b c : D) → d.follows a b → d.follows b c → d.follows a c) {a b c : D} where
   -- one look and then another
@@ -23,15 +24,17 @@ module _ {D : Type 0} (d : disk.Ghosts D) (trans : (a b c : D) → d.follows a b
     looks_rest = both_look (cost_to n db - cost_to low db) (cost_all db - cost_to n db) (cost_all db - cost_to low db)
         (omega (arith, cost_up db low n le, cost_some db n)) first
 
--- the bytes of them, by a picker that goes over the same numbers
-module _ {p q : Reach} (same : p ≡ q) (db : Database) (n before between : ℕ) {now : ℕ} where
-  pub rest_read : (low : ℕ) → between + reach_to low q db ≤ before + reach_to n q db → now ≤ between + (reach_all p db - reach_to n p db)
-      → now + reach_to low q db ≤ before + reach_all q db
-  rest_read low first second =
-      let read = subst (λ (r : Reach). now ≤ between + (reach_all r db - reach_to n r db)) same second in
-      omega (arith, reach_some q db n, first, read)
+-- a look that reads so many bytes is within them, whatever else bounds it
+pub look_within : {D : Type 0} (d : disk.Ghosts D) {a b : D} {some most : ℕ} → d.bytes_read b Pkg ≤ d.bytes_read a Pkg + most → Looks d Pkg some a b
+    → Looks d Pkg most a b
+look_within d {a = a} {b = b} {some = some} {most = most} le looks =
+    looks_more d Pkg (d.bytes_read b Pkg - d.bytes_read a Pkg) most a b (omega (arith, le)) (looks_at_from d Pkg some a b looks)
 
-  pub both_read : between + reach_to n q db ≤ before + reach_all q db → now ≤ between + reach_to n p db → now ≤ before + reach_all q db
-  both_read first second =
-      let read = subst (λ (r : Reach). now ≤ between + reach_to n r db) same second in
-      omega (arith, first, read)
+-- the bytes of the numbers that a picker goes over
+module _ (q : Reach) (db : Database) (n before between : ℕ) {now : ℕ} where
+  pub rest_read : (low : ℕ) → between + reach_to low q db ≤ before + reach_to n q db → now ≤ between + (reach_all q db - reach_to n q db)
+      → now + reach_to low q db ≤ before + reach_all q db
+  rest_read low first second = omega (arith, reach_some q db n, first, second)
+
+  pub both_read : between + reach_to n q db ≤ before + reach_all q db → now ≤ between + reach_to n q db → now ≤ before + reach_all q db
+  both_read first second = omega (arith, reach_some q db n, first, second)

@@ -1,27 +1,36 @@
 -- How far the packages of an argument were printed, one after the other.
 use Rattle.std.proofs.Common.{◌≡◌, ℕ, ◌||◌, Bool, true, false, not, List, [], ◌∷◌, map, Option, Result, Ok, Err, refl, sym, ap, ◌∙◌, subst}
-use Rattle.rpm_query.proofs.Vocabulary.{above, Bearer, bearer_of, Files, Halt, is_bad, is_some_of, IsOfRead, list_any, NextIs, outputs, Package, packages}
-use Rattle.rpm_query.proofs.Vocabulary.{packages_part, PartIs, Picked, PickFault, picks, Reach, Reached, Selection, Serves, Step, StepIs, Store}
+use Rattle.rpm_query.proofs.Vocabulary.{above, Bearer, bearer_of, Files, Halt, is_bad, is_some_of, IsOfRead, list_any, NextNumberIs, outputs, Package, packages}
+use Rattle.rpm_query.proofs.Vocabulary.{packages_part, PartIs, PickFault, picks, Reach, Reached, Recalls, Recent, Selection, Serves, Step, StepIs, Store}
 use Rattle.rpm_effects.specs.declared.tally.Halt.TheVariants as halt
 use Rattle.rpm_print.specs.inner.Printed.{fails_more, some_more, none_more}
-use Rattle.rpm_print.specs.inner.Reached.{served}
 use Rattle.rpm_effects.specs.inner.Reaching.{Goes, goes_start, goes_more, goes_stop, goes_end}
 use Rattle.rpm_effects.specs.inner.Stopping.{reached_first}
 
-module _ (sel : Selection) (s : Store) (n : ℕ) {p q : Reach} {f f' : Files} (same : p ≡ q) (files : f ≡ f') where
+module _ (sel : Selection) (s : Store) (n : ℕ) (p : Reach) {f f' : Files} (files : f ≡ f') where
   -- what is next of the files as they read is next of the files as they were
-  pub next_here : (r : Result (Option Picked) PickFault) → (Serves p (packages f.pkg s) sel → NextIs (above n (picks (packages f.pkg s) sel)) r)
-      → Serves q (packages f'.pkg s) sel → NextIs (above n (picks (packages f'.pkg s) sel)) r
-  next_here r next serves =
-      subst (λ (g : Files). NextIs (above n (picks (packages g.pkg s) sel)) r) files (next (served sel s p q f f' same files serves))
+  pub next_here : (recent : Recent) (r : Result (Option ℕ) PickFault)
+      → (Serves p (packages f.pkg s) sel → Recalls (packages f.pkg s) recent → NextNumberIs (above n (picks (packages f.pkg s) sel)) r)
+      → Serves p (packages f'.pkg s) sel → Recalls (packages f'.pkg s) recent → NextNumberIs (above n (picks (packages f'.pkg s) sel)) r
+  next_here recent r =
+      subst (λ (g : Files). Serves p (packages g.pkg s) sel → Recalls (packages g.pkg s) recent → NextNumberIs (above n (picks (packages g.pkg s) sel)) r)
+      files
 
   -- and so it is of whether there are any
   pub any_here : {some any : Bool} → (Serves p (packages f.pkg s) sel → some ≡ is_some_of (above n (picks (packages f.pkg s) sel))
       → any ≡ is_some_of (picks (packages f.pkg s) sel))
-      → Serves q (packages f'.pkg s) sel → some ≡ is_some_of (above n (picks (packages f'.pkg s) sel)) → any ≡ is_some_of (picks (packages f'.pkg s) sel)
-  any_here {some = some} {any = any} known serves =
-      subst (λ (g : Files). some ≡ is_some_of (above n (picks (packages g.pkg s) sel)) → any ≡ is_some_of (picks (packages g.pkg s) sel)) files
-      (known (served sel s p q f f' same files serves))
+      → Serves p (packages f'.pkg s) sel → some ≡ is_some_of (above n (picks (packages f'.pkg s) sel)) → any ≡ is_some_of (picks (packages f'.pkg s) sel)
+  any_here {some = some} {any = any} =
+      subst (λ (g : Files). Serves p (packages g.pkg s) sel → some ≡ is_some_of (above n (picks (packages g.pkg s) sel))
+      → any ≡ is_some_of (picks (packages g.pkg s) sel)) files
+
+-- what is held of the files as they read is held of the files as they were
+pub recalled_here : (s : Store) {f f' : Files} → f ≡ f' → (a b : Recent) → (Recalls (packages f.pkg s) a → Recalls (packages f.pkg s) b)
+    → Recalls (packages f'.pkg s) a → Recalls (packages f'.pkg s) b
+recalled_here s files a b = subst (λ (g : Files). Recalls (packages g.pkg s) a → Recalls (packages g.pkg s) b) files
+
+pub held_still : (s : Store) {f f' : Files} → f ≡ f' → (recent : Recent) → Recalls (packages f'.pkg s) recent → Recalls (packages f.pkg s) recent
+held_still s files recent = subst (λ (g : Files). Recalls (packages g.pkg s) recent) (sym files)
 
 -- those up to a number were printed: the steps so far, whether there were some, and whether the argument fails for them
 pub record PrintedTo (step : ℕ → ℕ × Package → Step) (es : List (ℕ × Package)) (after n : ℕ) (some fails ot et : Bool) (o e o' e' : List ℕ) : Type 0 where

@@ -1,12 +1,13 @@
 -- What is said of an argument once a picker goes over what its question picks.
-use Rattle.std.proofs.Common.{◌≡◌, ℕ, ◌+◌, ◌≤◌, Bool, false, Bor, List, Result, Some, refl, subst, arith}
+use Rattle.std.proofs.Common.{◌≡◌, ℕ, ◌+◌, ◌≤◌, Bool, false, Bor, List, Result, Some, refl, sym, subst, arith}
 use Rattle.std.specs.Prelude.{IsTrue}
 use Rattle.rpm_outside.specs.declared.disk.Disk as disk
 use Rattle.rpm_outside.specs.Frame.{Looks, LooksAt}
 use Rattle.rpm_select.specs.Reach.{asks}
 use Rattle.rpm_print.specs.Frame.{HasRows}
 use Rattle.rpm_query.proofs.Vocabulary.{answered, argument_part, argument_reach, Chosen, Database, Files, Halt, Idx, is_indexed, not_asked, Outputs}
-use Rattle.rpm_query.proofs.Vocabulary.{packages, packages_in, PartIs, Peeks, picks, Pkg, pkg_read, question_of, reach, Reach, reach_all, ReadsOf, room}
+use Rattle.rpm_query.proofs.Vocabulary.{packages, packages_in, PartIs, Peeks, picks, Pkg, pkg_read, question_of, reach, Reach, reach_all, ReadsOf}
+use Rattle.rpm_query.proofs.Vocabulary.{Recalls, Recent, room}
 use Rattle.rpm_query.proofs.Vocabulary.{Selection, Serves, Tree}
 use Rattle.rpm_effects.specs.inner.Parts.{part_reads}
 use Rattle.rpm_print.specs.inner.Peeking.{peeks_index, peeks_packages, peeks_then}
@@ -17,18 +18,19 @@ module _ {D : Type 0} (d : disk.Ghosts D) (db : Database) (chosen : Chosen) (tex
     (asked : question_of chosen text ≡ Some sel) (looks : LooksAt d Idx x y)
     (over : IsTrue d.tells → HasRows d x db → p ≡ reach (asks db sel) sel (packages_in d x db)) where
   pub picking_part : (IsTrue d.tells → HasRows d x db → Serves p (packages_in d x db) sel) → (tree : Tree) (after now : ℕ) {r : Result Bool Halt}
-      {old new : Outputs} → (IsTrue d.tells → Serves p (packages_in d y db) sel → (j : ℕ)
+      {old new : Outputs} {recent : Recent} → (IsTrue d.tells → Serves p (packages_in d y db) sel → Recalls (packages_in d y db) recent → (j : ℕ)
       → PartIs (answered tree chosen after j text.now (picks (packages_in d y db) sel)) r old new (ReadsOf j p db (pkg_read d y) now))
-      → IsTrue d.tells → HasRows d x db → (j : ℕ) → PartIs (argument_part tree (packages_in d x db) chosen after j text.now) r old new
+      → IsTrue d.tells → HasRows d x db → Recalls (packages_in d x db) recent → (j : ℕ) → PartIs (argument_part tree (packages_in d x db) chosen after j text.now) r old new
       (ReadsOf j (argument_reach (is_indexed db) (packages_in d x db) chosen text.now) db (pkg_read d x) now)
-  picking_part serves tree after now {r = r} {old = old} {new = new} went told rows j =
+  picking_part serves tree after now {r = r} {old = old} {new = new} {recent = recent} went told rows holds j =
       let map = packages_in d x db in
       let same = (looks.untouched told).same in
       rw (picked_is map chosen text asked, reach_is map chosen text asked (is_indexed db), ← over told rows)
       (part_reads _ _ old new (ReadsOf j p db (pkg_read d y) now) _ (λ b read. (read.0, omega (arith, read.1, looks.reads.pkg)))
       (subst (λ (f : Files). PartIs (answered tree chosen after j text.now (picks (packages f.pkg (room db)) sel)) r old new
       (ReadsOf j p db (pkg_read d y) now))
-      same (went told (served sel (room db) p p (d.files y) (d.files x) refl same (serves told rows)) j)))
+      same (went told (served sel (room db) p p (d.files y) (d.files x) refl same (serves told rows))
+      (subst (λ (f : Files). Recalls (packages f.pkg (room db)) recent) (sym same) holds) j)))
 
   pub picking_reads : {now : ℕ} → now ≤ pkg_read d y + reach_all p db → IsTrue d.tells → HasRows d x db
       → now ≤ pkg_read d x + reach_all (argument_reach (is_indexed db) (packages_in d x db) chosen text.now) db

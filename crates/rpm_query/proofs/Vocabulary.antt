@@ -20,7 +20,7 @@ pub use Rattle.rpm_outside.specs.Buffered.{inner}
 pub use Rattle.rpm_outside.specs.Files.{Files, Units}
 pub use Rattle.rpm_outside.specs.Shelves.{bytes_at, Paths}
 pub use Rattle.rpm_outside.specs.declared.disk.File.TheVariants.{Idx, Pkg}
-pub use Rattle.rpm_outside.specs.inner.Looking.{looks_then}
+pub use Rattle.rpm_outside.specs.inner.Looking.{looks_at_from, looks_more, looks_then}
 pub use Rattle.rpm_pkgdb.specs.Store.{Store}
 pub use Rattle.rpm_effects.specs.Answers.{Anywhere, PartIs, Reached, StepIs, Went}
 pub use Rattle.rpm_print.specs.Answers.{is_some_of}
@@ -42,12 +42,14 @@ unfoldable pub use Rattle.rpm_query.specs.Reach.{argument_reach}
 pub use Rattle.rpm_query.specs.declared.printing.PrintedPackages.{PrintedPackages}
 pub use Rattle.rpm_select.specs.Candidates.{has_key, has_key_in, is_candidate}
 unfoldable pub use Rattle.rpm_select.specs.Candidates.{candidates, keys_asked}
-pub use Rattle.rpm_select.specs.Picks.{entry_in, NextIs, number_in}
+pub use Rattle.rpm_select.specs.Picks.{entry_in, NextIs, NextNumberIs, number_in}
 pub use Rattle.rpm_select.specs.Reach.{Everything, HasIndexRows, reach, Reach, reach_all, reach_to, Serves, These, unasked}
+pub use Rattle.rpm_select.specs.Recents.{Recalls}
 pub use Rattle.rpm_select.specs.Selections.{is_picked, takes_bad, takes_read}
 unfoldable pub use Rattle.rpm_select.specs.Selections.{picks, takes_header}
 pub use Rattle.rpm_select.specs.declared.picked.PickFault.{PickFault}
 pub use Rattle.rpm_select.specs.declared.picked.Picked.{Picked}
+pub use Rattle.rpm_select.specs.declared.recent.Recent.{Recent}
 pub use Rattle.rpm_select.specs.declared.selection.Selection.{Selection}
 pub use Rattle.rpm_select.specs.inner.Costing.{reach_some}
 pub use Rattle.rpm_select.specs.inner.Rising.{next_picked, picks_from_one}

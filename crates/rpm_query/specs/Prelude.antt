@@ -8,6 +8,7 @@ pub use Rattle.rpm_outside.specs.Browses.{left}
 pub use Rattle.rpm_outside.specs.declared.disk.File.TheVariants.{Pkg}
 pub use Rattle.rpm_qfeval.specs.Meaning.{meaning}
 pub use Rattle.rpm_select.specs.Reach.{Everything, Serves, reach_all, reach_to, unasked}
+pub use Rattle.rpm_select.specs.Recents.{Recalls}
 pub use Rattle.rpm_select.specs.Selections.{picks}
 pub use Rattle.rpm_words.specs.Words.{text_at}
 pub use Rattle.std.specs.List.{concat}

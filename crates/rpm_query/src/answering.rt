@@ -1,7 +1,7 @@
 //! One argument of a query.
 
 ghost use Rattle.std.specs.Prelude.{◌≡◌, ◌+◌, ◌≤◌, ℕ, IsTrue, Err, IfOk, IfErr};
-ghost use Rattle.rpm_query.specs.Prelude.{above, argument_part, argument_reach, cost_to, DiskFault, HaltHands, HasRows, is_indexed, is_some_of, IsAskable, IsOfChain, IsOfPrint, IsOfRead, lent, Looks, packages_in, PartIs, Peeks, picks, Pkg, pkg_read, question_of, reach_all, reach_to, ReadsOf, Serves, shown};
+ghost use Rattle.rpm_query.specs.Prelude.{above, argument_part, argument_reach, cost_to, DiskFault, HaltHands, HasRows, is_indexed, is_some_of, IsAskable, IsOfChain, IsOfPrint, IsOfRead, lent, Looks, packages_in, PartIs, Peeks, picks, Pkg, pkg_read, question_of, reach_all, reach_to, ReadsOf, Recalls, Serves, shown};
 
 use crate::missing::put_missing_part;
 use crate::printing::{halt_of_pick, print_above};
@@ -10,7 +10,7 @@ use rpm_effects::Halt;
 use rpm_outside::{Buffered, Disk, File, Sink};
 use rpm_print::Deed;
 use rpm_qfparse::Format;
-use rpm_select::{Capability, Picker, Selection};
+use rpm_select::{Capability, Picker, Recent, Selection};
 use rpm_words::{Chosen, number_of};
 use std::alloc::Global;
 
@@ -92,9 +92,10 @@ fn is_any_picked<D: Disk>(
 /// Prints what an argument picks, or the line that it picks nothing. Says whether the argument fails.
 ///
 /// Reads the blocks of each package once, those above `after` before what is printed of the next ones, and the others
-/// last.
+/// last. What is held of those above isn't read again.
 pub fn answer<D: Disk, O: Sink + Drop, E: Sink + Drop>(
     alloc: Global,
+    recent: &mut Recent,
     db: &Db,
     disk: &mut D,
     chosen: Chosen,
@@ -105,7 +106,7 @@ pub fn answer<D: Disk, O: Sink + Drop, E: Sink + Drop>(
     err: &mut Buffered<E>,
 ) -> Result<bool, Halt>
     requires asked { IsAskable D.Disk disk.old db.now }
-    ensures went { IsTrue D.tells → HasRows D.Disk disk.old db.now → (j : ℕ)
+    ensures went { IsTrue D.tells → HasRows D.Disk disk.old db.now → Recalls (packages_in D.Disk disk.old db.now) recent.old → (j : ℕ)
         → PartIs (argument_part format.now (packages_in D.Disk disk.old db.now) chosen after j text.now) result
         (shown O.Sink E.Sink out.old err.old) (shown O.Sink E.Sink out.new err.new)
         (ReadsOf j (argument_reach (is_indexed db.now) (packages_in D.Disk disk.old db.now) chosen text.now) db.now
@@ -113,6 +114,8 @@ pub fn answer<D: Disk, O: Sink + Drop, E: Sink + Drop>(
     ensures reads { IsTrue D.tells → HasRows D.Disk disk.old db.now
         → pkg_read D.Disk disk.new ≤ pkg_read D.Disk disk.old + reach_all
         (argument_reach (is_indexed db.now) (packages_in D.Disk disk.old db.now) chosen text.now) db.now }
+    ensures recalls { IsTrue D.tells → Recalls (packages_in D.Disk disk.old db.now) recent.old
+        → Recalls (packages_in D.Disk disk.old db.now) recent.new }
     ensures bad_index { IsTrue D.tells → IfErr result (IsOfChain (question_of chosen (lent text.now)) (D.files disk.old).idx) }
     ensures looks { Peeks D.Disk (is_indexed db.now) disk.old disk.new }
     ensures disk { DiskFault D.Disk (result ≡ Err Halt.DiskFault) disk.old disk.new }
@@ -127,12 +130,19 @@ pub fn answer<D: Disk, O: Sink + Drop, E: Sink + Drop>(
         Ok(picker) => picker,
         Err(fault) => return Err(halt_of_pick(fault)),
     };
-    let picker = &mut picker;
     let deed = Deed::Print;
     let printed = print_above(
-        alloc, picker, db, disk, &selection, after, deed, format, out, err,
+        alloc, &picker, recent, db, disk, &selection, after, deed, format, out, err,
     )?;
-    let any = is_any_picked(alloc, picker, db, disk, &selection, after, printed.some)?;
+    let any = is_any_picked(
+        alloc,
+        &mut picker,
+        db,
+        disk,
+        &selection,
+        after,
+        printed.some,
+    )?;
     if any {
         return Ok(printed.fails);
     }

@@ -1,7 +1,7 @@
 //! The packages that a question picks, printed one after the other.
 
 ghost use Rattle.std.specs.Prelude.{◌≡◌, ◌≢◌, ℕ, ◌+◌, ◌-◌, ◌≤◌, ◌||◌, [], false, true, IsTrue, Err, IfOk, IfErr};
-ghost use Rattle.rpm_query.specs.Prelude.{above, cost_all, cost_to, DiskFault, fails_in, HaltHands, HasRows, is_some_of, IsAskable, IsOfPrint, Looks, packages_in, packages_part, PartIs, picks, Pkg, pkg_read, prints_packages, reach_all, reach_to, ReadsIn, Serves, shown, step_by, halt_of_pick, unasked};
+ghost use Rattle.rpm_query.specs.Prelude.{above, cost_all, cost_to, DiskFault, fails_in, HaltHands, HasRows, is_some_of, IsAskable, IsOfPrint, Looks, packages_in, packages_part, PartIs, picks, Pkg, pkg_read, prints_packages, reach_all, reach_to, ReadsIn, Recalls, Serves, shown, step_by, halt_of_pick, unasked};
 ghost use Rattle.rpm_select.specs.Reach.{asks};
 
 use rpm_db::Db;
@@ -9,7 +9,7 @@ use rpm_effects::Halt;
 use rpm_outside::{Buffered, Disk, File, Sink};
 use rpm_print::{Deed, print_picked};
 use rpm_qfparse::Format;
-use rpm_select::{PickFault, Picker, Selection};
+use rpm_select::{PickFault, Picker, Recent, Selection};
 use std::alloc::Global;
 
 /// What became of the packages of an argument: whether there were some, and whether the argument fails for them.
@@ -52,10 +52,11 @@ pub fn begin_unasked<D: Disk>(
 }
 
 /// Prints each package above a number that a selection picks, by rising number: writes it out for an
-/// export, or else what the format says of it.
+/// export, or else what the format says of it. What is held of the packages isn't read again.
 pub fn print_above<D: Disk, O: Sink + Drop, E: Sink + Drop>(
     alloc: Global,
-    picker: &mut Picker,
+    picker: &Picker,
+    recent: &mut Recent,
     db: &Db,
     disk: &mut D,
     selection: &Selection<'_>,
@@ -67,15 +68,18 @@ pub fn print_above<D: Disk, O: Sink + Drop, E: Sink + Drop>(
 ) -> Result<PrintedPackages, Halt>
     requires asked { IsAskable D.Disk disk.old db.now }
     requires prints { prints_packages deed ≡ true }
-    ensures same { picker.new ≡ picker.old }
-    ensures went { IsTrue D.tells → Serves picker.old (packages_in D.Disk disk.old db.now) selection.now → (j : ℕ)
+    ensures went { IsTrue D.tells → Serves picker.now (packages_in D.Disk disk.old db.now) selection.now
+        → Recalls (packages_in D.Disk disk.old db.now) recent.old → (j : ℕ)
         → PartIs (packages_part (step_by deed format.now j) after (picks (packages_in D.Disk disk.old db.now) selection.now))
         (fails_in result) (shown O.Sink E.Sink out.old err.old) (shown O.Sink E.Sink out.new err.new)
-        (ReadsIn j after picker.old db.now (pkg_read D.Disk disk.old) (pkg_read D.Disk disk.new)) }
-    ensures some { IsTrue D.tells → Serves picker.old (packages_in D.Disk disk.old db.now) selection.now
+        (ReadsIn j after picker.now db.now (pkg_read D.Disk disk.old) (pkg_read D.Disk disk.new)) }
+    ensures some { IsTrue D.tells → Serves picker.now (packages_in D.Disk disk.old db.now) selection.now
+        → Recalls (packages_in D.Disk disk.old db.now) recent.old
         → IfOk result (λ p. p.some ≡ is_some_of (above after (picks (packages_in D.Disk disk.old db.now)
         selection.now))) }
-    ensures reads { pkg_read D.Disk disk.new + reach_to after picker.old db.now ≤ pkg_read D.Disk disk.old + reach_all picker.old db.now }
+    ensures recalls { IsTrue D.tells → Recalls (packages_in D.Disk disk.old db.now) recent.old
+        → Recalls (packages_in D.Disk disk.old db.now) recent.new }
+    ensures reads { pkg_read D.Disk disk.new + reach_to after picker.now db.now ≤ pkg_read D.Disk disk.old + reach_all picker.now db.now }
     ensures looks { Looks D.Disk Pkg (cost_all db.now - cost_to after db.now) disk.old disk.new }
     ensures disk { DiskFault D.Disk (result ≡ Err Halt.DiskFault) disk.old disk.new }
     ensures unbroken { (unit : ℕ) → result ≢ Err (Halt.BadIndex unit) }
@@ -86,12 +90,13 @@ pub fn print_above<D: Disk, O: Sink + Drop, E: Sink + Drop>(
     let mut some = false;
     let mut fails = false;
     loop {
-        match picker.next_after(alloc, db, disk, selection, number) {
-            Ok(Some(picked)) => {
-                let printed = print_picked(alloc, deed, format, &picked, out, err);
-                number = picked.number();
-                picker.take_back(picked);
-                let to_out = printed?;
+        match picker.next_number_after(alloc, db, disk, selection, recent, number) {
+            Ok(Some(next)) => {
+                let Some(picked) = recent.recall(next) else {
+                    unreachable!()
+                };
+                let to_out = print_picked(alloc, deed, format, picked, out, err)?;
+                number = next;
                 some = true;
                 fails |= !to_out;
             }

@@ -11,7 +11,7 @@ use rpm_effects::Why;
 use rpm_outside::{Buffered, Disk, File, Sink};
 use rpm_print::Deed;
 use rpm_qfparse::Format;
-use rpm_select::Selection;
+use rpm_select::{Recent, Selection};
 use rpm_words::{Ask, Words};
 use std::alloc::Global;
 
@@ -39,10 +39,11 @@ pub fn query_all<D: Disk, O: Sink + Drop, E: Sink + Drop>(
     ensures unbroken { (unit : ℕ) → result ≢ Why.BadIndex unit }
     ensures hands { EndHands O.Sink E.Sink result out.old err.old out.new err.new }
 {
-    let mut picker = begin_unasked(alloc, db, disk, &Selection::All);
+    let picker = begin_unasked(alloc, db, disk, &Selection::All);
     match print_above(
         alloc,
-        &mut picker,
+        &picker,
+        &mut Recent::new(),
         db,
         disk,
         &Selection::All,
@@ -66,7 +67,8 @@ pub fn count(failed: u32, fails: bool) -> u32
     if fails { failed + 1 } else { failed }
 }
 
-/// Prints what each argument picks, one after the other.
+/// Prints what each argument picks, one after the other. Of the packages that were read the last one and the longest are
+/// held, so that arguments of the same package needn't read it again.
 pub fn query_each<D: Disk, O: Sink + Drop, E: Sink + Drop>(
     alloc: Global,
     db: &Db,
@@ -95,11 +97,13 @@ pub fn query_each<D: Disk, O: Sink + Drop, E: Sink + Drop>(
     ensures disk { DiskFault D.Disk (result ≡ Why.DiskFault) disk.old disk.new }
     ensures hands { EndHands O.Sink E.Sink result out.old err.old out.new err.new }
 {
+    let mut recent = Recent::with_longest();
     let mut failed = 0u32;
     for k in 0..ask.arguments() {
         let text = words.text_at(ask.argument(k));
         match answer(
             alloc,
+            &mut recent,
             db,
             disk,
             ask.chosen(),

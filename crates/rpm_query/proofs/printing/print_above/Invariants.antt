@@ -1,26 +1,28 @@
 use Rattle.std.proofs.Common.{◌≡◌, ◌+◌, ◌-◌, ◌^◌, ◌≤◌}
 use Rattle.std.specs.Prelude.{IsTrue}
-use Rattle.rpm_query.proofs.Vocabulary.{cost_to, inner, Looks, packages_in, picks, Pkg, pkg_read, reach_to, Serves, step_by}
+use Rattle.rpm_query.proofs.Vocabulary.{cost_to, inner, Looks, packages_in, picks, Pkg, pkg_read, reach_to, Recalls, Serves, step_by}
 use Rattle.rpm_query.proofs.Nexts.{PrintedTo}
 use Rattle.rpm_query.proofs.printing.print_above.Given as goal
 
-abbrev pub invariant-loop-picked : goal.invariant-loop-picked
-invariant-loop-picked g l = record {
-  same : l.picker ≡ l.initial.picker;
+abbrev pub invariant-loop-next : goal.invariant-loop-next
+invariant-loop-next g l = record {
   later : l.after ≤ l.number;
   looks : Looks g.D.Disk Pkg (cost_to l.number l.db - cost_to l.after l.db) l.initial.disk l.disk;
-  reads : pkg_read g.D.Disk l.disk + reach_to l.after l.initial.picker l.db
-      ≤ pkg_read g.D.Disk l.initial.disk + reach_to l.number l.initial.picker l.db;
+  reads : pkg_read g.D.Disk l.disk + reach_to l.after l.picker l.db
+      ≤ pkg_read g.D.Disk l.initial.disk + reach_to l.number l.picker l.db;
+  recalls : IsTrue g.D.Disk.tells → Recalls (packages_in g.D.Disk l.initial.disk l.db) l.initial.recent
+      → Recalls (packages_in g.D.Disk l.initial.disk l.db) l.recent;
   disk : g.D.Disk.faults l.initial.disk ≤ g.D.Disk.faults l.disk;
   out : g.O.Sink.faults (inner l.initial.out) ≤ g.O.Sink.faults (inner l.out);
   err : g.E.Sink.faults (inner l.initial.err) ≤ g.E.Sink.faults (inner l.err);
   out_rest : g.O.Sink.follows (inner l.initial.out) (inner l.out);
   err_rest : g.E.Sink.follows (inner l.initial.err) (inner l.err);
-  printed : IsTrue g.D.Disk.tells → Serves l.initial.picker (packages_in g.D.Disk l.initial.disk l.db) l.selection
+  printed : IsTrue g.D.Disk.tells → Serves l.picker (packages_in g.D.Disk l.initial.disk l.db) l.selection
+      → Recalls (packages_in g.D.Disk l.initial.disk l.db) l.initial.recent
       → PrintedTo (step_by l.deed l.format) (picks (packages_in g.D.Disk l.initial.disk l.db) l.selection) l.after l.number l.some l.fails g.O.Sink.tells
       g.E.Sink.tells (g.O.Sink.taken (inner l.initial.out)) (g.E.Sink.taken (inner l.initial.err)) (g.O.Sink.taken (inner l.out))
       (g.E.Sink.taken (inner l.err));
 }
 
-abbrev pub decreases-loop-picked : goal.decreases-loop-picked
-decreases-loop-picked g l = 2 ^ 32 - l.number
+abbrev pub decreases-loop-next : goal.decreases-loop-next
+decreases-loop-next g l = 2 ^ 32 - l.number

@@ -1,4 +1,4 @@
-use Rattle.rpm_query.proofs.Vocabulary.{Bearer, before, Everything, Files, idle, inner, outputs, packages, packages_part, PartIs, picks, Pkg, Portion, Reach}
+use Rattle.rpm_query.proofs.Vocabulary.{Bearer, before, Everything, Files, idle, inner, outputs, packages, packages_in, packages_part, PartIs, picks, Pkg, Portion, Reach}
 use Rattle.rpm_query.proofs.Vocabulary.{Reached, reached_by, ReadsIn, room, Step, step_by, Went, Why}
 use Rattle.std.proofs.Common.{◌≡◌, ◌+◌, ◌-◌, ◌≤◌, Bool, List, [], ◌∷◌, Err, sym, subst, arith}
 use Rattle.std.proofs.lemmas.List.{append-nil}
@@ -37,7 +37,8 @@ returns-clause-went g c = λ told rows.
     subst (λ (f : Files). PartIs (part_of f) (Err what) old new (ReadsIn 0 c.args.after Everything db between now))
     (c.begin_unasked-picker.ensures.looks.untouched told).same
     (subst (λ (r : Reach). PartIs (part_of begun) (Err what) old new (ReadsIn 0 c.args.after r db between now)) is
-    (c.in-Err.ensures.went told (c.begin_unasked-picker.ensures.serves told rows) 0)) in
+    (c.in-Err.ensures.went told (c.begin_unasked-picker.ensures.serves told rows)
+    (c.new.ensures (packages_in g.D.Disk c.begin_unasked-picker.new.disk db)) 0)) in
     subst (λ (w : Why). Went (before part idle) w old new reads) (sym c.from.ensures)
     (went_stop Bool (before part idle) what old new reads
     (subst (λ (ss : List Step). Reached {T = Bool} ss (Err what) old new reads) (sym (append-nil part.steps))

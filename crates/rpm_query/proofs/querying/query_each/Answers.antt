@@ -3,6 +3,7 @@ use Rattle.std.proofs.Common.{map, sym, ap, ◌∙◌, subst, Err, arith}
 use Rattle.rpm_effects.specs.inner.Joins.{hand_then}
 use Rattle.rpm_effects.specs.inner.Halts.{of_out, of_err}
 use Rattle.rpm_print.specs.inner.Peeking.{peeks_none, peeks_then}
+use Rattle.rpm_query.proofs.Nexts.{held_still, recalled_here}
 use Rattle.rpm_query.specs.inner.Sums.{before_some, get_map}
 use Rattle.rpm_query.proofs.Turns.{few_more, turned_none, turned_more, turned_stop, part_here, reads_here, read_more, read_sum, read_by}
 use Rattle.rpm_query.specs.inner.Unbroken.{chains_of}
@@ -12,6 +13,7 @@ pub loop-k-init : goal.loop-k-init
 loop-k-init g c = record {
   looks = peeks_none g.D.Disk g.met.D.Disk.follows_refl;
   reads = λ told rows. omega arith;
+  recalls = λ told. c.with_longest-recent.ensures (packages_in g.D.Disk c.args.disk.now c.args.db.now);
   disk = omega arith;
   out = omega arith;
   err = omega arith;
@@ -29,6 +31,7 @@ loop-k-preserved g c =
       looks = peeks_then g.D.Disk g.met.D.Disk.follows_trans inv.looks done.looks;
       reads = λ told rows. read_more _ _ _ _ _ _ _ c.argument.ensures (inv.reads told rows)
           (reads_here _ _ _ _ _ (inv.looks.untouched told).same (λ there. rw (c.chosen.ensures, c.text_at-text.ensures) at (done.reads told there)) rows);
+      recalls = λ told. recalled_here _ (inv.looks.untouched told).same _ _ (done.recalls told) (inv.recalls told);
       disk = omega (arith, inv.disk, done.disk.later);
       out = omega (arith, inv.out, done.hands.out.cause.later);
       err = omega (arith, inv.err, done.hands.err.cause.later);
@@ -37,7 +40,7 @@ loop-k-preserved g c =
       few = rw c.count-failed.ensures (few_more c.in-Ok.fails c.loop-k.failed c.loop-k.k inv.few);
       turned = λ told rows. rw c.count-failed.ensures (turned_more (inv.turned told rows) c.argument.ensures
           (part_here _ _ _ _ _ (inv.looks.untouched told).same _ _ _
-          (λ there. rw (c.chosen.ensures, c.after.ensures, c.text_at-text.ensures) at (done.went told there c.loop-k.k)) rows));
+          (λ there. rw (c.chosen.ensures, c.after.ensures, c.text_at-text.ensures) at (done.went told there (held_still _ (inv.looks.untouched told).same _ (inv.recalls told)) c.loop-k.k)) rows));
     }
 
 -- ---- one that stops
@@ -47,7 +50,8 @@ returns-in-Err-clause-went g c = λ told rows.
     let inv = c.loop-k.invariant in
     rw c.from.ensures (turned_stop (inv.turned told rows) c.argument.ensures _ (read_by _ _ _ _ _ _ _ c.argument.ensures (inv.reads told rows))
     (part_here _ _ _ _ _ (inv.looks.untouched told).same _ _ _
-    (λ there. rw (c.chosen.ensures, c.after.ensures, c.text_at-text.ensures) at (c.in-Err.ensures.went told there c.loop-k.k)) rows))
+    (λ there. rw (c.chosen.ensures, c.after.ensures, c.text_at-text.ensures) at (c.in-Err.ensures.went told there
+    (held_still _ (inv.looks.untouched told).same _ (inv.recalls told)) c.loop-k.k)) rows))
 
 pub returns-in-Err-clause-looks : goal.returns-in-Err-clause-looks
 returns-in-Err-clause-looks g c = peeks_then g.D.Disk g.met.D.Disk.follows_trans c.loop-k.invariant.looks c.in-Err.ensures.looks

@@ -1,4 +1,4 @@
-use Rattle.rpm_query.proofs.Vocabulary.{argument_part, argument_reach, inner, is_indexed, packages_in, Peeks, pkg_read, reach_before, text_at}
+use Rattle.rpm_query.proofs.Vocabulary.{argument_part, argument_reach, inner, is_indexed, packages_in, Peeks, pkg_read, reach_before, Recalls, text_at}
 use Rattle.std.proofs.Common.{◌+◌, ◌≤◌, map}
 use Rattle.std.specs.Prelude.{IsTrue}
 use Rattle.rpm_print.specs.Frame.{HasRows}
@@ -11,6 +11,7 @@ invariant-loop-k g l = record {
   reads : IsTrue g.D.Disk.tells → HasRows g.D.Disk l.initial.disk l.db → pkg_read g.D.Disk l.disk ≤ pkg_read g.D.Disk l.initial.disk
       + reach_before (map (argument_reach (is_indexed l.db) (packages_in g.D.Disk l.initial.disk l.db) l.ask.chosen)
       (map (text_at l.words) l.ask.arguments)) l.db l.k;
+  recalls : IsTrue g.D.Disk.tells → Recalls (packages_in g.D.Disk l.initial.disk l.db) l.recent;
   disk : g.D.Disk.faults l.initial.disk ≤ g.D.Disk.faults l.disk;
   out : g.O.Sink.faults (inner l.initial.out) ≤ g.O.Sink.faults (inner l.out);
   err : g.E.Sink.faults (inner l.initial.err) ≤ g.E.Sink.faults (inner l.err);
