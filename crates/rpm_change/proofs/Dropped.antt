@@ -5,6 +5,7 @@ use Rattle.rpm_change.proofs.Vocabulary.{above, apply_all, Bad, Course, Database
 use Rattle.rpm_change.proofs.Vocabulary.{IsGathering, IsNext, IsOwing, joined, LeftBy, Looks, looks_run, nat_cmp, next_above, none_is, none_made}
 use Rattle.rpm_change.proofs.Vocabulary.{nothing_above, OwesOn, Package, Pkg, room, RowChange, runs_looks, SameLog, serving_read, State, state_in}
 use Rattle.rpm_change.proofs.Vocabulary.{Tally, uncounted, unsigned_tied, WentOwing}
+use Rattle.rpm_outside.specs.Files.{Files}
 use Rattle.std.specs.FinMap as finite
 use Rattle.std.proofs.lemmas.Cmp.{nat_cmp_total}
 use Rattle.std.proofs.lemmas.Bool.Decides.{nat_tests}
@@ -72,11 +73,15 @@ module _ {D : Type 0} (d : disk.Ghosts D) {most : ℕ} {old new : D} {db : Datab
             (runs.now told) (gathering.serving told);
       }
 
-  owing_looked : IsOwing d (OwesOn d old db owed) new db owed
-  owing_looked = record { gathering = gathering_looked; owes = λ told has. rw (looks.untouched told).same has }
+  owing_looked : IsOwing d (OwesOn d old db owed) (d.files old).idx new db owed
+  owing_looked = record {
+    gathering = gathering_looked;
+    stays = λ told. ap (λ (f : Files). f.idx) (looks.untouched told).same;
+    owes = λ told has. rw (looks.untouched told).same has;
+  }
 
   pub left_looked : (r : Result Tally Halt) → HasCauseAt (r ≡ Err halt.DiskFault) (d.faults old) (d.faults new)
-      → LeftBy d (IsOwing d (OwesOn d old db owed) new db owed) old new db r
+      → LeftBy d (IsOwing d (OwesOn d old db owed) (d.files old).idx new db owed) old new db r
   left_looked (Ok tally) cause = record {
     carried = owing_looked;
     indexed = gathering.indexed;
@@ -100,5 +105,6 @@ module _ {D : Type 0} (d : disk.Ghosts D) {most : ℕ} {old new : D} {db : Datab
         limits = λ told i rows.
             rw (same (tells told)) (none_made i (state_in d old db) (room db) (room db) uncounted refl);
         whole = λ told was. rw (same told) was;
+        bad = λ told. tt;
         left = left_looked (Ok uncounted) (record { later = later; rose = λ is. absurd cc });
       }

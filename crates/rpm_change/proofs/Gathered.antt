@@ -28,8 +28,9 @@ module _ {D : Type 0} (d : disk.Ghosts D) {A : Type 0} (change : Change) {old ne
               one_made i (state_in d old before) change (room before) (room after) changed number unspent gathers.room made.generation
               (λ is. gathers.full told (rows is)) (end told) (λ is. made.reach told (rows is));
           whole = λ told whole. rw (index told) whole;
+          bad = λ told. tt;
           left = record {
-            carried = record { gathering = made.gathering; owes = λ told has. made.owes told has };
+            carried = record { gathering = made.gathering; stays = index; owes = λ told has. made.owes told has };
             indexed = indexed;
             runs = runs;
             disk = record { later = later; rose = λ is. absurd cc };
@@ -46,14 +47,14 @@ module _ {D : Type 0} (d : disk.Ghosts D) {A : Type 0} (change : Change) {old ne
       → next_number kept ≡ next_number before → generation_of kept ≡ generation_of before
       → (IsTrue d.tells → IsWholeIndex (d.files old).idx → WholeCause f)
       → HasCauseAt X (d.faults old) (d.faults new) → (f ≡ fault.DiskFault → X) → GathersOne d change old new before after owed more (Err (halt_of f))
-  ungathered_one {kept = kept} f gathers left refuses number generation whole cause failed =
+  ungathered_one {kept = kept} {drops = drops} f gathers left refuses number generation whole cause failed =
       let s = state_in d old before in
       let law = next-state (d.files old).pkg (room before) in
       let here = refuses false (λ is. absurd cc) in
       record {
         went = halted_went d (changing change) f (halt_of f) refl (refused_quietly (changing change) f)
             (λ told i rows. one_refused i s change (room before) (room after) f (refuses i (λ is. gathers.full told (rows is))))
-            whole left.indexed runs cause failed;
+            whole drops left.bad left.indexed runs cause failed;
         one = tt;
         kinds = fault_kind false s change (room before) f here;
         spent = fault_spent false s change before after kept f law number generation left.refused here;

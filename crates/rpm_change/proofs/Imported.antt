@@ -41,6 +41,7 @@ module _ {D S T : Type 0} (d : disk.Ghosts D) (e : sink.Ghosts S) {old new : D} 
         record { steps = done.steps; failed = ap (min 1) done.failed; changes = done.changes; state_is = done.state_is });
     limits = λ told i rows. limits_counted i (state_in d old before) (room before) (room after) course.changes tally _ (w.limits told i rows);
     whole = w.whole;
+    bad = w.bad;
     left = left_after d old new before after tally w.left (counted_once (Ok tally)) (λ is. absurd cc);
   }
   went_once (Err h) w = record {
@@ -49,5 +50,6 @@ module _ {D S T : Type 0} (d : disk.Ghosts D) (e : sink.Ghosts S) {old new : D} 
         (λ some. some) (λ at within. within) (w.ended told ot o);
     limits = w.limits;
     whole = w.whole;
+    bad = w.bad;
     left = w.left;
   }

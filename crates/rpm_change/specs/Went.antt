@@ -1,15 +1,18 @@
 -- How a course went on a disk and a database: how far, which limit stopped it, and what it left.
-use Rattle.std.specs.Prelude.{◌≡◌, List, Bool, true, false, IsTrue, IfOk, Result, Ok, Err}
+use Rattle.std.specs.Prelude.{◌≡◌, ℕ, List, Bool, true, false, IsTrue, IfOk, Result, Ok, Err}
 use Rattle.rpm_outside.specs.declared.disk.Disk as disk
 use Rattle.rpm_outside.specs.Files.{Files, Units}
 use Rattle.rpm_outside.specs.Frame.{DiskFault}
+use Rattle.rpm_hindex.specs.Rows.{Row}
 use Rattle.rpm_db.specs.Changed.{IsReady}
 use Rattle.rpm_db.specs.Changes.{Change}
 use Rattle.rpm_db.specs.Database.{Database, is_indexed}
 use Rattle.rpm_db.specs.Frame.{IsIndexed, Runs, Serving, room, state_in}
 use Rattle.rpm_db.specs.Gathering.{IsGathering, OwesOn, due}
 use Rattle.rpm_db.specs.Lawful.{IsWholeIndex}
+use Rattle.rpm_db.specs.Refusals.{BadCause}
 use Rattle.rpm_db.specs.State.{State}
+use Rattle.rpm_db.specs.declared.change_fault.ChangeFault.TheVariants as fault
 use Rattle.rpm_db.specs.declared.netting.RowChange.{RowChange}
 use Rattle.rpm_db.specs.Runs.{SameLog}
 use Rattle.rpm_effects.specs.declared.tally.Tally.{Tally}
@@ -25,6 +28,15 @@ abbrev pub WholeTurn : Units → Result Tally Halt → Type 0
 WholeTurn idx (Ok tally) = IsWholeIndex idx
 WholeTurn idx (Err (halt.BadIndex unit)) = ⊥
 WholeTurn idx (Err others) = Unit {0}
+
+-- a unit of an index is that of the first fault of a chain, or is 1, which counts less than some of the rows of the chains
+abbrev pub IsBlamed : Units → ℕ → Type 0
+IsBlamed idx unit = (drops : List Row) × BadCause drops idx (fault.BadIndex unit)
+
+-- a command that is stopped for a bad index names such a unit
+abbrev pub BadTurn : Units → Result Tally Halt → Type 0
+BadTurn idx (Err (halt.BadIndex unit)) = IsBlamed idx unit
+BadTurn idx others = Unit {0}
 
 -- ---- the disk and the database
 
@@ -59,14 +71,15 @@ module _ {D : Type 0} (d : disk.Ghosts D) where
   abbrev pub LeftOn : D → D → Database → Database → Result Tally Halt → Type 0
   LeftOn old new before after r = LeftBy (CarriedOn old new before after) old new after r
 
-  -- how far it went and which limit stopped it, once the contents are told; and what is left. The index is asked
-  -- where this holds, and the files reach as far as these
+  -- how far it went, which limit stopped it, and which unit of the index it blames, once the contents are told; and what
+  -- is left. The index is asked where this holds, and the files reach as far as these
   pub record WentBy (Carried Asked Told : Type 0) (from to : Files) (old new : D) (before after : Database)
       (r : Result Tally Halt) (Ends : Course → State → State → Result Tally Halt → Type 0) (course : Course) : Type 0 where
     pub ended : Told → Ends course (state_in d old before) (state_in d new after) r
     pub limits : Told → (indexed : Bool) → (indexed ≡ true → Asked)
         → LimitsTurn indexed (state_in d old before) (room before) (room after) from to course.changes r
     pub whole : IsTrue d.tells → IsWholeIndex (d.files old).idx → WholeTurn (d.files new).idx r
+    pub bad : IsTrue d.tells → BadTurn (d.files old).idx r
     pub left : LeftBy Carried old new after r
 
   -- where each change is written to both files
@@ -78,14 +91,15 @@ module _ {D : Type 0} (d : disk.Ghosts D) where
 
   -- ---- a batch, whose rows are gathered
 
-  -- a batch goes on, and the index is owed these rows
-  pub record IsOwing (Asked : Type 0) (at : D) (db : Database) (owed : RowChange) : Type 0 where
+  -- a batch goes on, the index is the one that was found, and is owed these rows
+  pub record IsOwing (Asked : Type 0) (found : Units) (at : D) (db : Database) (owed : RowChange) : Type 0 where
     pub gathering : IsGathering d at db owed
+    pub stays : IsTrue d.tells → (d.files at).idx ≡ found
     pub owes : IsTrue d.tells → Asked → OwesOn d at db owed
 
   -- the changes are written to the store alone; the files reach as far as once the index has their rows
   abbrev pub WentOwing : Type 0 → D → D → Database → Database → RowChange → RowChange → Result Tally Halt
       → (Course → State → State → Result Tally Halt → Type 0) → Course → Type 0
   WentOwing Told old new before after owed more r Ends course =
-      WentBy (IsOwing (OwesOn d old before owed) new after more) (OwesOn d old before owed) Told (due (d.files old) before owed)
-      (due (d.files new) after more) old new before after r Ends course
+      WentBy (IsOwing (OwesOn d old before owed) (d.files old).idx new after more) (OwesOn d old before owed) Told
+      (due (d.files old) before owed) (due (d.files new) after more) old new before after r Ends course

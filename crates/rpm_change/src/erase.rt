@@ -78,7 +78,8 @@ fn erase_each<D: Disk, E: Sink + Drop>(
 ///
 /// And besides:
 ///
-/// - `BadIndex` never where the index held the rows of the packages at the start, or was well formed as a whole.
+/// - `BadIndex` never where the index held the rows of the packages at the start, or was well formed as a whole; `unit`
+///   has the first fault of a chain, or is 1, which counts too little.
 /// - `DiskFault` and `ErrFault` only where that object's count of faults rose.
 /// - `NoMemory` where a change or a line finds no memory. It answers nothing else.
 pub fn erase_numbers<D: Disk, E: Sink + Drop>(

@@ -100,7 +100,8 @@ pub fn import_most<D: Disk, S: Shelf, E: Sink + Drop>(
 ///
 /// And besides:
 ///
-/// - `BadIndex` never where the index held the rows of the packages at the start, or was well formed as a whole.
+/// - `BadIndex` never where the index held the rows of the packages at the start, or was well formed as a whole; `unit`
+///   has the first fault of a chain, or is 1, which counts too little.
 /// - `DiskFault`, `ShelfFault` and `ErrFault` only where that object's count of faults rose.
 /// - `NoMemory` where a header, a change or a line finds no memory. It answers nothing else.
 pub fn import_list<D: Disk, S: Shelf, E: Sink + Drop>(

@@ -10,8 +10,10 @@ use Rattle.rpm_commit.proofs.Vocabulary.{Store, store, stores_paged, Tally, Thro
 use Rattle.rpm_commit.proofs.Vocabulary.{WorkedWith, WorksOn}
 use Rattle.std.proofs.Common.{◌≡◌, ℕ, ◌≤◌, Bool, true, false, [], Option, None, Result, Ok, Err, refl, sym, ap, ◌∙◌, subst, arith, List, ◌^◌}
 use Rattle.std.specs.Prelude.{IsTrue, IfOk, OnOk, List}
+use Rattle.rpm_change.specs.Went.{IsBlamed}
 use Rattle.rpm_change.specs.Went.{Went}
-use Rattle.rpm_commit.specs.inner.Brokens.{done_unbroken, halt_unbroken, open_unbroken}
+use Rattle.rpm_db.specs.Lawful.{IsWholeIndex}
+use Rattle.rpm_commit.specs.inner.Brokens.{done_unbroken, found_unmade, halt_blames, halt_unbroken, open_unbroken}
 use Rattle.rpm_commit.specs.inner.Emptied.{done_unheld, empty_unopened, empty_stopped, empty_done}
 use Rattle.rpm_commit.proofs.FileReach.{reached_changed, reached_renewed}
 use Rattle.rpm_commit.proofs.Halting.{halts, later_cause, made_unbroken, opening_kinds, same_halt}
@@ -236,7 +238,10 @@ module _ {D : Type 0} (d : disk.Ghosts D) (trans : (a b c : D) → d.follows a b
     }) (λ tells. done_unheld tally.failed) went.left.runs went.left.disk.later
     went_works says (Err h) went ended = stopped_works false true false course new before behind (why_of_halt h) (halts h).halted
         (λ t. halt_stopped (course found) found (state_in d new last) h before behind (ended t))
-        (λ t unit is. (refl, opened.broken t.0 (λ was. halt_unbroken (d.files new).idx h unit (went.whole t.0 was) is)))
+        (λ t unit is.
+        let broken = λ (was : IsWholeIndex (d.files mid).idx). halt_unbroken (d.files new).idx h unit (went.whole t.0 was) is in
+        let same = found_unmade (d.files old).idx (d.files mid).idx (λ made. made.rows_are.whole) (opened.finds t.0) broken in
+        (refl, opened.broken t.0 broken, subst (λ (u : Units). IsBlamed u unit) same (halt_blames (d.files mid).idx h unit (went.bad t.0) is)))
         (λ t indexed may. limits_halt indexed (makes false (d.files old).idx (opened.found t.0).value) found (room db) (course found).changes h
         (plain_stops (d.files old) (d.files mid) db (opens t.0) (opened.found t.0) indexed course (Err h)
         (went.limits (says t) indexed (λ asked. opened.rows t.0 (may asked))).first))

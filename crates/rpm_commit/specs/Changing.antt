@@ -16,6 +16,7 @@ use Rattle.rpm_db.specs.Lawful.{HasRows, IsWholeIndex, is_current_at}
 use Rattle.rpm_db.specs.Openings.{must_make, units_needed}
 use Rattle.rpm_db.specs.Database.{IsNext}
 use Rattle.rpm_db.specs.State.{State, Package, state, packages}
+use Rattle.rpm_change.specs.Went.{IsBlamed}
 use Rattle.rpm_effects.specs.Steps.{Course, apply_all}
 use Rattle.rpm_effects.specs.Progress.{Outputs, Through, ThroughSome, StoppedWithin}
 use Rattle.rpm_effects.specs.declared.answer.Why.{Why}
@@ -156,9 +157,10 @@ pub record IsBroken (pkg idx : Units) : Type 0 where
   pub current : is_current_at value.generation idx ≡ true
   pub broken : ¬ IsWholeIndex idx
 
--- only a command that changes the index that it finds ever finds it bad, and only where it is broken
+-- only a command that changes the index that it finds ever finds it bad, only where it is broken, and it names the
+-- first fault of a chain, or unit 1, which counts too little
 abbrev pub BadBy : Bool → Units → Units → Why → Type 0
-BadBy changing pkg idx given = (unit : ℕ) → given ≡ why.BadIndex unit → (changing ≡ true) × IsBroken pkg idx
+BadBy changing pkg idx given = (unit : ℕ) → given ≡ why.BadIndex unit → (changing ≡ true) × IsBroken pkg idx × IsBlamed idx unit
 
 -- ---- a command that changes packages
 

@@ -1,5 +1,5 @@
 -- A command that changes packages, as each function on the way to it says it: what becomes `changes` of the page (`rpm_tool`, Theorem.antt) in `run`.
-use Rattle.std.specs.Prelude.{◌≡◌, Bool, true, false, [], IsTrue, Result, Ok, Err, IfErr}
+use Rattle.std.specs.Prelude.{◌≡◌, ◌⊎◌, Bool, true, false, [], IsTrue, Result, Ok, Err, IfErr}
 use Rattle.rpm_db.specs.Frame.{room}
 use Rattle.rpm_outside.specs.declared.disk.Disk as disk
 use Rattle.rpm_outside.specs.declared.shelf.Shelf as shelf
@@ -45,15 +45,18 @@ module _ {D : Type 0} (d : disk.Ghosts D) where
     pub store_is : (room after) ≡ begun (room before)
     pub rows : IsTrue d.tells → (is_blank before ≡ false → IsIndexed d old before) → IsIndexed d new after
     pub whole : IsTrue d.tells → (is_blank before ≡ false → IsWholeIndex (d.files old).idx) → IsWholeIndex (d.files new).idx
+    pub finds : IsTrue d.tells → IsIndexed d new after ⊎ ((d.files new).idx ≡ (d.files old).idx)
     pub reach : IsTrue d.tells → ReachesMade (units_for []) (d.files old).idx (d.files new).idx
     pub end : IsTrue d.tells → ReachesTo (room after) (d.files old).pkg (d.files new).pkg
 
-  -- a database was opened to be changed: its index holds the rows where the database is lawful
+  -- a database was opened to be changed: its index holds the rows where the database is lawful, or where it isn't the
+  -- one that was found
   pub record OpensOn (old new : D) (db : Database) : Type 0 where
     pub ready : IsReady d new db
     pub not_blank : is_blank db ≡ false
     pub rows : IsTrue d.tells → IsLawful (d.files old).pkg (d.files old).idx → IsIndexed d new db
     pub broken : IsTrue d.tells → ¬ IsWholeIndex (d.files new).idx → IsBroken (d.files old).pkg (d.files old).idx
+    pub finds : IsTrue d.tells → IsIndexed d new db ⊎ ((d.files new).idx ≡ (d.files old).idx)
     pub found : IsTrue d.tells → FoundAs (d.files old) (d.files new) db
 
   -- a course was gone through on the disk over which its changes are held: how far, which limit stopped it, and whether it found packages where it

@@ -95,7 +95,8 @@ fn end_group<D: Disk>(overlay: Overlay<D>, ended: Result<Tally, Why>) -> (Comman
 ///   meets: `NumbersSpent`, `GenerationSpent`, `StoreFull`, `IndexFull`. Of `IndexFull` that is said on a lawful
 ///   database, and on any of a command that makes the index anew.
 /// - `LogFull` tells how many units the log would have, more than 268435456.
-/// - `BadIndex` comes only where an index that was found current is changed, and isn't well formed as a whole.
+/// - `BadIndex` comes only where an index that was found current is changed, and isn't well formed as a whole: `unit`
+///   has the first fault of a chain, or is 1, which counts too little.
 /// - `DiskFault`, `ShelfFault`, `OutFault` and `ErrFault` come only where that object's count of faults rose;
 ///   `NoMemory` comes freely.
 ///

@@ -62,10 +62,11 @@ module _ {D : Type 0} (d : disk.Ghosts D) where
   module _ (joins : (x y z : D) → d.follows x y → d.follows y z → d.follows x z) {old at new : D} {before db after : Database}
       {owed mid more : RowChange} {xs ys : List Change} {a : Tally} where
     both_through : (r : Result Tally Halt) → GathersThrough d xs old at before db owed mid (Ok a) → GathersThrough d ys at new db after mid more r
-        → WentBy d (IsOwing d (OwesOn d old before owed) new after more) (OwesOn d old before owed) (IsTrue d.tells)
+        → WentBy d (IsOwing d (OwesOn d old before owed) (d.files old).idx new after more) (OwesOn d old before owed) (IsTrue d.tells)
         (due (d.files old) before owed) (due (d.files new) after more) old new before after (plus a r) EndedQuietly (making (xs ++ ys))
     both_through r first second =
-        went_then d joins quiet_joins (owing_then d) (λ owing told rows. owing.owes told rows) (making xs) first.course (making ys) r second.course
+        went_then d joins quiet_joins (owing_then d) (λ owing told rows. owing.owes told rows) (λ owing. owing.stays) (making xs) first.course (making ys) r
+        second.course
 
     -- some changes and then others
     pub through_then : (r : Result Tally Halt) → GathersThrough d xs old at before db owed mid (Ok a) → GathersThrough d ys at new db after mid more r

@@ -4,7 +4,7 @@ use Rattle.std.specs.Prelude.{IsTrue}
 use Rattle.rpm_outside.specs.declared.disk.Disk as disk
 use Rattle.rpm_outside.specs.declared.sink.Sink as sink
 use Rattle.rpm_exercise.proofs.Vocabulary.{Asks, Buffered, Course, Database, EndedOnOut, EndedQuietly, Halt, HasRows, left_read, other_stop, out_gone, state_in}
-use Rattle.rpm_exercise.proofs.Vocabulary.{stopped_by, Tally, Went}
+use Rattle.rpm_exercise.proofs.Vocabulary.{stopped_by, Tally, Went, whole_bad}
 use Rattle.rpm_exercise.proofs.Halts.{asking_is, reading_is}
 
 module _ {D : Type 0} (d : disk.Ghosts D) (joins : (x y z : D) → d.follows x y → d.follows y z → d.follows x z) {old at new : D} {before db : Database}
@@ -14,6 +14,7 @@ module _ {D : Type 0} (d : disk.Ghosts D) (joins : (x y z : D) → d.follows x y
     ended = λ told. rw (said.runs.reads_as told) (went.ended told);
     limits = λ told i rows. rw (said.runs.reads_as told) (went.limits told i rows);
     whole = λ told was. rw (said.runs.reads_as told) (went.whole told was);
+    bad = λ told. tt;
     left = left_read d joins went.left said.runs (Ok tally) (record { later = said.disk.later; rose = λ is. absurd cc });
   }
 
@@ -26,5 +27,6 @@ module _ {D : Type 0} (d : disk.Ghosts D) (joins : (x y z : D) → d.follows x y
         stopped_by all (state_in d old before) (state_in d new db) h _ _ kind.0 kind.1 (out_gone of x all et e);
     limits = λ told i asked. other_stop i _ _ _ all.changes h (reading_is i (d.files new).idx h (said.lawful told (rows told))).0;
     whole = λ told was. (reading_is true (d.files new).idx h (said.lawful told (rows told))).1;
+    bad = λ told. whole_bad (d.files new).idx (d.files old).idx h (reading_is true (d.files new).idx h (said.lawful told (rows told))).1;
     left = left_read d joins went.left said.runs (Err h) (record { later = said.disk.later; rose = λ is. said.disk.rose (cc) });
   }

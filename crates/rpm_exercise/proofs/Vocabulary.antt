@@ -10,7 +10,7 @@ pub use Rattle.rpm_effects.specs.declared.tally.Halt.{Halt}
 pub use Rattle.rpm_effects.specs.declared.tally.Tally.{Tally}
 pub use Rattle.rpm_effects.specs.inner.Courses.{none_gone, plus, stopped_by, through_none}
 pub use Rattle.rpm_change.specs.inner.Going.{counted_went, Going, going_begin, going_end, going_more, going_stop, none_went, stopped_went, went_ahead}
-pub use Rattle.rpm_change.specs.inner.Going.{went_then}
+pub use Rattle.rpm_change.specs.inner.Going.{went_then, whole_bad}
 pub use Rattle.rpm_change.specs.inner.Handing.{err_is}
 pub use Rattle.rpm_effects.specs.inner.Joins.{out_gone, quiet_joins, quiet_none, quiet_stopped, cause_then}
 pub use Rattle.rpm_change.specs.inner.Leaving.{current_left, none_by, remade_log, remade_then, state_remade}

@@ -14,19 +14,20 @@ use Rattle.rpm_db.specs.Changes.{Change}
 use Rattle.rpm_db.specs.Database.{Database, is_indexed}
 use Rattle.rpm_db.specs.Frame.{Runs, state_in, room}
 use Rattle.rpm_db.specs.Lawful.{IsWholeIndex}
-use Rattle.rpm_db.specs.Refusals.{WholeCause}
+use Rattle.rpm_db.specs.Refusals.{BadCause, WholeCause}
+use Rattle.rpm_hindex.specs.Rows.{Row}
 use Rattle.rpm_db.specs.State.{State}
 use Rattle.rpm_db.specs.Runs.{SameLog}
 use Rattle.rpm_effects.specs.declared.tally.Tally.{Tally}
 use Rattle.rpm_effects.specs.declared.tally.Halt.{Halt}
 use Rattle.rpm_effects.specs.declared.tally.Halt.TheVariants as halt
-use Rattle.rpm_change.specs.Went.{WholeTurn, LeftBy, WentBy}
+use Rattle.rpm_change.specs.Went.{BadTurn, WholeTurn, LeftBy, WentBy}
 use Rattle.rpm_effects.specs.Progress.{IsOfLines, halt_of}
 use Rattle.rpm_change.specs.Limits.{LimitsTurn, is_limit}
 use Rattle.rpm_effects.specs.Lines.{Fails}
 use Rattle.rpm_effects.specs.Steps.{Bearer, Course, ToErr, failing, idle, joined, apply_all}
 use Rattle.rpm_effects.specs.Shown.{EndedOnErr}
-use Rattle.rpm_change.specs.inner.Leaving.{none_by, after_by, then_by, halted_by, whole_halt}
+use Rattle.rpm_change.specs.inner.Leaving.{none_by, after_by, then_by, halt_bad, halted_by, whole_halt}
 use Rattle.rpm_change.specs.inner.LimitLaws.{limits_none, limits_more, limits_stop, limits_counted}
 use Rattle.rpm_change.specs.inner.Single.{none_made, other_stop}
 use Rattle.rpm_effects.specs.inner.Courses.{plus, joined_idle, idle_joined, joined_assoc}
@@ -43,6 +44,10 @@ line_whole : (idx : Units) (r : Result Tally Halt) → IfErr r IsOfLines → IsW
 line_whole idx (Ok tally) kinds whole = whole
 line_whole idx (Err h) kinds whole = elim kinds [ inl is ↦ rw is tt | inr is ↦ rw is tt ]
 
+line_bad : (idx : Units) (r : Result Tally Halt) → IfErr r IsOfLines → BadTurn idx r
+line_bad idx (Ok tally) kinds = tt
+line_bad idx (Err h) kinds = elim kinds [ inl is ↦ rw is tt | inr is ↦ rw is tt ]
+
 line_disk : (r : Result Tally Halt) → IfErr r IsOfLines → r ≡ Err halt.DiskFault → ⊥
 line_disk (Ok tally) kinds is = cc
 line_disk (Err h) kinds is = elim kinds [ inl line ↦ cc | inr none ↦ cc ]
@@ -52,6 +57,15 @@ line_disk (Err h) kinds is = elim kinds [ inl line ↦ cc | inr none ↦ cc ]
 whole_plus : (idx : Units) (one : Tally) (r : Result Tally Halt) → WholeTurn idx r → WholeTurn idx (plus one r)
 whole_plus idx one (Ok more) whole = whole
 whole_plus idx one (Err h) whole = whole
+
+bad_plus : (idx : Units) (one : Tally) (r : Result Tally Halt) → BadTurn idx r → BadTurn idx (plus one r)
+bad_plus idx one (Ok more) bad = tt
+bad_plus idx one (Err h) bad = bad
+
+-- a stop that leaves a whole index whole blames no unit
+pub whole_bad : (new old : Units) (h : Halt) → WholeTurn new (Err h) → BadTurn old (Err h)
+whole_bad new old (halt.BadIndex unit) whole = absurd whole
+whole_bad new old others whole = tt
 
 module _ {D : Type 0} (d : disk.Ghosts D) where
   left_plus : (C : Type 0) (old new : D) (after : Database) (one : Tally) (r : Result Tally Halt) → LeftBy d C old new after r
@@ -70,6 +84,7 @@ module _ {D : Type 0} (d : disk.Ghosts D) where
     limits = λ u i rows.
         subst (λ (x : Course). LimitsTurn i (state_in d old before) (room before) (room after) from to x.changes r) (same u) (w.limits (told u) i rows);
     whole = w.whole;
+    bad = w.bad;
     left = w.left;
   }
 
@@ -82,6 +97,7 @@ module _ {D : Type 0} (d : disk.Ghosts D) where
     ended = λ told. ends (state_in d old before) (state_in d new after);
     limits = λ told i rows. other_stop i (state_in d old before) (room before) (room after) course.changes h (other i);
     whole = λ told was. whole;
+    bad = λ told. whole_bad (d.files new).idx (d.files old).idx h whole;
     left = left;
   }
 
@@ -93,6 +109,7 @@ module _ {D : Type 0} (d : disk.Ghosts D) where
       ended = λ told. ends;
       limits = λ told i rows. limits_none i (state_in d at db) (room db) uncounted;
       whole = λ told whole. whole;
+      bad = λ told. tt;
       left = none_by d stays C carried at db indexed (Ok uncounted) (λ is. cc);
     }
 
@@ -110,6 +127,7 @@ module _ {D : Type 0} (d : disk.Ghosts D) where
             subst (λ (f : Files). LimitsTurn i (state_in d old before) (room before) (room after) from f [] r) (sym (files told))
             (line_limits i (state_in d old before) (room before) (room after) r store fails.kinds);
         whole = λ told was. line_whole (d.files new).idx r fails.kinds (subst IsWholeIndex (sym (idx told)) was);
+        bad = λ told. line_bad (d.files old).idx r fails.kinds;
         left = left (line_disk r fails.kinds);
       }
 
@@ -136,15 +154,19 @@ module _ {D : Type 0} (d : disk.Ghosts D) where
       → ((s t : State) → E course s t (Err (halt_of f)))
       → (T → (i : Bool) → (i ≡ true → A)
       → LimitsTurn i (state_in d old before) (room before) (room after) from to course.changes (Err (halt_of f)))
-      → (IsTrue d.tells → IsWholeIndex (d.files old).idx → WholeCause f) → is_indexed after ≡ true → Runs d SameLog old new
+      → (IsTrue d.tells → IsWholeIndex (d.files old).idx → WholeCause f) → (drops : List Row)
+      → (IsTrue d.tells → BadCause drops (d.files old).idx f)
+      → is_indexed after ≡ true → Runs d SameLog old new
       → HasCauseAt X (d.faults old) (d.faults new) → (f ≡ fault.DiskFault → X)
       → WentBy d C A T from to old new before after (Err h) E course
-  halted_went {C = C} {old = old} {new = new} {before = before} {after = after} course f h is ends limits whole indexed runs cause failed = rw is (record {
-    ended = λ told. ends (state_in d old before) (state_in d new after);
-    limits = limits;
-    whole = λ told was. whole_halt (d.files new).idx f (whole told was);
-    left = halted_by d C old new after runs cause.later indexed f (λ at. cause.rose (failed at));
-  })
+  halted_went {C = C} {old = old} {new = new} {before = before} {after = after} course f h is ends limits whole drops bad indexed runs cause failed =
+      rw is (record {
+        ended = λ told. ends (state_in d old before) (state_in d new after);
+        limits = limits;
+        whole = λ told was. whole_halt (d.files new).idx f (whole told was);
+        bad = λ told. halt_bad drops (d.files old).idx f (bad told);
+        left = halted_by d C old new after runs cause.later indexed f (λ at. cause.rose (failed at));
+      })
 
   -- ---- one part and then another
 
@@ -158,7 +180,8 @@ module _ {D : Type 0} (d : disk.Ghosts D) where
 
   module _ (joins : (x y z : D) → d.follows x y → d.follows y z → d.follows x z) {A B C P Q T : Type 0} {from mid to : Files} {old at new : D}
       {before db after : Database} {one : Tally} {E F G : Course → State → State → Result Tally Halt → Type 0} (ends : Joins E F G)
-      (carries : A → B → C) (asks : A → T → P → Q) (a : Course) (first : WentBy d A P T from mid old at before db (Ok one) E a) where
+      (carries : A → B → C) (asks : A → T → P → Q) (stays : A → IsTrue d.tells → (d.files at).idx ≡ (d.files old).idx) (a : Course)
+      (first : WentBy d A P T from mid old at before db (Ok one) E a) where
     pub went_then : (b : Course) (r : Result Tally Halt) → WentBy d B Q T mid to at new db after r F b
         → WentBy d C P T from to old new before after (plus one r) G (joined a b)
     went_then b r second = record {
@@ -169,6 +192,8 @@ module _ {D : Type 0} (d : disk.Ghosts D) where
           (ends.state_is a (state_in d old before) (state_in d at db) one (first.ended told)) (first.limits told i rows) r
           (second.limits told i (λ is. asks first.left.carried told (rows is)));
       whole = λ told was. whole_plus (d.files new).idx one r (second.whole told (first.whole told was));
+      bad = λ told.
+          bad_plus (d.files old).idx one r (subst (λ (idx : Units). BadTurn idx r) (stays first.left.carried told) (second.bad told));
       left = left_plus C old new after one r (then_by d joins A B C carries old at new db after one r first.left second.left);
     }
 
@@ -185,12 +210,13 @@ module _ {D : Type 0} (d : disk.Ghosts D) where
   -- nothing, and then a course
   pub went_behind : (joins : (x y z : D) → d.follows x y → d.follows y z → d.follows x z) {A B C P Q T : Type 0} {from mid to : Files} {old at new : D}
       {before db after : Database} {E F G : Course → State → State → Result Tally Halt → Type 0} (ends : Joins E F G) (carries : A → B → C)
-      (asks : A → T → P → Q) (b : Course) (r : Result Tally Halt) → WentBy d A P T from mid old at before db (Ok uncounted) E idle
+      (asks : A → T → P → Q) (stays : A → IsTrue d.tells → (d.files at).idx ≡ (d.files old).idx) (b : Course) (r : Result Tally Halt)
+      → WentBy d A P T from mid old at before db (Ok uncounted) E idle
       → WentBy d B Q T mid to at new db after r F b → WentBy d C P T from to old new before after r G b
-  went_behind joins {C = C} {P = P} {T = T} {from = from} {to = to} {old = old} {new = new} {before = before} {after = after} {G = G} ends carries asks b r
-      first second =
+  went_behind joins {C = C} {P = P} {T = T} {from = from} {to = to} {old = old} {new = new} {before = before} {after = after} {G = G} ends carries asks stays
+      b r first second =
       subst (λ (x : Result Tally Halt). WentBy d C P T from to old new before after x G b) (plus_none r)
-      (went_as (joined idle b) b (λ told. told) (λ told. idle_joined b) (λ s t e. e) (went_then joins ends carries asks idle first b r second))
+      (went_as (joined idle b) b (λ told. told) (λ told. idle_joined b) (λ s t e. e) (went_then joins ends carries asks stays idle first b r second))
 
   -- a course that was stopped, whatever was to come after it
   pub went_ahead : {C P T : Type 0} {from to : Files} {old new : D} {before after : Database} {h : Halt}
@@ -203,6 +229,7 @@ module _ {D : Type 0} (d : disk.Ghosts D) where
         limits_stop i [] a.changes (state_in d old before) (state_in d old before) (room before) (room before) (room after) uncounted refl
         (limits_none {files = from} i (state_in d old before) (room before) uncounted) b.changes h (w.limits told i rows);
     whole = w.whole;
+    bad = w.bad;
     left = w.left;
   }
 
@@ -215,6 +242,7 @@ module _ {D : Type 0} (d : disk.Ghosts D) where
     limits = λ told i rows.
         limits_counted i (state_in d old before) (room before) (room after) course.changes a b (w.limits told i rows);
     whole = w.whole;
+    bad = λ told. tt;
     left = after_by d C old new after a w.left (Ok b) (λ is. absurd cc);
   }
 
@@ -244,7 +272,8 @@ module _ {D : Type 0} (d : disk.Ghosts D) where
 
   module _ (joins : (x y z : D) → d.follows x y → d.follows y z → d.follows x z) {A B C P Q T : Type 0} {from mid to : Files} {old at new : D}
       {before db after : Database} {one : Tally} {E F G : Course → State → State → Result Tally Halt → Type 0} {all left : Course}
-      (ends : Joins E F G) (carries : A → B → C) (asks : A → T → P → Q) (turn rest : Course) (g : Going A P T from mid old at before db one E all left)
+      (ends : Joins E F G) (carries : A → B → C) (asks : A → T → P → Q) (stays : A → IsTrue d.tells → (d.files at).idx ≡ (d.files old).idx)
+      (turn rest : Course) (g : Going A P T from mid old at before db one E all left)
     where
       pub going_more : {more : Tally} → (T → state_in d new after ≡ apply_all turn.changes (state_in d at db) → left ≡ joined turn rest)
           → WentBy d B Q T mid to at new db after (Ok more) F turn
@@ -254,7 +283,7 @@ module _ {D : Type 0} (d : disk.Ghosts D) where
         all_is = λ told.
             let after_it = ends.next_is turn (state_in d at db) (state_in d new after) more (w.ended told) in
             g.all_is told ∙ ap (joined g.done) (split told after_it) ∙ sym (joined_assoc g.done turn rest);
-        went = went_then joins ends carries asks g.done g.went turn (Ok more) w;
+        went = went_then joins ends carries asks stays g.done g.went turn (Ok more) w;
       }
 
       -- the next part was stopped
@@ -263,4 +292,4 @@ module _ {D : Type 0} (d : disk.Ghosts D) where
       going_stop {h = h} split w =
           let ahead = went_ahead ends.ahead turn rest w in
           went_as (joined g.done (joined turn rest)) all (λ told. told) (λ told. sym (g.all_is told ∙ ap (joined g.done) (split told))) (λ s t e. e)
-          (went_then joins ends carries asks g.done g.went (joined turn rest) (Err h) ahead)
+          (went_then joins ends carries asks stays g.done g.went (joined turn rest) (Err h) ahead)

@@ -1,5 +1,5 @@
 -- What is left of a database where nothing was done, where a change was refused, and after one call and then another.
-use Rattle.std.proofs.Common.{◌≡◌, ◌≤◌, true, Result, Ok, Err, refl, ap, ◌∙◌, arith}
+use Rattle.std.proofs.Common.{◌≡◌, ◌≤◌, List, true, Result, Ok, Err, refl, ap, ◌∙◌, arith}
 use Rattle.std.specs.Prelude.{IsTrue, IfOk}
 use Rattle.rpm_outside.specs.declared.disk.Disk as disk
 use Rattle.rpm_outside.specs.Causes.{Rose}
@@ -16,8 +16,9 @@ use Rattle.rpm_effects.specs.declared.tally.Halt.TheVariants as halt
 use Rattle.rpm_outside.specs.Files.{Files, Units}
 use Rattle.rpm_db.specs.Lawful.{Remade}
 use Rattle.rpm_db.specs.State.{state}
-use Rattle.rpm_db.specs.Refusals.{WholeCause}
-use Rattle.rpm_change.specs.Went.{WholeTurn, CarriedOn, IsCurrent, LeftBy, LeftOn}
+use Rattle.rpm_db.specs.Refusals.{BadCause, WholeCause}
+use Rattle.rpm_hindex.specs.Rows.{Row}
+use Rattle.rpm_change.specs.Went.{BadTurn, WholeTurn, CarriedOn, IsCurrent, LeftBy, LeftOn}
 use Rattle.rpm_effects.specs.inner.Joins.{cause_then}
 use Rattle.rpm_effects.specs.Progress.{halt_of}
 
@@ -29,6 +30,11 @@ of_disk others is = absurd cc
 pub whole_halt : (idx : Units) (f : ChangeFault) → WholeCause f → WholeTurn idx (Err (halt_of f))
 whole_halt idx (fault.BadIndex unit) cause = cause
 whole_halt idx others cause = tt
+
+-- it blames what it drops
+pub halt_bad : (drops : List Row) (idx : Units) (f : ChangeFault) → BadCause drops idx f → BadTurn idx (Err (halt_of f))
+halt_bad drops idx (fault.BadIndex unit) bad = (drops, bad)
+halt_bad drops idx others bad = tt
 
 -- once the index was rebuilt the files say the same state
 pub state_remade : (old new : Files) (before after : Database) → Remade old new → (room after) ≡ (room before)

@@ -1,11 +1,11 @@
 -- A batch, whose rows are gathered: what is left of it, as it begins, from one change to the next, and once it is over.
-use Rattle.std.proofs.Common.{◌≡◌, ◌≤◌, ◌==◌, Bool, true, false, length, Result, Ok, Err, refl, ap, ◌∙◌, arith}
+use Rattle.std.proofs.Common.{◌≡◌, ◌≤◌, ◌==◌, Bool, true, false, length, Result, Ok, Err, refl, ap, ◌∙◌, subst, arith}
 use Rattle.std.proofs.lemmas.Bool.Decides.{nat_tests}
 use Rattle.std.proofs.lemmas.List.{length-replicate}
 use Rattle.std.specs.Prelude.{IsTrue}
 use Rattle.rpm_outside.specs.declared.disk.Disk as disk
 use Rattle.rpm_outside.specs.Causes.{Rose}
-use Rattle.rpm_outside.specs.Files.{blank}
+use Rattle.rpm_outside.specs.Files.{Units, blank}
 use Rattle.rpm_hindex.specs.Rows.{times}
 use Rattle.rpm_db.specs.declared.change_fault.ChangeFault.{ChangeFault}
 use Rattle.rpm_db.specs.declared.change_fault.ChangeFault.TheVariants as fault
@@ -15,7 +15,7 @@ use Rattle.rpm_db.specs.Database.{Database, generation_of, has_failed, is_indexe
 use Rattle.rpm_db.specs.Frame.{IsIndexed, Runs, room, state_in}
 use Rattle.rpm_db.specs.Gathering.{IsGathering, IsOrdered, IsSettledUp, OwesOn, due, due_units, nothing, sealed_in, suspended}
 use Rattle.rpm_db.specs.Lawful.{IsWholeIndex}
-use Rattle.rpm_db.specs.Refusals.{IsOfIndex, IsOfReading, WholeCause}
+use Rattle.rpm_db.specs.Refusals.{BadCause, IsOfIndex, IsOfReading, WholeCause}
 use Rattle.rpm_db.specs.RowLaws.{times_none}
 use Rattle.rpm_db.specs.Runs.{SameLog}
 use Rattle.rpm_db.specs.State.{State, packages}
@@ -25,7 +25,7 @@ use Rattle.rpm_effects.specs.Progress.{halt_of}
 use Rattle.rpm_change.specs.Limits.{is_limit}
 use Rattle.rpm_effects.specs.Steps.{Course}
 use Rattle.rpm_change.specs.Went.{CarriedOn, IsOwing, Went, WentOwing}
-use Rattle.rpm_change.specs.inner.Leaving.{halted_by, then_by, whole_halt}
+use Rattle.rpm_change.specs.inner.Leaving.{halt_bad, halted_by, then_by, whole_halt}
 use Rattle.rpm_change.specs.inner.ReachLaws.{idx_more}
 use Rattle.rpm_change.specs.inner.Single.{other_stop}
 
@@ -40,19 +40,24 @@ end_limit i fault.NoMemory kind other = refl
 end_limit i others kind other = absurd kind
 
 module _ {D : Type 0} (d : disk.Ghosts D) where
-  pub owing_none : {at : D} {db : Database} {owed : RowChange} → IsGathering d at db owed → IsOwing d (OwesOn d at db owed) at db owed
-  owing_none g = record { gathering = g; owes = λ told has. has }
+  pub owing_none : {at : D} {db : Database} {owed : RowChange} → IsGathering d at db owed
+      → IsOwing d (OwesOn d at db owed) (d.files at).idx at db owed
+  owing_none g = record { gathering = g; stays = λ told. refl; owes = λ told has. has }
 
-  pub owing_then : {Asked : Type 0} {mid new : D} {before after : Database} {owed more : RowChange} → IsOwing d Asked mid before owed
-      → IsOwing d (OwesOn d mid before owed) new after more → IsOwing d Asked new after more
-  owing_then first second =
-      record { gathering = second.gathering; owes = λ told asked. second.owes told (first.owes told asked) }
+  pub owing_then : {Asked : Type 0} {found : Units} {mid new : D} {before after : Database} {owed more : RowChange}
+      → IsOwing d Asked found mid before owed → IsOwing d (OwesOn d mid before owed) (d.files mid).idx new after more
+      → IsOwing d Asked found new after more
+  owing_then first second = record {
+    gathering = second.gathering;
+    stays = λ told. second.stays told ∙ first.stays told;
+    owes = λ told asked. second.owes told (first.owes told asked);
+  }
 
 -- ---- changes that were gone through, from the begin of the batch on
 
 module _ {D : Type 0} (d : disk.Ghosts D) {a : D} {db : Database} {owed : RowChange} (ready : IsReady d a db) (going : has_failed db ≡ false)
     (ordered : IsOrdered db.index) (sealed : sealed_in db.index ≡ generation_of db) (none : owed ≡ nothing) where
-  pub owing_begun : IsOwing d (IsIndexed d a db) a (suspended db) owed
+  pub owing_begun : IsOwing d (IsIndexed d a db) (d.files a).idx a (suspended db) owed
   owing_begun = record {
     gathering = record {
       indexed = ready.indexed;
@@ -63,6 +68,7 @@ module _ {D : Type 0} (d : disk.Ghosts D) {a : D} {db : Database} {owed : RowCha
       clear = λ is. none;
       serving = λ told. (let s = ready.serving told in record { keeps = s.keeps; index = s.index; quiet = s.quiet; settled = s.settled });
     };
+    stays = λ told. refl;
     owes = λ told was. record {
       from = packages (d.files a).pkg (room db);
       has = was.rows_are;
@@ -83,6 +89,7 @@ module _ {D : Type 0} (d : disk.Ghosts D) {a : D} {db : Database} {owed : RowCha
       limits = λ told i rows.
           (let l = w.limits told i (λ asked. owing_begun.owes (tells told) (rows asked)) in record { first = l.first; stores = tt; raised = tt; reached = tt });
       whole = w.whole;
+      bad = w.bad;
       left = record { carried = tt; indexed = w.left.indexed; runs = w.left.runs; disk = w.left.disk };
     }
 
@@ -122,6 +129,7 @@ module _ {D : Type 0} (d : disk.Ghosts D) {a : D} {db : Database} {owed : RowCha
               };
             };
         whole = λ told was. whole told (w.whole told was);
+        bad = λ told. tt;
         left = then_by d joins _ (IsSettledUp d m e mid after more) (CarriedOn d a e db after)
             (λ first second. record {
               going = second.going;
@@ -134,8 +142,9 @@ module _ {D : Type 0} (d : disk.Ghosts D) {a : D} {db : Database} {owed : RowCha
       -- or it hasn't
       pub list_unsettled : (f : ChangeFault) → ((s t u : State) → E course s t (Ok tally) → E course s u (Err (halt_of f))) → IsOfIndex f
           → (IsTrue d.tells → OwesOn d m mid more → IsOfReading f) → (IsTrue d.tells → IsWholeIndex (d.files m).idx → WholeCause f)
-          → (f ≡ fault.DiskFault → Rose (d.faults m) (d.faults e)) → Went d T a e db after (Err (halt_of f)) E course
-      list_unsettled f stops kinds full whole rose =
+          → (IsTrue d.tells → BadCause more.drops (d.files m).idx f) → (f ≡ fault.DiskFault → Rose (d.faults m) (d.faults e))
+          → Went d T a e db after (Err (halt_of f)) E course
+      list_unsettled f stops kinds full whole bad rose =
           let C = CarriedOn d a e db after in
           record {
             ended = λ told. stops (state_in d a db) (state_in d m mid) (state_in d e after) (w.ended told);
@@ -143,5 +152,7 @@ module _ {D : Type 0} (d : disk.Ghosts D) {a : D} {db : Database} {owed : RowCha
                 other_stop i (state_in d a db) (room db) (room after) course.changes (halt_of f)
                 (end_limit i f kinds (λ asked. full (tells told) (owes_last (tells told) (rows asked))));
             whole = λ told was. whole_halt (d.files e).idx f (whole told (w.whole told was));
+            bad = λ told. halt_bad more.drops (d.files a).idx f
+                (subst (λ (idx : Units). BadCause more.drops idx f) (w.left.carried.stays told) (bad told));
             left = then_by d joins _ C C (λ x y. y) a m e mid after tally (Err (halt_of f)) w.left (halted_by d C m e after runs later indexed f rose);
           }

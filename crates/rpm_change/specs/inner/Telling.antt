@@ -49,6 +49,7 @@ module _ {D S : Type 0} (d : disk.Ghosts D) (of : sink.Ghosts S) (changes : List
           };
       limits = made.limits;
       whole = made.whole;
+      bad = made.bad;
       left = made.left;
     }
 
@@ -71,6 +72,7 @@ module _ {D S : Type 0} (d : disk.Ghosts D) (of : sink.Ghosts S) (changes : List
           };
       limits = λ told i rows. other_stop i _ _ _ _ halt.OutFault refl;
       whole = λ told was. tt;
+      bad = λ told. tt;
       left = after_by d C old new after tally made.left (Err halt.OutFault) (λ same. absurd cc);
     }
 
@@ -83,5 +85,6 @@ module _ {D S : Type 0} (d : disk.Ghosts D) (of : sink.Ghosts S) (changes : List
         stopped_by all (state_in d old before) (state_in d new after) h _ _ out err (out_gone of x all et e);
     limits = made.limits;
     whole = made.whole;
+    bad = made.bad;
     left = made.left;
   }

@@ -1,5 +1,5 @@
 -- A command that finds the index bad: it was broken when the command found it.
-use Rattle.std.proofs.Common.{◌≡◌, ℕ, Bool, true, false, Result, Ok, Err, refl, sym, ◌∙◌, subst}
+use Rattle.std.proofs.Common.{◌≡◌, ◌⊎◌, ℕ, Bool, true, false, Result, Ok, Err, refl, sym, ◌∙◌, subst, inl, inr}
 use Rattle.rpm_effects.specs.declared.tally.Halt.{Halt}
 use Rattle.rpm_db.specs.Database.{Database, is_blank}
 use Rattle.rpm_db.specs.Lawful.{IsWholeIndex}
@@ -8,7 +8,7 @@ use Rattle.rpm_outside.specs.Files.{Files, Units}
 use Rattle.rpm_pkgdb.specs.declared.slot.Damage.{Damage}
 use Rattle.rpm_commit.specs.Changing.{IsBroken}
 use Rattle.rpm_commit.specs.Working.{done_why, OpensBy}
-use Rattle.rpm_change.specs.Went.{WholeTurn}
+use Rattle.rpm_change.specs.Went.{BadTurn, IsBlamed, WholeTurn}
 use Rattle.rpm_db.specs.Frame.{room}
 use Rattle.rpm_db.specs.RoomLaws.{kept_current}
 use Rattle.rpm_pkgdb.specs.Store.{Store, store}
@@ -49,3 +49,13 @@ open_broken old mid new db opened goes broken =
       current = kept_current old.idx (store old.pkg) db opened.store_is some making;
       broken = λ whole. broken (goes (λ _. subst (λ (f : Files). IsWholeIndex f.idx) (sym (opened.same making)) whole));
     }))
+
+-- and so is the one that was found, where one that was made would be well formed
+pub found_unmade : {X : Type 0} (old new : Units) → (X → IsWholeIndex new) → X ⊎ (new ≡ old) → ¬ IsWholeIndex new → new ≡ old
+found_unmade old new whole (inl made) broken = absurd (broken (whole made))
+found_unmade old new whole (inr same) broken = same
+
+-- it blames a unit of that one
+pub halt_blames : (idx : Units) (h : Halt) (unit : ℕ) → BadTurn idx (Err h) → why_of_halt h ≡ why.BadIndex unit → IsBlamed idx unit
+halt_blames idx (halt.BadIndex u) unit turn is = let same : u ≡ unit = cc in subst (IsBlamed idx) same turn
+halt_blames idx others unit turn is = absurd cc

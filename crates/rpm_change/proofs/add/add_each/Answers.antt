@@ -37,7 +37,7 @@ loop-path-preserved g c =
     (λ both. rw same (ap turn (inv.paths both.1))) (λ s t e. e) (done.went k) in
     record {
       goes = going_more g.D.Disk g.met.D.Disk.follows_trans (err_joins g.E.Sink c.args.err.now c.loop-path.err c.put_file.new.err)
-          (owing_then g.D.Disk) (λ owing both rows. owing.owes both.0 rows) (each t k (get_or xs k []))
+          (owing_then g.D.Disk) (λ owing both rows. owing.owes both.0 rows) (λ owing. owing.stays) (each t k (get_or xs k []))
           (in_turn each u (k + 1) (drop (k + 1) xs)) inv.goes
           (λ both after. turn_next each xs k [] t u (omega (arith, length-map c.args.paths.now bytes)) after) went;
       few = omega (arith, inv.few, done.one);
@@ -59,7 +59,8 @@ returns-in_err-tally-clause-went g c =
     let u = apply_all (each t k (get_or xs k [])).changes t in
     rw (err_is c.from_residual.result c.from_residual.ensures)
     (going_stop g.D.Disk g.met.D.Disk.follows_trans (err_joins g.E.Sink c.args.err.now c.loop-path.err c.put_file.new.err)
-    (owing_then g.D.Disk) (λ owing both rows. owing.owes both.0 rows) (each t k (get_or xs k [])) (in_turn each u (k + 1) (drop (k + 1) xs)) inv.goes
+    (owing_then g.D.Disk) (λ owing both rows. owing.owes both.0 rows) (λ owing. owing.stays) (each t k (get_or xs k []))
+    (in_turn each u (k + 1) (drop (k + 1) xs)) inv.goes
     (λ both. turn_next each xs k [] t u (omega (arith, length-map c.args.paths.now bytes)) refl)
     (went_as g.D.Disk (turn (g.S.Shelf.paths c.loop-path.shelf)) (each t k (get_or xs k [])) (λ both. both)
     (λ both. rw same (ap turn (inv.paths both.1))) (λ s t e. e) (c.in_err-tally.ensures.went k)))

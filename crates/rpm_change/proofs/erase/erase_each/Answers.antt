@@ -28,7 +28,7 @@ loop-number-preserved g c =
     let turn = erase_one t k (get_or xs k 0) in
     record {
       goes = going_more g.D.Disk g.met.D.Disk.follows_trans (err_joins g.E.Sink c.args.err.now c.loop-number.err c.erase_one.new.err)
-          (owing_then g.D.Disk) (λ owing told rows. owing.owes told rows) turn (in_turn erase_one u (k + 1) (drop (k + 1) xs))
+          (owing_then g.D.Disk) (λ owing told rows. owing.owes told rows) (λ owing. owing.stays) turn (in_turn erase_one u (k + 1) (drop (k + 1) xs))
           inv.goes (λ told after. turn_next erase_one xs k 0 t u (omega arith) after) (done.went k);
       few = omega (arith, inv.few, done.one);
       err = omega (arith, inv.err, done.err.cause.later);
@@ -44,7 +44,7 @@ returns-in_err-tally-clause-went g c =
     let u = apply_all turn.changes t in
     rw (err_is c.from_residual.result c.from_residual.ensures)
     (going_stop g.D.Disk g.met.D.Disk.follows_trans (err_joins g.E.Sink c.args.err.now c.loop-number.err c.erase_one.new.err)
-    (owing_then g.D.Disk) (λ owing told rows. owing.owes told rows) turn (in_turn erase_one u (k + 1) (drop (k + 1) xs))
+    (owing_then g.D.Disk) (λ owing told rows. owing.owes told rows) (λ owing. owing.stays) turn (in_turn erase_one u (k + 1) (drop (k + 1) xs))
     c.loop-number.invariant.goes (λ told. turn_next erase_one xs k 0 t u (omega arith) refl) (c.in_err-tally.ensures.went k))
 
 pub returns-clause-went : goal.returns-clause-went

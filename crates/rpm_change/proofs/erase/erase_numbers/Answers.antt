@@ -28,7 +28,7 @@ returns-in_err-finish-clause-went g c =
     rw (err_is c.from_residual-in_err-finish.result c.from_residual-in_err-finish.ensures)
     (list_unsettled g.D.Disk c.requires.ready b.goes b.order b.sealed b.none (λ told. told) g.met.D.Disk.follows_trans c.finish.new.db
     (rw b.same at c.in_ok-tally.ensures.went) f.left.indexed f.runs f.cause.later fault (err_stopped g.E.Sink c.args.err.now c.erase_each.new.err fault)
-    f.kinds f.full f.whole (λ is. f.cause.rose (cc)))
+    f.kinds f.full f.whole f.left.bad (λ is. f.cause.rose (cc)))
 
 pub returns-in_err-finish-clause-kinds : goal.returns-in_err-finish-clause-kinds
 returns-in_err-finish-clause-kinds g c =

@@ -1,4 +1,4 @@
-use Rattle.std.proofs.Common.{refl, sym, ◌∙◌, arith}
+use Rattle.std.proofs.Common.{[], refl, sym, ◌∙◌, arith}
 use Rattle.rpm_change.proofs.Vocabulary.{changing, EndedOnErr, Erase, erase_fault, erase_one, err_is, err_refused, halted_went, line_went, missing, none_is}
 use Rattle.rpm_change.proofs.Vocabulary.{one_made, one_refused, resumed, room, state_in, through_none, took, went_as, whole}
 use Rattle.rpm_change.proofs.Dropped.{some_is}
@@ -27,8 +27,9 @@ returns-in_ok-erase-clause-went g c = λ j.
           one_made i s (Erase n) (room c.args.db.now) (room c.erase.new.db) (record { failed = 0; changes = 1 }) tt done.causes.2.0 gathers.room
           made.generation (λ is. gathers.full told (rows is)) (omega (arith, done.end told)) (λ is. made.reach told (rows is));
       whole = λ told whole. rw (done.index told) whole;
+      bad = λ told. tt;
       left = record {
-        carried = record { gathering = made.gathering; owes = λ told has. made.owes told has };
+        carried = record { gathering = made.gathering; stays = done.index; owes = λ told has. made.owes told has };
         indexed = done.left.indexed;
         runs = done.runs;
         disk = record { later = done.cause.later; rose = λ is. absurd cc };
@@ -48,7 +49,7 @@ returns-in_err-erase-clause-went g c = λ j.
     (halted_went g.D.Disk course f _ refl (err_refused g.E.Sink c.args.err.now course f)
     (λ told i rows. rw held (one_refused i s (Erase n) (room db) (room c.erase.new.db) f
     (erase_fault i (resumed db) s n f said.causes (λ is. said.gathers.full told (rows is)))))
-    (λ told whole. erasing_whole f said.kinds) said.left.indexed said.runs said.cause (λ is. cc))
+    (λ told whole. erasing_whole f said.kinds) [] said.left.bad said.left.indexed said.runs said.cause (λ is. cc))
 
 pub returns-in_err-erase-clause-kinds : goal.returns-in_err-erase-clause-kinds
 returns-in_err-erase-clause-kinds g c =

@@ -32,7 +32,7 @@ loop-is_last-preserved g c =
     let is_last = c.in_ok-turn.turn.is_last in
     record {
       goes = going_more g.D.Disk g.met.D.Disk.follows_trans (err_joins g.E.Sink c.args.err.now c.loop-is_last.err c.import_next.new.err)
-          (owing_then g.D.Disk) (λ owing both rows. owing.owes both.0 rows) (turn most k (list_head bytes))
+          (owing_then g.D.Disk) (λ owing both rows. owing.owes both.0 rows) (λ owing. owing.stays) (turn most k (list_head bytes))
           (from_place is_last most (k + 1) (listed behind)) (rw going at inv.goes)
           (λ both after. turn_splits most k bytes is_last behind (done.leaves both.1)) done.went;
       few = omega (arith, inv.few, done.one);
@@ -53,7 +53,7 @@ returns-in_err-turn-clause-went g c =
     let split = turn_ahead most k (list_head bytes) in
     rw (err_is c.from_residual.result c.from_residual.ensures)
     (going_stop g.D.Disk g.met.D.Disk.follows_trans (err_joins g.E.Sink c.args.err.now c.loop-is_last.err c.import_next.new.err)
-    (owing_then g.D.Disk) (λ owing both rows. owing.owes both.0 rows) (turn most k (list_head bytes))
+    (owing_then g.D.Disk) (λ owing both rows. owing.owes both.0 rows) (λ owing. owing.stays) (turn most k (list_head bytes))
     (from_place split.0 most (k + 1) (listed split.1.0)) (rw going at c.loop-is_last.invariant.goes)
     (λ both. turn_splits most k bytes split.0 split.1.0 split.1.1) c.in_err-turn.ensures.went)
 

@@ -50,7 +50,7 @@ returns-in_err-finish-in-Ok-clause-went g c =
     (went_once g.D.Disk g.E.Sink c.args.err.now c.import_all.new.err course (Err _)
     (list_unsettled g.D.Disk c.requires.ready b.goes b.order b.sealed b.none (λ both. both.0) g.met.D.Disk.follows_trans c.finish.new.db
     (rw b.same at c.in_ok-tally-in-Ok.ensures.went) f.left.indexed f.runs f.cause.later fault (err_stopped g.E.Sink c.args.err.now c.import_all.new.err fault)
-    f.kinds f.full f.whole (λ is. f.cause.rose (cc)))))
+    f.kinds f.full f.whole f.left.bad (λ is. f.cause.rose (cc)))))
 
 pub returns-in-Err-clause-went : goal.returns-in-Err-clause-went
 returns-in-Err-clause-went g c =

@@ -36,7 +36,7 @@ loop-next-preserved g c =
     let went = went_as g.D.Disk (dropped m p) (dropped m p) (λ told. (told, (next told).0)) (λ told. refl) (λ s t e. e) (done.went p) in
     record {
       goes = going_more g.D.Disk g.met.D.Disk.follows_trans (out_joins g.O.Sink c.args.out.now c.loop-next.out c.drop_one.new.out)
-          (owing_then g.D.Disk) (λ owing told rows. owing.owes told rows) (dropped m p) (drop_each (above m es)) inv.goes
+          (owing_then g.D.Disk) (λ owing told rows. owing.owes told rows) (λ owing. owing.stays) (dropped m p) (drop_each (above m es)) inv.goes
           (λ told after. (next told).1) went;
       same = λ told. same_dropped p n m s t u (inv.same told) c.in-Some.ensures.next.0 (went.ended told true []).state_is;
       few = omega (arith, inv.few, done.one, c.in-Some.ensures.next.0);
@@ -55,7 +55,7 @@ returns-in_err-tally-clause-went g c =
     let next = λ (told : IsTrue g.D.Disk.tells). drop_next s t n m (inv.same told) (c.in-Some.ensures.told (g.D.Disk.files c.loop-next.disk).pkg) in
     rw (err_is c.from_residual.result c.from_residual.ensures)
     (going_stop g.D.Disk g.met.D.Disk.follows_trans (out_joins g.O.Sink c.args.out.now c.loop-next.out c.drop_one.new.out)
-    (owing_then g.D.Disk) (λ owing told rows. owing.owes told rows) (dropped m p) (drop_each (above m (finite.entries s))) inv.goes
+    (owing_then g.D.Disk) (λ owing told rows. owing.owes told rows) (λ owing. owing.stays) (dropped m p) (drop_each (above m (finite.entries s))) inv.goes
     (λ told. (next told).1)
     (went_as g.D.Disk (dropped m p) (dropped m p) (λ told. (told, (next told).0)) (λ told. refl) (λ s t e. e) (c.in_err-tally.ensures.went p)))
 

@@ -24,7 +24,7 @@ returns-in-Err-Bad-clause-went g c = λ p.
     went_as g.D.Disk (dropped n Bad) (dropped n p) (λ both. both.0)
     (λ both. let same : p ≡ Bad = (let there = said.told both.0 in let is = both.1 in cc) in rw same refl) (λ s t e. e)
     (went_behind g.D.Disk g.met.D.Disk.follows_trans (out_joins g.O.Sink c.args.out.now c.args.out.now c.drop_bad.new.out)
-    (owing_then g.D.Disk) (λ owing told rows. owing.owes told rows) (dropped n Bad) c.drop_bad.result
+    (owing_then g.D.Disk) (λ owing told rows. owing.owes told rows) (λ owing. owing.stays) (dropped n Bad) c.drop_bad.result
     (looked_went g.D.Disk c.requires.gathering look.looks look.cause.later (λ told. told) (out_none g.O.Sink c.args.out.now)) c.drop_bad.ensures.went)
 
 pub returns-in-Err-DiskFault-clause-went : goal.returns-in-Err-DiskFault-clause-went

@@ -36,8 +36,9 @@ returns-in-Ok-clause-went g c =
           (λ is. done.causes.0 (sym law ∙ is)) put.later.0 gathers.room made.generation
           (λ is. gathers.full told (rows is)) (done.end told) (λ is. made.reach told (rows is));
       whole = λ told whole. rw (done.index told) whole;
+      bad = λ told. tt;
       left = record {
-        carried = record { gathering = made.gathering; owes = λ told has. made.owes told has };
+        carried = record { gathering = made.gathering; stays = done.index; owes = λ told has. made.owes told has };
         indexed = done.left.indexed;
         runs = done.runs;
         disk = record { later = done.cause.later; rose = λ is. absurd cc };
@@ -68,4 +69,4 @@ returns-in-Err-clause-went g c =
     halted_went g.D.Disk course f c.from.result c.from.ensures (err_refused g.E.Sink c.args.err.now course f)
     (λ told i rows. rw within (add_limits i (resumed db) (state_in g.D.Disk c.args.disk.now db) (room c.add.new.db) c.args.place c.args.blob.now law f
     said.causes (λ h read. (said.gathers h read).room) (λ is h read. (said.gathers h read).full told (rows is))))
-    (λ told whole. said.whole told whole) said.left.indexed said.runs said.cause (λ is. cc)
+    (λ told whole. said.whole told whole) c.args.batch.now.drops said.left.bad said.left.indexed said.runs said.cause (λ is. cc)

@@ -1,6 +1,6 @@
-use Rattle.rpm_commit.proofs.Vocabulary.{packages, Remade, room, rows, runs_none, runs_then, SameLog, units_needed}
-use Rattle.std.proofs.Common.{length, refl, ap, ◌∙◌, arith}
-use Rattle.rpm_commit.specs.inner.Brokens.{open_broken}
+use Rattle.rpm_commit.proofs.Vocabulary.{Files, must_make, packages, Remade, room, rows, runs_none, runs_then, SameLog, store, units_needed}
+use Rattle.std.proofs.Common.{◌≡◌, length, refl, ap, ◌∙◌, inl, inr, ⊎_elim, arith}
+use Rattle.rpm_commit.specs.inner.Brokens.{by_bool, open_broken}
 use Rattle.rpm_commit.proofs.FileReach.{least_units}
 use Rattle.rpm_commit.proofs.opening.open_to_change.Goals as goal
 
@@ -23,6 +23,10 @@ returns-clause-opens g c =
       not_blank = begins.not_blank;
       rows = λ told lawful. begins.rows told (λ some. (c.in-Ok.ensures.opened told).index some lawful);
       broken = λ told. open_broken old mid new c.in-Ok.db (c.in-Ok.ensures.opened told) (begins.whole told);
+      finds = λ told.
+          let opened = c.in-Ok.ensures.opened told in
+          by_bool (must_make old.idx (store old.pkg)) (λ making. inl (begins.rows told (λ some. opened.made making)))
+          (λ making. ⊎_elim inl (λ same. inr (same ∙ ap (λ (f : Files). f.idx) (opened.same making))) (begins.finds told));
       found = λ told.
           let is = (c.in-Ok.ensures.opened told).store_is in
           record {

@@ -40,7 +40,7 @@ returns-in_err-finish g c =
     rw (err_is c.from_residual-in_err-finish.result c.from_residual-in_err-finish.ensures, ← all) (record {
       course = list_unsettled g.D.Disk c.requires.ready b.goes b.order b.sealed b.none (λ told. told) g.met.D.Disk.follows_trans c.finish.new.db
           (rw b.same at c.in_ok-tally.ensures.course) f.left.indexed f.runs f.cause.later fault (quiet_stopped fault) f.kinds f.full f.whole
-          (λ is. f.cause.rose (cc));
+          f.left.bad (λ is. f.cause.rose (cc));
       spent = of.0;
       kinds = of.1;
     })

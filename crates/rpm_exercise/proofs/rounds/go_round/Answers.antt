@@ -22,7 +22,7 @@ loop-done-preserved g c =
     let f = turn c.args.round c.args.b in
     let one = c.in_ok-tally.ensures in
     record {
-      goes = going_more g.D.Disk g.met.D.Disk.follows_trans quiet_joins (owing_then g.D.Disk) (λ owing told rows. owing.owes told rows)
+      goes = going_more g.D.Disk g.met.D.Disk.follows_trans quiet_joins (owing_then g.D.Disk) (λ owing told rows. owing.owes told rows) (λ owing. owing.stays)
           (making (f (k + 1))) (making (flat_map f (range_with_len (k + 1 + 1) (n - (k + 1))))) c.loop-done.invariant.goes
           (λ told after. ap making (each_next f (k + 1) n k (omega arith))) (none_failed g.D.Disk (f (k + 1)) c.in_ok-tally.tally one.went.course);
       few = omega (arith, c.loop-done.invariant.few, one.few);
@@ -35,7 +35,7 @@ returns-in_err-tally-clause-went g c =
     let f = turn c.args.round c.args.b in
     let said = c.in_err-tally.ensures.went in
     rw (err_is c.from_residual.result c.from_residual.ensures) (record {
-      course = going_stop g.D.Disk g.met.D.Disk.follows_trans quiet_joins (owing_then g.D.Disk) (λ owing told rows. owing.owes told rows)
+      course = going_stop g.D.Disk g.met.D.Disk.follows_trans quiet_joins (owing_then g.D.Disk) (λ owing told rows. owing.owes told rows) (λ owing. owing.stays)
           (making (f (k + 1))) (making (flat_map f (range_with_len (k + 1 + 1) (n - (k + 1))))) c.loop-done.invariant.goes
           (λ told. ap making (each_next f (k + 1) n k (omega arith))) said.course;
       spent = said.spent;
