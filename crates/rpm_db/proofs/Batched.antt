@@ -8,6 +8,7 @@ use Rattle.std.specs.FinMap as finite
 use Rattle.rpm_outside.specs.declared.disk.Disk as disk
 use Rattle.rpm_db.proofs.Vocabulary.{AreLawful, BadIndexIs, blobs, change_for, ChangeFault, Erase, erased, field_for, FullIndexIs, Gathers, Header, header, header_rows}
 use Rattle.rpm_db.proofs.Vocabulary.{IsChangedStill, LeavesOnly, number_for, old_rows, put_in, put_map, raised, TakesRows, times_none}
+use Rattle.rpm_db.proofs.Vocabulary.{added_rows, dropped_rows}
 use Rattle.rpm_db.proofs.Vocabulary.{added, apply, Balances, BlobMap, Change, changed_number, database_of, Files, Gathered, HasChanged, HasRows}
 use Rattle.rpm_db.proofs.Vocabulary.{IsGathering, IsPutAside, KeepsSums, KeepsUnits, live_of, nat_cmp, nothing, Owes, OwesOn, Package, packages, packages-blobs}
 use Rattle.rpm_db.proofs.Vocabulary.{packages_of, Row, RowChange, rows, room, sealed_in, state, state_of, Store, times, Units, units_for, with_rows}
@@ -19,12 +20,13 @@ use Rattle.rpm_db.proofs.Applied.{erase_state, put_state}
 use Rattle.rpm_db.proofs.Edited.{rows_erased, rows_put}
 use Rattle.rpm_db.proofs.Halves.{state_written}
 use Rattle.rpm_db.proofs.OwedRows.{balance_more, due_more, rows_clear}
-use Rattle.rpm_db.proofs.Reached.{added_is, live_none}
+use Rattle.rpm_db.proofs.Reached.{added_are, added_is, dropped_are, live_none}
 use Rattle.rpm_db.proofs.Results.{four_ok, three_ok}
 use Rattle.rpm_db.proofs.Rooms.{put_next}
 use Rattle.rpm_db.proofs.Shared.{rows_held}
 use Rattle.rpm_db.proofs.Sums.{changed_is, verdicts_are}
-use Rattle.rpm_db.proofs.Units.{units_less, units_ordered}
+use Rattle.rpm_db.proofs.Units.{units_ordered}
+use Rattle.rpm_hindex.proofs.Fewer.{units_less}
 
 -- the packages of now have room, where the index is owed their rows
 owed_fits : (pkg idx : Units) (value : Store) (index : Option hindex.State) (stopped : Bool) (owed : RowChange) → is_some index ≡ true → IsOrdered index
@@ -68,11 +70,12 @@ module _ {D : Type 0} (d : disk.Ghosts D) (a : D) (st : Store) (index : Option h
       → IsPutAside d b st after to field → (IsTrue d.tells → (d.files b).idx ≡ (d.files a).idx)
       → state_of to field ≡ apply change (state (d.files a).pkg st) → (IsTrue d.tells → more ≡ with_rows owed drops adds)
       → added (state (d.files a).pkg st) change ≡ live_of adds
+      → drops ≡ dropped_rows (state (d.files a).pkg st) change → adds ≡ added_rows (state (d.files a).pkg st) change
       → (IsTrue d.tells → OwesOn d a (database_of st index stopped) owed → units_for (rows (packages_of to)) ≤ 2 ^ 28)
       → (number : ℕ) → changed_number change (state (d.files a).pkg st) ≡ number
       → (IsTrue d.tells → KeepsSums number (d.files a).pkg (d.files b).pkg st after)
       → Gathered d a b change (database_of st index stopped) (database_of after index stopped) owed more
-  gathered b after change more field was done idx goes is few fits number at_number sums =
+  gathered b after change more field was done idx goes is few drops_are adds_are fits number at_number sums =
       let state_is : IsTrue d.tells → state (d.files b).pkg after ≡ apply change (state (d.files a).pkg st) =
       λ told. state_written (d.files b).pkg after to field (done.stored.blobs_are told) done.field_is ∙ goes in
       let packages_are : IsTrue d.tells → packages (d.files b).pkg after ≡ packages_of to =
@@ -96,6 +99,8 @@ module _ {D : Type 0} (d : disk.Ghosts D) (a : D) (st : Store) (index : Option h
         state_is = state_is;
         verdicts = λ told.
             verdicts_are change (d.files a).pkg (d.files b).pkg st after index index stopped stopped (state_is told) number at_number (sums told);
+        rows = λ told. is told ∙ ap (λ (rs : List Row). with_rows owed rs adds) drops_are
+            ∙ ap (with_rows owed (dropped_rows (state (d.files a).pkg st) change)) adds_are;
         owes = λ told o. record {
           from = o.from;
           has = subst (HasRows o.from) (sym (idx told)) o.has;
@@ -139,7 +144,7 @@ module _ {D A : Type 0} (d : disk.Ghosts D) (a b : D) (st after : Store) (index 
           room = subst (λ (s : Option Store). RoomIs s st after result) (put_next n h.blob st) room;
           gathered = four_ok result (λ put kept gathers room_left.
               gathered d a st index stopped owed drops adds to changed there b after (change_for n h.blob) more (field_for n st) was put idx goes gathers
-              (added_is file st n h own) room_left
+              (added_is file st n h own) (dropped_are file st n h) (sym (added_are file st n h own)) room_left
               (number_for n st) (changed_is file st n h.blob) kept) done sums is (fits_ok (units_for (rows (packages_of to))) result fits);
           full = λ told o. subst (λ (s : State). FullIndexIs (units_for (rows s.packages)) result) goes (fits told o);
           stops = λ told lawful. subst (λ (s : State). LeavesOnly d a b (IsChangedStill (state file st) s images)) goes (stops told lawful);
@@ -170,7 +175,7 @@ module _ {D A : Type 0} (d : disk.Ghosts D) (a b : D) (st after : Store) (index 
           gathered = three_ok result (λ put kept gathers.
               gathered d a st index stopped owed gone [] left lost (rows_held (Some n) (packages file st)) b after (Erase n) more st.field was put idx goes
               (λ told. gathers told ∙ ap (λ (rs : List Row). record { drops = owed.drops ++ gone; adds = rs }) (sym (append-nil owed.adds))) (sym live_none)
-              fits n refl kept) done sums is;
+              refl refl fits n refl kept) done sums is;
           full = λ told o. subst (λ (s : State). FullIndexIs (units_for (rows s.packages)) result) goes (full _ (fits told o));
           stops = λ told lawful. subst (λ (s : State). LeavesOnly d a b (IsChangedStill (state file st) s images)) goes (stops told lawful);
         }

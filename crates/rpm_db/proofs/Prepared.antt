@@ -4,8 +4,8 @@ use Rattle.std.specs.Prelude.{IsOk}
 use Rattle.std.specs.FinMap as finite
 use Rattle.rpm_db.proofs.Vocabulary.{BadCause, buckets_of, ChangeFault, HasChanged, HasRows, index_in, IsPlanFor, IsWellFormed, live_of, nat_cmp, Package}
 use Rattle.rpm_db.proofs.Vocabulary.{records, Row, rows, times, times_none, unit_at, Units, Work, WritesRows}
-use Rattle.rpm_db.proofs.Reached.{live_less, live_none}
-use Rattle.rpm_db.proofs.Units.{length_less}
+use Rattle.rpm_db.proofs.Reached.{live_none}
+use Rattle.rpm_hindex.proofs.Fewer.{length_less, live_less}
 use Rattle.rpm_db.specs.declared.change_fault.ChangeFault.TheVariants as change
 use Rattle.rpm_hindex.proofs.Fitting.{changed_least}
 use Rattle.rpm_hindex.specs.Refusals.{IsBadFor}

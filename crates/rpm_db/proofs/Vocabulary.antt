@@ -7,6 +7,7 @@ pub use Rattle.rpm_db.specs.Database.{Database, database_of, generation_of, has_
 pub use Rattle.rpm_db.specs.Database.{KeepsUnits, room, unindexed}
 pub use Rattle.rpm_db.specs.Frame.{Runs, StaysBetween}
 pub use Rattle.rpm_db.specs.FromOne.{none_stored}
+pub use Rattle.rpm_db.specs.Gathering.{with_rows}
 pub use Rattle.rpm_db.specs.Gathering.{Balances, due, due_units, Gathered, Gathers, IsGathering, IsOrdered, nothing, Owes, OwesOn, resumed, sealed_in}
 pub use Rattle.rpm_db.specs.Inits.{IsEmpty, IsEmptyStill}
 pub use Rattle.rpm_db.specs.Lawful.{Agrees, AreLawful, HasRows, is_current_at, IsIndexOf, IsLawful, IsLawfulStill, IsOfRows, IsUnsealed, IsWholeIndex, Remade}
@@ -14,7 +15,7 @@ pub use Rattle.rpm_db.specs.Lawful.{StaysLawful}
 pub use Rattle.rpm_db.specs.Openings.{IsOpened, IsOpenedOn, must_make, StoreIs, units_needed}
 pub use Rattle.rpm_db.specs.Own.{header-own}
 pub use Rattle.rpm_db.specs.PackageLaws.{get-packages, is_there}
-pub use Rattle.rpm_db.specs.Reaches.{added, ReachesMade}
+pub use Rattle.rpm_db.specs.Reaches.{added, added_rows, dropped_rows, found_rows, Gains, ReachesMade}
 pub use Rattle.rpm_db.specs.Refusals.{AddIs, BadCause, BadIndexIs, EraseCause, EraseIs, FullCause, FullIndexIs, is_stopping, IsOfErasing, IsOfIndex}
 pub use Rattle.rpm_db.specs.Refusals.{IsOfReading}
 pub use Rattle.rpm_db.specs.Refusals.{IsRead, IsRefusal, LaterCause, LaterIs, PutIs, PutsHeader, WholeCause}
@@ -37,7 +38,7 @@ pub use Rattle.rpm_db.specs.declared.netting.RowChange.{RowChange}
 pub use Rattle.rpm_db.specs.declared.netting.Standing.{Standing}
 pub use Rattle.rpm_db.specs.declared.writing.Edit.{Edit}
 pub use Rattle.rpm_db.specs.inner.Faults.{store_fault}
-pub use Rattle.rpm_db.specs.inner.Filling.{AreOfRows, CanPutAside, IsPutAside, TakesRows, with_rows}
+pub use Rattle.rpm_db.specs.inner.Filling.{AreOfRows, CanPutAside, IsPutAside, TakesRows}
 pub use Rattle.rpm_db.specs.inner.LawfulLaws.{remade_lawful, remade_none, remade_then, stops_lawful, void_agrees}
 pub use Rattle.rpm_db.specs.inner.Making.{CanMake, IsEmptyIndex, IsSealedHere}
 pub use Rattle.rpm_db.specs.inner.Order.{AreInOrder, AreNetted, AreWithout, is_before, row_cmp, row_of}
@@ -48,7 +49,7 @@ pub use Rattle.rpm_header.specs.declared.form.HeaderFault.{HeaderFault}
 pub use Rattle.rpm_hindex.specs.Answers.{AreHits, FindIs, IsOutside, row_of_hit}
 pub use Rattle.rpm_hindex.specs.Images.{IsSealed, SealedOrSame, VoidOrSame, VoidOrSameSeal}
 pub use Rattle.rpm_hindex.specs.Index.{chain, index_in, records}
-pub use Rattle.rpm_hindex.specs.Plans.{after, buckets_after, HasChanged, ReachesFor}
+pub use Rattle.rpm_hindex.specs.Plans.{after, buckets_after, HasChanged, reach_with, ReachesFor, units_after}
 unfoldable pub use Rattle.rpm_hindex.specs.Plans.{IsPlanFor}
 pub use Rattle.rpm_hindex.specs.Refusals.{IsBad}
 pub use Rattle.rpm_hindex.specs.Rows.{hash_of, no_row, Row, row_nth, same_row, SameRows}

@@ -1,5 +1,5 @@
 -- A batch of changes of a database: each changes the store at its turn, and the index gets the rows of all at once.
-use Rattle.std.specs.Prelude.{◌≡◌, ◌≢◌, ℕ, ◌+◌, ◌^◌, ◌≤◌, max, List, [], length, replicate, true, false, ◌==◌, if◌then◌else◌, IsTrue, Option, Some, None, Result, OnOk, OnErr, IfErr}
+use Rattle.std.specs.Prelude.{◌≡◌, ◌≢◌, ℕ, ◌+◌, ◌^◌, ◌≤◌, max, List, [], ◌++◌, length, replicate, true, false, ◌==◌, if◌then◌else◌, IsTrue, Option, Some, None, Result, OnOk, OnErr, IfErr}
 use Rattle.std.specs.Ordering.{nat_cmp}
 use Rattle.std.specs.FinMap.{FinMap}
 use Rattle.rpm_outside.specs.declared.disk.Disk as disk
@@ -13,7 +13,7 @@ use Rattle.rpm_db.specs.Changes.{Change, IsServing, apply, changed_number}
 use Rattle.rpm_db.specs.Database.{Database, IsIndexed, database_of, generation_of, has_failed, is_indexed, room}
 use Rattle.rpm_db.specs.Frame.{Runs, StaysBetween, state_in}
 use Rattle.rpm_db.specs.Lawful.{HasRows}
-use Rattle.rpm_db.specs.Reaches.{Reaches, needed}
+use Rattle.rpm_db.specs.Reaches.{Gains, Reaches, added_rows, dropped_rows, needed}
 use Rattle.rpm_db.specs.Refusals.{BadIndexIs, FullIndexIs, IsRefusal}
 use Rattle.rpm_db.specs.Room.{RoomIs, next_store}
 use Rattle.rpm_db.specs.Rows.{rows}
@@ -42,6 +42,10 @@ suspended db = database_of (room db) db.index true
 -- an index that is owed nothing
 abbrev pub nothing : RowChange
 nothing = record { drops = []; adds = [] }
+
+-- a change of rows with the rows of one more change
+abbrev pub with_rows : RowChange → List Row → List Row → RowChange
+with_rows owed drops adds = record { drops = owed.drops ++ drops; adds = owed.adds ++ adds }
 
 -- row by row the new rows and those that are to be dropped are the old rows and those that are to be added: a row that a batch adds and drops again
 -- stands on both sides
@@ -87,6 +91,8 @@ module _ {D : Type 0} (d : disk.Ghosts D) where
     pub state_is : IsTrue d.tells
         → state (d.files new).pkg (room after) ≡ apply change (state (d.files old).pkg (room before))
     pub verdicts : IsTrue d.tells → KeepsVerdicts (changed_number change (state_in d old before)) (d.files old).pkg (d.files new).pkg before after
+    pub rows : IsTrue d.tells
+        → more ≡ with_rows owed (dropped_rows (state_in d old before) change) (added_rows (state_in d old before) change)
     pub owes : IsTrue d.tells → OwesOn old before owed → OwesOn new after more
     pub reach : IsTrue d.tells → OwesOn old before owed → Reaches (state (d.files old).pkg (room before)) change
         (due (d.files old) before owed).idx (due (d.files new) after more).idx
@@ -115,5 +121,6 @@ module _ {D : Type 0} (d : disk.Ghosts D) where
     pub going : after.stopped ≡ false
     pub serving : IsTrue d.tells → IsServing (d.files new) (d.left_since new (d.moment new)) after
     pub index : IsTrue d.tells → OwesOn old before owed → IsIndexed (d.files new).pkg (d.files new).idx after
+    pub grows : IsTrue d.tells → Gains owed.adds (d.files old).idx (d.files new).idx
     pub reach : IsTrue d.tells → OwesOn old before owed
         → length (d.files new).idx ≤ due_units (d.files old).pkg (d.files old).idx before owed

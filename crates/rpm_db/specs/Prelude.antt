@@ -6,7 +6,7 @@ pub use Rattle.rpm_header.specs.Header.{Header, header}
 pub use Rattle.rpm_header.specs.declared.form.HeaderFault.{HeaderFault}
 pub use Rattle.rpm_hindex.specs.Answers.{AreHits, ChainCosts}
 pub use Rattle.rpm_hindex.specs.Index.{units_at}
-pub use Rattle.rpm_hindex.specs.Plans.{HasChanged}
+pub use Rattle.rpm_hindex.specs.Plans.{HasChanged, reach_with, units_after}
 pub use Rattle.rpm_hindex.specs.Rewrites.{IsRefused}
 pub use Rattle.rpm_hindex.specs.Rows.{SameRows, row_nth, same_row}
 pub use Rattle.rpm_hindex.specs.Sizes.{live_of, units_for}
@@ -34,13 +34,13 @@ pub use Rattle.rpm_db.specs.Database.{IsNext, KeepsIndex, KeepsUnits, OpenIs, co
 pub use Rattle.rpm_db.specs.Database.{is_blank, is_indexed, next_number, room}
 pub use Rattle.rpm_db.specs.Frame.{Runs, RunsOr, packages_in, state_in}
 pub use Rattle.rpm_db.specs.Gathering.{Balances, Gathers, IsGathering, IsLeftSuspended, IsOrdered, IsSettledUp, OwesOn, nothing, resumed}
-pub use Rattle.rpm_db.specs.Gathering.{sealed_in, suspended}
+pub use Rattle.rpm_db.specs.Gathering.{sealed_in, suspended, with_rows}
 pub use Rattle.rpm_db.specs.Inits.{IsEmptyStill, IsInit, IsInitFault, IsThere, StopsAs}
 pub use Rattle.rpm_db.specs.Lawful.{AreLawful, HasRows, IsOfRows, IsUnsealed, IsWholeIndex}
 pub use Rattle.rpm_db.specs.Lawful.{IsLawfulStill, Remade, StaysLawful, is_current_at}
 pub use Rattle.rpm_db.specs.Openings.{FullIs, FullOpenIs, IsOpened, IsOpenedOn, IsOutside, OpeningReads, StoreIs}
 pub use Rattle.rpm_db.specs.Openings.{WritesNothing}
-pub use Rattle.rpm_db.specs.Reaches.{ReachesMade}
+pub use Rattle.rpm_db.specs.Reaches.{ReachesMade, found_rows}
 pub use Rattle.rpm_db.specs.Rebuilds.{IsRebuilt, IsRenewed, IsStill, RebuildIs}
 pub use Rattle.rpm_db.specs.Refusals.{AddIs, BadIndexIs, EraseIs, FullCause, FullIndexIs, IsOfIndex, IsOfReading}
 pub use Rattle.rpm_db.specs.Refusals.{IsOfErasing, IsOfRoom, IsRefusal, LaterIs, PutIs, StaysWhole, WholeCause, is_stopping}
@@ -55,7 +55,7 @@ pub use Rattle.rpm_db.specs.inner.Both.{FindsRoom, IsDone, IsPlaced, IsStored, L
 pub use Rattle.rpm_db.specs.inner.Edits.{CanEdit, EditReaches, EditsTo, HasEdit, IsEdited, KeepsSums, Suits, edit_cost, edited, edited_number}
 pub use Rattle.rpm_db.specs.inner.Edits.{field_edited}
 pub use Rattle.rpm_db.specs.inner.Faults.{store_fault}
-pub use Rattle.rpm_db.specs.inner.Filling.{AreOfRows, CanFill, CanPutAside, IsFilled, IsPutAside, TakesRows, with_rows}
+pub use Rattle.rpm_db.specs.inner.Filling.{AreOfRows, CanFill, CanPutAside, IsFilled, IsPutAside, TakesRows}
 pub use Rattle.rpm_db.specs.inner.Making.{CanIndex, CanMake, IsEmptyIndex, IsIndexFor, IsMadeEmpty, IsRemade, IsSealedHere}
 pub use Rattle.rpm_db.specs.inner.Order.{AreInOrder, AreNetted, is_before, row_of}
 pub use Rattle.rpm_db.specs.Runs.{SameFiles, SameLog}

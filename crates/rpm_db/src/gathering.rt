@@ -2,7 +2,7 @@
 
 ghost use Rattle.std.specs.Prelude.{◌≡◌, ◌+◌, ◌++◌, ◌≤◌, ◌<◌, length, IsTrue, IsSome, true, Some, Err, OnOk, IfOk, IfErr};
 ghost use Rattle.std.specs.FinMap as finite;
-ghost use Rattle.rpm_db.specs.Prelude.{AreLawful, AreOfRows, BadIndexIs, Balances, blobs, CanApply, CanFill, CanPutAside, CanTake, cost_before, DiskFault, field_for, FindsRoom, FullCause, FullIndexIs, HasEdit, HasRows, header_rows, Idx, images, IsChangedStill, IsFilled, IsLawfulStill, IsOfIndex, IsOfReading, IsPutAside, IsRefusal, IsWholeIndex, KeepsSums, LeadsTo, LeavesIn, LooksAt, nat_cmp, number_for, old_rows, Package, packages, Pkg, put_map, raised, ReachesTo, ReadsAtMost, rows, Runs, RunsOr, SameFiles, SameLog, slot_with, state, state_of, StaysWhole, TakesRows, units_for, with_rows, with_spare, WritesWhole};
+ghost use Rattle.rpm_db.specs.Prelude.{AreLawful, AreOfRows, BadIndexIs, Balances, blobs, CanApply, CanFill, CanPutAside, CanTake, cost_before, DiskFault, field_for, FindsRoom, found_rows, FullCause, FullIndexIs, HasEdit, HasRows, header_rows, Idx, images, IsChangedStill, IsFilled, IsLawfulStill, IsOfIndex, IsOfReading, IsPutAside, IsRefusal, IsWholeIndex, KeepsSums, LeadsTo, LeavesIn, LooksAt, nat_cmp, number_for, old_rows, Package, packages, Pkg, put_map, raised, reach_with, ReachesTo, ReadsAtMost, rows, Runs, RunsOr, SameFiles, SameLog, slot_with, state, state_of, StaysWhole, TakesRows, units_after, units_for, with_rows, with_spare, WritesWhole};
 ghost use Rattle.rpm_db.specs.Prelude.{Keeps};
 ghost use Rattle.rpm_hindex.specs.State as hindex;
 
@@ -34,6 +34,8 @@ fn prepare_owed<D: Disk>(
     ensures full { IsTrue D.tells → (before after : finite.FinMap nat_cmp Package)
         → HasRows before (D.files disk.old).idx → Balances owed (rows before) (rows after)
         → FullIndexIs (units_for (rows after)) result }
+    ensures grows { IfOk result (λ plan. IsTrue D.tells
+        → units_after plan.work ≤ reach_with owed.adds (found_rows (D.files disk.old).idx) index.now.units) }
     ensures whole { IfOk result (λ plan. IsTrue D.tells → IsWholeIndex (D.files disk.old).idx → WritesWhole plan.work (D.files disk.old).idx) }
     ensures bad { IsTrue D.tells → BadIndexIs owed.drops (D.files disk.old).idx result }
     ensures kinds { IfErr result IsOfIndex }

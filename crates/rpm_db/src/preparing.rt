@@ -2,7 +2,7 @@
 
 ghost use Rattle.std.specs.Prelude.{◌≡◌, ℕ, ◌+◌, ◌++◌, ◌≤◌, [], max, IsTrue, true, Option, None, Err, OnOk, IfOk, IfErr};
 ghost use Rattle.std.specs.FinMap as finite;
-ghost use Rattle.rpm_db.specs.Prelude.{AreRead, BadIndexIs, CanApply, cost_before, DiskFault, FullIndexIs, HasChanged, HasRows, header_rows, Idx, IsOfIndex, IsOfReading, IsOutside, IsWholeIndex, Keeps, LeadsTo, Looks, LooksAt, nat_cmp, old_rows, Package, packages, Pkg, rows, Runs, SameFiles, units_for, WritesWhole};
+ghost use Rattle.rpm_db.specs.Prelude.{AreRead, BadIndexIs, CanApply, cost_before, DiskFault, found_rows, FullIndexIs, HasChanged, HasRows, header_rows, Idx, IsOfIndex, IsOfReading, IsOutside, IsWholeIndex, Keeps, LeadsTo, Looks, LooksAt, nat_cmp, old_rows, Package, packages, Pkg, reach_with, rows, Runs, SameFiles, units_after, units_for, WritesWhole};
 ghost use Rattle.rpm_hindex.specs.State as hindex;
 
 use crate::change_fault::ChangeFault;
@@ -90,6 +90,8 @@ pub fn prepare_rows<D: Disk>(
     ensures full { IsTrue D.tells → (before after : finite.FinMap nat_cmp Package)
         → HasRows before (D.files disk.old).idx → HasChanged drops.now adds.now (rows before) (rows after)
         → FullIndexIs (units_for (rows after)) result }
+    ensures grows { IfOk result (λ plan. IsTrue D.tells
+        → units_after plan.work ≤ reach_with adds.now (found_rows (D.files disk.old).idx) index.now.units) }
     ensures whole { IfOk result (λ plan. IsTrue D.tells → IsWholeIndex (D.files disk.old).idx → WritesWhole plan.work (D.files disk.old).idx) }
     ensures bad { IsTrue D.tells → BadIndexIs drops.now (D.files disk.old).idx result }
     ensures kinds { IfErr result IsOfIndex }

@@ -287,7 +287,7 @@ module _ (c : Change) (file : Units) (go : CanGo c) (b : ℕ) (below : b < c.ext
 
 -- ---- nothing is worked out yet
 
-kept_most : (kept : ℕ → Bool) (f : ℕ → ℕ) (ps : List ℕ) → sum_by (if_kept kept f) ps ≤ sum_by f ps
+pub kept_most : (kept : ℕ → Bool) (f : ℕ → ℕ) (ps : List ℕ) → sum_by (if_kept kept f) ps ≤ sum_by f ps
 kept_most kept f ps = sum_most f (if_kept kept f) ps (λ q. elim (cases_Bool (kept q)) [
   | inl stays ↦ let is : if_kept kept f q ≡ f q = cond-true (kept q) (f q) 0 stays in omega (arith, is)
   | inr gone ↦ let is : if_kept kept f q ≡ 0 = cond-false (kept q) (f q) 0 gone in omega (arith, is)

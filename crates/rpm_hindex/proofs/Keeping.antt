@@ -147,7 +147,7 @@ pub less_start : (old new : List Row) → ((r : Row) → times r new ≡ times r
 less_start old new same r = omega (arith, same r, times_none r)
 
 -- rows are as often in a list that is turned round
-times-reverse : (r : Row) (rows : List Row) → times r (reverse rows) ≡ times r rows
+pub times-reverse : (r : Row) (rows : List Row) → times r (reverse rows) ≡ times r rows
 unfolding times
 times-reverse r rows = sum_by-IsPermutation (λ (x : Row). cond (same_rows r x) 1 0) rows (reverse rows) (IsPermutation-reverse rows)
 

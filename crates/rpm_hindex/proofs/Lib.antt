@@ -15,6 +15,7 @@ pub mod Founds
 pub mod Gathers
 pub mod Going
 pub mod Extends
+pub mod Fewer
 pub mod UnitWords
 pub mod Seals
 pub mod Made

@@ -9,7 +9,7 @@ pub use Rattle.rpm_hindex.specs.Index.{records, run, units_at}
 unfoldable pub use Rattle.rpm_hindex.specs.Index.{all_places, chain, is_sound, places_of, row_at, rows_of}
 pub use Rattle.rpm_hindex.specs.Padding.{AddsPadded, ArePadded, IsPadded, past_key, Remains}
 pub use Rattle.rpm_hindex.specs.Plans.{after, after_tail, after_units, ArePatches, buckets_after, CanWrite, HasChanged, IsAfter, IsChanged, IsSizedFor}
-pub use Rattle.rpm_hindex.specs.Plans.{LeavesOrder, patch_at, ReachesFor, second_after, units_after, WritesPadded}
+pub use Rattle.rpm_hindex.specs.Plans.{LeavesOrder, patch_at, reach_with, ReachesFor, second_after, units_after, WritesPadded}
 unfoldable pub use Rattle.rpm_hindex.specs.Plans.{IsPaddedPlan, IsPlanFor}
 pub use Rattle.rpm_hindex.specs.Refusals.{DropsMore, HasRoomFor, HoldsMore, IsBad, IsBadFor, IsFaulty, IsTooLargeFor}
 pub use Rattle.rpm_hindex.specs.Rows.{fnv, no_row, Row, row_nth, same_row, SameRows}

@@ -1,5 +1,5 @@
 -- What a change writes, and what it leaves.
-use Rattle.std.specs.Prelude.{◌≡◌, true, ℕ, ◌+◌, ◌-◌, ◌/◌, ◌%◌, ◌^◌, ◌<◌, ◌≤◌, List, [], ◌∷◌, length, take, if◌then◌else◌, ◌==◌, slice_index_or, max}
+use Rattle.std.specs.Prelude.{◌≡◌, true, ℕ, ◌+◌, ◌-◌, ◌/◌, ◌%◌, ◌^◌, ◌<◌, ◌≤◌, List, [], ◌∷◌, ◌++◌, length, take, if◌then◌else◌, ◌==◌, slice_index_or, max}
 use Rattle.rpm_outside.specs.Files.{Units, units_of, put, blank}
 use Rattle.rpm_hindex.specs.declared.plan.Patch.{Patch}
 use Rattle.rpm_hindex.specs.declared.plan.Patches.{Patches}
@@ -107,3 +107,8 @@ IsSizedFor drops adds old work = (new : List Row) → HasChanged drops adds old 
 -- change that is made from scratch
 abbrev pub ReachesFor : List Row → List Row → List Row → ℕ → Work → Type 0
 ReachesFor drops adds old units work = (new : List Row) → HasChanged drops adds old new → units_after work ≤ max (units + live_of adds) (units_for new)
+
+-- an index of these rows, in so many units, that gets others has no more units than these with the others' records
+-- after them, or than one of all of them that is made from scratch
+abbrev pub reach_with : List Row → List Row → ℕ → ℕ
+reach_with adds old units = max (units + live_of adds) (units_for (old ++ adds))

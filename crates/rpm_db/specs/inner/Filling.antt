@@ -1,5 +1,5 @@
 -- The store that is changed alone, while the rows that change with it are gathered; and the index once it has what it is owed.
-use Rattle.std.specs.Prelude.{◌≡◌, ℕ, ◌+◌, ◌≤◌, ◌==◌, if◌then◌else◌, max, List, ◌++◌, length, true, false, IsTrue, Result}
+use Rattle.std.specs.Prelude.{◌≡◌, ℕ, ◌+◌, ◌≤◌, ◌==◌, if◌then◌else◌, max, length, true, false, IsTrue, Result}
 use Rattle.std.specs.Ordering.{nat_cmp}
 use Rattle.std.specs.FinMap.{FinMap}
 use Rattle.rpm_outside.specs.declared.disk.Disk as disk
@@ -7,13 +7,13 @@ use Rattle.rpm_outside.specs.declared.disk.File.TheVariants.{Idx}
 use Rattle.rpm_outside.specs.Changes.{IsSettled}
 use Rattle.rpm_outside.specs.Files.{Files}
 use Rattle.rpm_pkgdb.specs.Store.{Keeps, Store}
-use Rattle.rpm_hindex.specs.Rows.{Row}
 use Rattle.rpm_hindex.specs.Sizes.{live_of, units_for}
 use Rattle.rpm_hindex.specs.State as hindex
 use Rattle.rpm_db.specs.declared.change_fault.ChangeFault.{ChangeFault}
 use Rattle.rpm_db.specs.declared.netting.RowChange.{RowChange}
 use Rattle.rpm_db.specs.Gathering.{Balances, nothing}
 use Rattle.rpm_db.specs.Lawful.{HasRows, IsOfRows}
+use Rattle.rpm_db.specs.Reaches.{Gains}
 use Rattle.rpm_db.specs.Refusals.{BadIndexIs, FullIndexIs}
 use Rattle.rpm_db.specs.Rows.{rows}
 use Rattle.rpm_db.specs.State.{Package}
@@ -23,10 +23,6 @@ use Rattle.rpm_pkgdb.specs.Quiet.{BlobMap, IsQuiet}
 -- the Packages.db of each of these images has this generation and the rows of these packages
 abbrev pub AreOfRows : ℕ → FinMap nat_cmp Package → (Files → Type 0) → Type 0
 AreOfRows generation packages images = (image : Files) → images image → IsOfRows generation (rows packages) image.pkg
-
--- a change of rows with the rows of one more change
-abbrev pub with_rows : RowChange → List Row → List Row → RowChange
-with_rows owed drops adds = record { drops = owed.drops ++ drops; adds = owed.adds ++ adds }
 
 module _ {D : Type 0} (d : disk.Ghosts D) where
   -- a store can be changed alone: a crash leaves the same packages, and the index is settled
@@ -69,6 +65,7 @@ module _ {D : Type 0} (d : disk.Ghosts D) where
         → IsQuiet value (d.files new) (d.left_since new (d.moment new))
     pub rows_are : IsTrue d.tells → (from to : FinMap nat_cmp Package) → HasRows from (d.files old).idx
         → Balances owed (rows from) (rows to) → HasRows to (d.files new).idx
+    pub grows : IsTrue d.tells → Gains owed.adds (d.files old).idx (d.files new).idx
     pub reach : IsTrue d.tells → (from to : FinMap nat_cmp Package) → HasRows from (d.files old).idx
         → Balances owed (rows from) (rows to) → length (d.files new).idx ≤ (if hindex.sealed before.first == generation
         then length (d.files old).idx else max (length (d.files old).idx + live_of owed.adds) (units_for (rows to)))

@@ -1,7 +1,7 @@
 use Rattle.std.proofs.Common.{◌≡◌, ℕ, ◌++◌, List, Ok, Err, sym, subst, arith}
 use Rattle.rpm_db.proofs.Vocabulary.{buckets_of, IsWellFormed, records, Row, RowChange, rows, TakesRows, times, times-append, times_none}
 use Rattle.rpm_db.proofs.OwedRows.{balance_most}
-use Rattle.rpm_db.proofs.Units.{units_less}
+use Rattle.rpm_hindex.proofs.Fewer.{units_less}
 use Rattle.rpm_db.proofs.gathering.expect_room.Goals as goal
 use Rattle.rpm_db.proofs.gathering.expect_room.Goals.{in-Ok-prepare_owed, in-Err}
 

@@ -26,6 +26,7 @@ returns-then-is_current-clause-filled g c =
       quiet = λ told value quiet. quiet;
       rows_are = λ told from to has changed.
           rows_clear from to (g.D.Disk.files c.args.disk.now).idx c.args.owed (c.requires.ready.clear at) has changed;
+      grows = λ told. omega arith;
       reach = λ told from to has changed. rw test (omega arith);
     }
 
@@ -53,6 +54,7 @@ returns-clause-filled g c =
       rows_are = λ told from to has changed.
           (rows_sealed n to work (D.files a).idx (D.files e).idx ((leads from to changed).makes told has)
           (subst (λ (f : Files). IsSealedAfter n work f.idx (D.files e).idx) (run.reads_as told) (w.sealed told))).0;
+      grows = λ told. omega (arith, c.in-Ok.ensures.grows told, w.grows, (w.kept told).units, (c.requires.ready.keeps told).units);
       reach = λ told from to has changed.
           rw test (omega (arith, (leads from to changed).reach told has, w.grows, (w.kept told).units, (c.requires.ready.keeps told).units));
     }) c.write_rows.ensures.applied

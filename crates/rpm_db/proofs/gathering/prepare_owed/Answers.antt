@@ -1,8 +1,8 @@
-use Rattle.std.proofs.Common.{arith}
-use Rattle.rpm_db.proofs.Vocabulary.{rows}
+use Rattle.std.proofs.Common.{◌++◌, arith}
+use Rattle.rpm_db.proofs.Vocabulary.{found_rows, rows, times-append}
 use Rattle.rpm_db.proofs.OwedRows.{balance_netted}
 use Rattle.rpm_db.proofs.Prepared.{bad_more}
-use Rattle.rpm_db.proofs.Reached.{live_less}
+use Rattle.rpm_hindex.proofs.Fewer.{live_less, units_less}
 use Rattle.rpm_db.proofs.gathering.prepare_owed.Goals as goal
 
 -- ---- it was worked out
@@ -20,6 +20,19 @@ returns-in-Ok-prepare_rows-clause-leads g c = λ before after balances.
 pub returns-in-Ok-prepare_rows-clause-full : goal.returns-in-Ok-prepare_rows-clause-full
 returns-in-Ok-prepare_rows-clause-full g c = λ told before after has balances.
     c.in-Ok-prepare_rows.ensures.full told before after has (balance_netted c.args.owed c.in-Ok.net (rows before) (rows after) c.in-Ok.ensures balances)
+
+pub returns-in-Ok-prepare_rows-clause-grows : goal.returns-in-Ok-prepare_rows-clause-grows
+returns-in-Ok-prepare_rows-clause-grows g c = λ told.
+    let owed = c.args.owed in
+    let net = c.in-Ok.net in
+    let found = found_rows (g.D.Disk.files c.args.disk.now).idx in
+    omega (
+      arith,
+      c.in-Ok-prepare_rows.ensures.grows told,
+      live_less net.adds owed.adds (λ row. omega (arith, c.in-Ok.ensures.1 row)),
+      units_less (found ++ net.adds) (found ++ owed.adds)
+          (λ row. omega (arith, c.in-Ok.ensures.1 row, times-append row found net.adds, times-append row found owed.adds)),
+    )
 
 -- ---- or not
 

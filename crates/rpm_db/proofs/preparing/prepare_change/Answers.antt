@@ -3,7 +3,7 @@ use Rattle.std.specs.FinMap as finite
 use Rattle.rpm_db.proofs.Vocabulary.{AreNetted, AreWithout, BadCause, Files, HasChanged, HasRows, live_of, nat_cmp, old_rows, Package, packages, Row, RowChange}
 use Rattle.rpm_db.proofs.Vocabulary.{rows, times, WritesRows}
 use Rattle.rpm_db.proofs.Prepared.{bad_more}
-use Rattle.rpm_db.proofs.Reached.{live_less}
+use Rattle.rpm_hindex.proofs.Fewer.{live_less}
 use Rattle.rpm_db.proofs.Shared.{changed_still}
 use Rattle.rpm_db.proofs.Unwritten.{looked_both}
 use Rattle.rpm_db.proofs.preparing.prepare_change.Goals as goal

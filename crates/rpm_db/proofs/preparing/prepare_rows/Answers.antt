@@ -1,5 +1,5 @@
-use Rattle.std.proofs.Common.{ℕ, ◌^◌, ◌<◌, List, sym, subst}
-use Rattle.rpm_db.proofs.Vocabulary.{buckets_of, HasChanged, IsPlanFor, IsWellFormed, ReachesFor, records, rows}
+use Rattle.std.proofs.Common.{ℕ, ◌^◌, ◌<◌, ◌≤◌, List, sym, subst}
+use Rattle.rpm_db.proofs.Vocabulary.{buckets_of, HasChanged, IsPlanFor, IsWellFormed, reach_with, ReachesFor, records, rows, units_after}
 use Rattle.rpm_db.proofs.Prepared.{of_records, writes_rows}
 use Rattle.rpm_db.proofs.Wholes.{whole_plan}
 use Rattle.rpm_db.proofs.preparing.prepare_rows.Goals as goal
@@ -21,6 +21,12 @@ returns-in-Err-IndexFull-clause-full g c = λ told old new has changed.
     large.1 (rows new) (subst (λ (u : List ℕ). HasChanged drops adds (records (buckets_of u) idx) (rows new)) (sym first)
     (of_records drops adds old new idx has changed)) in
     (subst (λ (n : ℕ). 2 ^ 28 < n) is large.0, is)
+
+pub returns-in-Ok-clause-grows : goal.returns-in-Ok-clause-grows
+returns-in-Ok-clause-grows g c = λ told.
+    let idx = (g.D.Disk.files c.args.disk.now).idx in
+    subst (λ (u : List ℕ). units_after c.in-Ok.plan.work ≤ reach_with c.args.adds.now (records (buckets_of u) idx) c.args.index.now.units)
+    (c.requires.keeps told).first (c.in-Ok.ensures.prepared.grows told)
 
 pub returns-in-Ok-clause-leads : goal.returns-in-Ok-clause-leads
 returns-in-Ok-clause-leads g c = λ old new changed.

@@ -39,6 +39,7 @@ returns-in-Ok-clause-settled g c =
           indexed_as new.pkg new.idx st c.fill_index.new.index false (e.filled.kept told) current
           (subst (λ (u : Units). HasRows (packages u st) new.idx) (sym (e.store told))
           (e.filled.rows_are told o.from (packages old.pkg st) o.has o.balances));
+      grows = e.filled.grows;
       reach = λ told o.
           subst (λ (i : Option hindex.State). length new.idx ≤ (if sealed_in i == st.generation then length old.idx
           else max (length old.idx + live_of owed.adds) (units_for (rows (packages old.pkg st))))) (sym c.in-Some.is)

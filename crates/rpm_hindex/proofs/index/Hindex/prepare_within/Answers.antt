@@ -2,10 +2,11 @@ use Rattle.std.proofs.Common.{◌≡◌, ℕ, Vec, Global, arith, ◌-◌, ◌++
 use Rattle.std.specs.Prelude.{IsTrue}
 use Rattle.rpm_hindex.proofs.Vocabulary.{AddsPadded, AddsRows, buckets_of, Change, changing, Extent, Files, first_record, HasLess, index_in, is_bucket_count}
 use Rattle.rpm_hindex.proofs.Vocabulary.{IsBad, IsBadFor, IsFaulty, IsHonest, IsPaddedPlan, IsPlanFor, IsScratchOf, IsTooLarge, IsTooLargeFor, IsWhole}
-use Rattle.rpm_hindex.proofs.Vocabulary.{records, rows_of, times}
+use Rattle.rpm_hindex.proofs.Vocabulary.{contains, is_kept, nat_cmp, records, rows_of, times}
 use Rattle.rpm_hindex.proofs.Gathers.{scratch_plan, scratch_padded, large_for, scratch_reach, place_reach, scratch_sized, place_sized, place_zero}
 use Rattle.rpm_hindex.proofs.Placing.{place_order, place_plan, place_padded}
 use Rattle.rpm_hindex.proofs.Honest.{faulty_bad, faulty_for, bad_memory}
+use Rattle.rpm_hindex.proofs.Fewer.{scratch_grows}
 use Rattle.rpm_hindex.proofs.Fitting.{plan_fits, changed_least}
 use Rattle.rpm_hindex.proofs.RowsLeft.{rows_kept_by, rows_less, has_dropped, drops_cost, other_large}
 use Rattle.rpm_hindex.proofs.Keeping.{less_reversed}
@@ -27,6 +28,11 @@ returns-then-not-has_room-clause-prepared g c = if_ok_two c.from_scratch.result 
     record {
       ordered = is.ordered;
       zero = is.zero;
+      grows = λ told.
+          let at_file = subst (λ (f : Files). IsScratchOf (reverse (rows_kept_by new.extent.buckets f.idx new) ++ adds) plan.work)
+          ((c.drop_rows.ensures.reads.looks.untouched told).same) (made told) in
+          scratch_grows (index_in B file.idx) (is_kept (λ p. contains nat_cmp new.dropped p)) adds c.args.self.now.units plan.work
+          (subst (λ (n : ℕ). IsScratchOf (reverse (rows_kept_by n file.idx new) ++ adds) plan.work) same at_file);
       change = λ told whole.
           let all = less_reversed drops (records B file.idx) (rows_kept_by B file.idx new)
           (rows_less B file.idx drops first new c.start-change.ensures.buckets c.start-change.ensures.dropped
@@ -88,6 +94,9 @@ returns-clause-prepared g c = if_ok_two c.in_place.result _ _ _ (λ plan can mad
     record {
       ordered = ordered;
       zero = place_zero last plan.work made;
+      grows = λ told.
+          let reach = place_reach last plan.work made in
+          omega (arith, reach, used, ap (λ (e : Extent). e.used) keeps.extent, add.tail, empty, first.fits);
       change = λ told whole.
           let less = rows_less B file.idx drops c.start-change.result mid first.buckets first.dropped (c.in_ok-drop_rows.ensures.dropped told).less whole in
           let left = has_dropped B file.idx drops c.start-change.result mid first.buckets keeps.extent keeps.tail first.tail
