@@ -23,17 +23,18 @@ pub struct Named {
 #[derive(Drop)]
 pub struct Names {
     kept: Vec<Named>,
-    // The marks of names that were looked up, each in its place: names with the same mark are rare.
+    // The marks of names that were looked up, each in its place, odd from the second time on: names with the same mark
+    // are rare.
     marks: [u32; MARKS],
 }
 
-/// A number that a name has, and few other names.
+/// An even number that a name has, and few other names.
 fn mark_of(name: &[u8]) -> u32 {
     let mut mark = 0u32;
     for byte in name {
         mark = mark.wrapping_mul(31).wrapping_add(*byte as u32);
     }
-    mark
+    mark.wrapping_mul(2)
 }
 
 impl Names {
@@ -46,15 +47,16 @@ impl Names {
         }
     }
 
-    /// Notes that a name is looked up, and tells whether it seems to have been before.
+    /// Notes that a name is looked up, and tells whether it seems to have been twice before. The package that provides
+    /// it is often still held the second time, so that nothing need be read.
     pub fn is_again(&mut self, name: &[u8]) -> bool
         ensures { (packages : FinMap nat_cmp Package) → KnowsNames packages self.old → KnowsNames packages self.new }
     {
         let mark = mark_of(name);
-        let place = mark as usize % MARKS;
-        let again = self.marks[place] == mark;
-        self.marks[place] = mark;
-        again
+        let place = (mark / 2) as usize % MARKS;
+        let seen = self.marks[place];
+        self.marks[place] = if seen | 1 == mark | 1 { mark | 1 } else { mark };
+        seen == mark | 1
     }
 
     /// Takes out a name that is kept, and gives what the packages provide under it.
