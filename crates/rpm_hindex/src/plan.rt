@@ -1,7 +1,7 @@
 //! What a change of the index will write.
 
 ghost use Rattle.std.specs.Prelude.{◌≡◌, ℕ, ◌+◌, ◌*◌, ◌^◌, ◌≤◌, IsTrue, true, length, map, reverse, ◌++◌, OnOk, IfOk, IfErr, Err};
-ghost use Rattle.rpm_hindex.specs.Prelude.{CanGo, CanRead, CanWrite, contains, first_record, Grows, HasAdded, Idx, index_at, index_of, is_kept, IsFaulty, IsHonest, IsOpen, IsOther, IsScratchOf, IsStrictlySortedBy, IsTooLarge, IsWorkOf, kept_in, kept_of, keys, LeavesWhole, live_of, nat_cmp, patch_of, ReadsAtOr, ReadsOr};
+ghost use Rattle.rpm_hindex.specs.Prelude.{bucket_count, CanGo, CanRead, CanWrite, contains, first_record, Grows, HasAdded, Idx, index_at, index_of, is_kept, IsFaulty, IsHonest, IsImage, IsOpen, IsOther, IsScratchOf, IsStrictlySortedBy, IsTooLarge, IsWorkOf, kept_in, kept_of, keys, LeavesWhole, live_of, nat_cmp, patch_of, ReadsAtOr, ReadsOr, units_for};
 
 use crate::chain::Extent;
 use crate::change::{Change, prepare_fault};
@@ -168,6 +168,38 @@ fn append_rows(rows: &mut Rows, others: &Rows) -> Result<(), AllocError>
     Ok(())
 }
 
+/// The image of these rows, where the units that it needs are few enough.
+fn scratch_of(alloc: Global, rows: &Rows) -> Result<Image, PrepareFault>
+    ensures fits { IfOk result (λ image. units_for rows.now ≤ 2 ^ 28) }
+    ensures buckets { IfOk result (λ image. image.buckets ≡ bucket_count (length rows.now)) }
+    ensures made { IfOk result (λ image. IsImage rows.now (bucket_count (length rows.now)) image.bytes.items) }
+    ensures full { IfErr result (IsTooLarge rows.now) }
+{
+    match image_of(alloc, rows) {
+        Ok(image) => Ok(image),
+        Err(RewriteFault::IndexFull { needed }) => Err(PrepareFault::IndexFull { needed }),
+        Err(_) => Err(PrepareFault::NoMemory),
+    }
+}
+
+/// The image of the rows that are kept, and of those that are added after them. Where none is kept, as in an import
+/// into a new database, the added ones aren't copied.
+fn image_with(alloc: Global, kept: Rows, adds: &Rows) -> Result<Image, PrepareFault>
+    ensures fits { IfOk result (λ image. units_for (kept ++ adds.now) ≤ 2 ^ 28) }
+    ensures buckets { IfOk result (λ image. image.buckets ≡ bucket_count (length (kept ++ adds.now))) }
+    ensures made { IfOk result (λ image. IsImage (kept ++ adds.now) (bucket_count (length (kept ++ adds.now))) image.bytes.items) }
+    ensures full { IfErr result (IsTooLarge (kept ++ adds.now)) }
+{
+    if kept.len() == 0 {
+        return scratch_of(alloc, adds);
+    }
+    let mut rows = kept;
+    if append_rows(&mut rows, adds).is_err() {
+        return Err(PrepareFault::NoMemory);
+    }
+    scratch_of(alloc, &rows)
+}
+
 /// What is written from scratch. The kept rows are added from the last to the first, so that those of a chain stand
 /// in it as they did.
 pub fn from_scratch<D: Disk>(
@@ -185,14 +217,13 @@ pub fn from_scratch<D: Disk>(
     ensures bad { IfErr result (λ e. IsTrue D.tells → IsFaulty change.now.extent.buckets (D.files disk.old).idx e) }
     ensures reads { ReadsAtOr D.Disk Idx (result ≡ Err PrepareFault.DiskFault) disk.old disk.new }
 {
-    let mut rows = kept_rows(alloc, disk, change.extent, &change.dropped)?;
-    rows.reverse();
-    append_rows(&mut rows, adds).map_err(|_| PrepareFault::NoMemory)?;
-    match image_of(alloc, &rows) {
+    let mut kept = kept_rows(alloc, disk, change.extent, &change.dropped)?;
+    kept.reverse();
+    match image_with(alloc, kept, adds) {
         Ok(image) => Ok(IndexPlan {
             work: Work::Scratch(image),
         }),
-        Err(RewriteFault::IndexFull { needed }) => Err(PrepareFault::IndexFull { needed }),
+        Err(PrepareFault::IndexFull { needed }) => Err(PrepareFault::IndexFull { needed }),
         Err(_) => Err(PrepareFault::NoMemory),
     }
 }

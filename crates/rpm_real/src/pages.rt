@@ -11,7 +11,7 @@ const SIZE: u64 = 4096;
 const MOST: usize = 256;
 
 /// How many reads come before the first page: who reads less holds none.
-const FEW: u32 = 2048;
+const FEW: u32 = 12_000;
 
 /// A page's room is made in pieces of so many bytes, which are cheaper to fill.
 const PIECE: usize = 1024;
