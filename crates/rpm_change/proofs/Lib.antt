@@ -1,5 +1,4 @@
 pub mod Arguments
-pub mod Bounds
 pub mod Dropped
 pub mod Erased
 pub mod Filed
@@ -8,6 +7,5 @@ pub mod Imported
 pub mod Listed
 pub mod Rebuilt
 pub mod Stops
-pub mod Texts
 pub mod Turned
 pub mod Vocabulary

@@ -1,8 +1,8 @@
 -- The words of proofs, from one place.
-pub use Rattle.rpm_change.specs.Adding.{add_file, add_files, as_installed, change_at, GivesInstalled, put_file, replace, stop_in}
+pub use Rattle.rpm_change.specs.Adding.{add_file, add_files, as_installed, change_at, GivesInstalled, put_file, replace}
+pub use Rattle.rpm_effects.specs.Endings.{stop_in}
 pub use Rattle.rpm_effects.specs.Progress.{halt_of}
 pub use Rattle.rpm_change.specs.Erasing.{erase, erase_one, missing}
-pub use Rattle.rpm_change.specs.Exercise.{generated, numbered, package_items, version}
 pub use Rattle.rpm_change.specs.Importing.{ending, import_list, import_listed, imported, Listed, listed, listed_in, listed_next, once, place_fails, with_blob}
 pub use Rattle.rpm_change.specs.Limits.{is_limit, LimitsTurn}
 pub use Rattle.rpm_change.specs.Rebuilding.{drop_each, dropped, dropped_line, rebuild}
@@ -14,7 +14,8 @@ pub use Rattle.rpm_change.specs.Went.{CarriedOn, IsOwing, LeftBy, Went, WentOwin
 pub use Rattle.rpm_effects.specs.Shown.{EndedOnErr, EndedOnOut}
 pub use Rattle.rpm_effects.specs.declared.tally.Halt.{Halt}
 pub use Rattle.rpm_effects.specs.declared.tally.Tally.{Tally}
-pub use Rattle.rpm_effects.specs.inner.Courses.{refused_quietly, stop_by, through_none}
+pub use Rattle.rpm_effects.specs.inner.Courses.{refused_quietly, stop_by}
+pub use Rattle.rpm_effects.specs.inner.Reaching.{through_none}
 pub use Rattle.rpm_change.specs.inner.Going.{Going, going_end, going_more, going_start, going_stop, halted_went, line_went, none_went, reading_went}
 pub use Rattle.rpm_change.specs.inner.Going.{stopped_went, went_as, went_behind}
 pub use Rattle.rpm_change.specs.inner.Handing.{err_is}
@@ -53,11 +54,7 @@ pub use Rattle.rpm_file.specs.Package.{package_header, read_again}
 pub use Rattle.rpm_file.specs.declared.fault.FileFault.{FileFault}
 pub use Rattle.rpm_file.specs.declared.fault.ListFault.{ListFault}
 pub use Rattle.rpm_file.specs.declared.fault.ListFault.TheVariants.{Short}
-pub use Rattle.rpm_header.specs.Build.{IsText}
-pub use Rattle.rpm_header.specs.Header.{alignment, Header, header, Item}
-pub use Rattle.rpm_header.specs.Laid.{end_of}
-unfoldable pub use Rattle.rpm_header.specs.Laid.{bytes_in, data_from, offset_of}
-pub use Rattle.rpm_header.specs.declared.form.Form.{Form}
+pub use Rattle.rpm_header.specs.Header.{Header, header}
 pub use Rattle.rpm_hindex.specs.Rows.{times}
 pub use Rattle.rpm_outside.specs.Browses.{left}
 pub use Rattle.rpm_outside.specs.Buffered.{inner}
@@ -70,7 +67,4 @@ pub use Rattle.rpm_outside.specs.declared.disk.File.TheVariants.{Pkg}
 pub use Rattle.rpm_pkgdb.specs.Reaches.{ReachesTo}
 pub use Rattle.rpm_pkgdb.specs.Store.{Store}
 pub use Rattle.std.specs.Cmp.{unsigned_tied}
-pub use Rattle.std.specs.Fmt.{decimal}
-pub use Rattle.std.specs.Int.{next_multiple_of}
 pub use Rattle.std.specs.Ordering.{eq_by_cmp, nat_cmp}
-pub use Rattle.std.specs.Str.Parse.{AllDigits}

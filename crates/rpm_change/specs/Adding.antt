@@ -79,12 +79,6 @@ GivesInstalled said (Err file.ReadFault) = Unit {0}
 GivesInstalled said (Err file.NoMemory) = Unit {0}
 GivesInstalled said (Err fault) = said ≡ Err fault
 
--- what stops a command where a package file isn't read; None where the file itself is refused
-abbrev pub stop_in : FileFault → Option Halt
-stop_in file.ReadFault = Some halt.ShelfFault
-stop_in file.NoMemory = Some halt.NoMemory
-stop_in fault = None
-
 -- nothing is written to out; and only a new number can be spent
 abbrev pub IsOfPutting : Option ℕ → Halt → Type 0
 IsOfPutting number halt.OutFault = ⊥

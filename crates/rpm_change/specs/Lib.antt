@@ -1,6 +1,5 @@
 pub mod Adding
 pub mod Erasing
-pub mod Exercise
 pub mod Importing
 pub mod Installs
 pub mod Limits

@@ -9,17 +9,13 @@ pub use Rattle.rpm_db.specs.State.{Bad, Package}
 pub use Rattle.rpm_db.specs.Runs.{SameLog}
 pub use Rattle.rpm_file.specs.List.{list_head}
 pub use Rattle.rpm_file.specs.Package.{package_header, read_again}
-pub use Rattle.rpm_header.specs.Build.{IsText}
-pub use Rattle.rpm_header.specs.Header.{header, max_data, max_entries}
-pub use Rattle.rpm_header.specs.Laid.{data_of, laid}
+pub use Rattle.rpm_header.specs.Header.{header}
 pub use Rattle.rpm_outside.specs.Browses.{left}
 pub use Rattle.rpm_outside.specs.Frame.{DiskFault}
 pub use Rattle.rpm_outside.specs.Shelves.{bytes_at}
 pub use Rattle.rpm_change.specs.Adding.{GivesInstalled, IsOfPutting, add_files, as_installed, change_at}
-pub use Rattle.rpm_change.specs.Adding.{put_file, replace, stop_in}
+pub use Rattle.rpm_change.specs.Adding.{put_file, replace}
 pub use Rattle.rpm_change.specs.Erasing.{IsOfErasing, erase, erase_one, missing_line}
-pub use Rattle.rpm_change.specs.Exercise.{file_items, generated, identity_items, numbered, provided_items}
-pub use Rattle.rpm_change.specs.Exercise.{required_items, version}
 pub use Rattle.rpm_effects.specs.Hands.{Hand, KeepsShelf}
 pub use Rattle.rpm_change.specs.Importing.{import_list, import_listed, listed, max_headers}
 pub use Rattle.rpm_change.specs.Limits.{StopsAt, first_limit, next_stores}

@@ -1,13 +1,12 @@
 //! Adding package files.
 
 ghost use Rattle.std.specs.Prelude.{◌≡◌, ℕ, ◌+◌, ◌^◌, ◌<◌, Some, None, length, map, IsTrue, Ok, Err, IfOk, IfErr};
-ghost use Rattle.rpm_change.specs.Prelude.{add_files, EndedOnErr, Hand, IsGathering, IsHeld, KeepsShelf, IsOfPutting, IsReady, put_file, state_in, stop_in, Went, WentOwing};
+ghost use Rattle.rpm_change.specs.Prelude.{add_files, EndedOnErr, Hand, IsGathering, IsHeld, KeepsShelf, IsOfPutting, IsReady, put_file, state_in, Went, WentOwing};
 
 use crate::install::read_installed;
 use crate::single::put_within;
 use rpm_db::{Batch, Db};
-use rpm_effects::{Halt, Tally, put_absent, put_refused};
-use rpm_file::FileFault;
+use rpm_effects::{Halt, Tally, put_absent, put_refused, stop_in};
 use rpm_outside::{Absent, Buffered, Disk, Shelf, Sink};
 use std::alloc::Global;
 
@@ -17,17 +16,6 @@ use std::alloc::Global;
 pub struct Placing {
     pub number: Option<u32>,
     pub moment: u32,
-}
-
-/// What stops a command where a package file isn't read; None where the file itself is refused.
-fn stop_in(fault: FileFault) -> Option<Halt>
-    ensures { result ≡ stop_in fault }
-{
-    match fault {
-        FileFault::ReadFault => Some(Halt::ShelfFault),
-        FileFault::NoMemory => Some(Halt::NoMemory),
-        _ => None,
-    }
 }
 
 /// Puts the package file under a path into the database while a batch goes on, or writes to err why it doesn't go.
@@ -58,7 +46,7 @@ pub fn put_file<D: Disk, S: Shelf, E: Sink + Drop>(
                 None => put_refused(alloc, err, path.as_bytes(), fault),
             },
         },
-        Err(Absent) => put_absent(alloc, err, path.as_bytes()),
+        Err(Absent) => put_absent(err, path.as_bytes()),
     }
 }
 

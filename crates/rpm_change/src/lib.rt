@@ -6,7 +6,6 @@
 
 mod add;
 mod erase;
-mod exercise;
 mod import;
 mod install;
 mod missing;
@@ -18,7 +17,6 @@ mod turn;
 
 pub use add::add_files;
 pub use erase::erase_numbers;
-pub use exercise::generated;
 pub use import::{import_list, import_most};
 pub use rebuilding::rebuild;
 pub use replace::replace_package;

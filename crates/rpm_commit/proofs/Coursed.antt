@@ -1,5 +1,6 @@
 -- A course that was gone through on a database that was opened to be changed, as a command says it.
-use Rattle.rpm_commit.proofs.Vocabulary.{BadBy, begun, Change, command_limit, Course, Damage, Database, DiskFault, Done, done_why, EmptyBy, Ended, ended_as}
+use Rattle.rpm_commit.proofs.Vocabulary.{BadBy, begun, Change, command_limit, Course, Damage, Database, DiskFault, Done, done_why, EmptyBy, CourseProgress}
+use Rattle.rpm_commit.proofs.Vocabulary.{ended_as}
 use Rattle.rpm_commit.proofs.Vocabulary.{exercise, exercise_ended, ExerciseFault, Files, first_limit, first_refusal, Halt, Halted, HasRows, HasStore, holds, idle}
 use Rattle.rpm_commit.proofs.Vocabulary.{in_file, is_halt, is_there, IsCurrent, IsIndexed, IsLawful, IsNext, IsOfOpening, IsPaged, IsRefused, Keeps, LimitsBy}
 use Rattle.rpm_commit.proofs.Vocabulary.{LimitsTurn, made_paged, makes, makes_small, MayBegin, MeetsFirst, must_make, nat_cmp, next_stores, none_gone, NotEmpty}
@@ -223,7 +224,8 @@ module _ {D : Type 0} (d : disk.Ghosts D) (trans : (a b c : D) → d.follows a b
     -- its changes go into the index that is there
     pub went_works : {Said : Type 0} (says : T → Said) {Ends : Course → State → State → Result Tally Halt → Type 0}
         (r : Result Tally Halt) → Went d Said mid new db last r Ends (course found)
-        → (T → Ended (course found) found (state_in d new last) r before behind) → WorksOn d false true false course T before behind old new (ended_as r)
+        → (T → CourseProgress (course found) found (state_in d new last) r before behind)
+        → WorksOn d false true false course T before behind old new (ended_as r)
     went_works says (Ok tally) went ended = done_works false true false course new before behind last tally (λ t. record {
       done = ended t;
       keeps = (went.left.carried.serving t.0).keeps;
@@ -249,7 +251,7 @@ module _ {D : Type 0} (d : disk.Ghosts D) (trans : (a b c : D) → d.follows a b
 
     -- the index is made anew before them
     pub anew_works : (none : Bool) (r : Result Tally Halt) → (IsTrue d.tells → EmptyBy none (d.files old) (why_of (ended_as r)))
-        → (T → Ended (course found) found (state_in d new last) r before behind)
+        → (T → CourseProgress (course found) found (state_in d new last) r before behind)
         → (IsTrue d.tells → StopsAt true (first_limit true found (room db) (course found).changes) r) → IfOk r (λ _tally. IsCurrent d new last)
         → OnOk r (IsTrue d.tells → RoomBecomes (next_stores (course found).changes (room db)) (room db) (room last))
         → OnOk r (IsTrue d.tells → ReachedAnew found (room db) (course found).changes (d.files mid) (d.files new)) → Runs d SameLog mid new
@@ -283,7 +285,7 @@ module _ {D : Type 0} (d : disk.Ghosts D) (trans : (a b c : D) → d.follows a b
 
     pub exercise_works : (r : Result Tally ExerciseFault) → IsRefused (IsNext (λ m. holds m db) 0) r
         → ((held : ℕ) → r ≡ Err (NotEmpty held) → Through [] before behind)
-        → (T → OnceBegun (λ x. Ended (exercise n found) found (state_in d new last) x before behind) r)
+        → (T → OnceBegun (λ x. CourseProgress (exercise n found) found (state_in d new last) x before behind) r)
         → (IsTrue d.tells → OnceBegun Turns r) → IfOk r (λ _tally. IsCurrent d new last) → Runs d SameLog mid new
         → DiskFault d (r ≡ Err (Halted halt.DiskFault)) mid new → WorksOn d true false true (λ s. exercise n s) T before behind old new (exercise_ended r)
     exercise_works (Ok tally) empty refused ended turns current more fault = anew_works (λ s. exercise n s) new last before behind true (Ok tally)

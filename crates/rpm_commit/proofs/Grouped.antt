@@ -11,7 +11,8 @@ use Rattle.rpm_commit.proofs.Vocabulary.{ReopensAsOneOf, rows, RowsFit, Says, St
 use Rattle.rpm_commit.proofs.Vocabulary.{units_for, units_needed, unlogged, Why, why_of, with_file, WorkedBy, WorkedOn, WorkedWith}
 use Rattle.rpm_commit.specs.inner.Brokens.{done_unbroken}
 use Rattle.rpm_commit.specs.inner.ByEnding.{by_ends, by_uncommitted}
-use Rattle.rpm_commit.specs.inner.Outcomes.{by_done_why, done_did, fault_done_why, is_done_why, lawful_ending, leaves_done, some_all, stopped_did}
+use Rattle.rpm_effects.specs.inner.Reaching.{some_all}
+use Rattle.rpm_commit.specs.inner.Outcomes.{by_done_why, done_did, fault_done_why, is_done_why, lawful_ending, leaves_done, stopped_did}
 use Rattle.rpm_commit.proofs.Ends.{halt_undone}
 use Rattle.rpm_commit.proofs.Fitting.{limit_fits}
 use Rattle.rpm_commit.specs.inner.Limited.{none_done}
@@ -204,7 +205,7 @@ module _ {D : Type 0} (d : disk.Ghosts D) (task : TaskParts) (course : State →
     -- the disk failed as it was committed
     faulted : One why.DiskFault 0
     faulted = record {
-      did = did_all why.DiskFault (λ c through failed. some_all c before now through);
+      did = did_all why.DiskFault (λ c through failed. some_all through);
       changed = record {
         counted = λ not. refl;
         leaves = ok_is _ (store r.pkg) s is (
@@ -241,7 +242,7 @@ module _ {D : Type 0} (d : disk.Ghosts D) (task : TaskParts) (course : State →
     uncommitted = by_uncommitted
         (λ (w : Why). (is_done_or_fault w ≡ false → LeavesIn d last final (ReopensAs (unlogged (d.files last)))) → LogIs new w → One w 0)
         (λ u unmade long. still_one d task course old final (still_final (unmade refl)) (still_log (unmade refl)) (still_run (unmade refl)) (why.LogFull u)
-        before now (λ done. cc) (did_all (why.LogFull u) (λ c through failed. some_all c before now through)) (λ unit bad. absurd cc) (λ lawful. refl)
+        before now (λ done. cc) (did_all (why.LogFull u) (λ c through failed. some_all through)) (λ unit bad. absurd cc) (λ lawful. refl)
         (λ indexed may. ok_is _ (store r.pkg) s is (none indexed may))
         (λ indexed may. ok_is _ (store r.pkg) s is (
           new,
@@ -252,7 +253,7 @@ module _ {D : Type 0} (d : disk.Ghosts D) (task : TaskParts) (course : State →
         )))
         (λ unmade long. faulted)
         (λ unmade long. still_one d task course old final (still_final (unmade refl)) (still_log (unmade refl)) (still_run (unmade refl)) why.NoMemory
-        before now (λ done. cc) (did_all why.NoMemory (λ c through failed. some_all c before now through)) (λ unit bad. absurd cc) (λ lawful. refl)
+        before now (λ done. cc) (did_all why.NoMemory (λ c through failed. some_all through)) (λ unit bad. absurd cc) (λ lawful. refl)
         (λ indexed may. if_ok (store r.pkg) (λ t stored. tt)) (λ indexed may. tt))
 
     -- it was

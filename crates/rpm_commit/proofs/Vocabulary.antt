@@ -1,6 +1,6 @@
 -- The words of proofs, from one place.
 pub use Rattle.rpm_change.specs.Adding.{add_files, IsOfPutting, replace}
-pub use Rattle.rpm_effects.specs.Progress.{Done, Ended, Outputs, Through}
+pub use Rattle.rpm_effects.specs.Progress.{Done, CourseProgress, Outputs, Through}
 pub use Rattle.rpm_change.specs.Erasing.{IsOfErasing, erase}
 pub use Rattle.rpm_effects.specs.Hands.{Hand}
 pub use Rattle.rpm_change.specs.Importing.{import_list, max_headers}

@@ -1,6 +1,6 @@
 -- Commands that change packages: what each answers and leaves. A command is the course that it takes from the state that it finds. On it rest
 -- `did` and `changed` of `changes`, and `empty`, on the page (`rpm_tool`, Theorem.antt).
-use Rattle.std.specs.Prelude.{◌≡◌, ◌⊎◌, ℕ, ◌^◌, ◌<◌, ◌≤◌, [], length, Bool, true, false, Some, None, is_some, Result, Ok, Err, IfOk}
+use Rattle.std.specs.Prelude.{◌≡◌, ◌⊎◌, ℕ, ◌^◌, ◌≤◌, [], length, Bool, true, false, Some, None, is_some, Result, Ok, Err, IfOk}
 use Rattle.std.specs.Ordering.{nat_cmp}
 use Rattle.std.specs.FinMap as finite
 use Rattle.std.specs.FinMap.{FinMap}
@@ -18,11 +18,11 @@ use Rattle.rpm_db.specs.Database.{IsNext}
 use Rattle.rpm_db.specs.State.{State, Package, state, packages}
 use Rattle.rpm_change.specs.Went.{IsBlamed}
 use Rattle.rpm_effects.specs.Steps.{Course, apply_all}
-use Rattle.rpm_effects.specs.Progress.{Outputs, Through, ThroughSome, StoppedWithin}
+use Rattle.rpm_effects.specs.Progress.{Anywhere, Counted, Only, Outputs, Progress, Through}
 use Rattle.rpm_effects.specs.declared.answer.Why.{Why}
 use Rattle.rpm_effects.specs.declared.answer.Why.TheVariants as why
 use Rattle.rpm_effects.specs.Answers.{Misread, Refused}
-use Rattle.rpm_effects.specs.Classes.{is_done, is_done_or_fault, is_held, is_of_lawful}
+use Rattle.rpm_effects.specs.Classes.{is_of_changing, is_done, is_done_or_fault, is_held, is_of_lawful}
 use Rattle.rpm_group.specs.Loads.{IsSound}
 use Rattle.rpm_group.specs.Settled.{KeepsLog, ReopensAsOneOf}
 use Rattle.rpm_commit.specs.Lawful.{IsLawfulGroup, AreLawfulGroups, MayBegin, StandsStill}
@@ -32,16 +32,9 @@ use Rattle.rpm_commit.specs.Reaches.{HasStore, ReachesBy, begun}
 
 -- a course went through all its steps, or some, or stopped within one, and this is the cause
 abbrev pub Did : Course → Why → Outputs → Outputs → Type 0
-Did course why.Done old new = Through course.steps old new × (course.failed ≡ 0)
-Did course (why.Failed n) old new = Through course.steps old new × (course.failed ≡ n) × (0 < n)
-Did course (why.Usage fault) old new = ⊥
-Did course (why.BadFormat fault) old new = ⊥
-Did course (why.BadLog unit) old new = ⊥
-Did course (why.Damaged damage) old new = ⊥
 Did course (why.NotEmpty held) old new = Through [] old new
-Did course why.OutFault old new = StoppedWithin course.steps true old new
-Did course why.ErrFault old new = StoppedWithin course.steps false old new
-Did course others old new = ThroughSome course.steps old new
+Did course given old new =
+    Only (is_of_changing given) (Counted course.failed given (Progress course.steps given old new Anywhere))
 
 -- a course was done of a store that isn't damaged, and of one that is the damage alone was told
 abbrev pub DidOpened : (Store → Course) → Result Store Damage → Why → Outputs → Outputs → Type 0

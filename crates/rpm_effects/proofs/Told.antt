@@ -1,7 +1,7 @@
 -- A line that is written for an argument.
 use Rattle.std.proofs.Common.{ℕ, Bool, List, [], ◌++◌, Err, take, refl, sym, ap, ◌∙◌}
 use Rattle.std.proofs.lemmas.List.{append-nil}
-use Rattle.rpm_effects.proofs.Vocabulary.{Bearer, Done, Ended, failing, Gained, gained_none, GainedPart, outputs, State, ToErr}
+use Rattle.rpm_effects.proofs.Vocabulary.{Bearer, Done, CourseProgress, failing, Gained, gained_none, GainedPart, outputs, State, ToErr}
 use Rattle.rpm_effects.specs.declared.tally.Halt.TheVariants as halt
 
 pub line_done : (ot et : Bool) (o e e' line : List ℕ) (for : Bearer) (s : State) → Gained et e e' line
@@ -14,7 +14,7 @@ line_done ot et o e e' line for s g = record {
 }
 
 pub line_cut : (ot et : Bool) (o e e' line : List ℕ) (for : Bearer) (s : State) → GainedPart et e e' line
-    → Ended (failing (ToErr for line)) s s (Err halt.ErrFault) (outputs ot o et e) (outputs ot o et e')
+    → CourseProgress (failing (ToErr for line)) s s (Err halt.ErrFault) (outputs ot o et e) (outputs ot o et e')
 line_cut ot et o e e' line for s p = record {
   done = [];
   step = ToErr for line;
@@ -23,4 +23,5 @@ line_cut ot et o e e' line for s p = record {
   sink = refl;
   bytes = p.0;
   through = record { out = gained_none ot o; err = λ told. p.2 told ∙ ap (λ (b : List ℕ). e ++ b) (sym (append-nil (take p.0 line))) };
+  reads = tt;
 }

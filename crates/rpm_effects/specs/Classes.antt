@@ -64,6 +64,14 @@ is_done_or_fault = is_among (Done ∷ Disk ∷ [])
 abbrev pub is_done_or_outside : Why → Bool
 is_done_or_outside = is_among (Done ∷ Disk ∷ Sink ∷ Memory ∷ [])
 
+-- an ending that a command which asks has, once its database is in order: done, a fault of the outside, or want of memory
+abbrev pub is_of_asking : Why → Bool
+is_of_asking = is_among (Done ∷ Disk ∷ Shelf ∷ Sink ∷ Memory ∷ [])
+
+-- an ending that a command which changes has, once its database is opened
+abbrev pub is_of_changing : Why → Bool
+is_of_changing given = not (is_among (Words ∷ MalformedLog ∷ Damage ∷ []) given)
+
 -- the words or their format have a fault
 abbrev pub is_of_words : Why → Bool
 is_of_words = is_among (Words ∷ [])

@@ -1,6 +1,8 @@
 -- How a command ends: its status, and the ending that a halt, or a database that isn't recovered, loaded or opened, makes of it. Of them `status` of `run`
 -- is on the page (`rpm_tool`, Theorem.antt).
-use Rattle.std.specs.Prelude.{ℕ, min, Bool, true}
+use Rattle.std.specs.Prelude.{ℕ, min, Bool, true, Option, Some, None}
+use Rattle.rpm_file.specs.declared.fault.FileFault.{FileFault}
+use Rattle.rpm_file.specs.declared.fault.FileFault.TheVariants as file
 use Rattle.rpm_effects.specs.declared.tally.Halt.{Halt}
 use Rattle.rpm_effects.specs.declared.tally.Halt.TheVariants as halt
 use Rattle.rpm_group.specs.declared.load.LoadFault.{LoadFault}
@@ -11,6 +13,12 @@ use Rattle.rpm_group.specs.declared.recovery.RecoverFault.{RecoverFault}
 use Rattle.rpm_group.specs.declared.recovery.RecoverFault.TheVariants as recover
 use Rattle.rpm_db.specs.declared.open_fault.DbOpenFault.{DbOpenFault}
 use Rattle.rpm_db.specs.declared.open_fault.DbOpenFault.TheVariants as opening
+
+-- what stops a command where a package file isn't read: nothing where the file itself is refused
+abbrev pub stop_in : FileFault → Option Halt
+stop_in file.ReadFault = Some halt.ShelfFault
+stop_in file.NoMemory = Some halt.NoMemory
+stop_in others = None
 
 -- the ending of a command that was halted
 abbrev pub why_of_halt : Halt → Why

@@ -1,5 +1,5 @@
 -- A line for which an argument fails.
-use Rattle.std.specs.Prelude.{◌≡◌, ℕ, List, IfOk, IfErr, Result, Err}
+use Rattle.std.specs.Prelude.{◌≡◌, ℕ, List, Bool, true, IfOk, IfErr, Result, Ok, Err}
 use Rattle.rpm_outside.specs.declared.sink.Sink as sink
 use Rattle.rpm_outside.specs.declared.buffered.Buffered.{Buffered}
 use Rattle.rpm_db.specs.State.{State}
@@ -17,3 +17,8 @@ pub record Fails {E : Type 0} (e : sink.Ghosts E) (line : List ℕ) (old new : B
   pub one : IfOk r (λ tally. tally ≡ record { failed = 1; changes = 0 })
   pub kinds : IfErr r IsOfLines
   pub err : Hand e (r ≡ Err halt.ErrFault) old new
+
+-- the part that such a line is of a command that changes nothing: its argument fails
+abbrev pub answer_of_line : Result Tally Halt → Result Bool Halt
+answer_of_line (Ok tally) = Ok true
+answer_of_line (Err halt) = Err halt

@@ -2,7 +2,7 @@
 -- (`rpm_tool`, Theorem.antt), and the law `numbers`.
 use Rattle.std.specs.Prelude.{ℕ, ◌+◌, ◌<◌, List, [], ◌∷◌, ◌++◌, Bool, true, false, not, if◌then◌else◌, Option, Some, None}
 use Rattle.std.specs.List.{list_any, flat_map}
-use Rattle.rpm_effects.specs.Steps.{Bearer, Step, ToOut, ToErr, is_out, Course, idle}
+use Rattle.rpm_effects.specs.Steps.{Bearer, Step, ToOut, ToErr, bearer_of, is_out, Course, idle}
 
 -- a number in front of others, where there is one
 abbrev pub with_number : Option ℕ → List ℕ → List ℕ
@@ -13,11 +13,6 @@ with_number (Some n) ns = n ∷ ns
 abbrev pub step_to : Bool → Bearer → List ℕ → Step
 step_to true for bytes = ToOut for bytes
 step_to false for bytes = ToErr for bytes
-
--- a step is for this argument and this package
-abbrev pub bearer_of : Step → Bearer
-bearer_of (ToOut for bytes) = for
-bearer_of (ToErr for bytes) = for
 
 -- the numbers of the packages that steps are for; the line of an argument as a whole is for none
 abbrev pub numbers : List Step → List ℕ
@@ -59,6 +54,6 @@ abbrev pub before : Portion → Course → Course
 before p c = record { steps = p.steps ++ c.steps; failed = (if p.fails then 1 else 0) + c.failed; changes = c.changes }
 
 -- each argument in turn, by its place and its text
-abbrev pub in_turn : (ℕ → List ℕ → Portion) → ℕ → List (List ℕ) → Course
-in_turn each j [] = idle
-in_turn each j (x ∷ xs) = before (each j x) (in_turn each (j + 1) xs)
+abbrev pub parts_in_turn : (ℕ → List ℕ → Portion) → ℕ → List (List ℕ) → Course
+parts_in_turn each j [] = idle
+parts_in_turn each j (x ∷ xs) = before (each j x) (parts_in_turn each (j + 1) xs)

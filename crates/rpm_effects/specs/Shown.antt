@@ -6,7 +6,7 @@ use Rattle.rpm_outside.specs.Buffered.{inner}
 use Rattle.rpm_db.specs.State.{State}
 use Rattle.rpm_effects.specs.declared.tally.Tally.{Tally}
 use Rattle.rpm_effects.specs.declared.tally.Halt.{Halt}
-use Rattle.rpm_effects.specs.Progress.{Outputs, outputs, Ended}
+use Rattle.rpm_effects.specs.Progress.{Outputs, outputs, CourseProgress}
 use Rattle.rpm_effects.specs.Steps.{Course}
 
 -- what both sinks took
@@ -32,7 +32,7 @@ ErrTakes e Is old new = (out_tells : Bool) (out : List ℕ)
 -- nothing was written: both sinks have what they had
 abbrev pub EndedQuietly : Course → State → State → Result Tally Halt → Type 0
 EndedQuietly course s t r = (out_tells err_tells : Bool) (out err : List ℕ)
-    → Ended course s t r (outputs out_tells out err_tells err) (outputs out_tells out err_tells err)
+    → CourseProgress course s t r (outputs out_tells out err_tells err) (outputs out_tells out err_tells err)
 
 module _ {S : Type 0} (of : sink.Ghosts S) where
   -- what both took, where err is the sink behind this buffer
@@ -47,10 +47,10 @@ module _ {S : Type 0} (of : sink.Ghosts S) where
   abbrev pub EndedOnErr : Buffered S → Buffered S → Course → State → State → Result Tally Halt
       → Type 0
   EndedOnErr old new course s t r = (tells : Bool) (out : List ℕ)
-      → Ended course s t r (with_err tells out old) (with_err tells out new)
+      → CourseProgress course s t r (with_err tells out old) (with_err tells out new)
 
   -- a course went to out, and err has what it had
   abbrev pub EndedOnOut : Buffered S → Buffered S → Course → State → State → Result Tally Halt
       → Type 0
   EndedOnOut old new course s t r = (tells : Bool) (err : List ℕ)
-      → Ended course s t r (with_out tells err old) (with_out tells err new)
+      → CourseProgress course s t r (with_out tells err old) (with_out tells err new)

@@ -21,6 +21,11 @@ pub data Step : Type 0 where
   ToOut : Bearer → List ℕ → Step
   ToErr : Bearer → List ℕ → Step
 
+-- a step is for this argument and this package
+abbrev pub bearer_of : Step → Bearer
+bearer_of (ToOut for bytes) = for
+bearer_of (ToErr for bytes) = for
+
 -- what a step gives to standard output
 abbrev pub out_bytes : Step → List ℕ
 out_bytes (ToOut for bytes) = bytes

@@ -1,5 +1,6 @@
 -- Laws on the definitions, for the crates above.
 pub mod Courses
+pub mod Failing
 pub mod Halts
 pub mod Joins
 pub mod Parts

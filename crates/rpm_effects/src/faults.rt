@@ -1,10 +1,11 @@
 //! What is told of package files that aren't read.
 
 ghost use Rattle.std.specs.Prelude.{◌≡◌, ◌++◌, IfOk};
-ghost use Rattle.rpm_effects.specs.Prelude.{absent_line, at_entry, Fails, file_text, header_text, refused_line};
+ghost use Rattle.rpm_effects.specs.Prelude.{absent_line, at_entry, Fails, file_text, header_text, refused_line, stop_in};
 
 use crate::lines::put_failing;
-use crate::tally::{Halt, Tally};
+use crate::pieces::put_line;
+use crate::tally::{FAILED, Halt, Tally};
 use itoa::Buffer;
 use rpm_file::FileFault;
 use rpm_header::HeaderFault;
@@ -45,12 +46,8 @@ pub fn push_header_text(text: &mut Vec<u8>, fault: HeaderFault) -> Result<(), Al
 
 /// Adds what is told of a fault of a package file: of one of its headers the header and its fault. `ReadFault` and
 /// `NoMemory` are no faults of a file, and add nothing.
-///
-/// # Errors
-///
-/// `AllocError` where there is no memory.
 #[tactic(auto, unfolding(crate::specs::Texts::file_text))]
-pub fn push_file_text(text: &mut Vec<u8>, fault: FileFault) -> Result<(), AllocError>
+fn push_file_text(text: &mut Vec<u8>, fault: FileFault) -> Result<(), AllocError>
     ensures { IfOk result (λ done. text.new.items ≡ text.old.items ++ file_text fault) }
 {
     match fault {
@@ -71,11 +68,7 @@ pub fn push_file_text(text: &mut Vec<u8>, fault: FileFault) -> Result<(), AllocE
 }
 
 /// The line of a package file that is refused.
-///
-/// # Errors
-///
-/// `AllocError` where there is no memory.
-pub fn refused_line(alloc: Global, path: &[u8], fault: FileFault) -> Result<Vec<u8>, AllocError>
+fn refused_line(alloc: Global, path: &[u8], fault: FileFault) -> Result<Vec<u8>, AllocError>
     ensures { IfOk result (λ line. line.items ≡ refused_line path.now fault) }
 {
     let mut line = Vec::new(alloc);
@@ -84,21 +77,6 @@ pub fn refused_line(alloc: Global, path: &[u8], fault: FileFault) -> Result<Vec<
     line.extend_from_slice(b": ")?;
     push_file_text(&mut line, fault)?;
     line.extend_from_slice(b"\n")?;
-    Ok(line)
-}
-
-/// The line of a path that can't be opened.
-///
-/// # Errors
-///
-/// `AllocError` where there is no memory.
-pub fn absent_line(alloc: Global, path: &[u8]) -> Result<Vec<u8>, AllocError>
-    ensures { IfOk result (λ line. line.items ≡ absent_line path.now) }
-{
-    let mut line = Vec::new(alloc);
-    line.extend_from_slice(b"error: open of ")?;
-    line.extend_from_slice(path)?;
-    line.extend_from_slice(b" failed\n")?;
     Ok(line)
 }
 
@@ -115,14 +93,23 @@ pub fn put_refused<E: Sink + Drop>(
     put_failing(err, &line)
 }
 
-/// Writes to err that a path can't be opened; then the argument fails.
-pub fn put_absent<E: Sink + Drop>(
-    alloc: Global,
-    err: &mut Buffered<E>,
-    path: &[u8],
-) -> Result<Tally, Halt>
+/// Writes to err that a path can't be opened; then the argument fails. It takes no memory.
+pub fn put_absent<E: Sink + Drop>(err: &mut Buffered<E>, path: &[u8]) -> Result<Tally, Halt>
     ensures { Fails E.Sink (absent_line path.now) err.old err.new result }
 {
-    let line = absent_line(alloc, path)?;
-    put_failing(err, &line)
+    match put_line(err, &[b"error: open of ", path, b" failed\n"]) {
+        Ok(()) => Ok(FAILED),
+        Err(_) => Err(Halt::ErrFault),
+    }
+}
+
+/// What stops a command where a package file isn't read; None where the file itself is refused.
+pub fn stop_in(fault: FileFault) -> Option<Halt>
+    ensures { result ≡ stop_in fault }
+{
+    match fault {
+        FileFault::ReadFault => Some(Halt::ShelfFault),
+        FileFault::NoMemory => Some(Halt::NoMemory),
+        _ => None,
+    }
 }

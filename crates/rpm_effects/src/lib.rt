@@ -8,12 +8,12 @@ mod answer;
 mod endings;
 mod faults;
 mod lines;
+mod pieces;
 mod tally;
 
 pub use answer::{Outcome, Why, status_of};
 pub use endings::{unless_starved, why_of_load, why_of_open, why_of_recover};
-pub use faults::{
-    absent_line, push_file_text, push_header_text, put_absent, put_refused, refused_line,
-};
+pub use faults::{push_header_text, put_absent, put_refused, stop_in};
 pub use lines::put_failing;
+pub use pieces::{put_line, put_out, put_pieces};
 pub use tally::{CHANGED, FAILED, Halt, IDLE, Tally};

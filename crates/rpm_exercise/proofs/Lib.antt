@@ -1,7 +1,9 @@
 pub mod Asking
+pub mod Bounds
 pub mod Halts
 pub mod Named
 pub mod Parts
+pub mod Texts
 pub mod Through
 pub mod Told
 pub mod Walked

@@ -1,14 +1,15 @@
 -- The words of proofs, from one place.
 pub use Rattle.rpm_effects.specs.Progress.{halt_of}
 pub use Rattle.rpm_change.specs.Went.{WholeTurn, IsOwing, Went, WentBy}
-pub use Rattle.rpm_change.specs.Exercise.{numbered}
+pub use Rattle.rpm_exercise.specs.Headers.{numbered, generated, package_items, version}
 pub use Rattle.rpm_change.specs.Limits.{is_limit}
 pub use Rattle.rpm_change.specs.Singles.{GathersOne, IsOfChange, IsSpent}
 pub use Rattle.rpm_effects.specs.Steps.{apply_all, Course, whole}
 pub use Rattle.rpm_effects.specs.Shown.{EndedOnOut, EndedQuietly}
 pub use Rattle.rpm_effects.specs.declared.tally.Halt.{Halt}
 pub use Rattle.rpm_effects.specs.declared.tally.Tally.{Tally}
-pub use Rattle.rpm_effects.specs.inner.Courses.{none_gone, plus, stopped_by, through_none}
+pub use Rattle.rpm_effects.specs.inner.Courses.{none_gone, plus, stopped_by}
+pub use Rattle.rpm_effects.specs.inner.Reaching.{through_none}
 pub use Rattle.rpm_change.specs.inner.Going.{counted_went, Going, going_begin, going_end, going_more, going_stop, none_went, stopped_went, went_ahead}
 pub use Rattle.rpm_change.specs.inner.Going.{went_then, whole_bad}
 pub use Rattle.rpm_change.specs.inner.Handing.{err_is}
@@ -57,3 +58,11 @@ pub use Rattle.sha2.specs.declared.Sha256.{Sha256}
 pub use Rattle.std.specs.List.{flat_map, range_with_len}
 pub use Rattle.std.specs.Ordering.{nat_cmp}
 pub use Rattle.std.specs.String.{string_bytes}
+pub use Rattle.rpm_header.specs.Build.{IsText}
+pub use Rattle.rpm_header.specs.Header.{Item, alignment}
+unfoldable pub use Rattle.rpm_header.specs.Laid.{bytes_in, data_from, offset_of}
+pub use Rattle.rpm_header.specs.Laid.{end_of}
+pub use Rattle.rpm_header.specs.declared.form.Form.{Form}
+pub use Rattle.std.specs.Fmt.{decimal}
+pub use Rattle.std.specs.Int.{next_multiple_of}
+pub use Rattle.std.specs.Str.Parse.{AllDigits}

@@ -11,7 +11,7 @@ use Rattle.rpm_db.specs.State.{State, Package, Good, Bad}
 use Rattle.rpm_select.specs.declared.selection.Selection.{Selection}
 use Rattle.rpm_select.specs.declared.selection.Selection.TheVariants as question
 use Rattle.rpm_select.specs.Selections.{picks}
-use Rattle.rpm_change.specs.Exercise.{numbered}
+use Rattle.rpm_exercise.specs.Headers.{numbered}
 use Rattle.rpm_effects.specs.Steps.{Course, ToOut, whole, apply_all}
 use Rattle.rpm_exercise.specs.declared.survey.Found.{Found}
 use Rattle.rpm_exercise.specs.Rounds.{changes}

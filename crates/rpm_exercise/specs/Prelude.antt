@@ -2,8 +2,8 @@
 pub use Rattle.std.specs.Result.{result_err}
 pub use Rattle.std.specs.String.{string_bytes}
 pub use Rattle.rpm_change.specs.Adding.{change_at}
-pub use Rattle.rpm_effects.specs.Progress.{Ended}
-pub use Rattle.rpm_change.specs.Exercise.{numbered}
+pub use Rattle.rpm_effects.specs.Progress.{CourseProgress}
+pub use Rattle.rpm_exercise.specs.Headers.{numbered}
 pub use Rattle.rpm_effects.specs.Hands.{Hand}
 pub use Rattle.rpm_change.specs.Limits.{LimitsTurn}
 pub use Rattle.rpm_db.specs.Frame.{room, Runs, packages_in, state_in}
@@ -28,3 +28,7 @@ pub use Rattle.rpm_exercise.specs.Exercised.{capability_line, capability_lines, 
 pub use Rattle.rpm_exercise.specs.Exercised.{digest_text, exercise, exported, IsFound, picked, summary}
 pub use Rattle.rpm_exercise.specs.Ready.{Asks, GathersThrough, IsStop, WentThrough}
 pub use Rattle.rpm_exercise.specs.Rounds.{changes, changes_after, made, round_changes, turn}
+pub use Rattle.rpm_exercise.specs.Headers.{file_items, generated, identity_items, provided_items, required_items, version}
+pub use Rattle.rpm_header.specs.Build.{IsText}
+pub use Rattle.rpm_header.specs.Header.{header, max_data, max_entries}
+pub use Rattle.rpm_header.specs.Laid.{data_of, laid}

@@ -6,7 +6,7 @@ use Rattle.rpm_db.specs.Changes.{Change, Add, Put, Erase, next}
 use Rattle.rpm_db.specs.State.{State}
 use Rattle.rpm_effects.specs.declared.tally.Halt.{Halt}
 use Rattle.rpm_effects.specs.declared.tally.Halt.TheVariants as halt
-use Rattle.rpm_change.specs.Exercise.{generated}
+use Rattle.rpm_exercise.specs.Headers.{generated}
 use Rattle.rpm_effects.specs.Steps.{Course}
 use Rattle.rpm_exercise.specs.declared.rounds.Round.{Round}
 use Rattle.rpm_exercise.specs.declared.rounds.Round.TheVariants as round

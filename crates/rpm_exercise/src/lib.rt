@@ -5,10 +5,12 @@
 //! is the same on every machine.
 #![tactic(auto)]
 
+mod headers;
 mod lines;
 mod rounds;
 mod running;
 mod summary;
 mod survey;
 
+pub use headers::generated;
 pub use running::{ExerciseFault, exercise};

@@ -3,7 +3,8 @@
 ghost use Rattle.std.specs.Prelude.{◌≡◌, ◌+◌, ◌<◌, ◌≤◌, [], ◌∷◌, true, IfOk, IfErr};
 ghost use Rattle.rpm_exercise.specs.Prelude.{change_at, changes, changes_after, GathersThrough, holds, IsGathering, IsHeld, IsReady, made, round_changes, state_in, turn, WentThrough};
 
-use rpm_change::{generated, put_within, take_within};
+use crate::headers::generated;
+use rpm_change::{put_within, take_within};
 use rpm_db::{Batch, Db};
 use rpm_effects::{Halt, IDLE, Tally};
 use rpm_outside::Disk;

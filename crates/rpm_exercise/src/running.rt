@@ -1,7 +1,7 @@
 //! The exercise as a whole.
 
 ghost use Rattle.std.specs.Prelude.{◌≡◌, ℕ, ◌≤◌, Bool, List, true, IsTrue, Ok, Err, OnOk, IfOk, IfErr};
-ghost use Rattle.rpm_exercise.specs.Prelude.{changes, DiskFault, Ended, EndedOnOut, exercise, Hand, is_indexed, IsCurrent, IsNext, IsOfReading, IsReady, IsRefused, IsStop, LimitsTurn, OnceBegun, ReachesMade, Remade, Renewed, room, Runs, SameLog, state_in, units_needed, Went, with_out};
+ghost use Rattle.rpm_exercise.specs.Prelude.{changes, DiskFault, CourseProgress, EndedOnOut, exercise, Hand, is_indexed, IsCurrent, IsNext, IsOfReading, IsReady, IsRefused, IsStop, LimitsTurn, OnceBegun, ReachesMade, Remade, Renewed, room, Runs, SameLog, state_in, units_needed, Went, with_out};
 ghost use Rattle.rpm_db.specs.Database as database;
 
 use crate::rounds::change_all;
@@ -131,7 +131,7 @@ pub fn exercise<D: Disk, O: Sink + Drop>(
     ensures empty { IsRefused (IsNext (λ m. database.holds m db.old) 0) result }
     ensures refused { (number : ℕ) → result ≡ Err (ExerciseFault.NotEmpty number) → (db.new ≡ db.old) × (disk.new ≡ disk.old) × (out.new ≡ out.old) }
     ensures ended { IsTrue D.tells → (err_tells : Bool) (err : List ℕ)
-        → OnceBegun (λ r. Ended (exercise n (state_in D.Disk disk.old db.old)) (state_in D.Disk disk.old db.old)
+        → OnceBegun (λ r. CourseProgress (exercise n (state_in D.Disk disk.old db.old)) (state_in D.Disk disk.old db.old)
         (state_in D.Disk disk.new db.new) r (with_out O.Sink err_tells err out.old)
         (with_out O.Sink err_tells err out.new)) result }
     ensures limits { IsTrue D.tells → OnceBegun

@@ -1,5 +1,4 @@
 mod Asking
 mod Defaults
 mod Fixtures
-mod Joins
 pub mod Vocabulary

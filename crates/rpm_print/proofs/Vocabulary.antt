@@ -8,7 +8,6 @@ pub use Rattle.rpm_header.specs.declared.form.HeaderFault.TheVariants.{BadType}
 pub use Rattle.rpm_outside.specs.Buffered.{buffered, inner}
 pub use Rattle.rpm_outside.specs.Files.{Units, units_of}
 pub use Rattle.rpm_outside.specs.inner.Flushed.{flushed, stopped}
-pub use Rattle.rpm_outside.specs.inner.Upto.{Upto, upto_more, upto_stop}
 pub use Rattle.rpm_pkgdb.specs.Blobs.{blob_in, frame_of}
 unfoldable pub use Rattle.rpm_pkgdb.specs.Blobs.{is_head, is_tail}
 unfoldable pub use Rattle.rpm_pkgdb.specs.Damages.{head_reason, own_reason, shared_reason}
@@ -43,5 +42,4 @@ unfoldable pub use Rattle.rpm_words.specs.Switch.{long_switch, rpm_switch, short
 unfoldable pub use Rattle.rpm_words.specs.Token.{said, said_behind}
 pub use Rattle.rpm_words.specs.declared.fault.WordsKind.TheVariants.{NoMode, UnknownOption}
 unfoldable pub use Rattle.std.specs.Fmt.{digits}
-pub use Rattle.std.specs.List.{concat}
 pub use Rattle.std.specs.Option.{option_map}

@@ -9,8 +9,8 @@ pub use Rattle.rpm_qfeval.specs.Meaning.{meaning}
 pub use Rattle.rpm_select.specs.Picks.{entry_in}
 pub use Rattle.rpm_words.specs.Ask.{IsSound, ask}
 pub use Rattle.rpm_words.specs.Words.{text_at}
-pub use Rattle.std.specs.List.{concat}
-pub use Rattle.rpm_effects.specs.Answers.{Anywhere, PartIs, StepIs, Went}
+pub use Rattle.rpm_effects.specs.Progress.{Anywhere}
+pub use Rattle.rpm_effects.specs.Answers.{StepIs, CommandProgress}
 pub use Rattle.rpm_print.specs.Answers.{Undone}
 pub use Rattle.rpm_print.specs.Asked.{KindIs, asks_format, format_text, needs_no_index, prints_packages}
 pub use Rattle.rpm_effects.specs.Classes.{IsOfPrint}
@@ -18,5 +18,4 @@ pub use Rattle.rpm_print.specs.Closing.{closing, damage_line, fault_text, fixed_
 pub use Rattle.rpm_print.specs.Closing.{usage_line, word_told}
 pub use Rattle.rpm_effects.specs.Shown.{ErrTakes, OutTakes, shown}
 pub use Rattle.rpm_print.specs.Printed.{bad_line, printed, step_by}
-pub use Rattle.rpm_effects.specs.Portions.{fails}
 pub use Rattle.rpm_print.specs.Texts.{text_course}

@@ -3,10 +3,9 @@
 ghost use Rattle.std.specs.Prelude.{◌≡◌};
 ghost use Rattle.rpm_print.specs.Prelude.{closing, damage_line, fault_text, fixed_line, format_line, inner, number_line, reason_text, rule_text, text_at, usage_line, word_told, Writes};
 
-use crate::pieces::put_pieces;
 use itoa::Buffer;
 use rpm_db::{Damage, Reason};
-use rpm_effects::Why;
+use rpm_effects::{Why, put_pieces};
 use rpm_outside::{Buffered, Failed, Sink, put_all};
 use rpm_qfparse::{FormatFault, FormatKind};
 use rpm_words::{Words, WordsFault, WordsKind};

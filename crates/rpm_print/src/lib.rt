@@ -3,13 +3,11 @@
 #![tactic(auto)]
 
 mod closing;
-mod pieces;
 mod reading;
 mod step;
 mod texts;
 
 pub use closing::put_closing;
-pub use pieces::{put_line, put_out};
 pub use reading::{Deed, Kind, kind_of, read_command};
 pub use rpm_effects::{Halt, Outcome, Why, status_of};
 pub use step::{print_header, print_picked, put_bad, put_text};

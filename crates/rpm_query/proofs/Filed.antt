@@ -1,10 +1,12 @@
 -- What is said of package files.
 use Rattle.std.proofs.Common.{◌≡◌, ℕ, Bool, true, false, not, ◌||◌, List, [], Option, Some, None, Result, Err, refl, sym, ap, ◌∙◌, subst}
 use Rattle.rpm_query.proofs.Vocabulary.{Anywhere, file_part, FileFault, found_part, Headed, is_bad, is_of_words, is_out}
-use Rattle.rpm_query.proofs.Vocabulary.{IsFileFault, left, Outputs, package_header, PartIs, Paths, Reached, read_part, Step, Halt, Through, Tree, why_of_halt}
-use Rattle.rpm_change.specs.Adding.{stop_in}
+use Rattle.rpm_query.proofs.Vocabulary.{IsFileFault, left, Outputs, package_header, PartIs, Paths, PartProgress, read_part, Step, Halt, Through, Tree}
+use Rattle.rpm_query.proofs.Vocabulary.{why_of_halt}
+use Rattle.rpm_effects.specs.Endings.{stop_in}
 use Rattle.rpm_file.specs.declared.fault.FileFault.TheVariants as file
 use Rattle.rpm_effects.specs.declared.tally.Halt.TheVariants as halt
+use Rattle.rpm_effects.specs.inner.Reaching.{not_begun}
 
 pub found_open : (tree : Tree) (j : ℕ) (path : List ℕ) (found rest : Option (List ℕ)) → rest ≡ found → (found ≡ None → ⊥)
     → found_part tree j path found ≡ read_part tree j path (package_header (left rest))
@@ -13,11 +15,11 @@ found_open tree j path (Some bytes) rest is some = ap (λ (r : Option (List ℕ)
 
 -- where a read stops a command, nothing was written
 pub unread : (fault : FileFault) (h : Halt) (all : List Step) (old new : Outputs) → stop_in fault ≡ Some h → Through [] old new
-    → Reached {T = Bool} all (Err h) old new Anywhere
+    → PartProgress {T = Bool} all (Err h) old new Anywhere
 unread file.ReadFault h all old new is t =
-    let same : halt.ShelfFault ≡ h = cc in subst (λ (k : Halt). Reached {T = Bool} all (Err k) old new Anywhere) same ([], all, refl, t)
+    let same : halt.ShelfFault ≡ h = cc in subst (λ (k : Halt). PartProgress {T = Bool} all (Err k) old new Anywhere) same (not_begun t)
 unread file.NoMemory h all old new is t =
-    let same : halt.NoMemory ≡ h = cc in subst (λ (k : Halt). Reached {T = Bool} all (Err k) old new Anywhere) same ([], all, refl, t)
+    let same : halt.NoMemory ≡ h = cc in subst (λ (k : Halt). PartProgress {T = Bool} all (Err k) old new Anywhere) same (not_begun t)
 unread others h all old new is t = absurd cc
 
 pub never_disk : (fault : FileFault) → stop_in fault ≡ Some halt.DiskFault → ⊥

@@ -1,7 +1,7 @@
 -- How far the packages of an argument were printed, one after the other.
 use Rattle.std.proofs.Common.{◌≡◌, ℕ, ◌||◌, Bool, true, false, not, List, [], ◌∷◌, map, Option, Result, Ok, Err, refl, sym, ap, ◌∙◌, subst}
 use Rattle.rpm_query.proofs.Vocabulary.{above, Bearer, bearer_of, Files, Halt, is_bad, is_some_of, IsOfRead, list_any, NextNumberIs, outputs, Package, packages}
-use Rattle.rpm_query.proofs.Vocabulary.{packages_part, PartIs, PickFault, picks, Reach, Reached, Recalls, Recent, Selection, Serves, Step, StepIs, Store}
+use Rattle.rpm_query.proofs.Vocabulary.{packages_part, PartIs, PickFault, picks, Reach, PartProgress, Recalls, Recent, Selection, Serves, Step, StepIs, Store}
 use Rattle.rpm_effects.specs.declared.tally.Halt.TheVariants as halt
 use Rattle.rpm_print.specs.inner.Printed.{fails_more, some_more, none_more}
 use Rattle.rpm_effects.specs.inner.Reaching.{Goes, goes_start, goes_more, goes_stop, goes_end}
@@ -39,9 +39,9 @@ pub record PrintedTo (step : ℕ → ℕ × Package → Step) (es : List (ℕ ×
   pub there : is_some_of (above after es) ≡ (some || is_some_of (above n es))
 
 goes_halts : {ot et : Bool} {all left : List Step} {o e o' e' : List ℕ} → Goes ot et all left o e o' e' → (what : Halt) (reads_to : Bearer → Type 0)
-    → IsOfRead what → Reached {T = Bool} all (Err what) (outputs ot o et e) (outputs ot o' et e') reads_to
-goes_halts {left = left} g halt.DiskFault reads_to is = (g.done, left, g.parts, g.went)
-goes_halts {left = left} g halt.NoMemory reads_to is = (g.done, left, g.parts, g.went)
+    → IsOfRead what → PartProgress {T = Bool} all (Err what) (outputs ot o et e) (outputs ot o' et e') reads_to
+goes_halts {left = left} g halt.DiskFault reads_to is = record { done = g.done; rest = left; all_is = g.parts; through = g.went }
+goes_halts {left = left} g halt.NoMemory reads_to is = record { done = g.done; rest = left; all_is = g.parts; through = g.went }
 goes_halts g others reads_to is = absurd cc
 
 module _ {step : ℕ → ℕ × Package → Step} {es : List (ℕ × Package)} {after : ℕ} {ot et : Bool} {o e : List ℕ} where

@@ -1,11 +1,11 @@
 -- The arguments of a command, one after the other.
 use Rattle.rpm_query.proofs.Vocabulary.{argument_part, argument_reach, Bearer, Chosen, Course, Database, Files, Halt, HasIndexRows, is_indexed, Outputs}
 use Rattle.rpm_query.proofs.Vocabulary.{outputs, packages, PartIs, Portion, Reach, reach_all, reach_before, reach_sum, reached_by, ReadsOf, room, Through, Tree}
-use Rattle.rpm_query.proofs.Vocabulary.{Went, why_of_halt}
+use Rattle.rpm_query.proofs.Vocabulary.{CommandProgress, why_of_halt}
 use Rattle.std.proofs.Common.{◌≡◌, ℕ, ◌+◌, ◌<◌, ◌≤◌, ◌≢◌, Bool, true, false, if◌then◌else◌, List, [], ◌++◌, map, drop, length, Result, Ok, Err, Some, refl, ap}
 use Rattle.std.proofs.Common.{◌∙◌, subst, arith}
 use Rattle.std.specs.Prelude.{slice_get}
-use Rattle.rpm_effects.specs.Portions.{before, in_turn}
+use Rattle.rpm_effects.specs.Portions.{before, parts_in_turn}
 use Rattle.rpm_effects.specs.inner.Parts.{drop_get, none_left, went_stop}
 use Rattle.rpm_print.specs.inner.Reached.{rows_at}
 use Rattle.rpm_effects.specs.inner.Reaching.{Goes, goes_start, goes_more, goes_stop, goes_end}
@@ -23,12 +23,12 @@ few_more false failed k le = omega (arith, le)
 
 -- those before a place were gone through, and so many of them failed
 pub record Turned (ot et : Bool) (each : ℕ → List ℕ → Portion) (f : ℕ → List ℕ) (args : List ℕ) (k failed : ℕ) (o e o' e' : List ℕ) : Type 0 where
-  pub goes : Goes ot et (in_turn each 0 (map f args)).steps (in_turn each k (map f (drop k args))).steps o e o' e'
-  pub count : (in_turn each 0 (map f args)).failed ≡ failed + (in_turn each k (map f (drop k args))).failed
+  pub goes : Goes ot et (parts_in_turn each 0 (map f args)).steps (parts_in_turn each k (map f (drop k args))).steps o e o' e'
+  pub count : (parts_in_turn each 0 (map f args)).failed ≡ failed + (parts_in_turn each k (map f (drop k args))).failed
 
 pub turned_none : {ot et : Bool} {each : ℕ → List ℕ → Portion} {f : ℕ → List ℕ} {args o e : List ℕ} → Turned ot et each f args 0 0 o e o e
 turned_none {ot = ot} {et = et} {each = each} {f = f} {args = args} {o = o} {e = e} = record {
-  goes = goes_start ot et (in_turn each 0 (map f args)).steps (in_turn each 0 (map f args)).steps o e refl;
+  goes = goes_start ot et (parts_in_turn each 0 (map f args)).steps (parts_in_turn each 0 (map f args)).steps o e refl;
   count = omega arith;
 }
 
@@ -36,53 +36,54 @@ module _ {each : ℕ → List ℕ → Portion} {f : ℕ → List ℕ} {args : Li
     (far : Turned ot et each f args k failed o e o' e') where
   module _ {word : ℕ} (here : slice_get args k ≡ Some word) where
     abbrev rest : Course
-    rest = in_turn each (k + 1) (map f (drop (k + 1) args))
+    rest = parts_in_turn each (k + 1) (map f (drop (k + 1) args))
 
-    split : in_turn each k (map f (drop k args)) ≡ before (each k (f word)) rest
-    split = ap (λ (ws : List ℕ). in_turn each k (map f ws)) (drop_get args k word here)
+    split : parts_in_turn each k (map f (drop k args)) ≡ before (each k (f word)) rest
+    split = ap (λ (ws : List ℕ). parts_in_turn each k (map f ws)) (drop_get args k word here)
 
-    turn_steps : (in_turn each k (map f (drop k args))).steps ≡ (each k (f word)).steps ++ rest.steps
+    turn_steps : (parts_in_turn each k (map f (drop k args))).steps ≡ (each k (f word)).steps ++ rest.steps
     turn_steps = ap (λ (c : Course). c.steps) split
 
     pub turned_more : {o'' e'' : List ℕ} {P : Bearer → Type 0} {fails : Bool}
         → PartIs (each k (f word)) (Ok fails) (outputs ot o' et e') (outputs ot o'' et e'') P
         → Turned ot et each f args (k + 1) (failed + counted fails) o e o'' e''
     turned_more {o'' = o''} {e'' = e''} {fails = fails} part = record {
-      goes = goes_more ot et (in_turn each 0 (map f args)).steps (in_turn each k (map f (drop k args))).steps (each k (f word)).steps rest.steps
+      goes = goes_more ot et (parts_in_turn each 0 (map f args)).steps (parts_in_turn each k (map f (drop k args))).steps (each k (f word)).steps rest.steps
           o o' o'' e e' e'' turn_steps far.goes part.steps;
       count =
-          let parts : (in_turn each k (map f (drop k args))).failed ≡ counted (each k (f word)).fails + rest.failed = ap (λ (c : Course). c.failed) split in
+          let parts : (parts_in_turn each k (map f (drop k args))).failed ≡ counted (each k (f word)).fails + rest.failed =
+          ap (λ (c : Course). c.failed) split in
           let one : counted (each k (f word)).fails ≡ counted fails = ap counted part.fails in
           omega (arith, far.count, parts, one);
     }
 
     pub turned_stop : {o'' e'' : List ℕ} {P : Bearer → Type 0} (Q : Bearer → Type 0) {what : Halt} → ((b : Bearer) → P b → Q b)
         → PartIs (each k (f word)) (Err what) (outputs ot o' et e') (outputs ot o'' et e'') P
-        → Went (in_turn each 0 (map f args)) (why_of_halt what) (outputs ot o et e) (outputs ot o'' et e'') Q
+        → CommandProgress (parts_in_turn each 0 (map f args)) (why_of_halt what) (outputs ot o et e) (outputs ot o'' et e'') Q
     turned_stop {o'' = o''} {e'' = e''} {P = P} Q {what = what} so part =
-        let all = in_turn each 0 (map f args) in
+        let all = parts_in_turn each 0 (map f args) in
         went_stop Bool all what (outputs ot o et e) (outputs ot o'' et e'') Q
-        (goes_stop ot et all.steps (in_turn each k (map f (drop k args))).steps (each k (f word)).steps rest.steps o o' o'' e e' e'' turn_steps far.goes
+        (goes_stop ot et all.steps (parts_in_turn each k (map f (drop k args))).steps (each k (f word)).steps rest.steps o o' o'' e e' e'' turn_steps far.goes
         Bool Bool what Q (reached_reads {T = Bool} (each k (f word)).steps (Err what) (outputs ot o' et e') (outputs ot o'' et e'') P Q so part.steps))
 
   -- all of them were
   module _ (past : length args ≤ k) where
-    none : in_turn each k (map f (drop k args)) ≡ in_turn each k []
-    none = ap (λ (ws : List ℕ). in_turn each k (map f ws)) (none_left args k past)
+    none : parts_in_turn each k (map f (drop k args)) ≡ parts_in_turn each k []
+    none = ap (λ (ws : List ℕ). parts_in_turn each k (map f ws)) (none_left args k past)
 
-    through : Through (in_turn each 0 (map f args)).steps (outputs ot o et e) (outputs ot o' et e')
-    through = goes_end ot et (in_turn each 0 (map f args)).steps (in_turn each k (map f (drop k args))).steps o o' e e'
+    through : Through (parts_in_turn each 0 (map f args)).steps (outputs ot o et e) (outputs ot o' et e')
+    through = goes_end ot et (parts_in_turn each 0 (map f args)).steps (parts_in_turn each k (map f (drop k args))).steps o o' e e'
         (ap (λ (c : Course). c.steps) none) far.goes
 
-    total : (in_turn each 0 (map f args)).failed ≡ failed
+    total : (parts_in_turn each 0 (map f args)).failed ≡ failed
     total = omega (arith, far.count, ap (λ (c : Course). c.failed) none)
 
-    pub turned_done : failed ≡ 0 → Through (in_turn each 0 (map f args)).steps (outputs ot o et e) (outputs ot o' et e')
-        × ((in_turn each 0 (map f args)).failed ≡ 0)
+    pub turned_done : failed ≡ 0 → Through (parts_in_turn each 0 (map f args)).steps (outputs ot o et e) (outputs ot o' et e')
+        × ((parts_in_turn each 0 (map f args)).failed ≡ 0)
     turned_done zero = (through, total ∙ zero)
 
-    pub turned_failed : failed ≢ 0 → Through (in_turn each 0 (map f args)).steps (outputs ot o et e) (outputs ot o' et e')
-        × ((in_turn each 0 (map f args)).failed ≡ failed) × (0 < failed)
+    pub turned_failed : failed ≢ 0 → Through (parts_in_turn each 0 (map f args)).steps (outputs ot o et e) (outputs ot o' et e')
+        × ((parts_in_turn each 0 (map f args)).failed ≡ failed) × (0 < failed)
     turned_failed some = (through, total, omega (arith, some))
 
 -- ---- what is said of one of them, and read for it

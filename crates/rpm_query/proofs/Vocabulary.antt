@@ -1,7 +1,6 @@
 -- The words of proofs, from one place.
-pub use Rattle.rpm_effects.specs.Progress.{outputs, Outputs, Through}
-pub use Rattle.rpm_effects.specs.Steps.{Bearer, bearer, Course, idle, is_out, Step, ToErr, whole}
-pub use Rattle.rpm_effects.specs.Texts.{refused_line}
+pub use Rattle.rpm_effects.specs.Progress.{outputs, Outputs, Through, Anywhere}
+pub use Rattle.rpm_effects.specs.Steps.{Bearer, bearer, Course, idle, is_out, Step, whole, bearer_of}
 pub use Rattle.rpm_effects.specs.declared.tally.Halt.{Halt}
 pub use Rattle.rpm_db.specs.Database.{cost_all, cost_to, Database, is_indexed}
 pub use Rattle.rpm_db.specs.Frame.{room}
@@ -22,7 +21,7 @@ pub use Rattle.rpm_outside.specs.Shelves.{bytes_at, Paths}
 pub use Rattle.rpm_outside.specs.declared.disk.File.TheVariants.{Idx, Pkg}
 pub use Rattle.rpm_outside.specs.inner.Looking.{looks_at_from, looks_more, looks_then}
 pub use Rattle.rpm_pkgdb.specs.Store.{Store}
-pub use Rattle.rpm_effects.specs.Answers.{Anywhere, PartIs, Reached, StepIs, Went}
+pub use Rattle.rpm_effects.specs.Answers.{PartIs, PartProgress, StepIs, CommandProgress}
 pub use Rattle.rpm_print.specs.Answers.{is_some_of}
 pub use Rattle.rpm_effects.specs.Endings.{why_of_halt}
 pub use Rattle.rpm_effects.specs.Classes.{is_of_words, IsOfRead}
@@ -30,7 +29,7 @@ pub use Rattle.rpm_print.specs.Frame.{Looks, packages_in, Peeks, pkg_read}
 pub use Rattle.rpm_effects.specs.Shown.{shown}
 pub use Rattle.rpm_print.specs.Printed.{packages_part, printed, step_by}
 pub use Rattle.rpm_print.specs.Reads.{reach_before, reach_sum, reached_by, ReadsIn, ReadsOf}
-pub use Rattle.rpm_effects.specs.Portions.{bearer_of, before, fails, is_bad, Portion}
+pub use Rattle.rpm_effects.specs.Portions.{before, is_bad, Portion}
 pub use Rattle.rpm_effects.specs.declared.answer.Why.{Why}
 pub use Rattle.rpm_qfeval.specs.Meaning.{meaning}
 pub use Rattle.rpm_qfparse.specs.Tree.{Tree}
@@ -57,5 +56,5 @@ pub use Rattle.rpm_select.specs.inner.Unindexed.{not_asked}
 pub use Rattle.rpm_tags.specs.declared.kind.Kind.{Kind}
 pub use Rattle.rpm_words.specs.Words.{text_at}
 pub use Rattle.rpm_words.specs.declared.switch.Chosen.{Chosen}
-pub use Rattle.std.specs.List.{concat, filter, list_any}
+pub use Rattle.std.specs.List.{filter, list_any}
 pub use Rattle.std.specs.Ordering.{nat_cmp}

@@ -9,7 +9,7 @@ use Rattle.rpm_qfparse.specs.Tree.{Tree}
 use Rattle.rpm_qfeval.specs.Meaning.{meaning}
 use Rattle.rpm_effects.specs.Texts.{refused_line, absent_line}
 use Rattle.rpm_effects.specs.Steps.{bearer, whole, ToErr, Course}
-use Rattle.rpm_effects.specs.Portions.{Portion, fails, told, in_turn}
+use Rattle.rpm_effects.specs.Portions.{Portion, fails, told, parts_in_turn}
 use Rattle.rpm_print.specs.Printed.{printed}
 
 -- a package file has its header printed with the number 0, or a line, for which the argument fails
@@ -28,7 +28,7 @@ file_part tree paths j path = found_part tree j path (bytes_at paths path)
 
 -- each argument is a path, and `-` the standard input; no number is passed over
 abbrev pub query_files : Tree → Paths → List (List ℕ) → AskParts → Course
-query_files tree paths words a = in_turn (file_part tree paths) 0 (map (text_at words) a.arguments)
+query_files tree paths words a = parts_in_turn (file_part tree paths) 0 (map (text_at words) a.arguments)
 
 -- words with another number after `--after`
 abbrev pub passing : ℕ → AskParts → AskParts

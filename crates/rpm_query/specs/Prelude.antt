@@ -1,6 +1,5 @@
 -- The words of clauses, from one place.
-pub use Rattle.rpm_effects.specs.Steps.{ToErr, bearer, idle, whole}
-pub use Rattle.rpm_effects.specs.Texts.{absent_line, refused_line}
+pub use Rattle.rpm_effects.specs.Steps.{bearer, idle, whole}
 pub use Rattle.rpm_db.specs.Database.{cost_all, cost_to, is_indexed}
 pub use Rattle.rpm_db.specs.State.{above}
 pub use Rattle.rpm_file.specs.Package.{package_header}
@@ -11,8 +10,8 @@ pub use Rattle.rpm_select.specs.Reach.{Everything, Serves, reach_all, reach_to, 
 pub use Rattle.rpm_select.specs.Recents.{Recalls}
 pub use Rattle.rpm_select.specs.Selections.{picks}
 pub use Rattle.rpm_words.specs.Words.{text_at}
-pub use Rattle.std.specs.List.{concat}
-pub use Rattle.rpm_effects.specs.Answers.{Anywhere, PartIs, Went}
+pub use Rattle.rpm_effects.specs.Progress.{Anywhere}
+pub use Rattle.rpm_effects.specs.Answers.{PartIs, CommandProgress}
 pub use Rattle.rpm_print.specs.Answers.{is_some_of}
 pub use Rattle.rpm_print.specs.Asked.{prints_packages}
 pub use Rattle.rpm_effects.specs.Classes.{IsOfPrint, IsOfRead, is_foreign, is_of_opening, is_of_words}
@@ -21,7 +20,8 @@ pub use Rattle.rpm_effects.specs.Hands.{EndHands, HaltHands, PutsErr, PutsOut, S
 pub use Rattle.rpm_effects.specs.Shown.{ErrTakes, OutTakes, shown}
 pub use Rattle.rpm_print.specs.Printed.{packages_part, printed, step_by}
 pub use Rattle.rpm_print.specs.Reads.{ReadsIn, ReadsOf, reach_sum, reached_by}
-pub use Rattle.rpm_effects.specs.Portions.{before, fails, in_turn, nothing, told}
+pub use Rattle.rpm_effects.specs.Portions.{before, parts_in_turn, nothing, told}
 pub use Rattle.rpm_query.specs.PackageFiles.{file_part, query_files, read_part}
 pub use Rattle.rpm_query.specs.Queries.{argument_part, fails_in, halt_of_pick, lent, missing, missing_part, missing_record, question_of}
 pub use Rattle.rpm_query.specs.Reach.{IsOfChain, IsOfChains, argument_reach}
+pub use Rattle.rpm_effects.specs.Lines.{answer_of_line}

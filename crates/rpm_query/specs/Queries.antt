@@ -19,7 +19,7 @@ use Rattle.rpm_select.specs.declared.selection.Selection.{Selection}
 use Rattle.rpm_select.specs.declared.selection.Selection.TheVariants as question
 use Rattle.rpm_select.specs.Selections.{picks}
 use Rattle.rpm_effects.specs.Steps.{whole, Step, ToOut, ToErr, Course, idle}
-use Rattle.rpm_effects.specs.Portions.{Portion, nothing, fails, before, in_turn, numbers, RisesFrom}
+use Rattle.rpm_effects.specs.Portions.{Portion, nothing, fails, before, parts_in_turn, numbers, RisesFrom}
 use Rattle.rpm_print.specs.Printed.{packages_part, step_of, exported}
 use Rattle.rpm_select.specs.declared.picked.PickFault.{PickFault}
 use Rattle.rpm_select.specs.declared.picked.PickFault.TheVariants as pick
@@ -122,7 +122,7 @@ halt_of_pick pick.NoMemory = halt.NoMemory
 -- a query without arguments is of all packages, and counts as one
 abbrev pub query_of : Tree → FinMap nat_cmp Package → Chosen → ℕ → List (List ℕ) → Course
 query_of tree packages chosen after [] = before (packages_part (step_of tree 0) after (picks packages question.All)) idle
-query_of tree packages chosen after (x ∷ xs) = in_turn (argument_part tree packages chosen after) 0 (x ∷ xs)
+query_of tree packages chosen after (x ∷ xs) = parts_in_turn (argument_part tree packages chosen after) 0 (x ∷ xs)
 
 -- a query has this course by its words
 abbrev pub query : Tree → FinMap nat_cmp Package → List (List ℕ) → AskParts → Course

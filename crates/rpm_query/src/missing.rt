@@ -3,9 +3,8 @@
 ghost use Rattle.std.specs.Prelude.{◌≡◌, ◌≢◌, ℕ, List, Err, IfErr, IfNone, IfSome};
 ghost use Rattle.rpm_query.specs.Prelude.{ErrTakes, HaltHands, IsOfPrint, missing, missing_part, missing_record, nothing, OutTakes, PartIs, PutsErr, PutsOut, shown, whole};
 
-use rpm_effects::Halt;
+use rpm_effects::{Halt, put_line, put_out};
 use rpm_outside::{Buffered, Sink};
-use rpm_print::{put_line, put_out};
 use rpm_words::Chosen;
 
 /// Writes to out a line that has the argument's text between two others; then the argument fails.

@@ -1,7 +1,7 @@
 //! `AnswersPlain` and `AnswersKeyed` of the theorem: the queries of an opened database.
 
 ghost use Rattle.std.specs.Prelude.{◌≡◌, ◌≢◌, ◌+◌, ◌<◌, ◌≤◌, ℕ, [], ◌∷◌, if◌then◌else◌, false, true, map, IsTrue};
-ghost use Rattle.rpm_query.specs.Prelude.{argument_part, argument_reach, before, cost_all, DiskFault, EndHands, Everything, HasRows, idle, in_turn, is_foreign, is_indexed, is_of_opening, IsAskable, IsOfChains, Looks, packages_in, packages_part, Peeks, picks, Pkg, pkg_read, prints_packages, reach_sum, reached_by, shown, step_by, text_at, Went};
+ghost use Rattle.rpm_query.specs.Prelude.{argument_part, argument_reach, before, cost_all, DiskFault, EndHands, Everything, HasRows, idle, parts_in_turn, is_foreign, is_indexed, is_of_opening, IsAskable, IsOfChains, Looks, packages_in, packages_part, Peeks, picks, Pkg, pkg_read, prints_packages, reach_sum, reached_by, shown, step_by, text_at, CommandProgress};
 ghost use Rattle.rpm_select.specs.declared.selection.Selection.TheVariants as question;
 
 use crate::answering::answer;
@@ -29,7 +29,7 @@ pub fn query_all<D: Disk, O: Sink + Drop, E: Sink + Drop>(
     requires asked { IsAskable D.Disk disk.old db.now }
     requires prints { prints_packages deed ≡ true }
     ensures went { IsTrue D.tells → HasRows D.Disk disk.old db.now
-        → Went (before (packages_part (step_by deed format.now 0) after (picks (packages_in D.Disk disk.old db.now)
+        → CommandProgress (before (packages_part (step_by deed format.now 0) after (picks (packages_in D.Disk disk.old db.now)
         question.All)) idle) result (shown O.Sink E.Sink out.old err.old) (shown O.Sink E.Sink out.new err.new)
         (λ for. pkg_read D.Disk disk.new ≤ pkg_read D.Disk disk.old + reached_by (Everything ∷ []) db.now for) }
     ensures done { is_foreign result ≡ false }
@@ -81,7 +81,7 @@ pub fn query_each<D: Disk, O: Sink + Drop, E: Sink + Drop>(
 ) -> Why
     requires asked { IsAskable D.Disk disk.old db.now }
     ensures went { IsTrue D.tells → HasRows D.Disk disk.old db.now
-        → Went (in_turn (argument_part format.now (packages_in D.Disk disk.old db.now) ask.now.chosen ask.now.after) 0
+        → CommandProgress (parts_in_turn (argument_part format.now (packages_in D.Disk disk.old db.now) ask.now.chosen ask.now.after) 0
         (map (text_at words.now) ask.now.arguments)) result (shown O.Sink E.Sink out.old err.old)
         (shown O.Sink E.Sink out.new err.new) (λ for. pkg_read D.Disk disk.new ≤ pkg_read D.Disk disk.old + reached_by
         (map (argument_reach (is_indexed db.now) (packages_in D.Disk disk.old db.now) ask.now.chosen)

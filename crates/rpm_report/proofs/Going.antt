@@ -3,7 +3,7 @@ use Rattle.std.proofs.Common.{◌≡◌, ℕ, ◌++◌, Bool, List, [], Result, 
 use Rattle.std.specs.Prelude.{IsTrue}
 use Rattle.rpm_outside.specs.declared.disk.Disk as disk
 use Rattle.rpm_outside.specs.declared.sink.Sink as sink
-use Rattle.rpm_report.proofs.Vocabulary.{Anywhere, Buffered, Files, Halt, inner, outputs, OutTakes, Reached, Step, TellsOut, Through}
+use Rattle.rpm_report.proofs.Vocabulary.{Anywhere, Buffered, Files, Halt, inner, outputs, OutTakes, PartProgress, Step, TellsOut, Through}
 use Rattle.rpm_effects.specs.inner.Reaching.{Goes, goes_start, goes_more, goes_stop, goes_end}
 use Rattle.rpm_report.proofs.SoFar.{SoFar, so_far_none, so_far_more, so_far_stops, so_far_ends}
 
@@ -38,8 +38,8 @@ module _ {D S : Type 0} (d : disk.Ghosts D) (s : sink.Ghosts S) where
 
     -- a call that stops
     pub going_stop : {T : Type 0} (T' : Type 0) {what : Halt} → TellsOut d {T = T} s (Err what) b c y z
-        → (IsTrue d.tells → OutTakes s (λ old new. Reached {T = T} (front (d.files b)) (Err what) old new Anywhere) y z)
-        → (IsTrue d.tells → OutTakes s (λ old new. Reached {T = T'} (all (d.files a)) (Err what) old new Anywhere) x z)
+        → (IsTrue d.tells → OutTakes s (λ old new. PartProgress {T = T} (front (d.files b)) (Err what) old new Anywhere) y z)
+        → (IsTrue d.tells → OutTakes s (λ old new. PartProgress {T = T'} (all (d.files a)) (Err what) old new Anywhere) x z)
         × TellsOut d {T = T'} s (Err what) a c x z
     going_stop {T = T} T' {what = what} tells went = (
       λ told et e.
@@ -48,7 +48,7 @@ module _ {D S : Type 0} (d : disk.Ghosts D) (s : sink.Ghosts S) where
           let new = outputs s.tells (s.taken (inner z)) et e in
           goes_stop s.tells et (all f) (left f) (front f) (rest f) (s.taken (inner x)) (s.taken (inner y)) (s.taken (inner z)) e e e (is f) (g.goes told et e)
           T T' what Anywhere
-          (subst (λ (h : Files). Reached {T = T} (front h) (Err what) old new Anywhere) (g.far.looks.untouched told).same (went told et e)),
+          (subst (λ (h : Files). PartProgress {T = T} (front h) (Err what) old new Anywhere) (g.far.looks.untouched told).same (went told et e)),
       so_far_stops d s goes joins g.far tells,
     )
 

@@ -1,7 +1,7 @@
 -- Lines of a report to both sinks, for each of which the argument fails: how far they were gone through.
 use Rattle.std.proofs.Common.{◌≡◌, ◌≤◌, Bool, List, [], ◌∷◌, map, Ok, Err, refl, sym, ap, ◌∙◌, subst, arith}
 use Rattle.rpm_outside.specs.declared.sink.Sink as sink
-use Rattle.rpm_report.proofs.Vocabulary.{Bearer, Buffered, fails, Halt, Hand, inner, is_some_of, PartIs, Reached, shown, Step, Through, together}
+use Rattle.rpm_report.proofs.Vocabulary.{Bearer, Buffered, fails, Halt, Hand, inner, is_some_of, PartIs, PartProgress, shown, Step, Through, together}
 use Rattle.rpm_effects.specs.inner.Reaching.{Goes, goes_start, goes_more, goes_stop, goes_end}
 
 failing_steps : (steps : List Step) → (together (map fails steps)).steps ≡ steps
@@ -58,10 +58,10 @@ module _ {O E : Type 0} (o : sink.Ghosts O) (e : sink.Ghosts E) where
 
     -- a line that stops
     pub written_stop : (to : Buffered O) (to_err : Buffered E) {what : Halt} {P : Bearer → Type 0}
-        → Reached {T = Bool} (s ∷ []) (Err what) (shown o e out' err') (shown o e to to_err) P
+        → PartProgress {T = Bool} (s ∷ []) (Err what) (shown o e out' err') (shown o e to to_err) P
         → PartIs (together (map fails all)) (Err what) (shown o e out err) (shown o e to to_err) P
     written_stop to to_err {what = what} {P = P} stop = record {
-      steps = subst (λ (ss : List Step). Reached {T = Bool} ss (Err what) (shown o e out err) (shown o e to to_err) P) (sym (failing_steps all))
+      steps = subst (λ (ss : List Step). PartProgress {T = Bool} ss (Err what) (shown o e out err) (shown o e to to_err) P) (sym (failing_steps all))
           (goes_stop o.tells e.tells all left (s ∷ []) rest (o.taken (inner out)) (o.taken (inner out')) (o.taken (inner to)) (e.taken (inner err))
           (e.taken (inner err')) (e.taken (inner to_err)) is w.goes Bool Bool what P stop);
       fails = tt;

@@ -2,7 +2,8 @@
 use Rattle.std.proofs.Common.{◌≡◌, ℕ, ◌+◌, ◌-◌, ◌<◌, ◌≤◌, ◌==◌, ◌⊎◌, suc, Bool, true, List, [], ◌∷◌, ◌++◌, map, take, length, get_or, Option, Some, None}
 use Rattle.std.proofs.Common.{Result, Ok, Err, refl, sym, ap, ◌∙◌, subst, append_assoc, add-one, inl, inr, arith}
 use Rattle.rpm_report.proofs.Vocabulary.{All, Anywhere, Bad, Bearer, bearer, err_bytes, FinMap, flat_map, Gained, get, Good, Header, header, HeaderFault}
-use Rattle.rpm_report.proofs.Vocabulary.{nat_cmp, out_bytes, Outputs, Package, package_text, prefix_len, Reached, read_text, Step, StepIs, Halt, StoppedWithin}
+use Rattle.rpm_report.proofs.Vocabulary.{nat_cmp, out_bytes, Outputs, Package, package_text, prefix_len, PartProgress, read_text, Step, StepIs, Halt}
+use Rattle.rpm_report.proofs.Vocabulary.{StoppedWithin}
 use Rattle.rpm_report.proofs.Vocabulary.{Through, ToOut, Unmet, unmet_lines, unmet_step, unmet_text}
 use Rattle.std.specs.Prelude.{slice_get}
 use Rattle.std.proofs.Math.Seq.{take-append-add, take-suc}
@@ -13,6 +14,7 @@ use Rattle.std.proofs.lemmas.List.{append-nil, get_or-take, map-append, take-app
 use Rattle.std.proofs.lemmas.List.Folds.{flat_map-map, length-prefix_len}
 use Rattle.std.proofs.lemmas.List.Sums.{prefix_len_passes}
 use Rattle.rpm_effects.specs.declared.tally.Halt.TheVariants as halt
+use Rattle.rpm_effects.specs.inner.Reaching.{not_begun}
 
 -- ---- lines in one piece
 
@@ -94,14 +96,14 @@ module _ {X : Type 0} (b : Bearer) (line : X → List ℕ) where
 
     -- one piece reaches as far as its lines do
     pub piece_reached : (xs : List X) → 0 < length xs → text ≡ flat_map line xs → (r : Result Bool Halt) → StepIs (ToOut b text) r old new
-        → Reached (map line_step xs) r old new Anywhere
+        → PartProgress (map line_step xs) r old new Anywhere
     piece_reached [] some is r step = absurd (omega arith)
     piece_reached (x ∷ xs) some is (Ok to_out) step = piece_through (x ∷ xs) is step.1
-    piece_reached (x ∷ xs) some is (Err halt.DiskFault) step = ([], map line_step (x ∷ xs), refl, step)
-    piece_reached (x ∷ xs) some is (Err halt.ShelfFault) step = ([], map line_step (x ∷ xs), refl, step)
+    piece_reached (x ∷ xs) some is (Err halt.DiskFault) step = not_begun step
+    piece_reached (x ∷ xs) some is (Err halt.ShelfFault) step = not_begun step
     piece_reached (x ∷ xs) some is (Err halt.OutFault) step = piece_within x xs is step.1.0 step.1.1
     piece_reached (x ∷ xs) some is (Err halt.ErrFault) step = absurd (let is = step.0 in cc)
-    piece_reached (x ∷ xs) some is (Err halt.NoMemory) step = ([], map line_step (x ∷ xs), refl, step)
+    piece_reached (x ∷ xs) some is (Err halt.NoMemory) step = not_begun step
     piece_reached (x ∷ xs) some is (Err others) step = absurd step
 
 -- ---- the lines of a package

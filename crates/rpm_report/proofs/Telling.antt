@@ -3,7 +3,8 @@ use Rattle.std.proofs.Common.{◌≡◌, ℕ, ◌+◌, ◌<◌, Bool, true, fals
 use Rattle.std.proofs.Common.{◌∙◌, subst, add-one, drop-cons, arith}
 use Rattle.std.specs.Prelude.{codes, slice_index_or}
 use Rattle.rpm_report.proofs.Vocabulary.{Anywhere, Bearer, class_steps, cycle_line, fails, flat_map, Halt, header, Header, header-own, HeaderFault, label_step}
-use Rattle.rpm_report.proofs.Vocabulary.{nat_cmp, Outputs, Package, package_of, package_text, PartIs, Reached, read_as, read_text, Step, StepIs, ToOut, whole}
+use Rattle.rpm_report.proofs.Vocabulary.{nat_cmp, Outputs, Package, package_of, package_text, PartIs, PartProgress, read_as, read_text, Step, StepIs, ToOut}
+use Rattle.rpm_report.proofs.Vocabulary.{whole}
 use Rattle.std.proofs.lemmas.Bool.Decides.{nat_tests}
 use Rattle.std.specs.FinMap as finite
 use Rattle.rpm_effects.specs.inner.Stopping.{reached_first, reached_reads}
@@ -40,15 +41,15 @@ pub classes_at : (f : List ℕ → List Step) (xs : List (List ℕ)) (k : ℕ) �
 classes_at f xs k lt = ap (flat_map f) (rest_at xs k [] lt)
 
 -- a step that stops
-pub step_stops : (s : Step) (what : Halt) (old new : Outputs) → StepIs s (Err what) old new → Reached {T = Bool} (s ∷ []) (Err what) old new Anywhere
+pub step_stops : (s : Step) (what : Halt) (old new : Outputs) → StepIs s (Err what) old new → PartProgress {T = Bool} (s ∷ []) (Err what) old new Anywhere
 step_stops s what old new step = reached_first Bool s [] what old new Anywhere tt step
 
 -- a line that was written is one that says the same
 pub line_told : {b : Bearer} {text said : List ℕ} {r : Result Bool Halt} {old new : Outputs} → text ≡ said
-    → PartIs (fails (ToOut b text)) r old new (λ for. for ≡ b) → Reached (ToOut b said ∷ []) r old new Anywhere
+    → PartIs (fails (ToOut b text)) r old new (λ for. for ≡ b) → PartProgress (ToOut b said ∷ []) r old new Anywhere
 line_told {b = b} {said = said} {r = r} {old = old} {new = new} is part =
     reached_reads (ToOut b said ∷ []) r old new (λ (for : Bearer). for ≡ b) Anywhere (λ f same. tt)
-    (subst (λ (t : List ℕ). Reached (ToOut b t ∷ []) r old new (λ for. for ≡ b)) is part.steps)
+    (subst (λ (t : List ℕ). PartProgress (ToOut b t ∷ []) r old new (λ for. for ≡ b)) is part.steps)
 
 -- ---- a class
 

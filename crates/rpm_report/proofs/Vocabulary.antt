@@ -1,5 +1,5 @@
 -- The words of proofs, from one place.
-pub use Rattle.rpm_effects.specs.Progress.{Outputs, outputs, Through}
+pub use Rattle.rpm_effects.specs.Progress.{Outputs, outputs, Through, Anywhere, StoppedWithin}
 pub use Rattle.rpm_effects.specs.Hands.{Hand}
 pub use Rattle.rpm_effects.specs.Steps.{bearer, Bearer, err_bytes, out_bytes, Step, ToOut, whole}
 pub use Rattle.rpm_effects.specs.declared.tally.Halt.{Halt}
@@ -29,7 +29,7 @@ pub use Rattle.rpm_outside.specs.Sinks.{Gained}
 pub use Rattle.rpm_outside.specs.declared.buffered.Buffered.{Buffered}
 pub use Rattle.rpm_outside.specs.declared.disk.File.TheVariants.{Pkg}
 pub use Rattle.rpm_outside.specs.inner.Looking.{looks_more, looks_none, looks_then}
-pub use Rattle.rpm_effects.specs.Answers.{Anywhere, PartIs, Reached, StepIs, StoppedWithin, Went}
+pub use Rattle.rpm_effects.specs.Answers.{PartIs, PartProgress, StepIs, CommandProgress}
 pub use Rattle.rpm_print.specs.Answers.{is_some_of}
 pub use Rattle.rpm_print.specs.Frame.{DiskFault, Looks, packages_in, Peeks, pkg_read, TellsOut}
 pub use Rattle.rpm_effects.specs.Shown.{OutTakes, shown}

@@ -14,7 +14,8 @@ pub use Rattle.rpm_select.specs.Reach.{Everything}
 pub use Rattle.rpm_version.specs.Range.{is_open}
 pub use Rattle.std.specs.List.{flat_map}
 pub use Rattle.std.specs.Option.{option_map}
-pub use Rattle.rpm_effects.specs.Answers.{Anywhere, PartIs, Reached, Went}
+pub use Rattle.rpm_effects.specs.Progress.{Anywhere}
+pub use Rattle.rpm_effects.specs.Answers.{PartIs, PartProgress, CommandProgress}
 pub use Rattle.rpm_effects.specs.Classes.{IsOfPrint, is_foreign, is_of_opening}
 pub use Rattle.rpm_print.specs.Frame.{DiskFault, HasRows, IsAskable, Looks, Peeks}
 pub use Rattle.rpm_effects.specs.Shown.{ErrTakes, OutTakes, shown}

@@ -24,12 +24,12 @@ use Rattle.rpm_effects.specs.declared.tally.Halt.{Halt}
 use Rattle.rpm_effects.specs.declared.tally.Halt.TheVariants as halt
 use Rattle.rpm_effects.specs.declared.answer.Why.{Why}
 use Rattle.rpm_effects.specs.declared.answer.Why.TheVariants as why
-use Rattle.rpm_effects.specs.Progress.{Outputs}
+use Rattle.rpm_effects.specs.Progress.{Outputs, Anywhere}
 use Rattle.rpm_effects.specs.Steps.{bearer, whole, Step, ToOut, Course, idle}
 use Rattle.rpm_effects.specs.Portions.{Portion, nothing, fails, together, before}
 use Rattle.rpm_print.specs.Printed.{bad_step}
 use Rattle.rpm_report.specs.Labels.{header_label}
-use Rattle.rpm_effects.specs.Answers.{PartIs, Reached, Anywhere}
+use Rattle.rpm_effects.specs.Answers.{PartIs, PartProgress}
 use Rattle.rpm_print.specs.Answers.{is_some_of}
 use Rattle.rpm_effects.specs.Endings.{why_of_halt}
 
@@ -148,7 +148,7 @@ pub record IsListed (g : Network) (all_told : Bool) (classes : List (List ℕ)) 
 -- how far the classes were told
 abbrev pub ClassesAre : FinMap nat_cmp Package → Result (Unit {0}) Halt → Outputs → Outputs → Type 0
 ClassesAre packages result old new = (classes : List (List ℕ)) × IsListed (graph_of packages) (is_ok result) classes
-    × Reached (classes_part packages classes).steps result old new Anywhere
+    × PartProgress (classes_part packages classes).steps result old new Anywhere
 
 -- a report tells the order after the packages that can't be read
 abbrev pub OrderPartIs : FinMap nat_cmp Package → Result Bool Halt → Outputs → Outputs → Type 0

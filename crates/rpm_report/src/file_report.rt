@@ -1,13 +1,13 @@
 //! `AnswersPlain` of the theorem: what is told of the paths that several packages own and that differ.
 
 ghost use Rattle.std.specs.Prelude.{◌≡◌, ◌≢◌, ◌+◌, ◌≤◌, [], ◌∷◌, map, false, IsTrue, Err, IfErr};
-ghost use Rattle.rpm_report.specs.Prelude.{check_files, conflict_step, cost_all, DiskFault, EndHands, Everything, fails, HaltHands, if_differs, is_foreign, is_of_opening, IsAskable, IsOfPrint, label_told, Looks, OutTakes, packages_in, PartIs, Pkg, pkg_read, PutsOut, reached_by, shown, together, told_steps, Went, whole};
+ghost use Rattle.rpm_report.specs.Prelude.{check_files, conflict_step, cost_all, DiskFault, EndHands, Everything, fails, HaltHands, if_differs, is_foreign, is_of_opening, IsAskable, IsOfPrint, label_told, Looks, OutTakes, packages_in, PartIs, Pkg, pkg_read, PutsOut, reached_by, shown, together, told_steps, CommandProgress, whole};
 
 use rpm_db::Db;
-use rpm_effects::{Halt, Why};
+use rpm_effects::{Halt, Why, put_out};
 use rpm_filecheck::{Conflict, ConflictList, FileCheckFault, conflicts};
 use rpm_outside::{Buffered, Disk, File, Sink};
-use rpm_print::{put_bad, put_out};
+use rpm_print::put_bad;
 use std::alloc::Global;
 
 /// A word, where what it names differs.
@@ -85,7 +85,7 @@ pub fn check_files<D: Disk, O: Sink + Drop, E: Sink + Drop>(
     err: &mut Buffered<E>,
 ) -> Why
     requires asked { IsAskable D.Disk disk.old db.now }
-    ensures went { IsTrue D.tells → Went (check_files (packages_in D.Disk disk.old db.now)) result
+    ensures went { IsTrue D.tells → CommandProgress (check_files (packages_in D.Disk disk.old db.now)) result
         (shown O.Sink E.Sink out.old err.old) (shown O.Sink E.Sink out.new err.new)
         (λ for. pkg_read D.Disk disk.new ≤ pkg_read D.Disk disk.old + reached_by (Everything ∷ []) db.now for) }
     ensures done { is_foreign result ≡ false }

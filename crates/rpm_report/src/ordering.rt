@@ -1,18 +1,17 @@
 //! `AnswersKeyed` of the theorem: an order in which the packages could be installed.
 
 ghost use Rattle.std.specs.Prelude.{◌≡◌, ◌<◌, [], ◌∷◌, map, true, IsTrue, Err, IfErr};
-ghost use Rattle.rpm_report.specs.Prelude.{Anywhere, class_steps, DiskFault, flat_map, HaltHands, HasRows, IsAskable, IsOfPrint, label_step, OrderPartIs, OutTakes, packages_in, Peeks, Reached, shown, HaltsOfSome, TellsOut};
+ghost use Rattle.rpm_report.specs.Prelude.{Anywhere, class_steps, DiskFault, flat_map, HaltHands, HasRows, IsAskable, IsOfPrint, label_step, OrderPartIs, OutTakes, packages_in, Peeks, PartProgress, shown, HaltsOfSome, TellsOut};
 
 use crate::unreadable::{halt_of_check, read_into, tell_each_bad};
 use itoa::Buffer;
 use rpm_check::read_graph;
 use rpm_db::Db;
-use rpm_effects::Halt;
+use rpm_effects::{Halt, put_out};
 use rpm_filecheck::label_of;
 use rpm_graph::{ClassList, order};
 use rpm_header::View;
 use rpm_outside::{Buffered, Disk, Sink};
-use rpm_print::put_out;
 use std::alloc::Global;
 
 /// Writes the label of a package, which is read for it into this room, after an indent.
@@ -26,7 +25,7 @@ fn put_label<D: Disk, O: Sink + Drop>(
     out: &mut Buffered<O>,
 ) -> Result<bool, Halt>
     requires asked { IsAskable D.Disk disk.old db.now }
-    ensures went { IsTrue D.tells → OutTakes O.Sink (λ old new. Reached
+    ensures went { IsTrue D.tells → OutTakes O.Sink (λ old new. PartProgress
         (label_step (packages_in D.Disk disk.old db.now) indent.now number ∷ []) result old new Anywhere)
         out.old out.new }
     ensures tells { TellsOut D.Disk O.Sink result disk.old disk.new out.old out.new }
@@ -52,7 +51,7 @@ fn put_labels<D: Disk, O: Sink + Drop>(
     out: &mut Buffered<O>,
 ) -> Result<(), Halt>
     requires asked { IsAskable D.Disk disk.old db.now }
-    ensures went { IsTrue D.tells → OutTakes O.Sink (λ old new. Reached
+    ensures went { IsTrue D.tells → OutTakes O.Sink (λ old new. PartProgress
         (map (label_step (packages_in D.Disk disk.old db.now) indent.now) class.now) result old new Anywhere)
         out.old out.new }
     ensures tells { TellsOut D.Disk O.Sink result disk.old disk.new out.old out.new }
@@ -74,7 +73,7 @@ fn put_class<D: Disk, O: Sink + Drop>(
     out: &mut Buffered<O>,
 ) -> Result<(), Halt>
     requires asked { IsAskable D.Disk disk.old db.now }
-    ensures went { IsTrue D.tells → OutTakes O.Sink (λ old new. Reached
+    ensures went { IsTrue D.tells → OutTakes O.Sink (λ old new. PartProgress
         (class_steps (packages_in D.Disk disk.old db.now) class.now) result old new Anywhere) out.old out.new }
     ensures tells { TellsOut D.Disk O.Sink result disk.old disk.new out.old out.new }
 {
@@ -98,7 +97,7 @@ fn put_classes<D: Disk, O: Sink + Drop>(
 ) -> Result<(), Halt>
     requires asked { IsAskable D.Disk disk.old db.now }
     ensures went { IsTrue D.tells → OutTakes O.Sink
-        (λ old new. Reached (flat_map (class_steps (packages_in D.Disk disk.old db.now)) list.now) result old new
+        (λ old new. PartProgress (flat_map (class_steps (packages_in D.Disk disk.old db.now)) list.now) result old new
         Anywhere) out.old out.new }
     ensures tells { TellsOut D.Disk O.Sink result disk.old disk.new out.old out.new }
 {

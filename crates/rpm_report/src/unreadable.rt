@@ -7,9 +7,9 @@ ghost use Rattle.rpm_report.specs.Prelude.{Anywhere, bad_at, bad_parts, ErrTakes
 
 use rpm_check::CheckFault;
 use rpm_db::{Db, GetFault};
-use rpm_effects::Halt;
+use rpm_effects::{Halt, put_line};
 use rpm_outside::{Buffered, Disk, Sink};
-use rpm_print::{put_bad, put_line};
+use rpm_print::put_bad;
 use std::alloc::Global;
 use std::mem::replace;
 

@@ -2,7 +2,7 @@
 
 ghost use Rattle.std.specs.Prelude.{◌≡◌, ◌==◌, ◌<◌, ◌≤◌, [], ◌++◌, drop, length, map, if◌then◌else◌, true, IsTrue, Err, IfOk, IfErr, OnOk, slice_get};
 ghost use Rattle.std.specs.List.{All, prefix_len};
-ghost use Rattle.rpm_report.specs.Prelude.{Anywhere, DiskFault, HaltHands, has, HasRows, header, is_open, IsAskable, IsOfPrint, line_of, needed_in, option_map, OutTakes, packages_in, PartIs, Peeks, range_text, Reached, read_text, required, shown, HaltsOfSome, TellsOut, unmet_lines, unmet_step, unsatisfied_part};
+ghost use Rattle.rpm_report.specs.Prelude.{Anywhere, DiskFault, HaltHands, has, HasRows, header, is_open, IsAskable, IsOfPrint, line_of, needed_in, option_map, OutTakes, packages_in, PartIs, Peeks, range_text, PartProgress, read_text, required, shown, HaltsOfSome, TellsOut, unmet_lines, unmet_step, unsatisfied_part};
 
 use crate::unreadable::{halt_of_check, read_into, tell_each_bad};
 use rpm_check::{Unmet, unmet};
@@ -165,7 +165,7 @@ fn put_row<D: Disk, O: Sink + Drop>(
     requires asked { IsAskable D.Disk disk.old db.now }
     requires own { All (λ unmet. unmet.number ≡ number) row.now }
     requires some { 0 < length row.now }
-    ensures went { IsTrue D.tells → OutTakes O.Sink (λ old new. Reached
+    ensures went { IsTrue D.tells → OutTakes O.Sink (λ old new. PartProgress
         (map (unmet_step (packages_in D.Disk disk.old db.now)) row.now) result old new Anywhere) out.old out.new }
     ensures tells { TellsOut D.Disk O.Sink result disk.old disk.new out.old out.new }
 {
@@ -194,7 +194,7 @@ fn put_each_unmet<D: Disk, O: Sink + Drop>(
     out: &mut Buffered<O>,
 ) -> Result<(), Halt>
     requires asked { IsAskable D.Disk disk.old db.now }
-    ensures went { IsTrue D.tells → OutTakes O.Sink (λ old new. Reached
+    ensures went { IsTrue D.tells → OutTakes O.Sink (λ old new. PartProgress
         (map (unmet_step (packages_in D.Disk disk.old db.now)) list.now) result old new Anywhere) out.old out.new }
     ensures tells { TellsOut D.Disk O.Sink result disk.old disk.new out.old out.new }
 {

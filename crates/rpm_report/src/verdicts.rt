@@ -1,14 +1,13 @@
 //! `AnswersPlain` of the theorem: what verifying says of all packages.
 
 ghost use Rattle.std.specs.Prelude.{◌≡◌, ◌≢◌, ◌+◌, ◌≤◌, [], ◌∷◌, true, false, IsTrue, Err, IfErr};
-ghost use Rattle.rpm_report.specs.Prelude.{bearer, cost, cost_all, DiskFault, Everything, Hand, holds, is_foreign, is_of_opening, IsAskable, IsOfPrint, Looks, OutTakes, PartIs, Pkg, pkg_read, PutsOut, reached_by, room, unsound, verdict, verdict_part, verify, Went};
+ghost use Rattle.rpm_report.specs.Prelude.{bearer, cost, cost_all, DiskFault, Everything, Hand, holds, is_foreign, is_of_opening, IsAskable, IsOfPrint, Looks, OutTakes, PartIs, Pkg, pkg_read, PutsOut, reached_by, room, unsound, verdict, verdict_part, verify, CommandProgress};
 ghost use Rattle.rpm_db.specs.Database as database;
 
 use itoa::Buffer;
 use rpm_db::{Db, GetFault, Verdict};
-use rpm_effects::{Halt, Why};
+use rpm_effects::{Halt, Why, put_out};
 use rpm_outside::{Buffered, Disk, File, Sink};
-use rpm_print::put_out;
 use std::alloc::Global;
 
 /// Writes the line of a package that isn't sound, for which the argument fails.
@@ -67,7 +66,7 @@ pub fn report<D: Disk, O: Sink + Drop>(
     out: &mut Buffered<O>,
 ) -> Why
     requires asked { IsAskable D.Disk disk.old db.now }
-    ensures went { IsTrue D.tells → OutTakes O.Sink (λ old new. Went (verify (D.files disk.old).pkg (room db.now)) result
+    ensures went { IsTrue D.tells → OutTakes O.Sink (λ old new. CommandProgress (verify (D.files disk.old).pkg (room db.now)) result
         old new (λ for. pkg_read D.Disk disk.new ≤ pkg_read D.Disk disk.old + reached_by (Everything ∷ []) db.now for))
         out.old out.new }
     ensures done { is_foreign result ≡ false }

@@ -3,7 +3,7 @@
 use crate::fault::Fault;
 use crate::fixtures::Fixtures;
 use crate::token::{Token, short_number_of, tokens_of};
-use rpm_change::generated;
+use rpm_exercise::generated;
 use rpm_header::MAGIC;
 use std::alloc::{AllocError, Global};
 

@@ -2,13 +2,14 @@
 use Rattle.std.proofs.Common.{◌≡◌, ℕ, Bool, true, false, List, [], refl}
 use Rattle.rpm_tool.proofs.Vocabulary.{always_keyed, Anywhere, AskParts, Bearer, check_files, Course, Deed, deed_of, DoesBy, export, graph_of}
 use Rattle.rpm_tool.proofs.Vocabulary.{is_done_or_outside, is_foreign, is_query, Mode, opens_index, ordering, Outputs, packages, query, Store, Through, Tree}
-use Rattle.rpm_tool.proofs.Vocabulary.{Units, unless_starved, unsatisfied, verify, Went, Why}
+use Rattle.rpm_tool.proofs.Vocabulary.{Units, unless_starved, unsatisfied, verify, CommandProgress, Why}
 use Rattle.rpm_words.specs.declared.ask.Mode.TheVariants as mode
 use Rattle.rpm_effects.specs.declared.answer.Why.TheVariants as why
 use Rattle.rpm_print.specs.declared.reading.Deed.TheVariants as deed
 use Rattle.rpm_commit.specs.inner.ByEnding.{by_starved}
 use Rattle.rpm_tool.proofs.Loading.{went_reads}
 use Rattle.rpm_report.specs.inner.Reporting.{none_listed}
+use Rattle.rpm_effects.specs.inner.Reaching.{not_begun}
 
 -- a command that opens the database without its index is no report on requirements
 pub plain_deed : (m : Mode) (asked : Bool) → opens_index m asked ≡ false → always_keyed (deed_of m) ≡ false
@@ -20,7 +21,7 @@ pub query_deed : (m : Mode) → is_query m ≡ true → always_keyed (deed_of m)
 query_deed mode.Query is = refl
 query_deed others is = absurd cc
 
-went_outside : (c : Course) (w : Why) (old new : Outputs) (reads_to : Bearer → Type 0) → is_foreign w ≡ false → Went c w old new reads_to
+went_outside : (c : Course) (w : Why) (old new : Outputs) (reads_to : Bearer → Type 0) → is_foreign w ≡ false → CommandProgress c w old new reads_to
     → is_done_or_outside w ≡ true
 went_outside c why.Done old new reads_to own went = refl
 went_outside c (why.Failed n) old new reads_to own went = refl
@@ -37,12 +38,12 @@ module _ (tree : Tree) (file : Units) (s : Store) (words : List (List ℕ)) (a :
   -- where nothing was done
   module _ (reads_to : Bearer → Type 0) (x : Outputs) (none : Through [] x x) where
     pub does_fault : (d : Deed) → DoesBy d tree file s words a reads_to why.DiskFault x x
-    does_fault deed.Print = ([], (query tree (packages file s) words a).steps, refl, none)
-    does_fault deed.Export = ([], (export (packages file s)).steps, refl, none)
-    does_fault deed.Verify = ([], (verify file s).steps, refl, none)
-    does_fault deed.CheckFiles = ([], (check_files (packages file s)).steps, refl, none)
-    does_fault deed.Unmet = ([], (unsatisfied (packages file s)).steps, refl, none)
-    does_fault deed.Order = ([], none_listed (graph_of (packages file s)), ([], (ordering (packages file s) []).steps, refl, none))
+    does_fault deed.Print = not_begun none
+    does_fault deed.Export = not_begun none
+    does_fault deed.Verify = not_begun none
+    does_fault deed.CheckFiles = not_begun none
+    does_fault deed.Unmet = not_begun none
+    does_fault deed.Order = ([], none_listed (graph_of (packages file s)), not_begun none)
 
   module _ (reads_to : Bearer → Type 0) (old new : Outputs) where
     -- want of memory says the same as a fault of the disk

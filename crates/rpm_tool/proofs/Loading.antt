@@ -1,6 +1,7 @@
 -- A command on the files that a disk's files stand for.
 use Rattle.std.proofs.Common.{ℕ, ◌+◌, ◌≤◌, true, false, [], Result, Ok, Err, arith}
-use Rattle.rpm_tool.proofs.Vocabulary.{Bearer, Course, Damage, Deeds, IsSound, Loaded, LogState, Malformed, Opened, Outputs, Refused, Store, Through, Went, Why}
+use Rattle.rpm_tool.proofs.Vocabulary.{Bearer, Course, Damage, Deeds, IsSound, Loaded, LogState, Malformed, Opened, Outputs, Refused, Store, Through}
+use Rattle.rpm_tool.proofs.Vocabulary.{CommandProgress, Why}
 use Rattle.rpm_effects.specs.declared.answer.Why.TheVariants as why
 use Rattle.rpm_effects.specs.inner.Stopping.{within_reads}
 
@@ -32,7 +33,7 @@ pub below_reads : (before below now over over' most : ℕ) → below ≤ before 
 below_reads before below now over over' most same le reads = omega arith
 
 -- the same answers, with what was read put otherwise
-pub went_reads : (c : Course) (w : Why) (old new : Outputs) (P Q : Bearer → Type 0) → ((b : Bearer) → P b → Q b) → Went c w old new P → Went c w old new Q
+pub went_reads : (c : Course) (w : Why) (old new : Outputs) (P Q : Bearer → Type 0) → ((b : Bearer) → P b → Q b) → CommandProgress c w old new P → CommandProgress c w old new Q
 went_reads c why.OutFault old new P Q so went = within_reads c.steps true old new P Q so went
 went_reads c why.ErrFault old new P Q so went = within_reads c.steps false old new P Q so went
 went_reads c others old new P Q so went = went

@@ -8,8 +8,8 @@ use Rattle.rpm_tool.proofs.Vocabulary.{picks, query_of, question_of, RisesFrom, 
 use Rattle.std.specs.FinMap as finite
 use Rattle.rpm_words.specs.declared.switch.Chosen.TheVariants as by
 use Rattle.rpm_select.specs.declared.selection.Selection.TheVariants as question
-use Rattle.rpm_effects.specs.Steps.{Step}
-use Rattle.rpm_effects.specs.Portions.{bearer_of, in_turn, numbers}
+use Rattle.rpm_effects.specs.Steps.{Step, bearer_of}
+use Rattle.rpm_effects.specs.Portions.{parts_in_turn, numbers}
 use Rattle.rpm_tool.specs.Deeds.{is_above, steps_above}
 use Rattle.rpm_print.specs.inner.Printed.{bearer-step_of}
 use Rattle.rpm_query.specs.inner.Rising.{rises_above}
@@ -96,13 +96,14 @@ module _ (tree : Tree) (after : ℕ) where
       ∙ sym (filter-append (is_left after) b d)
 
   turn_above : (packages : finite.FinMap nat_cmp Package) (chosen : Chosen) (j : ℕ) (texts : List (List ℕ))
-      → (in_turn (argument_part tree packages chosen after) j texts).steps ≡ steps_above after (in_turn (argument_part tree packages chosen 0) j texts).steps
+      → (parts_in_turn (argument_part tree packages chosen after) j texts).steps
+      ≡ steps_above after (parts_in_turn (argument_part tree packages chosen 0) j texts).steps
   turn_above packages chosen j [] = refl
   turn_above packages chosen j (text ∷ texts) = steps_then
       (argument_part tree packages chosen after j text).steps
       (argument_part tree packages chosen 0 j text).steps
-      (in_turn (argument_part tree packages chosen after) (j + 1) texts).steps
-      (in_turn (argument_part tree packages chosen 0) (j + 1) texts).steps
+      (parts_in_turn (argument_part tree packages chosen after) (j + 1) texts).steps
+      (parts_in_turn (argument_part tree packages chosen 0) (j + 1) texts).steps
       (answered_above chosen j text (picked packages chosen text))
       (turn_above packages chosen (j + 1) texts)
 

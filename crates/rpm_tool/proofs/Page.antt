@@ -1,19 +1,20 @@
 -- The records of the theorem's page, from what each kind of command says.
-use Rattle.std.proofs.Common.{◌≡◌, ◌∙◌, ℕ, List, [], Bool, true, false, Some, None, Ok, refl, sym, ap, subst, inl, inr, arith}
+use Rattle.std.proofs.Common.{◌≡◌, ◌∙◌, ℕ, List, Bool, true, false, Some, None, Ok, refl, sym, ap, subst, inl, inr, arith}
 use Rattle.std.specs.Prelude.{◌⊎◌, IsTrue}
 use Rattle.rpm_outside.specs.declared.disk.Disk as disk
 use Rattle.rpm_outside.specs.declared.shelf.Shelf as shelf
 use Rattle.rpm_outside.specs.declared.sink.Sink as sink
 use Rattle.rpm_tool.proofs.Vocabulary.{Answers, AnswersByKey, AnswersChange, AnswersKeyed, AnswersOfFiles, AnswersPlain, AnswersText, asked_course, ask, asked_task}
 use Rattle.rpm_tool.proofs.Vocabulary.{AskParts, asks_change, asks_format, Buffered, by_key, changes_in, Does, EmptyBy, is_changing, is_done, is_foreign}
-use Rattle.rpm_tool.proofs.Vocabulary.{HasCauseAt, inner, is_of_words, Leaves, needs_none, of_files, OneChange, Outputs, outputs, Pkg, query_files, ran, reads_shelf, reopened, Run, Streams}
-use Rattle.rpm_tool.proofs.Vocabulary.{task_course, text_course, text_of, Tree, Why}
+use Rattle.rpm_tool.proofs.Vocabulary.{HasCauseAt, inner, is_of_words, Leaves, needs_none, of_files, OneChange, Outputs, outputs, Pkg, ran, reads_shelf}
+use Rattle.rpm_tool.proofs.Vocabulary.{reopened, Run, Streams}
+use Rattle.rpm_tool.proofs.Vocabulary.{task_course, text_of, Tree, Why}
 use Rattle.rpm_effects.specs.Hands.{Hand, EndHands}
 use Rattle.rpm_effects.specs.declared.answer.Why.TheVariants as why
 use Rattle.rpm_tool.proofs.Begun.{change_untold, files_unchanging, files_unkeyed, files_untold, keyed_unchanging, keyed_untold, not_begun, unforeign}
 use Rattle.rpm_commit.specs.inner.Emptied.{memory_empty}
 use Rattle.rpm_print.specs.inner.Peeking.{leaves_none}
-use Rattle.rpm_effects.specs.inner.Reaching.{through_none}
+use Rattle.rpm_effects.specs.inner.Reaching.{not_begun as no_step, through_none}
 use Rattle.rpm_tool.proofs.Faults.{never_cause}
 use Rattle.rpm_tool.proofs.Recovered.{unbegun}
 use Rattle.rpm_tool.proofs.Undone.{asked_is, asked_some, same_asked}
@@ -179,11 +180,11 @@ module _ {D S : Type 0} {d : disk.Ghosts D} {s : shelf.Ghosts S} (words : List (
       reads = omega arith;
     };
     files = λ is. record {
-      went = λ told. ([], (query_files tree (s.paths at) words a).steps, refl, through_none {ot = ot} {et = et} o e);
+      went = λ told. no_step (through_none {ot = ot} {et = et} o e);
       disk_unread = refl;
     };
     text = λ text said. record {
-      went = ([], (text_course text).steps, refl, through_none {ot = ot} {et = et} o e);
+      went = no_step (through_none {ot = ot} {et = et} o e);
       unread = (refl, refl);
     };
     keyed = λ is told. keyed_of (unbegun d tree words a ot et o e it);

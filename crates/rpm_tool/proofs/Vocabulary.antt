@@ -1,5 +1,5 @@
 -- The words of proofs, from one place.
-pub use Rattle.rpm_effects.specs.Progress.{Outputs, outputs, Through}
+pub use Rattle.rpm_effects.specs.Progress.{Outputs, outputs, Through, Anywhere}
 pub use Rattle.rpm_effects.specs.Steps.{Bearer, Course}
 pub use Rattle.rpm_check.specs.Edges.{graph_of}
 pub use Rattle.rpm_commit.specs.Changing.{EmptyBy}
@@ -32,7 +32,7 @@ pub use Rattle.rpm_outside.specs.inner.Looking.{looks_then}
 pub use Rattle.rpm_outside.specs.inner.Moments.{leaves_then, leaves_weaker, started}
 pub use Rattle.rpm_pkgdb.specs.Store.{Store, store}
 pub use Rattle.rpm_pkgdb.specs.declared.slot.Damage.{Damage}
-pub use Rattle.rpm_effects.specs.Answers.{Anywhere, Closes, Ends, Refused, Went}
+pub use Rattle.rpm_effects.specs.Answers.{Closes, Ends, Refused, CommandProgress}
 pub use Rattle.rpm_print.specs.Answers.{Undone}
 pub use Rattle.rpm_print.specs.Asked.{always_keyed, by_key, changes_in, command_in, deed_of, format_in, is_changing, is_changing_in, is_package}
 pub use Rattle.rpm_print.specs.Asked.{is_query, needs_no_index, of_files, opens_index}
@@ -44,12 +44,11 @@ pub use Rattle.rpm_effects.specs.Shown.{outs, shown}
 pub use Rattle.rpm_print.specs.Printed.{step_of}
 pub use Rattle.rpm_print.specs.Reads.{reach_sum, reached_by}
 pub use Rattle.rpm_effects.specs.Portions.{RisesFrom, with_number}
-pub use Rattle.rpm_print.specs.Texts.{text_course, text_of}
+pub use Rattle.rpm_print.specs.Texts.{text_of}
 pub use Rattle.rpm_effects.specs.declared.answer.Why.{Why}
 pub use Rattle.rpm_print.specs.declared.reading.Deed.{Deed}
 pub use Rattle.rpm_qfparse.specs.Tree.{Tree}
 pub use Rattle.rpm_qfparse.specs.declared.fault.FormatFault.{FormatFault}
-pub use Rattle.rpm_query.specs.PackageFiles.{query_files}
 pub use Rattle.rpm_query.specs.Queries.{answered, AreQuestions, argument_part, capability_in, export, is_question, lent, picked_by, query, query_of}
 pub use Rattle.rpm_query.specs.Queries.{question_of}
 unfoldable pub use Rattle.rpm_query.specs.Queries.{missing_part, picked}

@@ -18,10 +18,9 @@ use Rattle.rpm_select.specs.Reach.{Reach, Everything}
 use Rattle.rpm_print.specs.declared.reading.Deed.{Deed}
 use Rattle.rpm_print.specs.declared.reading.Deed.TheVariants as deed
 use Rattle.rpm_print.specs.Asked.{deed_of}
-use Rattle.rpm_effects.specs.Progress.{Through}
-use Rattle.rpm_effects.specs.Steps.{Bearer, Step}
-use Rattle.rpm_effects.specs.Portions.{bearer_of}
-use Rattle.rpm_effects.specs.Answers.{Went, Misread, Refused, Anywhere}
+use Rattle.rpm_effects.specs.Progress.{Through, Anywhere}
+use Rattle.rpm_effects.specs.Steps.{Bearer, Step, bearer_of}
+use Rattle.rpm_effects.specs.Answers.{CommandProgress, Misread, Refused}
 use Rattle.rpm_effects.specs.Classes.{is_done}
 use Rattle.rpm_report.specs.FileReport.{check_files}
 use Rattle.rpm_query.specs.Queries.{query, export}
@@ -56,15 +55,15 @@ blocks_cost indexed file (Err damage) words a = 0
 -- how far the order was told, by the order of the graph
 abbrev pub OrderIs : FinMap nat_cmp Package → Why → Outputs → Outputs → Type 0
 OrderIs packages given old new = (classes : List (List ℕ)) × IsListed (graph_of packages) (is_done given) classes
-    × Went (ordering packages classes) given old new Anywhere
+    × CommandProgress (ordering packages classes) given old new Anywhere
 
 -- how far a command went, by a file and its store; how much is read isn't said of a report on requirements
 abbrev pub DoesBy : Deed → Tree → Units → Store → List (List ℕ) → AskParts → (Bearer → Type 0) → Why → Outputs → Outputs → Type 0
-DoesBy deed.Print tree file s words a reads_to given old new = Went (query tree (packages file s) words a) given old new reads_to
-DoesBy deed.Export tree file s words a reads_to given old new = Went (export (packages file s)) given old new reads_to
-DoesBy deed.Verify tree file s words a reads_to given old new = Went (verify file s) given old new reads_to
-DoesBy deed.CheckFiles tree file s words a reads_to given old new = Went (check_files (packages file s)) given old new reads_to
-DoesBy deed.Unmet tree file s words a reads_to given old new = Went (unsatisfied (packages file s)) given old new Anywhere
+DoesBy deed.Print tree file s words a reads_to given old new = CommandProgress (query tree (packages file s) words a) given old new reads_to
+DoesBy deed.Export tree file s words a reads_to given old new = CommandProgress (export (packages file s)) given old new reads_to
+DoesBy deed.Verify tree file s words a reads_to given old new = CommandProgress (verify file s) given old new reads_to
+DoesBy deed.CheckFiles tree file s words a reads_to given old new = CommandProgress (check_files (packages file s)) given old new reads_to
+DoesBy deed.Unmet tree file s words a reads_to given old new = CommandProgress (unsatisfied (packages file s)) given old new Anywhere
 DoesBy deed.Order tree file s words a reads_to given old new = OrderIs (packages file s) given old new
 
 -- what a command does with a store

@@ -2,7 +2,7 @@
 pub use Rattle.rpm_outside.specs.Logs.{reopened}
 pub use Rattle.rpm_outside.specs.declared.disk.File.TheVariants.{Pkg}
 pub use Rattle.rpm_pkgdb.specs.Store.{store}
-pub use Rattle.rpm_effects.specs.Endings.{unless_starved, why_of_load, why_of_recover, status_of}
+pub use Rattle.rpm_effects.specs.Endings.{status_of}
 pub use Rattle.rpm_commit.specs.OneChange.{Streams}
 pub use Rattle.rpm_effects.specs.Answers.{Ends}
 pub use Rattle.rpm_print.specs.Asked.{always_keyed, asks, deed_of}

@@ -19,7 +19,8 @@ use Rattle.rpm_qfparse.specs.declared.fault.FormatFault.{FormatFault}
 use Rattle.rpm_qfparse.specs.declared.fault.FormatKind.TheVariants as wrong
 use Rattle.rpm_effects.specs.declared.answer.Why.TheVariants as why
 use Rattle.rpm_print.specs.Answers.{ComesWhere}
-use Rattle.rpm_effects.specs.Answers.{Anywhere, Went}
+use Rattle.rpm_effects.specs.Progress.{Anywhere}
+use Rattle.rpm_effects.specs.Answers.{CommandProgress}
 use Rattle.rpm_print.specs.Asked.{is_query, of_files, by_key, is_changing, asks_change, asks_format, asks}
 use Rattle.rpm_commit.specs.Changing.{DidOn, ChangesWith, EmptyBy}
 use Rattle.rpm_effects.specs.Classes.{is_done, is_done_or_outside, is_foreign}
@@ -65,12 +66,12 @@ module _ {D S : Type 0} {d : disk.Ghosts D} {s : shelf.Ghosts S} where
 
   -- 3. PACKAGE FILES are queried with no call on the disk.
   pub record AnswersOfFiles (r : Run d s) (a : AskParts) (tree : Tree) (mid : Outputs) : Type 0 where
-    pub went : IsTrue s.tells → Went (query_files tree (s.paths r.shelf_found) r.words a) r.why r.before mid Anywhere
+    pub went : IsTrue s.tells → CommandProgress (query_files tree (s.paths r.shelf_found) r.words a) r.why r.before mid Anywhere
     pub disk_unread : r.left ≡ r.found
 
   -- 4. TEXTS on the program itself, its help and its version, are printed with no call on disk and shelf.
   pub record AnswersText (r : Run d s) (text : List ℕ) (mid : Outputs) : Type 0 where
-    pub went : Went (text_course text) r.why r.before mid Anywhere
+    pub went : CommandProgress (text_course text) r.why r.before mid Anywhere
     pub unread : (r.left ≡ r.found) × (r.shelf_left ≡ r.shelf_found)
 
   -- 5. QUESTIONS BY KEY, and reports on requirements, finish what a crash left, and make a stale index anew. Whatever they answer, a malformed log

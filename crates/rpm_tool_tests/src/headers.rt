@@ -1,6 +1,6 @@
 //! Headers of the exercise.
 
-use rpm_change::generated;
+use rpm_exercise::generated;
 use std::test::Fail;
 
 // The headers in hex, made by a program of a few lines in Python, which packs an entry's numbers after filling up

@@ -69,6 +69,7 @@ module _ {D S : Type 0} (d : disk.Ghosts D) (of : sink.Ghosts S) (changes : List
               out = λ tells. first.2 tells ∙ ap (λ (b : List ℕ). took of x ++ b) (sym (append-nil (take first.0 text)));
               err = gained_none et e;
             };
+            reads = tt;
           };
       limits = λ told i rows. other_stop i _ _ _ _ halt.OutFault refl;
       whole = λ told was. tt;

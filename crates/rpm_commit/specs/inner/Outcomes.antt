@@ -1,5 +1,5 @@
 -- The endings of a command that changes packages, one by one.
-use Rattle.std.proofs.Common.{◌≡◌, ℕ, ◌<◌, Bool, true, [], ◌==◌, if◌then◌else◌, refl, sym, ◌∙◌, subst, inl, inr, append-nil, arith, Option, length}
+use Rattle.std.proofs.Common.{◌≡◌, ℕ, ◌<◌, Bool, true, ◌==◌, if◌then◌else◌, refl, sym, ◌∙◌, subst, inl, inr, arith, Option, length}
 use Rattle.std.proofs.lemmas.Bool.{cases_Bool, eqb-true}
 use Rattle.std.proofs.lemmas.Bool.Decides.{nat_tests}
 use Rattle.rpm_effects.specs.Steps.{Course}
@@ -9,7 +9,7 @@ use Rattle.rpm_commit.specs.Changing.{after, Did, HasState, LeavesState}
 use Rattle.rpm_effects.specs.Classes.{is_done, is_done_or_fault, is_of_lawful}
 use Rattle.rpm_commit.specs.Limits.{MeetsFirst}
 use Rattle.rpm_commit.specs.Working.{done_why, Stopped}
-use Rattle.rpm_effects.specs.Progress.{Outputs, Through, ThroughSome}
+use Rattle.rpm_effects.specs.Progress.{Outputs, Through}
 use Rattle.rpm_db.specs.State.{State}
 use Rattle.rpm_effects.specs.declared.answer.Why.{Why}
 use Rattle.rpm_effects.specs.declared.answer.Why.TheVariants as why
@@ -21,10 +21,6 @@ stopped_did c why.Done old new s = absurd s
 stopped_did c (why.Failed n) old new s = absurd s
 stopped_did c (why.LogFull u) old new s = absurd s
 stopped_did c others old new s = s
-
--- all steps are some
-pub some_all : (c : Course) (old new : Outputs) → Through c.steps old new → ThroughSome c.steps old new
-some_all c old new through = record { done = c.steps; rest = []; all_is = sym (append-nil c.steps); through = through }
 
 -- done, with or without arguments that failed
 pub by_done_why : (P : Why → Type 0) (n : ℕ) → (n ≡ 0 → P why.Done) → (0 < n → P (why.Failed n)) → P (done_why n)

@@ -1,7 +1,7 @@
 -- From the opening of a database to the last change of a command: how its courses end.
 use Rattle.std.proofs.Common.{◌≡◌, ◌^◌, ◌≤◌, Bool, true, false, Option, Result, Ok, Err, refl, sym, subst}
 use Rattle.std.specs.Prelude.{IfOk}
-use Rattle.rpm_effects.specs.Progress.{Ended, Outputs}
+use Rattle.rpm_effects.specs.Progress.{CourseProgress, Outputs}
 use Rattle.rpm_change.specs.Limits.{first_refusal, StopsAt}
 use Rattle.rpm_effects.specs.Steps.{Course}
 use Rattle.rpm_effects.specs.declared.tally.Halt.{Halt}
@@ -32,7 +32,7 @@ pub state-in_file : (file : Units) (value : Store) → state file (in_file value
 unfolding packages blobs
 state-in_file file value = refl
 
-pub halt_stopped : (c : Course) (s t : State) (h : Halt) (before now : Outputs) → Ended c s t (Err h) before now → Stopped c (why_of_halt h) before now
+pub halt_stopped : (c : Course) (s t : State) (h : Halt) (before now : Outputs) → CourseProgress c s t (Err h) before now → Stopped c (why_of_halt h) before now
 halt_stopped c s t halt.NumbersSpent before now ended = ended
 halt_stopped c s t others before now ended = ended
 

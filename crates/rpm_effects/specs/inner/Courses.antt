@@ -1,9 +1,7 @@
 -- Courses one after the other, and how far they went.
-use Rattle.std.proofs.Common.{◌≡◌, ◌≢◌, ℕ, ◌+◌, Bool, true, false, List, [], ◌∷◌, ◌++◌, Result, Ok, Err, refl, sym, ap, ◌∙◌, subst, append_assoc, length-append, arith}
+use Rattle.std.proofs.Common.{◌≡◌, ◌≢◌, ℕ, ◌+◌, Bool, true, false, List, [], ◌∷◌, ◌++◌, Result, Ok, Err, refl, sym, ap, ◌∙◌, subst, append_assoc}
+use Rattle.std.proofs.Common.{length-append, arith}
 use Rattle.std.proofs.lemmas.List.{append-nil}
-use Rattle.std.specs.List.{flat_map}
-use Rattle.std.proofs.lemmas.Grind.{flat_map-append}
-use Rattle.rpm_outside.specs.inner.Taken.{gained_none, gained_more}
 use Rattle.rpm_db.specs.declared.change_fault.ChangeFault.{ChangeFault}
 use Rattle.rpm_db.specs.declared.change_fault.ChangeFault.TheVariants as fault
 use Rattle.rpm_db.specs.Changes.{Change, apply}
@@ -11,8 +9,9 @@ use Rattle.rpm_db.specs.State.{State}
 use Rattle.rpm_effects.specs.declared.tally.Tally.{Tally}
 use Rattle.rpm_effects.specs.declared.tally.Halt.{Halt}
 use Rattle.rpm_effects.specs.declared.tally.Halt.TheVariants as halt
-use Rattle.rpm_effects.specs.Steps.{Step, Course, out_bytes, err_bytes, cut, idle, joined, apply_all}
-use Rattle.rpm_effects.specs.Progress.{Outputs, outputs, Through, ThroughSome, StoppedWithin, Done, Ended, halt_of}
+use Rattle.rpm_effects.specs.Steps.{Step, Course, cut, idle, joined, apply_all}
+use Rattle.rpm_effects.specs.inner.Reaching.{through_more, through_none}
+use Rattle.rpm_effects.specs.Progress.{Anywhere, Outputs, outputs, Through, ThroughSome, StoppedWithin, Done, CourseProgress, halt_of}
 use Rattle.rpm_effects.specs.Shown.{EndedQuietly}
 
 pub apply_all-append : (xs ys : List Change) (s : State) → apply_all (xs ++ ys) s ≡ apply_all ys (apply_all xs s)
@@ -42,8 +41,8 @@ plus one (Err h) = Err h
 -- a stop is one after some steps, or within one of them
 pub stop_by : (h : Halt) (c d : Course) (s t s' t' : State) (old new old' new' : Outputs)
     → (ThroughSome c.steps old new → ThroughSome d.steps old' new')
-    → ((at : Bool) → StoppedWithin c.steps at old new → StoppedWithin d.steps at old' new')
-    → Ended c s t (Err h) old new → Ended d s' t' (Err h) old' new'
+    → ((at : Bool) → StoppedWithin c.steps at old new Anywhere → StoppedWithin d.steps at old' new' Anywhere)
+    → CourseProgress c s t (Err h) old new → CourseProgress d s' t' (Err h) old' new'
 stop_by halt.OutFault c d s t s' t' old new old' new' some within p = within true p
 stop_by halt.ErrFault c d s t s' t' old new old' new' some within p = within false p
 stop_by others c d s t s' t' old new old' new' some within p = some p
@@ -58,7 +57,7 @@ module _ (a b : Course) (old new : Outputs) where
     through = p.through;
   }
 
-  within_ahead : (at : Bool) → StoppedWithin a.steps at old new → StoppedWithin (joined a b).steps at old new
+  within_ahead : (at : Bool) → StoppedWithin a.steps at old new Anywhere → StoppedWithin (joined a b).steps at old new Anywhere
   within_ahead at p = record {
     done = p.done;
     step = p.step;
@@ -67,13 +66,11 @@ module _ (a b : Course) (old new : Outputs) where
     sink = p.sink;
     bytes = p.bytes;
     through = p.through;
+    reads = tt;
   }
 
-  pub ended_ahead : (s t : State) (h : Halt) → Ended a s t (Err h) old new → Ended (joined a b) s t (Err h) old new
+  pub ended_ahead : (s t : State) (h : Halt) → CourseProgress a s t (Err h) old new → CourseProgress (joined a b) s t (Err h) old new
   ended_ahead s t h = stop_by h a (joined a b) s t s t old new old new some_ahead within_ahead
-
-pub through_none : {ot et : Bool} (o e : List ℕ) → Through [] (outputs ot o et e) (outputs ot o et e)
-through_none {ot = ot} {et = et} o e = record { out = gained_none ot o; err = gained_none et e }
 
 pub ended_none : (ot et : Bool) (o e : List ℕ) (s : State)
     → Done idle s s (record { failed = 0; changes = 0 }) (outputs ot o et e) (outputs ot o et e)
@@ -85,13 +82,13 @@ none_gone course old new none = record { done = []; rest = course.steps; all_is 
 
 -- a fault of a change leaves some of the steps done
 pub stopped_ended : (course : Course) (s t : State) (f : ChangeFault) (old new : Outputs) → ThroughSome course.steps old new
-    → Ended course s t (Err (halt_of f)) old new
+    → CourseProgress course s t (Err (halt_of f)) old new
 stopped_ended course s t fault.DiskFault old new some = some
 stopped_ended course s t others old new some = some
 
 -- so does a stop that is of no sink
 pub stopped_by : (course : Course) (s t : State) (h : Halt) (old new : Outputs) → h ≢ halt.OutFault → h ≢ halt.ErrFault → ThroughSome course.steps old new
-    → Ended course s t (Err h) old new
+    → CourseProgress course s t (Err h) old new
 stopped_by course s t halt.OutFault old new out err some = absurd (out refl)
 stopped_by course s t halt.ErrFault old new out err some = absurd (err refl)
 stopped_by course s t others old new out err some = some
@@ -101,12 +98,9 @@ refused_quietly course f s t = λ ot et o e. stopped_ended course s t f _ _ (non
 
 -- one course was done, and then another was gone through
 module _ (ot et : Bool) (o o' o'' e e' e'' : List ℕ) where
-  through_more : (done more : List Step) → Through done (outputs ot o et e) (outputs ot o' et e')
-      → Through more (outputs ot o' et e') (outputs ot o'' et e'') → Through (done ++ more) (outputs ot o et e) (outputs ot o'' et e'')
-  through_more done more p q = record {
-    out = rw flat_map-append (gained_more ot o o' o'' (flat_map out_bytes done) (flat_map out_bytes more) p.out q.out);
-    err = rw flat_map-append (gained_more et e e' e'' (flat_map err_bytes done) (flat_map err_bytes more) p.err q.err);
-  }
+  further : (done more : List Step) → Through done (outputs ot o et e) (outputs ot o' et e') → Through more (outputs ot o' et e') (outputs ot o'' et e'')
+      → Through (done ++ more) (outputs ot o et e) (outputs ot o'' et e'')
+  further done more = through_more {ot = ot} {et = et} done more o o' o'' e e' e''
 
   module _ (a b : Course) (s t u : State) (one : Tally) (first : Done a s t one (outputs ot o et e) (outputs ot o' et e')) where
     some_more : ThroughSome b.steps (outputs ot o' et e') (outputs ot o'' et e'')
@@ -115,11 +109,11 @@ module _ (ot et : Bool) (o o' o'' e e' e'' : List ℕ) where
       done = a.steps ++ p.done;
       rest = p.rest;
       all_is = ap (λ (l : List Step). a.steps ++ l) p.all_is ∙ sym (append_assoc a.steps p.done p.rest);
-      through = through_more a.steps p.done first.steps p.through;
+      through = further a.steps p.done first.steps p.through;
     }
 
-    within_more : (at : Bool) → StoppedWithin b.steps at (outputs ot o' et e') (outputs ot o'' et e'')
-        → StoppedWithin (joined a b).steps at (outputs ot o et e) (outputs ot o'' et e'')
+    within_more : (at : Bool) → StoppedWithin b.steps at (outputs ot o' et e') (outputs ot o'' et e'') Anywhere
+        → StoppedWithin (joined a b).steps at (outputs ot o et e) (outputs ot o'' et e'') Anywhere
     within_more at p = record {
       done = a.steps ++ p.done;
       step = p.step;
@@ -129,13 +123,14 @@ module _ (ot et : Bool) (o o' o'' e e' e'' : List ℕ) where
       bytes = p.bytes;
       through = subst (λ (l : List Step). Through l (outputs ot o et e) (outputs ot o'' et e''))
           (sym (append_assoc a.steps p.done (cut p.bytes p.step ∷ [])))
-          (through_more a.steps (p.done ++ cut p.bytes p.step ∷ []) first.steps p.through);
+          (further a.steps (p.done ++ cut p.bytes p.step ∷ []) first.steps p.through);
+      reads = tt;
     }
 
-    pub ended_then : (r : Result Tally Halt) → Ended b t u r (outputs ot o' et e') (outputs ot o'' et e'')
-        → Ended (joined a b) s u (plus one r) (outputs ot o et e) (outputs ot o'' et e'')
+    pub ended_then : (r : Result Tally Halt) → CourseProgress b t u r (outputs ot o' et e') (outputs ot o'' et e'')
+        → CourseProgress (joined a b) s u (plus one r) (outputs ot o et e) (outputs ot o'' et e'')
     ended_then (Ok more) d = record {
-      steps = through_more a.steps b.steps first.steps d.steps;
+      steps = further a.steps b.steps first.steps d.steps;
       failed = omega (arith, first.failed, d.failed);
       changes = length-append a.changes b.changes ∙ omega (arith, first.changes, d.changes);
       state_is = d.state_is ∙ ap (apply_all b.changes) first.state_is ∙ sym (apply_all-append a.changes b.changes s);

@@ -1,6 +1,5 @@
 -- A course on a sink: nothing of it, one that was stopped, and one and then another.
-use Rattle.std.proofs.Common.{◌≡◌, ℕ, ◌≤◌, Bool, true, List, [], Result, Ok, Err, sym, arith}
-use Rattle.std.proofs.lemmas.List.{append-nil}
+use Rattle.std.proofs.Common.{◌≡◌, ℕ, ◌≤◌, Bool, true, List, [], Result, Ok, Err, arith}
 use Rattle.rpm_outside.specs.declared.sink.Sink as sink
 use Rattle.rpm_outside.specs.declared.buffered.Buffered.{Buffered}
 use Rattle.rpm_outside.specs.Buffered.{inner}
@@ -13,7 +12,8 @@ use Rattle.rpm_effects.specs.Progress.{outputs, ThroughSome, halt_of}
 use Rattle.rpm_effects.specs.Hands.{Hand}
 use Rattle.rpm_effects.specs.Steps.{Course, idle, joined, apply_all}
 use Rattle.rpm_effects.specs.Shown.{EndedOnErr, EndedOnOut, EndedQuietly}
-use Rattle.rpm_effects.specs.inner.Courses.{plus, through_none, none_gone, stopped_ended, ended_none, ended_then, ended_ahead}
+use Rattle.rpm_effects.specs.inner.Courses.{plus, none_gone, stopped_ended, ended_none, ended_then, ended_ahead}
+use Rattle.rpm_effects.specs.inner.Reaching.{some_all, through_none}
 
 -- something that comes only where a later call has its cause
 pub cause_then : {X : Type 0} {x y z : ℕ} → x ≤ y → HasCauseAt X y z → HasCauseAt X x z
@@ -77,12 +77,12 @@ module _ {S : Type 0} (of : sink.Ghosts S) where
   pub err_stopped : (x y : Buffered S) (f : ChangeFault) {course : Course} {tally : Tally} (s t u : State) → EndedOnErr of x y course s t (Ok tally)
       → EndedOnErr of x y course s u (Err (halt_of f))
   err_stopped x y f {course = course} s t u ends = λ ot o.
-      stopped_ended course s u f _ _ (record { done = course.steps; rest = []; all_is = sym (append-nil course.steps); through = (ends ot o).steps })
+      stopped_ended course s u f _ _ (some_all (ends ot o).steps)
 
   pub out_stopped : (x y : Buffered S) (f : ChangeFault) {course : Course} {tally : Tally} (s t u : State) → EndedOnOut of x y course s t (Ok tally)
       → EndedOnOut of x y course s u (Err (halt_of f))
   out_stopped x y f {course = course} s t u ends = λ et e.
-      stopped_ended course s u f _ _ (record { done = course.steps; rest = []; all_is = sym (append-nil course.steps); through = (ends et e).steps })
+      stopped_ended course s u f _ _ (some_all (ends et e).steps)
 
   -- what a part before a call kept of it
   pub hand_then : {fails now : Type 0} → ((x y z : S) → of.follows x y → of.follows y z → of.follows x z) → (x y z : Buffered S)
@@ -114,4 +114,4 @@ pub quiet_stopped : (f : ChangeFault) {course : Course} {tally : Tally} (s t u :
     → EndedQuietly course s u (Err (halt_of f))
 quiet_stopped f {course = course} s t u ends = λ ot et o e.
     stopped_ended course s u f _ _
-    (record { done = course.steps; rest = []; all_is = sym (append-nil course.steps); through = (ends ot et o e).steps })
+    (some_all (ends ot et o e).steps)

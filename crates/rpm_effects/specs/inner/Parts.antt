@@ -5,7 +5,7 @@ use Rattle.std.proofs.Math.Seq.{drop-nil}
 use Rattle.rpm_effects.specs.Progress.{Outputs}
 use Rattle.rpm_effects.specs.Steps.{Bearer, Course}
 use Rattle.rpm_effects.specs.declared.tally.Halt.{Halt}
-use Rattle.rpm_effects.specs.Answers.{PartIs, Reached, Went}
+use Rattle.rpm_effects.specs.Answers.{PartIs, PartProgress, CommandProgress}
 use Rattle.rpm_effects.specs.Endings.{why_of_halt}
 use Rattle.rpm_effects.specs.Portions.{Portion}
 use Rattle.rpm_effects.specs.declared.tally.Halt.TheVariants as halt
@@ -16,8 +16,9 @@ pub part_reads : (part : Portion) (r : Result Bool Halt) (old new : Outputs) (P 
 part_reads part r old new P Q so p = record { steps = reached_reads {T = Bool} part.steps r old new P Q so p.steps; fails = p.fails }
 
 -- a command that was stopped
-pub went_stop : (T : Type 0) (c : Course) (what : Halt) (old new : Outputs) (reads_to : Bearer → Type 0) → Reached {T = T} c.steps (Err what) old new reads_to
-    → Went c (why_of_halt what) old new reads_to
+pub went_stop : (T : Type 0) (c : Course) (what : Halt) (old new : Outputs) (reads_to : Bearer → Type 0)
+    → PartProgress {T = T} c.steps (Err what) old new reads_to
+    → CommandProgress c (why_of_halt what) old new reads_to
 went_stop T c halt.DiskFault old new reads_to r = r
 went_stop T c others old new reads_to r = r
 

@@ -1,13 +1,13 @@
 -- How far a list of steps was gone through.
-use Rattle.std.proofs.Common.{◌≡◌, ℕ, Bool, true, false, List, [], ◌∷◌, ◌++◌, Err, sym, ap, ◌∙◌, subst, append_assoc}
+use Rattle.std.proofs.Common.{◌≡◌, ℕ, Bool, true, false, List, [], ◌∷◌, ◌++◌, Err, refl, sym, ap, ◌∙◌, subst, append_assoc}
 use Rattle.std.proofs.lemmas.List.{append-nil}
 use Rattle.std.specs.List.{flat_map}
 use Rattle.std.proofs.lemmas.Grind.{flat_map-append}
-use Rattle.rpm_effects.specs.Progress.{outputs, Through}
+use Rattle.rpm_effects.specs.Progress.{Outputs, outputs, Through, StoppedWithin, ThroughSome}
 use Rattle.rpm_effects.specs.Steps.{Bearer, cut, err_bytes, out_bytes, Step}
 use Rattle.rpm_effects.specs.declared.tally.Halt.{Halt}
 use Rattle.rpm_outside.specs.inner.Taken.{gained_more, gained_none}
-use Rattle.rpm_effects.specs.Answers.{Reached, StoppedWithin, ThroughSome}
+use Rattle.rpm_effects.specs.Answers.{PartProgress}
 use Rattle.rpm_effects.specs.declared.tally.Halt.TheVariants as halt
 
 module _ {ot et : Bool} where
@@ -20,6 +20,13 @@ module _ {ot et : Bool} where
     out = rw flat_map-append (gained_more ot o o' o'' (flat_map out_bytes done) (flat_map out_bytes more) p.out q.out);
     err = rw flat_map-append (gained_more et e e' e'' (flat_map err_bytes done) (flat_map err_bytes more) p.err q.err);
   }
+
+-- nothing was gone through yet, or all was
+pub not_begun : {all : List Step} {old new : Outputs} → Through [] old new → ThroughSome all old new
+not_begun {all = all} none = record { done = []; rest = all; all_is = refl; through = none }
+
+pub some_all : {all : List Step} {old new : Outputs} → Through all old new → ThroughSome all old new
+some_all {all = all} through = record { done = all; rest = []; all_is = sym (append-nil all); through = through }
 
 -- the steps so far, and those that are left
 pub record Goes (ot et : Bool) (all left : List Step) (o e o' e' : List ℕ) : Type 0 where
@@ -39,13 +46,13 @@ module _ (ot et : Bool) (all left front rest : List Step) (o o' o'' e e' e'' : L
   }
 
   some_more : ThroughSome front (outputs ot o' et e') (outputs ot o'' et e'') → ThroughSome all (outputs ot o et e) (outputs ot o'' et e'')
-  some_more (d, r, split, went) = (
-    g.done ++ d,
-    r ++ rest,
-    g.parts ∙ ap (λ (l : List Step). g.done ++ l) (is ∙ ap (λ (l : List Step). l ++ rest) split ∙ append_assoc d r rest)
-        ∙ sym (append_assoc g.done d (r ++ rest)),
-    through_more {ot = ot} {et = et} g.done d o o' o'' e e' e'' g.went went,
-  )
+  some_more some = record {
+    done = g.done ++ some.done;
+    rest = some.rest ++ rest;
+    all_is = g.parts ∙ ap (λ (l : List Step). g.done ++ l) (is ∙ ap (λ (l : List Step). l ++ rest) some.all_is ∙ append_assoc some.done some.rest rest)
+        ∙ sym (append_assoc g.done some.done (some.rest ++ rest));
+    through = through_more {ot = ot} {et = et} g.done some.done o o' o'' e e' e'' g.went some.through;
+  }
 
   within_more : (at : Bool) (reads_to : Bearer → Type 0) → StoppedWithin front at (outputs ot o' et e') (outputs ot o'' et e'') reads_to
       → StoppedWithin all at (outputs ot o et e) (outputs ot o'' et e'') reads_to
@@ -63,8 +70,9 @@ module _ (ot et : Bool) (all left front rest : List Step) (o o' o'' e e' e'' : L
   }
 
   -- where the next steps stop
-  pub goes_stop : (T T' : Type 0) (what : Halt) (reads_to : Bearer → Type 0) → Reached {T = T} front (Err what) (outputs ot o' et e') (outputs ot o'' et e'')
-      reads_to → Reached {T = T'} all (Err what) (outputs ot o et e) (outputs ot o'' et e'') reads_to
+  pub goes_stop : (T T' : Type 0) (what : Halt) (reads_to : Bearer → Type 0)
+      → PartProgress {T = T} front (Err what) (outputs ot o' et e') (outputs ot o'' et e'') reads_to
+      → PartProgress {T = T'} all (Err what) (outputs ot o et e) (outputs ot o'' et e'') reads_to
   goes_stop T T' halt.DiskFault reads_to r = some_more r
   goes_stop T T' halt.ShelfFault reads_to r = some_more r
   goes_stop T T' halt.OutFault reads_to r = within_more true reads_to r

@@ -1,27 +1,26 @@
 -- Where a list of steps stops.
 use Rattle.std.proofs.Common.{◌≡◌, ℕ, Bool, true, false, List, [], ◌∷◌, ◌++◌, Result, Ok, Err, take, refl, sym, ap, ◌∙◌, subst}
 use Rattle.std.proofs.lemmas.List.{append-nil}
-use Rattle.rpm_effects.specs.Progress.{Outputs, outputs, Through}
-use Rattle.rpm_effects.specs.Steps.{Bearer, Step, ToErr, ToOut}
+use Rattle.rpm_effects.specs.Progress.{Outputs, outputs, Through, StoppedWithin}
+use Rattle.rpm_effects.specs.Steps.{Bearer, Step, ToErr, ToOut, bearer_of}
 use Rattle.rpm_effects.specs.declared.tally.Halt.{Halt}
 use Rattle.rpm_outside.specs.Sinks.{GainedPart}
 use Rattle.rpm_outside.specs.inner.Taken.{gained_none}
-use Rattle.rpm_effects.specs.Answers.{Reached, StepIs, StoppedWithin}
+use Rattle.rpm_effects.specs.Answers.{PartProgress, StepIs}
 use Rattle.rpm_effects.specs.Classes.{IsOfRead}
-use Rattle.rpm_effects.specs.Portions.{bearer_of}
 use Rattle.rpm_effects.specs.declared.tally.Halt.TheVariants as halt
-use Rattle.rpm_effects.specs.inner.Reaching.{through_more, goes_stop}
+use Rattle.rpm_effects.specs.inner.Reaching.{not_begun, some_all, through_more, goes_stop}
 
 -- one step that stops is the first of some
 pub reached_first : (T : Type 0) (s : Step) (rest : List Step) (what : Halt) (old new : Outputs) (reads_to : Bearer → Type 0) → reads_to (bearer_of s)
-    → StepIs s (Err what) old new → Reached {T = T} (s ∷ rest) (Err what) old new reads_to
-reached_first T s rest halt.DiskFault old new reads_to reads step = ([], s ∷ rest, refl, step)
-reached_first T s rest halt.ShelfFault old new reads_to reads step = ([], s ∷ rest, refl, step)
+    → StepIs s (Err what) old new → PartProgress {T = T} (s ∷ rest) (Err what) old new reads_to
+reached_first T s rest halt.DiskFault old new reads_to reads step = not_begun step
+reached_first T s rest halt.ShelfFault old new reads_to reads step = not_begun step
 reached_first T s rest halt.OutFault old new reads_to reads step =
     record { done = []; step = s; rest = rest; all_is = refl; sink = step.0; bytes = step.1.0; through = step.1.1; reads = reads }
 reached_first T s rest halt.ErrFault old new reads_to reads step =
     record { done = []; step = s; rest = rest; all_is = refl; sink = step.0; bytes = step.1.0; through = step.1.1; reads = reads }
-reached_first T s rest halt.NoMemory old new reads_to reads step = ([], s ∷ rest, refl, step)
+reached_first T s rest halt.NoMemory old new reads_to reads step = not_begun step
 reached_first T s rest others old new reads_to reads step = absurd step
 
 pub within_reads : (all : List Step) (at : Bool) (old new : Outputs) (P Q : Bearer → Type 0) → ((b : Bearer) → P b → Q b) → StoppedWithin all at old new P
@@ -38,7 +37,7 @@ within_reads all at old new P Q so s = record {
 }
 
 pub reached_reads : {T : Type 0} (all : List Step) (r : Result T Halt) (old new : Outputs) (P Q : Bearer → Type 0) → ((b : Bearer) → P b → Q b)
-    → Reached all r old new P → Reached all r old new Q
+    → PartProgress all r old new P → PartProgress all r old new Q
 reached_reads all (Ok t) old new P Q so s = s
 reached_reads all (Err halt.OutFault) old new P Q so s = within_reads all true old new P Q so s
 reached_reads all (Err halt.ErrFault) old new P Q so s = within_reads all false old new P Q so s
@@ -80,33 +79,33 @@ none_within [] s r is = cc
 none_within (x ∷ d) s r is = cc
 
 -- where of no steps not all were gone through, none was
-pub reached_empty : (T T' : Type 0) (all : List Step) (what : Halt) (old new : Outputs) (P Q : Bearer → Type 0) → Reached {T = T} [] (Err what) old new P
-    → Reached {T = T'} all (Err what) old new Q
-reached_empty T T' all halt.DiskFault old new P Q r = ([], all, refl, subst (λ (d : List Step). Through d old new) (empty_done r.0 r.1 r.2) r.3)
-reached_empty T T' all halt.ShelfFault old new P Q r = ([], all, refl, subst (λ (d : List Step). Through d old new) (empty_done r.0 r.1 r.2) r.3)
+pub reached_empty : (T T' : Type 0) (all : List Step) (what : Halt) (old new : Outputs) (P Q : Bearer → Type 0) → PartProgress {T = T} [] (Err what) old new P
+    → PartProgress {T = T'} all (Err what) old new Q
+reached_empty T T' all halt.DiskFault old new P Q r = not_begun (subst (λ (d : List Step). Through d old new) (empty_done r.done r.rest r.all_is) r.through)
+reached_empty T T' all halt.ShelfFault old new P Q r = not_begun (subst (λ (d : List Step). Through d old new) (empty_done r.done r.rest r.all_is) r.through)
 reached_empty T T' all halt.OutFault old new P Q r = absurd (none_within r.done r.step r.rest r.all_is)
 reached_empty T T' all halt.ErrFault old new P Q r = absurd (none_within r.done r.step r.rest r.all_is)
-reached_empty T T' all halt.NoMemory old new P Q r = ([], all, refl, subst (λ (d : List Step). Through d old new) (empty_done r.0 r.1 r.2) r.3)
+reached_empty T T' all halt.NoMemory old new P Q r = not_begun (subst (λ (d : List Step). Through d old new) (empty_done r.done r.rest r.all_is) r.through)
 reached_empty T T' all others old new P Q r = absurd r
 
 -- where only a read was halted
 pub reached_unsunk : (T : Type 0) (all : List Step) (what : Halt) (old new : Outputs) (reads_to : Bearer → Type 0) → IsOfRead what → Through [] old new
-    → Reached {T = T} all (Err what) old new reads_to
-reached_unsunk T all halt.DiskFault old new reads_to is t = ([], all, refl, t)
-reached_unsunk T all halt.NoMemory old new reads_to is t = ([], all, refl, t)
+    → PartProgress {T = T} all (Err what) old new reads_to
+reached_unsunk T all halt.DiskFault old new reads_to is t = not_begun t
+reached_unsunk T all halt.NoMemory old new reads_to is t = not_begun t
 reached_unsunk T all others old new reads_to is t = absurd cc
 
 -- or a read after all was gone through
 pub reached_over : (T : Type 0) (all : List Step) (what : Halt) (old new : Outputs) (reads_to : Bearer → Type 0) → IsOfRead what → Through all old new
-    → Reached {T = T} all (Err what) old new reads_to
-reached_over T all halt.DiskFault old new reads_to is t = (all, [], sym (append-nil all), t)
-reached_over T all halt.NoMemory old new reads_to is t = (all, [], sym (append-nil all), t)
+    → PartProgress {T = T} all (Err what) old new reads_to
+reached_over T all halt.DiskFault old new reads_to is t = some_all t
+reached_over T all halt.NoMemory old new reads_to is t = some_all t
 reached_over T all others old new reads_to is t = absurd cc
 
 -- where nothing was gone through before
 pub reached_later : (T : Type 0) (ot et : Bool) (all : List Step) (r : Result T Halt) (o o' o'' e e' e'' : List ℕ) (reads_to : Bearer → Type 0)
-    → Through [] (outputs ot o et e) (outputs ot o' et e') → Reached all r (outputs ot o' et e') (outputs ot o'' et e'') reads_to
-    → Reached all r (outputs ot o et e) (outputs ot o'' et e'') reads_to
+    → Through [] (outputs ot o et e) (outputs ot o' et e') → PartProgress all r (outputs ot o' et e') (outputs ot o'' et e'') reads_to
+    → PartProgress all r (outputs ot o et e) (outputs ot o'' et e'') reads_to
 reached_later T ot et all (Ok t) o o' o'' e e' e'' reads_to none some = through_more {ot = ot} {et = et} [] all o o' o'' e e' e'' none some
 reached_later T ot et all (Err what) o o' o'' e e' e'' reads_to none some =
     goes_stop ot et all all all [] o o' o'' e e' e'' (sym (append-nil all)) (record { done = []; parts = refl; went = none }) T T what reads_to some

@@ -1,13 +1,13 @@
 -- What is said of the packages that are printed.
 use Rattle.std.proofs.Common.{◌≡◌, ℕ, Bool, true, false, not, ◌||◌, List, ◌∷◌, Result, Ok, Err, refl, sym, ap, ◌∙◌}
 use Rattle.std.specs.List.{list_any}
-use Rattle.rpm_effects.specs.Steps.{Bearer, bearer, is_out, Step}
+use Rattle.rpm_effects.specs.Steps.{Bearer, bearer, is_out, Step, bearer_of}
 use Rattle.rpm_db.specs.State.{Bad, Good, Package}
 use Rattle.rpm_header.specs.Header.{Header, header}
 use Rattle.rpm_header.specs.declared.form.HeaderFault.{HeaderFault}
 use Rattle.rpm_select.specs.Picks.{entry_in, number_in}
 use Rattle.rpm_print.specs.Printed.{bad_step, header_step, printed, step_by, step_of}
-use Rattle.rpm_effects.specs.Portions.{bearer_of, is_bad}
+use Rattle.rpm_effects.specs.Portions.{is_bad}
 use Rattle.rpm_print.specs.declared.reading.Deed.{Deed}
 use Rattle.rpm_qfeval.specs.Meaning.{meaning}
 use Rattle.rpm_qfparse.specs.Tree.{Tree}

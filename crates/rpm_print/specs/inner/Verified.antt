@@ -14,7 +14,7 @@ use Rattle.rpm_effects.specs.Portions.{before, Portion, together}
 use Rattle.rpm_effects.specs.Progress.{outputs, Outputs, Through}
 use Rattle.rpm_db.specs.Frame.{room}
 use Rattle.rpm_outside.specs.Files.{Units}
-use Rattle.rpm_effects.specs.Answers.{PartIs, Reached, Went}
+use Rattle.rpm_effects.specs.Answers.{PartIs, PartProgress, CommandProgress}
 use Rattle.rpm_db.specs.FromOne.{from_one as none_zero}
 use Rattle.rpm_effects.specs.declared.answer.Why.TheVariants as why
 use Rattle.rpm_print.specs.inner.Printed.{none_more}
@@ -76,7 +76,7 @@ module _ {ot et : Bool} {each : ℕ × Package → Portion} {es : List (ℕ × P
       → PartIs (each (m, p)) (Err what) (outputs ot o' et e') (outputs ot o'' et e'') P
       → PartIs (together (map each es)) (Err what) (outputs ot o et e) (outputs ot o'' et e'') Q
   told_stop {what = what} {P = P} Q so first part = record {
-    steps = subst (λ (xs : List (ℕ × Package)). Reached {T = Bool} (together (map each xs)).steps (Err what) (outputs ot o et e) (outputs ot o'' et e'') Q)
+    steps = subst (λ (xs : List (ℕ × Package)). PartProgress {T = Bool} (together (map each xs)).steps (Err what) (outputs ot o et e) (outputs ot o'' et e'') Q)
         first
         (goes_stop ot et (parts_above each 0 es).steps (parts_above each n es).steps (each (m, p)).steps (parts_above each m es).steps o o' o'' e e' e''
         (ap (λ (xs : List (ℕ × Package)). (together (map each xs)).steps) is) far.goes Bool Bool what Q
@@ -98,14 +98,14 @@ told_end {ot = ot} {et = et} {each = each} {es = es} {n = n} {fails = fails} {o 
 
 -- a command of one part that went through
 module _ (p : Portion) (old new : Outputs) (reads_to : Bearer → Type 0) where
-  pub went_failing : PartIs p (Ok true) old new reads_to → Went (before p idle) (why.Failed 1) old new reads_to
+  pub went_failing : PartIs p (Ok true) old new reads_to → CommandProgress (before p idle) (why.Failed 1) old new reads_to
   went_failing part = (
     subst (λ (ss : List Step). Through ss old new) (sym (append-nil p.steps)) part.steps,
     ap (λ (b : Bool). (if b then 1 else 0) + 0) part.fails,
     omega arith,
   )
 
-  pub went_sound : PartIs p (Ok false) old new reads_to → Went (before p idle) why.Done old new reads_to
+  pub went_sound : PartIs p (Ok false) old new reads_to → CommandProgress (before p idle) why.Done old new reads_to
   went_sound part = (
     subst (λ (ss : List Step). Through ss old new) (sym (append-nil p.steps)) part.steps,
     ap (λ (b : Bool). (if b then 1 else 0) + 0) part.fails,

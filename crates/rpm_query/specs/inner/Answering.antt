@@ -15,7 +15,7 @@ use Rattle.rpm_effects.specs.Classes.{IsOfRead}
 use Rattle.rpm_print.specs.Printed.{packages_part, step_of}
 use Rattle.rpm_query.specs.Queries.{answered, argument_part, missing_part, query_of}
 use Rattle.rpm_query.specs.Reach.{reaches_by}
-use Rattle.rpm_effects.specs.Portions.{before, in_turn}
+use Rattle.rpm_effects.specs.Portions.{before, parts_in_turn}
 use Rattle.rpm_words.specs.declared.switch.Chosen.{Chosen}
 use Rattle.rpm_select.specs.declared.selection.Selection.TheVariants as question
 use Rattle.rpm_effects.specs.inner.Stopping.{reached_empty, reached_later, reached_over, reached_unsunk}
@@ -65,7 +65,7 @@ module _ (tree : Tree) (packages : FinMap nat_cmp Package) (chosen : Chosen) (af
   query_none (x ∷ xs) none = absurd (omega (arith, none))
 
   pub query_some : (args : List ℕ) → length args ≢ 0 → query_of tree packages chosen after (map f args)
-      ≡ in_turn (argument_part tree packages chosen after) 0 (map f args)
+      ≡ parts_in_turn (argument_part tree packages chosen after) 0 (map f args)
   query_some [] some = absurd (some refl)
   query_some (x ∷ xs) some = refl
 

@@ -8,7 +8,7 @@ use Rattle.rpm_outside.specs.Files.{Units}
 use Rattle.rpm_select.specs.Candidates.{keys_asked}
 use Rattle.rpm_select.specs.declared.picked.PickFault.{PickFault}
 use Rattle.rpm_select.specs.declared.selection.Selection.{Selection}
-use Rattle.rpm_effects.specs.Answers.{PartIs, Reached, StepIs}
+use Rattle.rpm_effects.specs.Answers.{PartIs, PartProgress, StepIs}
 use Rattle.rpm_effects.specs.Endings.{why_of_halt}
 use Rattle.rpm_effects.specs.Classes.{IsOfRead}
 use Rattle.rpm_query.specs.Queries.{lent, question_of, halt_of_pick}
@@ -32,7 +32,7 @@ step_unbroken step (Ok o) old new one unit is = cc
 step_unbroken step (Err (halt.BadIndex at)) old new one unit is = one
 step_unbroken step (Err others) old new one unit is = cc
 
-reached_unbroken : (all : List Step) (r : Result Bool Halt) (old new : Outputs) (reads_to : Bearer → Type 0) → Reached all r old new reads_to → (unit : ℕ)
+reached_unbroken : (all : List Step) (r : Result Bool Halt) (old new : Outputs) (reads_to : Bearer → Type 0) → PartProgress all r old new reads_to → (unit : ℕ)
     → r ≡ Err (halt.BadIndex unit) → ⊥
 reached_unbroken all (Ok o) old new reads_to one unit is = cc
 reached_unbroken all (Err (halt.BadIndex at)) old new reads_to one unit is = one

@@ -6,7 +6,7 @@ use Rattle.rpm_effects.specs.Steps.{Bearer, Step}
 use Rattle.rpm_effects.specs.declared.tally.Halt.{Halt}
 use Rattle.rpm_check.specs.Answers.{is_of_index, IsBroken}
 use Rattle.rpm_check.specs.declared.faults.CheckFault.{CheckFault}
-use Rattle.rpm_effects.specs.Answers.{PartIs, Reached}
+use Rattle.rpm_effects.specs.Answers.{PartIs, PartProgress}
 use Rattle.rpm_effects.specs.Endings.{why_of_halt}
 use Rattle.rpm_effects.specs.Classes.{is_done, IsOfRead}
 use Rattle.rpm_report.specs.Requirements.{halt_of_check, HaltsOfSome, IsOfSome, why_of_report}
@@ -27,7 +27,7 @@ lawful_stops check.NoMemory is = refl
 
 -- what was stopped within steps was stopped by no index
 pub reached_unbroken : (T : Type 0) (steps : List Step) (idx : Units) (s : Halt) (old new : Outputs) (reads_to : Bearer → Type 0)
-    → Reached {T = T} steps (Err s) old new reads_to → HaltsOfSome idx s
+    → PartProgress {T = T} steps (Err s) old new reads_to → HaltsOfSome idx s
 reached_unbroken T steps idx (halt.BadIndex unit) old new reads_to r = absurd r
 reached_unbroken T steps idx others old new reads_to r = tt
 

@@ -1,6 +1,6 @@
 use Rattle.std.proofs.Common.{◌≡◌, true}
 use Rattle.rpm_effects.specs.Steps.{whole}
-use Rattle.rpm_effects.specs.Answers.{Anywhere}
+use Rattle.rpm_effects.specs.Progress.{Anywhere}
 use Rattle.rpm_effects.specs.inner.Stopping.{out_cut, within_reads}
 use Rattle.rpm_print.proofs.texts.print_text.Goals as goal
 

@@ -1,5 +1,6 @@
 use Rattle.std.proofs.Common.{ℕ, List, Option, sym, subst}
-use Rattle.rpm_query.proofs.Vocabulary.{Anywhere, bytes_at, found_part, inner, outputs, PartIs, Portion}
+use Rattle.rpm_query.proofs.Vocabulary.{Anywhere, bytes_at, found_part, inner, outputs, PartIs, Portion, whole}
+use Rattle.rpm_effects.specs.inner.Failing.{line_part}
 use Rattle.rpm_query.proofs.Filed.{found_open}
 use Rattle.rpm_query.proofs.package_files.print_file.Goals as goal
 
@@ -17,7 +18,9 @@ pub returns-in-Err-clause-went : goal.returns-in-Err-clause-went
 returns-in-Err-clause-went g c = λ told j.
     let opened = c.in-Err.ensures.opened told in
     let o = g.O.Sink.taken (inner c.args.out.now) in
-    subst (λ (found : Option (List ℕ)). PartIs (found_part c.args.format.now j c.args.path.now found) c.put_absent.result
+    subst (λ (found : Option (List ℕ)). PartIs (found_part c.args.format.now j c.args.path.now found) c.answer_of_line.result
     (outputs g.O.Sink.tells o g.E.Sink.tells (g.E.Sink.taken (inner c.args.err.now)))
     (outputs g.O.Sink.tells o g.E.Sink.tells (g.E.Sink.taken (inner c.put_absent.new.err))) Anywhere)
-    (sym opened.1) (rw c.as_bytes-in-Err.ensures.value at (c.put_absent.ensures.part j g.O.Sink.tells o))
+    (sym opened.1)
+    (rw c.answer_of_line.ensures
+    (line_part g.E.Sink c.put_absent.result (rw c.as_bytes-in-Err.ensures.value at c.put_absent.ensures) (whole j) g.O.Sink.tells o))

@@ -1,6 +1,7 @@
 use Rattle.std.proofs.Common.{◌≡◌, Some, Result, Err, sym, ap, ◌∙◌, subst}
-use Rattle.rpm_query.proofs.Vocabulary.{Anywhere, FileFault, Headed, inner, left, outputs, package_header, PartIs, read_part}
+use Rattle.rpm_query.proofs.Vocabulary.{Anywhere, FileFault, Headed, inner, left, outputs, package_header, PartIs, read_part, whole}
 use Rattle.rpm_effects.specs.declared.tally.Halt.TheVariants as halt
+use Rattle.rpm_effects.specs.inner.Failing.{line_part}
 use Rattle.rpm_effects.specs.inner.Reaching.{through_none}
 use Rattle.rpm_query.proofs.Filed.{read_stop, own_fault, unread}
 use Rattle.rpm_query.proofs.package_files.print_opened.Goals as goal
@@ -36,8 +37,8 @@ pub returns-in-None-clause-went : goal.returns-in-None-clause-went
 returns-in-None-clause-went g c = λ told j.
     let found = package_header (left (g.S.Shelf.rest c.args.shelf.now)) in
     let o = g.O.Sink.taken (inner c.args.out.now) in
-    subst (λ (r : Result Headed FileFault). PartIs (read_part c.args.format.now j c.args.path.now r) c.put_refused.result
+    subst (λ (r : Result Headed FileFault). PartIs (read_part c.args.format.now j c.args.path.now r) c.answer_of_line.result
     (outputs g.O.Sink.tells o g.E.Sink.tells (g.E.Sink.taken (inner c.args.err.now)))
     (outputs g.O.Sink.tells o g.E.Sink.tells (g.E.Sink.taken (inner c.put_refused.new.err))) Anywhere)
     (sym (own_fault found c.in-Err.fault (sym c.in-None.ensures) (c.in-Err.ensures.answers told)))
-    (c.put_refused.ensures.part j g.O.Sink.tells o)
+    (rw c.answer_of_line.ensures (line_part g.E.Sink c.put_refused.result c.put_refused.ensures (whole j) g.O.Sink.tells o))

@@ -1,5 +1,5 @@
 use Rattle.rpm_query.proofs.Vocabulary.{Bearer, before, Everything, Files, idle, inner, outputs, packages, packages_in, packages_part, PartIs, picks, Pkg, Portion, Reach}
-use Rattle.rpm_query.proofs.Vocabulary.{Reached, reached_by, ReadsIn, room, Step, step_by, Went, Why}
+use Rattle.rpm_query.proofs.Vocabulary.{PartProgress, reached_by, ReadsIn, room, Step, step_by, CommandProgress, Why}
 use Rattle.std.proofs.Common.{◌≡◌, ◌+◌, ◌-◌, ◌≤◌, Bool, List, [], ◌∷◌, Err, sym, subst, arith}
 use Rattle.std.proofs.lemmas.List.{append-nil}
 use Rattle.rpm_db.specs.Database.{cost_all, cost_to}
@@ -39,9 +39,9 @@ returns-clause-went g c = λ told rows.
     (subst (λ (r : Reach). PartIs (part_of begun) (Err what) old new (ReadsIn 0 c.args.after r db between now)) is
     (c.in-Err.ensures.went told (c.begin_unasked-picker.ensures.serves told rows)
     (c.new.ensures (packages_in g.D.Disk c.begin_unasked-picker.new.disk db)) 0)) in
-    subst (λ (w : Why). Went (before part idle) w old new reads) (sym c.from.ensures)
+    subst (λ (w : Why). CommandProgress (before part idle) w old new reads) (sym c.from.ensures)
     (went_stop Bool (before part idle) what old new reads
-    (subst (λ (ss : List Step). Reached {T = Bool} ss (Err what) old new reads) (sym (append-nil part.steps))
+    (subst (λ (ss : List Step). PartProgress {T = Bool} ss (Err what) old new reads) (sym (append-nil part.steps))
     (reached_reads {T = Bool} part.steps (Err what) old new (ReadsIn 0 c.args.after Everything db between now) reads
     (λ b r. reads_one Everything db c.args.after start between now b c.begin_unasked-picker.ensures.looks.reads.pkg r) done.steps)))
 

@@ -1,9 +1,9 @@
-use Rattle.std.proofs.Common.{◌≡◌, ℕ, Bool, List, [], ◌∷◌, Ok, refl, sym, ap, ◌∙◌}
+use Rattle.std.proofs.Common.{◌≡◌, ℕ, Bool, List, [], ◌∷◌, Ok, sym, ap, ◌∙◌}
 use Rattle.std.proofs.lemmas.Result.{err_from_is_err_and}
 use Rattle.std.specs.Prelude.{codes}
 use Rattle.rpm_report.proofs.Vocabulary.{Anywhere, bearer, concat, header, header_label, inner, label_text, outputs, read_text}
 use Rattle.rpm_report.proofs.Labels.{header_label_is}
-use Rattle.rpm_effects.specs.inner.Reaching.{through_none}
+use Rattle.rpm_effects.specs.inner.Reaching.{not_begun, through_none}
 use Rattle.rpm_effects.specs.inner.Stopping.{reached_unsunk}
 use Rattle.rpm_report.proofs.Telling.{line_told}
 use Rattle.rpm_report.proofs.ordering.put_label.Goals as goal
@@ -35,4 +35,4 @@ returns-in-Err-clause-went g c = λ told et e.
 pub returns-in_err-label-in-Ok-clause-went : goal.returns-in_err-label-in-Ok-clause-went
 returns-in_err-label-in-Ok-clause-went g c = λ told et e.
     let p = err_from_is_err_and c.from_residual-in_err-label-in-Ok.result c.from_residual-in_err-label-in-Ok.ensures.1 in
-    rw (p.1, p.2) ([], _, refl, through_none {ot = g.O.Sink.tells} {et = et} (g.O.Sink.taken (inner c.args.out.now)) e)
+    rw (p.1, p.2) (not_begun (through_none {ot = g.O.Sink.tells} {et = et} (g.O.Sink.taken (inner c.args.out.now)) e))

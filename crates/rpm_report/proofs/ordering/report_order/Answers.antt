@@ -8,7 +8,7 @@ use Rattle.rpm_report.proofs.Behind.{behind_first, behind_stop, behind_sound, qu
 use Rattle.rpm_report.specs.inner.Checked.{part_unbroken, reached_unbroken}
 use Rattle.rpm_report.specs.inner.Reporting.{none_listed, order_listed}
 use Rattle.rpm_print.specs.inner.Reached.{rows_at}
-use Rattle.rpm_effects.specs.inner.Reaching.{through_none}
+use Rattle.rpm_effects.specs.inner.Reaching.{not_begun, through_none}
 use Rattle.rpm_report.proofs.SoFar.{glances, peeks_more}
 use Rattle.rpm_report.proofs.ordering.report_order.Given.{Over}
 use Rattle.rpm_report.proofs.ordering.report_order.Goals.{After-put_classes}
@@ -73,7 +73,7 @@ returns-in_err-list-clause-went g c = λ told rows.
       [],
       none_listed (graph_of all),
       behind_stop (classes_part all []) (c.in_ok-bad.ensures.went told _ _) Bool refl
-          ([], [], refl, through_none {ot = g.O.Sink.tells} {et = g.E.Sink.tells} (g.O.Sink.taken (inner c.args.out.now)) _),
+          (not_begun (through_none {ot = g.O.Sink.tells} {et = g.E.Sink.tells} (g.O.Sink.taken (inner c.args.out.now)) _)),
     )
 
 pub returns-in_err-list-clause-looks : goal.returns-in_err-list-clause-looks

@@ -1,7 +1,7 @@
 use Rattle.rpm_report.proofs.Vocabulary.{bad_step, bearer}
-use Rattle.std.proofs.Common.{[], refl}
+use Rattle.std.proofs.Common.{refl}
 use Rattle.std.proofs.lemmas.Result.{err_from_is_err_and}
-use Rattle.rpm_effects.specs.inner.Reaching.{through_none}
+use Rattle.rpm_effects.specs.inner.Reaching.{not_begun, through_none}
 use Rattle.rpm_report.proofs.Telling.{step_stops}
 use Rattle.rpm_report.proofs.unreadable.tell_bad.Goals as goal
 
@@ -28,12 +28,12 @@ returns-in_err-put_bad-in-Err-Bad-clause-went g c = λ told ot o.
 
 pub returns-in-Err-DiskFault-clause-went : goal.returns-in-Err-DiskFault-clause-went
 returns-in-Err-DiskFault-clause-went g c = λ told ot o. record {
-  steps = ([], _, refl, through_none {ot = ot} {et = g.E.Sink.tells} o _);
+  steps = not_begun (through_none {ot = ot} {et = g.E.Sink.tells} o _);
   fails = tt;
 }
 
 pub returns-in-Err-NoMemory-clause-went : goal.returns-in-Err-NoMemory-clause-went
 returns-in-Err-NoMemory-clause-went g c = λ told ot o. record {
-  steps = ([], _, refl, through_none {ot = ot} {et = g.E.Sink.tells} o _);
+  steps = not_begun (through_none {ot = ot} {et = g.E.Sink.tells} o _);
   fails = tt;
 }

@@ -1,8 +1,8 @@
 use Rattle.rpm_report.proofs.Vocabulary.{Anywhere, bearer, flat_map, header, inner, packages_in, read_text, unmet_lines}
-use Rattle.std.proofs.Common.{◌≡◌, Bool, List, [], ℕ, refl, ap, sym, ◌∙◌}
+use Rattle.std.proofs.Common.{◌≡◌, Bool, List, ℕ, ap, sym, ◌∙◌}
 use Rattle.std.proofs.lemmas.Result.{err_from_is_err_and}
 use Rattle.std.specs.FinMap as finite
-use Rattle.rpm_effects.specs.inner.Reaching.{through_none}
+use Rattle.rpm_effects.specs.inner.Reaching.{not_begun, through_none}
 use Rattle.rpm_report.proofs.Rowed.{of_package, own_line, own_steps, piece_reached}
 use Rattle.rpm_effects.specs.inner.Stopping.{reached_unsunk}
 use Rattle.rpm_report.proofs.unsatisfied.put_row.Goals as goal
@@ -27,4 +27,4 @@ returns-clause-went g c = λ told et e.
 pub returns-in_err-lines-clause-went : goal.returns-in_err-lines-clause-went
 returns-in_err-lines-clause-went g c = λ told et e.
     let p = err_from_is_err_and c.from_residual-in_err-lines.result c.from_residual-in_err-lines.ensures.1 in
-    rw (p.1, p.2) ([], _, refl, through_none {ot = g.O.Sink.tells} {et = et} (g.O.Sink.taken (inner c.args.out.now)) e)
+    rw (p.1, p.2) (not_begun (through_none {ot = g.O.Sink.tells} {et = et} (g.O.Sink.taken (inner c.args.out.now)) e))

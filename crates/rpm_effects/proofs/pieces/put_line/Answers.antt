@@ -1,5 +1,5 @@
-use Rattle.rpm_print.proofs.Vocabulary.{flushed, stopped}
-use Rattle.rpm_print.proofs.pieces.put_line.Goals as goal
+use Rattle.rpm_effects.proofs.Vocabulary.{flushed, stopped}
+use Rattle.rpm_effects.proofs.pieces.put_line.Goals as goal
 
 pub returns-in_err-put_pieces : goal.returns-in_err-put_pieces
 returns-in_err-put_pieces g c = rw (← c.clear.ensures.inner) (record {

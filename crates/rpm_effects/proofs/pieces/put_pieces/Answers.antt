@@ -1,7 +1,7 @@
 use Rattle.std.proofs.Common.{List, ℕ, [], Bor}
-use Rattle.rpm_print.proofs.Vocabulary.{upto_more, upto_stop}
-use Rattle.rpm_print.proofs.Joins.{concat_at}
-use Rattle.rpm_print.proofs.pieces.put_pieces.Goals as goal
+use Rattle.rpm_effects.proofs.Vocabulary.{upto_more, upto_stop}
+use Rattle.rpm_effects.proofs.Joins.{concat_at}
+use Rattle.rpm_effects.proofs.pieces.put_pieces.Goals as goal
 
 abbrev bytes : Bor (List ℕ) → List ℕ
 bytes piece = piece.now

@@ -1,8 +1,8 @@
 -- How long the data are that are laid out.
 use Rattle.std.proofs.Common.{◌≡◌, ℕ, ◌+◌, ◌%◌, ◌-◌, ◌^◌, ◌<◌, ◌≤◌, List, [], ◌∷◌, ◌++◌, length, replicate, sym, subst, arith, length-append}
 use Rattle.std.specs.Prelude.{codes}
-use Rattle.rpm_change.proofs.Vocabulary.{alignment, bytes_in, data_from, decimal, end_of, Form, generated, Item, next_multiple_of, numbered, offset_of}
-use Rattle.rpm_change.proofs.Vocabulary.{package_items, version}
+use Rattle.rpm_exercise.proofs.Vocabulary.{alignment, bytes_in, data_from, decimal, end_of, Form, generated, Item, next_multiple_of, numbered, offset_of}
+use Rattle.rpm_exercise.proofs.Vocabulary.{package_items, version}
 use Rattle.std.proofs.lemmas.Fmt.{length-decimal-le}
 use Rattle.std.proofs.lemmas.List.{length-replicate}
 use Rattle.rpm_header.specs.declared.form.Form.TheVariants as form

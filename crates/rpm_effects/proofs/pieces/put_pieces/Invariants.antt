@@ -1,6 +1,6 @@
 use Rattle.std.proofs.Common.{map, drop}
-use Rattle.rpm_print.proofs.Vocabulary.{concat, Upto}
-use Rattle.rpm_print.proofs.pieces.put_pieces.Given as goal
+use Rattle.rpm_effects.proofs.Vocabulary.{concat, Upto}
+use Rattle.rpm_effects.proofs.pieces.put_pieces.Given as goal
 
 abbrev pub invariant-loop-piece : goal.invariant-loop-piece
 invariant-loop-piece g l =

@@ -1,7 +1,7 @@
 //! The headers that the exercise makes.
 
 ghost use Rattle.std.specs.Prelude.{◌≡◌, ◌++◌, ◌∷◌, [], ◌<◌, ◌≤◌, ◌%◌, ◌+◌, length, codes, false, IfOk, OnOk, Ok};
-ghost use Rattle.rpm_change.specs.Prelude.{data_of, file_items, generated, header, identity_items, IsText, laid, max_data, max_entries, numbered, provided_items, required_items, version};
+ghost use Rattle.rpm_exercise.specs.Prelude.{data_of, file_items, generated, header, identity_items, IsText, laid, max_data, max_entries, numbered, provided_items, required_items, version};
 
 use itoa::Buffer;
 use rpm_header::{BuildFault, Builder, Form, TextList};

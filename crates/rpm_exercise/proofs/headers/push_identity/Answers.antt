@@ -1,5 +1,5 @@
 use Rattle.std.proofs.Common.{append_assoc}
-use Rattle.rpm_change.proofs.exercise.push_identity.Goals as goal
+use Rattle.rpm_exercise.proofs.headers.push_identity.Goals as goal
 
 pub returns : goal.returns
 returns c =

@@ -1,9 +1,9 @@
 //! Text that is written in pieces.
 
 ghost use Rattle.std.specs.Prelude.{◌≡◌, map};
-ghost use Rattle.rpm_print.specs.Prelude.{Bearer, concat, fails, inner, OutTakes, PartIs, PutsOut, ToOut, Writes};
+ghost use Rattle.rpm_effects.specs.Prelude.{Bearer, concat, fails, inner, OutTakes, PartIs, PutsOut, ToOut, Writes};
 
-use rpm_effects::Halt;
+use crate::tally::Halt;
 use rpm_outside::{Buffered, Failed, Sink, put_all};
 
 /// Writes these pieces, one after the other. It takes no memory.

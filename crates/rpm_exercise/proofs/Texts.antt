@@ -1,6 +1,6 @@
 -- Names, versions and capabilities have no zero byte.
 use Rattle.std.proofs.Common.{◌≡◌, ℕ, ◌%◌, ◌^◌, ◌<◌, List, [], ◌∷◌, ◌++◌, codes, refl, sym, subst, arith}
-use Rattle.rpm_change.proofs.Vocabulary.{AllDigits, decimal, IsText, numbered, version}
+use Rattle.rpm_exercise.proofs.Vocabulary.{AllDigits, decimal, IsText, numbered, version}
 use Rattle.std.proofs.lemmas.Fmt.{decimal_is_IsNumeral}
 use Rattle.std.proofs.lemmas.List.Folds.{list_any-append}
 use Rattle.std.proofs.lemmas.Str.Parse.{digit_from_value}
