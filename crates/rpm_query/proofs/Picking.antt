@@ -17,12 +17,13 @@ use Rattle.rpm_print.specs.inner.Reached.{served}
 module _ {D : Type 0} (d : disk.Ghosts D) (db : Database) (chosen : Chosen) (text : Bor (List ℕ)) {x y : D} {sel : Selection} {p : Reach}
     (asked : question_of chosen text ≡ Some sel) (looks : LooksAt d Idx x y)
     (over : IsTrue d.tells → HasRows d x db → p ≡ reach (asks db sel) sel (packages_in d x db)) where
-  pub picking_part : (IsTrue d.tells → HasRows d x db → Serves p (packages_in d x db) sel) → (tree : Tree) (after now : ℕ) {r : Result Bool Halt}
-      {old new : Outputs} {recent : Recent} → (IsTrue d.tells → Serves p (packages_in d y db) sel → Recalls (packages_in d y db) recent → (j : ℕ)
+  pub picking_part : (IsTrue d.tells → HasRows d x db → Serves p (packages_in d x db) sel) → (tree : Tree) (after now : ℕ) (recent : Recent)
+      {r : Result Bool Halt} {old new : Outputs} → (IsTrue d.tells → Serves p (packages_in d y db) sel → Recalls (packages_in d y db) recent → (j : ℕ)
       → PartIs (answered tree chosen after j text.now (picks (packages_in d y db) sel)) r old new (ReadsOf j p db (pkg_read d y) now))
-      → IsTrue d.tells → HasRows d x db → Recalls (packages_in d x db) recent → (j : ℕ) → PartIs (argument_part tree (packages_in d x db) chosen after j text.now) r old new
+      → IsTrue d.tells → HasRows d x db → Recalls (packages_in d x db) recent → (j : ℕ)
+      → PartIs (argument_part tree (packages_in d x db) chosen after j text.now) r old new
       (ReadsOf j (argument_reach (is_indexed db) (packages_in d x db) chosen text.now) db (pkg_read d x) now)
-  picking_part serves tree after now {r = r} {old = old} {new = new} {recent = recent} went told rows holds j =
+  picking_part serves tree after now recent {r = r} {old = old} {new = new} went told rows holds j =
       let map = packages_in d x db in
       let same = (looks.untouched told).same in
       rw (picked_is map chosen text asked, reach_is map chosen text asked (is_indexed db), ← over told rows)

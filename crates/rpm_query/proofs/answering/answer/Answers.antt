@@ -42,11 +42,12 @@ returns-in_err-printed-clause-went g c =
     let said = c.in-Ok.ensures in
     let p = err_from_is_err_and c.from_residual.result c.from_residual.ensures.1 in
     rw (p.1, p.2) (picking_part g.D.Disk _ _ _ (sym c.question_of.ensures ∙ c.in-Some.is) said.asks.looks said.reach said.serves _ _ _
-    (λ told serves holds j. answered_stop _ _ _ _ _ (picks (packages_in g.D.Disk c.new.new.disk c.args.db.now) c.in-Some.selection)
+    c.args.recent.now (λ told serves holds j. answered_stop _ _ _ _ _ (picks (packages_in g.D.Disk c.new.new.disk c.args.db.now) c.in-Some.selection)
     (λ b read. (read.0, omega (arith, read.1))) (c.in_err-printed.ensures.went told serves holds j)))
 
 pub returns-in_err-printed-clause-recalls : goal.returns-in_err-printed-clause-recalls
-returns-in_err-printed-clause-recalls g c = λ told. recalled_here _ (c.in-Ok.ensures.asks.looks.untouched told).same _ _ (c.in_err-printed.ensures.recalls told)
+returns-in_err-printed-clause-recalls g c = λ told.
+    recalled_here _ (c.in-Ok.ensures.asks.looks.untouched told).same c.args.recent.now c.print_above.new.recent (c.in_err-printed.ensures.recalls told)
 
 pub returns-in_err-printed-clause-reads : goal.returns-in_err-printed-clause-reads
 returns-in_err-printed-clause-reads g c =
@@ -65,16 +66,17 @@ returns-in_err-any-clause-went g c =
     let said = c.in-Ok.ensures in
     let p = err_from_is_err_and c.from_residual-in_err-any.result c.from_residual-in_err-any.ensures.1 in
     rw (p.1, p.2) (picking_part g.D.Disk _ _ _ (sym c.question_of.ensures ∙ c.in-Some.is) said.asks.looks said.reach said.serves _ _ _
-    (λ told serves holds j. answered_halt _ _ _ _ _ (picks (packages_in g.D.Disk c.new.new.disk c.args.db.now) c.in-Some.selection)
+    c.args.recent.now (λ told serves holds j. answered_halt _ _ _ _ _ (picks (packages_in g.D.Disk c.new.new.disk c.args.db.now) c.in-Some.selection)
     c.in_err-any.ensures.class (c.in_ok-printed.ensures.went told serves holds j)))
 
 pub returns-in_err-any-clause-recalls : goal.returns-in_err-any-clause-recalls
-returns-in_err-any-clause-recalls g c = λ told. recalled_here _ (c.in-Ok.ensures.asks.looks.untouched told).same _ _ (c.in_ok-printed.ensures.recalls told)
+returns-in_err-any-clause-recalls g c = λ told.
+    recalled_here _ (c.in-Ok.ensures.asks.looks.untouched told).same c.args.recent.now c.print_above.new.recent (c.in_ok-printed.ensures.recalls told)
 
 pub returns-in_err-any-clause-reads : goal.returns-in_err-any-clause-reads
 returns-in_err-any-clause-reads g c =
     picking_reads g.D.Disk _ _ _ (sym c.question_of.ensures ∙ c.in-Some.is) c.in-Ok.ensures.asks.looks c.in-Ok.ensures.reach
-    (both_read _ _ _ _ _ c.in_ok-printed.ensures.reads c.in_err-any.ensures.reads)
+    (both_read c.in-Ok.picker c.args.db.now c.args.after _ _ c.in_ok-printed.ensures.reads c.in_err-any.ensures.reads)
 
 pub returns-in_err-any-clause-looks : goal.returns-in_err-any-clause-looks
 returns-in_err-any-clause-looks g c =
@@ -88,17 +90,19 @@ returns-then-any-clause-went g c =
     let said = c.in-Ok.ensures in
     let first = c.in_ok-printed.ensures in
     picking_part g.D.Disk _ _ _ (sym c.question_of.ensures ∙ c.in-Some.is) said.asks.looks said.reach said.serves _ _ _
-    (λ told serves holds j. answered_done _ _ _ _ _ (picks (packages_in g.D.Disk c.new.new.disk c.args.db.now) c.in-Some.selection)
-    (sym (any_here _ _ _ _ (first.looks.untouched told).same (c.in_ok-any.ensures.told told) serves (first.some told serves holds)) ∙ c.if-any.true)
+    c.args.recent.now (λ told serves holds j. answered_done _ _ _ _ _ (picks (packages_in g.D.Disk c.new.new.disk c.args.db.now) c.in-Some.selection)
+    (sym (any_here _ _ _ c.in-Ok.picker (first.looks.untouched told).same (c.in_ok-any.ensures.told told) serves
+    (first.some told serves holds)) ∙ c.if-any.true)
     (first.went told serves holds j))
 
 pub returns-then-any-clause-recalls : goal.returns-then-any-clause-recalls
-returns-then-any-clause-recalls g c = λ told. recalled_here _ (c.in-Ok.ensures.asks.looks.untouched told).same _ _ (c.in_ok-printed.ensures.recalls told)
+returns-then-any-clause-recalls g c = λ told.
+    recalled_here _ (c.in-Ok.ensures.asks.looks.untouched told).same c.args.recent.now c.print_above.new.recent (c.in_ok-printed.ensures.recalls told)
 
 pub returns-then-any-clause-reads : goal.returns-then-any-clause-reads
 returns-then-any-clause-reads g c =
     picking_reads g.D.Disk _ _ _ (sym c.question_of.ensures ∙ c.in-Some.is) c.in-Ok.ensures.asks.looks c.in-Ok.ensures.reach
-    (both_read _ _ _ _ _ c.in_ok-printed.ensures.reads c.in_ok-any.ensures.reads)
+    (both_read c.in-Ok.picker c.args.db.now c.args.after _ _ c.in_ok-printed.ensures.reads c.in_ok-any.ensures.reads)
 
 pub returns-then-any-clause-looks : goal.returns-then-any-clause-looks
 returns-then-any-clause-looks g c =
@@ -112,18 +116,20 @@ returns-clause-went g c =
     let said = c.in-Ok.ensures in
     let first = c.in_ok-printed.ensures in
     picking_part g.D.Disk _ _ _ (sym c.question_of.ensures ∙ c.in-Some.is) said.asks.looks said.reach said.serves _ _ _
-    (λ told serves holds j. answered_missed _ _ _ _ _ (picks (packages_in g.D.Disk c.new.new.disk c.args.db.now) c.in-Some.selection)
-    (sym (any_here _ _ _ _ (first.looks.untouched told).same (c.in_ok-any.ensures.told told) serves (first.some told serves holds)) ∙ c.if-any.false)
-    (first.went told serves holds j) (refl, both_read _ _ _ _ _ first.reads c.in_ok-any.ensures.reads)
+    c.args.recent.now (λ told serves holds j. answered_missed _ _ _ _ _ (picks (packages_in g.D.Disk c.new.new.disk c.args.db.now) c.in-Some.selection)
+    (sym (any_here _ _ _ c.in-Ok.picker (first.looks.untouched told).same (c.in_ok-any.ensures.told told) serves
+    (first.some told serves holds)) ∙ c.if-any.false)
+    (first.went told serves holds j) (refl, both_read c.in-Ok.picker c.args.db.now c.args.after _ _ first.reads c.in_ok-any.ensures.reads)
     (rw c.as_bytes-2.ensures.value at (c.put_missing_part-2.ensures.part j)))
 
 pub returns-clause-recalls : goal.returns-clause-recalls
-returns-clause-recalls g c = λ told. recalled_here _ (c.in-Ok.ensures.asks.looks.untouched told).same _ _ (c.in_ok-printed.ensures.recalls told)
+returns-clause-recalls g c = λ told.
+    recalled_here _ (c.in-Ok.ensures.asks.looks.untouched told).same c.args.recent.now c.print_above.new.recent (c.in_ok-printed.ensures.recalls told)
 
 pub returns-clause-reads : goal.returns-clause-reads
 returns-clause-reads g c =
     picking_reads g.D.Disk _ _ _ (sym c.question_of.ensures ∙ c.in-Some.is) c.in-Ok.ensures.asks.looks c.in-Ok.ensures.reach
-    (both_read _ _ _ _ _ c.in_ok-printed.ensures.reads c.in_ok-any.ensures.reads)
+    (both_read c.in-Ok.picker c.args.db.now c.args.after _ _ c.in_ok-printed.ensures.reads c.in_ok-any.ensures.reads)
 
 pub returns-clause-bad_index : goal.returns-clause-bad_index
 returns-clause-bad_index g c = λ told. chain_unbroken _ _ c.put_missing_part-2.result (part_unbroken (c.put_missing_part-2.ensures.part 0))

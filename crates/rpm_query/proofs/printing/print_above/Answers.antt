@@ -1,5 +1,5 @@
-use Rattle.rpm_query.proofs.Vocabulary.{Bearer, entry_in, Files, Halt, inner, next_picked, NextIs, packages, packages_in, pkg_read, PrintedPackages, reach_some}
-use Rattle.rpm_query.proofs.Vocabulary.{ReadsIn, Recalls, room, shown, step_by}
+use Rattle.rpm_query.proofs.Vocabulary.{Bearer, entry_in, Halt, inner, next_picked, packages_in, pkg_read, PrintedPackages, reach_some}
+use Rattle.rpm_query.proofs.Vocabulary.{ReadsIn, shown, step_by}
 use Rattle.std.proofs.Common.{◌≡◌, ◌<◌, Bool, Result, Ok, Err, Some, None, refl, sym, ap, ◌∙◌, subst, arith, rules}
 use Rattle.std.proofs.lemmas.Result.{err_from_is_err_and}
 use Rattle.rpm_effects.specs.declared.tally.Halt.TheVariants as halt
@@ -36,12 +36,14 @@ loop-next-preserved g c =
     let said = c.in-Ok-Some.ensures in
     let held = c.in-Some.ensures in
     let printed = c.print_picked.ensures in
+    let had = c.loop-next.recent in
+    let has = c.next_number_after.new.recent in
     let lt : n < m = rw c.in-Ok-Some.field-0-is at said.rises in
     record {
       later = omega (arith, inv.later, lt);
       looks = looks_next d g.met.D.Disk.follows_trans db inv.later inv.looks lt (look_within d (rw c.in-Ok-Some.field-0-is at said.within) said.asks.looks);
       reads = reach_then r db _ _ _ {n = n} {m = m} (omega (arith, lt)) inv.reads (rw c.in-Ok-Some.field-0-is at said.asks.looks.reads.pkg);
-      recalls = λ told holds. recalled_here _ (inv.looks.untouched told).same _ _ (said.recalls told) (inv.recalls told holds);
+      recalls = λ told holds. recalled_here _ (inv.looks.untouched told).same had has (said.recalls told) (inv.recalls told holds);
       disk = omega (arith, inv.disk, said.asks.cause.later);
       out = omega (arith, inv.out, printed.hands.out.cause.later);
       err = omega (arith, inv.err, printed.hands.err.cause.later);
@@ -53,8 +55,9 @@ loop-next-preserved g c =
           let all = packages_in d c.args.disk.now db in
           let sel = c.args.selection.now in
           let kept = inv.recalls told holds in
-          let number = next_here sel _ n _ (inv.looks.untouched told).same _ (Ok (Some m)) (rw c.in-Ok-Some.field-0-is at (said.told told)) serves kept in
-          let next = held.next all sel n (recalled_here _ (inv.looks.untouched told).same _ _ (said.recalls told) kept) number in
+          let same = (inv.looks.untouched told).same in
+          let number = next_here sel _ n _ same had (Ok (Some m)) (rw c.in-Ok-Some.field-0-is at (said.told told)) serves kept in
+          let next = held.next all sel n (recalled_here _ same had has (said.recalls told) kept) number in
           printed_next (inv.printed told serves holds) (number-entry p ∙ held.number) (next_picked all sel n (entry_in p) next.0 next.1)
           (λ j. rw c.in_ok-to_out-in-Ok-Some.was at (printed.step j));
     }
@@ -65,24 +68,26 @@ pub returns-in-Ok-None-clause-went : goal.returns-in-Ok-None-clause-went
 returns-in-Ok-None-clause-went g c = λ told serves holds j.
     let inv = c.loop-next.invariant in
     printed_last (inv.printed told serves holds)
-    (next_here _ _ c.loop-next.number _ (inv.looks.untouched told).same _ (Ok None)
+    (next_here _ _ c.loop-next.number _ (inv.looks.untouched told).same c.loop-next.recent (Ok None)
     (rw c.in-Ok-None.field-0-is at (c.in-Ok-None.ensures.told told)) serves (inv.recalls told holds)) j
 
 pub returns-in-Ok-None-clause-some : goal.returns-in-Ok-None-clause-some
 returns-in-Ok-None-clause-some g c = λ told serves holds.
     let inv = c.loop-next.invariant in
     some_last (inv.printed told serves holds)
-    (next_here _ _ c.loop-next.number _ (inv.looks.untouched told).same _ (Ok None)
+    (next_here _ _ c.loop-next.number _ (inv.looks.untouched told).same c.loop-next.recent (Ok None)
     (rw c.in-Ok-None.field-0-is at (c.in-Ok-None.ensures.told told)) serves (inv.recalls told holds))
 
 pub returns-in-Ok-None-clause-recalls : goal.returns-in-Ok-None-clause-recalls
 returns-in-Ok-None-clause-recalls g c = λ told holds.
     let inv = c.loop-next.invariant in
-    recalled_here _ (inv.looks.untouched told).same _ _ (c.in-Ok-None.ensures.recalls told) (inv.recalls told holds)
+    recalled_here _ (inv.looks.untouched told).same c.loop-next.recent c.next_number_after.new.recent (c.in-Ok-None.ensures.recalls told)
+    (inv.recalls told holds)
 
 pub returns-in-Ok-None-clause-reads : goal.returns-in-Ok-None-clause-reads
 returns-in-Ok-None-clause-reads g c =
-    rest_read _ _ _ _ _ _ c.loop-next.invariant.reads (rw c.in-Ok-None.field-0-is at c.in-Ok-None.ensures.asks.looks.reads.pkg)
+    rest_read c.args.picker.now c.args.db.now c.loop-next.number _ _ c.args.after c.loop-next.invariant.reads
+    (rw c.in-Ok-None.field-0-is at c.in-Ok-None.ensures.asks.looks.reads.pkg)
 
 pub returns-in-Ok-None-clause-looks : goal.returns-in-Ok-None-clause-looks
 returns-in-Ok-None-clause-looks g c =
@@ -95,10 +100,12 @@ returns-in-Ok-None-clause-looks g c =
 pub returns-in-Err-clause-recalls : goal.returns-in-Err-clause-recalls
 returns-in-Err-clause-recalls g c = λ told holds.
     let inv = c.loop-next.invariant in
-    recalled_here _ (inv.looks.untouched told).same _ _ (c.in-Err.ensures.recalls told) (inv.recalls told holds)
+    recalled_here _ (inv.looks.untouched told).same c.loop-next.recent c.next_number_after.new.recent (c.in-Err.ensures.recalls told)
+    (inv.recalls told holds)
 
 pub returns-in-Err-clause-reads : goal.returns-in-Err-clause-reads
-returns-in-Err-clause-reads g c = rest_read _ _ _ _ _ _ c.loop-next.invariant.reads c.in-Err.ensures.asks.looks.reads.pkg
+returns-in-Err-clause-reads g c =
+    rest_read c.args.picker.now c.args.db.now c.loop-next.number _ _ c.args.after c.loop-next.invariant.reads c.in-Err.ensures.asks.looks.reads.pkg
 
 pub returns-in-Err-clause-looks : goal.returns-in-Err-clause-looks
 returns-in-Err-clause-looks g c =
@@ -122,8 +129,10 @@ returns-in_err-to_out-in-Ok-Some-clause-went g c = λ told serves holds j.
     let sel = c.args.selection.now in
     let kept = inv.recalls told holds in
     let reads = ReadsIn j c.args.after r db (pkg_read d c.args.disk.now) (pkg_read d c.next_number_after.new.disk) in
-    let number = next_here sel _ n _ (inv.looks.untouched told).same _ (Ok (Some m)) (rw c.in-Ok-Some.field-0-is at (said.told told)) serves kept in
-    let next = held.next all sel n (recalled_here _ (inv.looks.untouched told).same _ _ (said.recalls told) kept) number in
+    let had = c.loop-next.recent in
+    let still = (inv.looks.untouched told).same in
+    let number = next_here sel _ n _ still had (Ok (Some m)) (rw c.in-Ok-Some.field-0-is at (said.told told)) serves kept in
+    let next = held.next all sel n (recalled_here _ still had c.next_number_after.new.recent (said.recalls told) kept) number in
     let lt : n < m = rw c.in-Ok-Some.field-0-is at said.rises in
     let read = reach_then r db _ _ _ {n = n} {m = m} (omega (arith, lt)) inv.reads (rw c.in-Ok-Some.field-0-is at said.asks.looks.reads.pkg) in
     let same : (entry_in p).0 ≡ m = number-entry p ∙ held.number in
@@ -135,7 +144,8 @@ returns-in_err-to_out-in-Ok-Some-clause-went g c = λ told serves holds j.
 pub returns-in_err-to_out-in-Ok-Some-clause-recalls : goal.returns-in_err-to_out-in-Ok-Some-clause-recalls
 returns-in_err-to_out-in-Ok-Some-clause-recalls g c = λ told holds.
     let inv = c.loop-next.invariant in
-    recalled_here _ (inv.looks.untouched told).same _ _ (c.in-Ok-Some.ensures.recalls told) (inv.recalls told holds)
+    recalled_here _ (inv.looks.untouched told).same c.loop-next.recent c.next_number_after.new.recent (c.in-Ok-Some.ensures.recalls told)
+    (inv.recalls told holds)
 
 pub returns-in_err-to_out-in-Ok-Some-clause-reads : goal.returns-in_err-to_out-in-Ok-Some-clause-reads
 returns-in_err-to_out-in-Ok-Some-clause-reads g c =

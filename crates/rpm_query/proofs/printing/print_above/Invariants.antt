@@ -1,4 +1,4 @@
-use Rattle.std.proofs.Common.{◌≡◌, ◌+◌, ◌-◌, ◌^◌, ◌≤◌}
+use Rattle.std.proofs.Common.{◌+◌, ◌-◌, ◌^◌, ◌≤◌}
 use Rattle.std.specs.Prelude.{IsTrue}
 use Rattle.rpm_query.proofs.Vocabulary.{cost_to, inner, Looks, packages_in, picks, Pkg, pkg_read, reach_to, Recalls, Serves, step_by}
 use Rattle.rpm_query.proofs.Nexts.{PrintedTo}

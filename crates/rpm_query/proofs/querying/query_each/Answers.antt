@@ -31,7 +31,7 @@ loop-k-preserved g c =
       looks = peeks_then g.D.Disk g.met.D.Disk.follows_trans inv.looks done.looks;
       reads = λ told rows. read_more _ _ _ _ _ _ _ c.argument.ensures (inv.reads told rows)
           (reads_here _ _ _ _ _ (inv.looks.untouched told).same (λ there. rw (c.chosen.ensures, c.text_at-text.ensures) at (done.reads told there)) rows);
-      recalls = λ told. recalled_here _ (inv.looks.untouched told).same _ _ (done.recalls told) (inv.recalls told);
+      recalls = λ told. recalled_here _ (inv.looks.untouched told).same c.loop-k.recent c.answer.new.recent (done.recalls told) (inv.recalls told);
       disk = omega (arith, inv.disk, done.disk.later);
       out = omega (arith, inv.out, done.hands.out.cause.later);
       err = omega (arith, inv.err, done.hands.err.cause.later);
@@ -40,7 +40,8 @@ loop-k-preserved g c =
       few = rw c.count-failed.ensures (few_more c.in-Ok.fails c.loop-k.failed c.loop-k.k inv.few);
       turned = λ told rows. rw c.count-failed.ensures (turned_more (inv.turned told rows) c.argument.ensures
           (part_here _ _ _ _ _ (inv.looks.untouched told).same _ _ _
-          (λ there. rw (c.chosen.ensures, c.after.ensures, c.text_at-text.ensures) at (done.went told there (held_still _ (inv.looks.untouched told).same _ (inv.recalls told)) c.loop-k.k)) rows));
+          (λ there. rw (c.chosen.ensures, c.after.ensures, c.text_at-text.ensures) at (done.went told there
+          (held_still _ (inv.looks.untouched told).same c.loop-k.recent (inv.recalls told)) c.loop-k.k)) rows));
     }
 
 -- ---- one that stops
@@ -51,7 +52,7 @@ returns-in-Err-clause-went g c = λ told rows.
     rw c.from.ensures (turned_stop (inv.turned told rows) c.argument.ensures _ (read_by _ _ _ _ _ _ _ c.argument.ensures (inv.reads told rows))
     (part_here _ _ _ _ _ (inv.looks.untouched told).same _ _ _
     (λ there. rw (c.chosen.ensures, c.after.ensures, c.text_at-text.ensures) at (c.in-Err.ensures.went told there
-    (held_still _ (inv.looks.untouched told).same _ (inv.recalls told)) c.loop-k.k)) rows))
+    (held_still _ (inv.looks.untouched told).same c.loop-k.recent (inv.recalls told)) c.loop-k.k)) rows))
 
 pub returns-in-Err-clause-looks : goal.returns-in-Err-clause-looks
 returns-in-Err-clause-looks g c = peeks_then g.D.Disk g.met.D.Disk.follows_trans c.loop-k.invariant.looks c.in-Err.ensures.looks
@@ -91,7 +92,7 @@ returns-then-failed-eq0-clause-reads g c = λ told rows.
     let over = argument_reach (is_indexed c.args.db.now) (packages_in g.D.Disk c.args.disk.now c.args.db.now) c.args.ask.now.chosen in
     omega (arith, c.loop-k.invariant.reads told rows, before_some (map over (map (text_at c.args.words.now) c.args.ask.now.arguments)) c.args.db.now c.loop-k.k)
 
-pub returns-else-failed-eq0-clause-reads : goal.returns-else-failed-eq0-clause-reads
-returns-else-failed-eq0-clause-reads g c = λ told rows.
+pub returns-clause-reads : goal.returns-clause-reads
+returns-clause-reads g c = λ told rows.
     let over = argument_reach (is_indexed c.args.db.now) (packages_in g.D.Disk c.args.disk.now c.args.db.now) c.args.ask.now.chosen in
     omega (arith, c.loop-k.invariant.reads told rows, before_some (map over (map (text_at c.args.words.now) c.args.ask.now.arguments)) c.args.db.now c.loop-k.k)
