@@ -8,6 +8,7 @@ use Rattle.rpm_change.proofs.Vocabulary.{Tally, uncounted, unsigned_tied, WentOw
 use Rattle.rpm_outside.specs.Files.{Files}
 use Rattle.std.specs.FinMap as finite
 use Rattle.std.proofs.lemmas.Cmp.{nat_cmp_total}
+use Rattle.std.proofs.lemmas.List.{append-nil}
 use Rattle.std.proofs.lemmas.Bool.Decides.{nat_tests}
 use Rattle.std.specs.Prelude.{IsTrue}
 use Rattle.rpm_effects.specs.declared.tally.Halt.TheVariants as halt
@@ -106,5 +107,6 @@ module _ {D : Type 0} (d : disk.Ghosts D) {most : ℕ} {old new : D} {db : Datab
             rw (same (tells told)) (none_made i (state_in d old db) (room db) (room db) uncounted refl);
         whole = λ told was. rw (same told) was;
         bad = λ told. tt;
+        given = λ told. record { adds = sym (append-nil owed.adds) };
         left = left_looked (Ok uncounted) (record { later = later; rose = λ is. absurd cc });
       }

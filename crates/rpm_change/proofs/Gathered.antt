@@ -1,5 +1,10 @@
 -- One change of a batch that was made, or refused.
-use Rattle.std.proofs.Common.{◌≡◌, ◌≢◌, ◌≤◌, List, Bool, true, false, Ok, Err, refl}
+use Rattle.std.proofs.Common.{◌≡◌, ◌≢◌, ◌≤◌, ◌++◌, [], ◌∷◌, List, Bool, true, false, Ok, Err, refl, sym, ap, ◌∙◌}
+use Rattle.std.proofs.lemmas.List.{append-nil}
+use Rattle.rpm_db.specs.Gathering.{with_rows}
+use Rattle.rpm_db.specs.Reaches.{added_rows, dropped_rows}
+use Rattle.rpm_db.specs.State.{State}
+use Rattle.rpm_change.specs.Went.{OwesAdded}
 use Rattle.std.specs.Prelude.{IsTrue}
 use Rattle.rpm_outside.specs.declared.disk.Disk as disk
 use Rattle.rpm_change.proofs.Vocabulary.{Change, ChangeFault, changing, Database, fault_kind, fault_spent, FaultIs, FullCause, GathersOne, Gathers}
@@ -8,6 +13,13 @@ use Rattle.rpm_change.proofs.Vocabulary.{needed, next-state, next_number, one_ma
 use Rattle.rpm_change.proofs.Vocabulary.{SameLog, state_in, Tally, through_none, WholeCause}
 use Rattle.rpm_db.specs.declared.change_fault.ChangeFault.TheVariants as fault
 use Rattle.rpm_hindex.specs.Rows.{Row}
+
+-- a change whose rows are owed owes those that it adds
+pub rows_owed : {owed more : RowChange} {change : Change} {s : State} → more ≡ with_rows owed (dropped_rows s change) (added_rows s change)
+    → OwesAdded owed more (change ∷ []) s
+rows_owed {owed = owed} {change = change} {s = s} is = record {
+  adds = ap (λ (o : RowChange). o.adds) is ∙ ap (λ (rows : List Row). owed.adds ++ rows) (sym (append-nil (added_rows s change)));
+}
 
 abbrev changed : Tally
 changed = record { failed = 0; changes = 1 }
@@ -29,6 +41,7 @@ module _ {D : Type 0} (d : disk.Ghosts D) {A : Type 0} (change : Change) {old ne
               (λ is. gathers.full told (rows is)) (end told) (λ is. made.reach told (rows is));
           whole = λ told whole. rw (index told) whole;
           bad = λ told. tt;
+          given = λ told. rows_owed (made.rows told);
           left = record {
             carried = record { gathering = made.gathering; stays = index; owes = λ told has. made.owes told has };
             indexed = indexed;

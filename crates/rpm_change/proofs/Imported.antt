@@ -42,6 +42,7 @@ module _ {D S T : Type 0} (d : disk.Ghosts D) (e : sink.Ghosts S) {old new : D} 
     limits = λ told i rows. limits_counted i (state_in d old before) (room before) (room after) course.changes tally _ (w.limits told i rows);
     whole = w.whole;
     bad = w.bad;
+    given = w.given;
     left = left_after d old new before after tally w.left (counted_once (Ok tally)) (λ is. absurd cc);
   }
   went_once (Err h) w = record {
@@ -51,5 +52,6 @@ module _ {D S T : Type 0} (d : disk.Ghosts D) (e : sink.Ghosts S) {old new : D} 
     limits = w.limits;
     whole = w.whole;
     bad = w.bad;
+    given = w.given;
     left = w.left;
   }

@@ -16,8 +16,8 @@ pub use Rattle.rpm_effects.specs.declared.tally.Halt.{Halt}
 pub use Rattle.rpm_effects.specs.declared.tally.Tally.{Tally}
 pub use Rattle.rpm_effects.specs.inner.Courses.{refused_quietly, stop_by}
 pub use Rattle.rpm_effects.specs.inner.Reaching.{through_none}
-pub use Rattle.rpm_change.specs.inner.Going.{Going, going_end, going_more, going_start, going_stop, halted_went, line_went, none_went, reading_went}
-pub use Rattle.rpm_change.specs.inner.Going.{stopped_went, went_as, went_behind}
+pub use Rattle.rpm_change.specs.inner.Going.{halted_went, line_went, none_went, reading_went, stopped_went, went_as, went_behind}
+pub use Rattle.rpm_change.specs.inner.Parts.{Going, going_end, going_more, going_start, going_stop}
 pub use Rattle.rpm_change.specs.inner.Handing.{err_is}
 pub use Rattle.rpm_effects.specs.inner.Joins.{err_joins, err_none, err_refused, err_stopped, hand_then, out_gone, out_joins, out_none, out_refused}
 pub use Rattle.rpm_effects.specs.inner.Joins.{out_stopped, took, uncounted}

@@ -1,11 +1,12 @@
 -- How far the two files reach, once the changes of a command are made: as in a group, a file never gets shorter.
-use Rattle.std.specs.Prelude.{◌≡◌, ℕ, ◌+◌, ◌≤◌, max, List, [], ◌∷◌, length, Bool, true, unwrap_or}
+use Rattle.std.specs.Prelude.{◌≡◌, ℕ, ◌+◌, ◌≤◌, max, List, [], ◌∷◌, ◌++◌, length, Bool, true, unwrap_or}
 use Rattle.rpm_outside.specs.Files.{Files}
+use Rattle.rpm_hindex.specs.Rows.{Row}
 use Rattle.rpm_hindex.specs.Sizes.{units_for}
 use Rattle.rpm_pkgdb.specs.Reaches.{store_end}
 use Rattle.rpm_pkgdb.specs.Store.{Store}
 use Rattle.rpm_db.specs.Changes.{Change, apply}
-use Rattle.rpm_db.specs.Reaches.{added, needed}
+use Rattle.rpm_db.specs.Reaches.{added, added_rows, needed}
 use Rattle.rpm_db.specs.Room.{next_store}
 use Rattle.rpm_db.specs.Rows.{rows}
 use Rattle.rpm_db.specs.State.{State}
@@ -20,6 +21,11 @@ pkg_reach units value (change ∷ changes) =
 abbrev pub idx_reach : ℕ → State → List Change → ℕ
 idx_reach units s [] = units
 idx_reach units s (change ∷ changes) = idx_reach (max (units + added s change) (needed s change)) (apply change s) changes
+
+-- the rows that these changes bring into the index, from a state on
+abbrev pub all_added : State → List Change → List Row
+all_added s [] = []
+all_added s (change ∷ changes) = added_rows s change ++ all_added (apply change s) changes
 
 -- no file is longer than these changes make it; Hindex.db where the index is asked
 pub record Reached (indexed : Bool) (s : State) (value : Store) (changes : List Change) (old new : Files) : Type 0 where

@@ -1,5 +1,5 @@
 -- How a course went on a disk and a database: how far, which limit stopped it, and what it left.
-use Rattle.std.specs.Prelude.{◌≡◌, ℕ, List, Bool, true, false, IsTrue, IfOk, Result, Ok, Err}
+use Rattle.std.specs.Prelude.{◌≡◌, ℕ, List, ◌++◌, Bool, true, false, IsTrue, IfOk, OnOk, Result, Ok, Err}
 use Rattle.rpm_outside.specs.declared.disk.Disk as disk
 use Rattle.rpm_outside.specs.Files.{Files, Units}
 use Rattle.rpm_outside.specs.Frame.{DiskFault}
@@ -10,6 +10,7 @@ use Rattle.rpm_db.specs.Database.{Database, is_indexed}
 use Rattle.rpm_db.specs.Frame.{IsIndexed, Runs, Serving, room, state_in}
 use Rattle.rpm_db.specs.Gathering.{IsGathering, OwesOn, due}
 use Rattle.rpm_db.specs.Lawful.{IsWholeIndex}
+use Rattle.rpm_db.specs.Reaches.{Gains}
 use Rattle.rpm_db.specs.Refusals.{BadCause}
 use Rattle.rpm_db.specs.State.{State}
 use Rattle.rpm_db.specs.declared.change_fault.ChangeFault.TheVariants as fault
@@ -19,6 +20,7 @@ use Rattle.rpm_effects.specs.declared.tally.Tally.{Tally}
 use Rattle.rpm_effects.specs.declared.tally.Halt.{Halt}
 use Rattle.rpm_effects.specs.declared.tally.Halt.TheVariants as halt
 use Rattle.rpm_change.specs.Limits.{LimitsTurn}
+use Rattle.rpm_change.specs.Reaches.{all_added}
 use Rattle.rpm_effects.specs.Steps.{Course}
 
 -- ---- an index that is broken
@@ -37,6 +39,16 @@ IsBlamed idx unit = (drops : List Row) × BadCause drops idx (fault.BadIndex uni
 abbrev pub BadTurn : Units → Result Tally Halt → Type 0
 BadTurn idx (Err (halt.BadIndex unit)) = IsBlamed idx unit
 BadTurn idx others = Unit {0}
+
+-- ---- the rows that are added
+
+-- an index gets the rows that these changes bring, whatever it holds
+abbrev pub GetsAdded : Units → Units → List Change → State → Type 0
+GetsAdded old new changes s = Gains (all_added s changes) old new
+
+-- an index is owed the rows that these changes bring, beside those from before
+pub record OwesAdded (owed more : RowChange) (changes : List Change) (s : State) : Type 0 where
+  pub adds : more.adds ≡ owed.adds ++ all_added s changes
 
 -- ---- the disk and the database
 
@@ -72,22 +84,23 @@ module _ {D : Type 0} (d : disk.Ghosts D) where
   LeftOn old new before after r = LeftBy (CarriedOn old new before after) old new after r
 
   -- how far it went, which limit stopped it, and which unit of the index it blames, once the contents are told; and what
-  -- is left. The index is asked where this holds, and the files reach as far as these
-  pub record WentBy (Carried Asked Told : Type 0) (from to : Files) (old new : D) (before after : Database)
-      (r : Result Tally Halt) (Ends : Course → State → State → Result Tally Halt → Type 0) (course : Course) : Type 0 where
+  -- is left. The index is asked where this holds, is given this of the changes, and the files reach as far as these
+  pub record WentBy (Carried Asked Told : Type 0) (Given : List Change → State → Type 0) (from to : Files) (old new : D)
+      (before after : Database) (r : Result Tally Halt) (Ends : Course → State → State → Result Tally Halt → Type 0) (course : Course) : Type 0 where
     pub ended : Told → Ends course (state_in d old before) (state_in d new after) r
     pub limits : Told → (indexed : Bool) → (indexed ≡ true → Asked)
         → LimitsTurn indexed (state_in d old before) (room before) (room after) from to course.changes r
     pub whole : IsTrue d.tells → IsWholeIndex (d.files old).idx → WholeTurn (d.files new).idx r
     pub bad : IsTrue d.tells → BadTurn (d.files old).idx r
+    pub given : Told → OnOk r (Given course.changes (state_in d old before))
     pub left : LeftBy Carried old new after r
 
   -- where each change is written to both files
   abbrev pub Went : Type 0 → D → D → Database → Database → Result Tally Halt
       → (Course → State → State → Result Tally Halt → Type 0) → Course → Type 0
   Went Told old new before after r Ends course =
-      WentBy (CarriedOn old new before after) (IsIndexed d old before) Told (d.files old) (d.files new) old new
-      before after r Ends course
+      WentBy (CarriedOn old new before after) (IsIndexed d old before) Told (GetsAdded (d.files old).idx (d.files new).idx)
+      (d.files old) (d.files new) old new before after r Ends course
 
   -- ---- a batch, whose rows are gathered
 
@@ -102,4 +115,4 @@ module _ {D : Type 0} (d : disk.Ghosts D) where
       → (Course → State → State → Result Tally Halt → Type 0) → Course → Type 0
   WentOwing Told old new before after owed more r Ends course =
       WentBy (IsOwing (OwesOn d old before owed) (d.files old).idx new after more) (OwesOn d old before owed) Told
-      (due (d.files old) before owed) (due (d.files new) after more) old new before after r Ends course
+      (OwesAdded owed more) (due (d.files old) before owed) (due (d.files new) after more) old new before after r Ends course

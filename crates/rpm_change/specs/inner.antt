@@ -4,6 +4,7 @@ pub mod Handing
 pub mod Leaving
 pub mod LimitLaws
 pub mod Owing
+pub mod Parts
 pub mod ReachLaws
 pub mod Reading
 pub mod Ready

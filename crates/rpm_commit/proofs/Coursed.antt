@@ -9,11 +9,13 @@ use Rattle.rpm_commit.proofs.Vocabulary.{ReachesBy, Renewed, room, RoomBecomes, 
 use Rattle.rpm_commit.proofs.Vocabulary.{StopsAt, with_spare}
 use Rattle.rpm_commit.proofs.Vocabulary.{Store, store, stores_paged, Tally, Through, Units, units_for, units_needed, Why, why_of, why_of_halt, WorkedBy}
 use Rattle.rpm_commit.proofs.Vocabulary.{WorkedWith, WorksOn}
-use Rattle.std.proofs.Common.{◌≡◌, ℕ, ◌≤◌, Bool, true, false, [], Option, None, Result, Ok, Err, refl, sym, ap, ◌∙◌, subst, arith, List, ◌^◌}
+use Rattle.std.proofs.Common.{◌≡◌, ℕ, ◌≤◌, Bool, true, false, [], Option, None, Result, Ok, Err, refl, sym, ap, ◌∙◌, subst, inl, inr, ⊎_elim, arith, ◌^◌}
 use Rattle.std.specs.Prelude.{IsTrue, IfOk, OnOk, List}
 use Rattle.rpm_change.specs.Went.{IsBlamed}
 use Rattle.rpm_change.specs.Went.{Went}
+use Rattle.rpm_change.specs.Reaches.{all_added}
 use Rattle.rpm_db.specs.Lawful.{IsWholeIndex}
+use Rattle.rpm_db.specs.Reaches.{Gains}
 use Rattle.rpm_commit.specs.inner.Brokens.{done_unbroken, found_unmade, halt_blames, halt_unbroken, open_unbroken}
 use Rattle.rpm_commit.specs.inner.Emptied.{done_unheld, empty_unopened, empty_stopped, empty_done}
 use Rattle.rpm_commit.proofs.FileReach.{reached_changed, reached_renewed}
@@ -217,7 +219,7 @@ module _ {D : Type 0} (d : disk.Ghosts D) (trans : (a b c : D) → d.follows a b
         first = λ indexed may.
             plain_stops (d.files old) (d.files mid) db (opens t.0) (opened.found t.0) indexed (λ s. idle) (Ok none) refl;
         reached = λ indexed may. reached_changed indexed (λ s. idle) (d.files old) (d.files mid) (d.files mid) db (opens t.0) (opened.found t.0)
-            (reached_none indexed found (room db) (d.files mid));
+            (reached_none indexed found (room db) (d.files mid)) (inl (omega arith));
       }) (λ tells. refl) same (omega arith)
 
   module _ (course : State → Course) (new : D) (last : Database) (before behind : Outputs) where
@@ -236,7 +238,10 @@ module _ {D : Type 0} (d : disk.Ghosts D) (trans : (a b c : D) → d.follows a b
       first = λ indexed may. plain_stops (d.files old) (d.files mid) db (opens t.0) (opened.found t.0) indexed course (Ok tally)
           (went.limits (says t) indexed (λ asked. opened.rows t.0 (may asked))).first;
       reached = λ indexed may. reached_changed indexed course (d.files old) (d.files mid) (d.files new) db (opens t.0) (opened.found t.0)
-          (went.limits (says t) indexed (λ asked. opened.rows t.0 (may asked))).reached;
+          (went.limits (says t) indexed (λ asked. opened.rows t.0 (may asked))).reached
+          (⊎_elim (λ rows. inl ((went.limits (says t) true (λ asked. rows)).reached.idx refl))
+          (λ same. inr (subst (λ (u : Units). Gains (all_added found (course found).changes) u (d.files new).idx) same (went.given (says t))))
+          (opened.finds t.0));
     }) (λ tells. done_unheld tally.failed) went.left.runs went.left.disk.later
     went_works says (Err h) went ended = stopped_works false true false course new before behind (why_of_halt h) (halts h).halted
         (λ t. halt_stopped (course found) found (state_in d new last) h before behind (ended t))

@@ -1,11 +1,12 @@
 -- How far a command makes the files reach, from the opening on.
 use Rattle.rpm_commit.proofs.Vocabulary.{Change, Course, Database, doubled, Files, FoundAs, idx_more, idx_reach, OpensBy, pkg_more, pkg_reach, ReachedAnew}
 use Rattle.rpm_commit.proofs.Vocabulary.{ReachedOn, ReachesOn, room, Row, rows, State, state, Store, store, store_end, units_for}
-use Rattle.std.proofs.Common.{◌≡◌, ℕ, zero, suc, ◌*◌, ◌≤◌, max, if◌then◌else◌, Bool, true, List, [], length, Ok, refl, ap, subst, inl, inr, arith}
+use Rattle.std.proofs.Common.{◌≡◌, ℕ, zero, suc, ◌*◌, ◌≤◌, max, if◌then◌else◌, Bool, true, List, [], length, Ok, refl, ap, subst, inl, inr, ⊎_elim, ◌⊎◌, arith}
 use Rattle.std.specs.Prelude.{nat_le}
 use Rattle.std.proofs.lemmas.Bool.{cases_Bool}
 use Rattle.rpm_hindex.specs.Sizes as sizes
-use Rattle.rpm_change.specs.Reaches.{Reached}
+use Rattle.rpm_change.specs.Reaches.{all_added, Reached}
+use Rattle.rpm_db.specs.Reaches.{Gains}
 use Rattle.rpm_commit.specs.inner.Works.{if_found, opened}
 
 -- ---- an index of no rows is the least
@@ -33,29 +34,28 @@ module _ (indexed : Bool) (course : State → Course) (old mid new : Files) (db 
   made = (course found).changes
 
   reached_from : length new.pkg ≤ pkg_reach (length mid.pkg) (room db) made
-      → (indexed ≡ true → length new.idx ≤ idx_reach (max (length mid.idx) (units_for (rows found.packages))) found made) → ReachesOn indexed course old new
-  reached_from pkg idx =
+      → (indexed ≡ true → length new.idx ≤ idx_reach (max (length mid.idx) (units_for (rows found.packages))) found made)
+      → (length new.idx ≤ idx_reach (max (length mid.idx) (units_for (rows found.packages))) found made) ⊎ Gains (all_added found made) old.idx new.idx
+      → ReachesOn indexed course old new
+  reached_from pkg idx most =
       let rows_same = ap (λ (s : State). units_for (rows s.packages)) (opened old mid db opens is).0 in
       let last : length new.pkg ≤ pkg_reach (max (length old.pkg) (store_end (room db))) (room db) made =
       omega (arith, pkg, pkg_more made (length mid.pkg) (max (length old.pkg) (store_end (room db))) (room db) is.reach.pkg) in
+      let more = idx_more made (max (length mid.idx) (units_for (rows found.packages))) (max (length old.idx) (units_for (rows found.packages))) found
+      (omega (arith, is.reach.idx, rows_same)) in
       if_found old mid db opens is (λ value s v. ReachedOn indexed old.pkg old.idx value s (course s).changes new) (record {
         pkg_is = subst (λ (v : Store). length new.pkg ≤ pkg_reach (max (length old.pkg) (store_end v)) v made) is.store_is last;
-        idx_is = λ asked. omega (
-          arith,
-          idx asked,
-          idx_more made (max (length mid.idx) (units_for (rows found.packages))) (max (length old.idx) (units_for (rows found.packages))) found
-              (omega (arith, is.reach.idx, rows_same)),
-        );
+        idx_is = λ asked. omega (arith, idx asked, more);
+        idx_most = ⊎_elim (λ far. omega (arith, far, more)) (λ gains. omega (arith, gains)) most;
       })
 
   -- the index was only changed
-  pub reached_changed : Reached indexed found (room db) made mid new → ReachesOn indexed course old new
-  reached_changed r = reached_from r.pkg (λ asked. omega (
-    arith,
-    r.idx asked,
-    idx_more made (length mid.idx) (max (length mid.idx) (units_for (rows found.packages))) found (omega arith),
-  ))
+  pub reached_changed : Reached indexed found (room db) made mid new
+      → (length new.idx ≤ idx_reach (length mid.idx) found made) ⊎ Gains (all_added found made) old.idx new.idx → ReachesOn indexed course old new
+  reached_changed r most =
+      let more = idx_more made (length mid.idx) (max (length mid.idx) (units_for (rows found.packages))) found (omega arith) in
+      reached_from r.pkg (λ asked. omega (arith, r.idx asked, more)) (⊎_elim (λ far. inl (omega (arith, far, more))) inr most)
 
   -- it was rebuilt before the changes
   pub reached_renewed : ReachedAnew found (room db) made mid new → ReachesOn indexed course old new
-  reached_renewed r = reached_from r.pkg (λ asked. r.idx)
+  reached_renewed r = reached_from r.pkg (λ asked. r.idx) (inl r.idx)

@@ -158,7 +158,7 @@ module _ {D : Type 0} (d : disk.Ghosts D) (task : TaskParts) (course : State →
 
     reaches_made : ReachesBy anew Lawful course r (unlogged new)
     reaches_made indexed may =
-        let it = reached indexed may in ok_is _ (store r.pkg) s is (record { pkg_is = it.pkg_is; idx_is = it.idx_is })
+        let it = reached indexed may in ok_is _ (store r.pkg) s is (record { pkg_is = it.pkg_is; idx_is = it.idx_is; idx_most = it.idx_most })
 
     -- an image that stands for what was made has all changes
     changes_in : (image : Files) → ReopensAs (unlogged new) image → HasChanges anew Lawful course r image

@@ -5,7 +5,7 @@ use Rattle.rpm_outside.specs.declared.disk.Disk as disk
 use Rattle.rpm_exercise.proofs.Vocabulary.{Change, ChangeFault, counted_went, Database, due, EndedQuietly, Files, GathersOne, GathersThrough, Halt}
 use Rattle.rpm_exercise.proofs.Vocabulary.{halt_of, IsGathering, IsOfChange, IsOfChanges, IsOfIndex, IsOwing, IsSpent, making, none_by, none_gone}
 use Rattle.rpm_exercise.proofs.Vocabulary.{none_went, OwesOn, owing_none, owing_then, plus, quiet_joins, quiet_none, RowChange, state_in}
-use Rattle.rpm_exercise.proofs.Vocabulary.{stopped_went, Tally, through_none, WentBy, went_ahead, went_then}
+use Rattle.rpm_exercise.proofs.Vocabulary.{State, stopped_went, Tally, through_none, WentBy, went_ahead, WentOwing, went_then}
 use Rattle.rpm_db.specs.declared.change_fault.ChangeFault.TheVariants as fault
 use Rattle.rpm_effects.specs.declared.tally.Halt.TheVariants as halt
 
@@ -52,9 +52,10 @@ module _ {D : Type 0} (d : disk.Ghosts D) where
     }
 
   -- nothing fails
-  pub none_failed : {C A : Type 0} {from to : Files} {old new : D} {before after : Database} (changes : List Change) (tally : Tally)
-      → WentBy d C A (IsTrue d.tells) from to old new before after (Ok tally) EndedQuietly (making changes)
-      → WentBy d C A (IsTrue d.tells) from to old new before after (Ok (record { failed = 0; changes = tally.changes })) EndedQuietly (making changes)
+  pub none_failed : {C A : Type 0} {G : List Change → State → Type 0} {from to : Files} {old new : D} {before after : Database}
+      (changes : List Change) (tally : Tally)
+      → WentBy d C A (IsTrue d.tells) G from to old new before after (Ok tally) EndedQuietly (making changes)
+      → WentBy d C A (IsTrue d.tells) G from to old new before after (Ok (record { failed = 0; changes = tally.changes })) EndedQuietly (making changes)
   none_failed changes tally w =
       counted_went d (making changes) tally (record { failed = 0; changes = tally.changes })
       (λ told. ap (λ (n : ℕ). record { failed = n; changes = tally.changes }) (sym (w.ended told true true [] []).failed)) w
@@ -62,8 +63,7 @@ module _ {D : Type 0} (d : disk.Ghosts D) where
   module _ (joins : (x y z : D) → d.follows x y → d.follows y z → d.follows x z) {old at new : D} {before db after : Database}
       {owed mid more : RowChange} {xs ys : List Change} {a : Tally} where
     both_through : (r : Result Tally Halt) → GathersThrough d xs old at before db owed mid (Ok a) → GathersThrough d ys at new db after mid more r
-        → WentBy d (IsOwing d (OwesOn d old before owed) (d.files old).idx new after more) (OwesOn d old before owed) (IsTrue d.tells)
-        (due (d.files old) before owed) (due (d.files new) after more) old new before after (plus a r) EndedQuietly (making (xs ++ ys))
+        → WentOwing d (IsTrue d.tells) old new before after owed more (plus a r) EndedQuietly (making (xs ++ ys))
     both_through r first second =
         went_then d joins quiet_joins (owing_then d) (λ owing told rows. owing.owes told rows) (λ owing. owing.stays) (making xs) first.course (making ys) r
         second.course

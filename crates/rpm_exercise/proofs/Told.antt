@@ -15,6 +15,7 @@ module _ {D : Type 0} (d : disk.Ghosts D) (joins : (x y z : D) → d.follows x y
     limits = λ told i rows. rw (said.runs.reads_as told) (went.limits told i rows);
     whole = λ told was. rw (said.runs.reads_as told) (went.whole told was);
     bad = λ told. tt;
+    given = λ told. rw (said.runs.reads_as told) (went.given told);
     left = left_read d joins went.left said.runs (Ok tally) (record { later = said.disk.later; rose = λ is. absurd cc });
   }
 
@@ -28,5 +29,6 @@ module _ {D : Type 0} (d : disk.Ghosts D) (joins : (x y z : D) → d.follows x y
     limits = λ told i asked. other_stop i _ _ _ all.changes h (reading_is i (d.files new).idx h (said.lawful told (rows told))).0;
     whole = λ told was. (reading_is true (d.files new).idx h (said.lawful told (rows told))).1;
     bad = λ told. whole_bad (d.files new).idx (d.files old).idx h (reading_is true (d.files new).idx h (said.lawful told (rows told))).1;
+    given = λ told. tt;
     left = left_read d joins went.left said.runs (Err h) (record { later = said.disk.later; rose = λ is. said.disk.rose (cc) });
   }

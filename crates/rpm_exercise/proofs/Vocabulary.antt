@@ -1,6 +1,6 @@
 -- The words of proofs, from one place.
 pub use Rattle.rpm_effects.specs.Progress.{halt_of}
-pub use Rattle.rpm_change.specs.Went.{WholeTurn, IsOwing, Went, WentBy}
+pub use Rattle.rpm_change.specs.Went.{WholeTurn, IsOwing, Went, WentBy, WentOwing}
 pub use Rattle.rpm_exercise.specs.Headers.{numbered, generated, package_items, version}
 pub use Rattle.rpm_change.specs.Limits.{is_limit}
 pub use Rattle.rpm_change.specs.Singles.{GathersOne, IsOfChange, IsSpent}
@@ -10,8 +10,8 @@ pub use Rattle.rpm_effects.specs.declared.tally.Halt.{Halt}
 pub use Rattle.rpm_effects.specs.declared.tally.Tally.{Tally}
 pub use Rattle.rpm_effects.specs.inner.Courses.{none_gone, plus, stopped_by}
 pub use Rattle.rpm_effects.specs.inner.Reaching.{through_none}
-pub use Rattle.rpm_change.specs.inner.Going.{counted_went, Going, going_begin, going_end, going_more, going_stop, none_went, stopped_went, went_ahead}
-pub use Rattle.rpm_change.specs.inner.Going.{went_then, whole_bad}
+pub use Rattle.rpm_change.specs.inner.Going.{counted_went, none_went, stopped_went, went_ahead, went_then, whole_bad}
+pub use Rattle.rpm_change.specs.inner.Parts.{Going, going_begin, going_end, going_more, going_stop}
 pub use Rattle.rpm_change.specs.inner.Handing.{err_is}
 pub use Rattle.rpm_effects.specs.inner.Joins.{out_gone, quiet_joins, quiet_none, quiet_stopped, cause_then}
 pub use Rattle.rpm_change.specs.inner.Leaving.{current_left, none_by, remade_log, remade_then, state_remade}

@@ -1,12 +1,12 @@
 -- A batch, whose rows are gathered: what is left of it, as it begins, from one change to the next, and once it is over.
-use Rattle.std.proofs.Common.{◌≡◌, ◌≤◌, ◌==◌, Bool, true, false, length, Result, Ok, Err, refl, ap, ◌∙◌, subst, arith}
+use Rattle.std.proofs.Common.{◌≡◌, ◌≤◌, ◌==◌, ◌++◌, List, Bool, true, false, length, Result, Ok, Err, refl, ap, ◌∙◌, subst, arith}
 use Rattle.std.proofs.lemmas.Bool.Decides.{nat_tests}
 use Rattle.std.proofs.lemmas.List.{length-replicate}
 use Rattle.std.specs.Prelude.{IsTrue}
 use Rattle.rpm_outside.specs.declared.disk.Disk as disk
 use Rattle.rpm_outside.specs.Causes.{Rose}
 use Rattle.rpm_outside.specs.Files.{Units, blank}
-use Rattle.rpm_hindex.specs.Rows.{times}
+use Rattle.rpm_hindex.specs.Rows.{Row, times}
 use Rattle.rpm_db.specs.declared.change_fault.ChangeFault.{ChangeFault}
 use Rattle.rpm_db.specs.declared.change_fault.ChangeFault.TheVariants as fault
 use Rattle.rpm_db.specs.declared.netting.RowChange.{RowChange}
@@ -15,6 +15,7 @@ use Rattle.rpm_db.specs.Database.{Database, generation_of, has_failed, is_indexe
 use Rattle.rpm_db.specs.Frame.{IsIndexed, Runs, room, state_in}
 use Rattle.rpm_db.specs.Gathering.{IsGathering, IsOrdered, IsSettledUp, OwesOn, due, due_units, nothing, sealed_in, suspended}
 use Rattle.rpm_db.specs.Lawful.{IsWholeIndex}
+use Rattle.rpm_db.specs.Reaches.{Gains}
 use Rattle.rpm_db.specs.Refusals.{BadCause, IsOfIndex, IsOfReading, WholeCause}
 use Rattle.rpm_db.specs.RowLaws.{times_none}
 use Rattle.rpm_db.specs.Runs.{SameLog}
@@ -23,6 +24,7 @@ use Rattle.rpm_effects.specs.declared.tally.Tally.{Tally}
 use Rattle.rpm_effects.specs.declared.tally.Halt.{Halt}
 use Rattle.rpm_effects.specs.Progress.{halt_of}
 use Rattle.rpm_change.specs.Limits.{is_limit}
+use Rattle.rpm_change.specs.Reaches.{all_added}
 use Rattle.rpm_effects.specs.Steps.{Course}
 use Rattle.rpm_change.specs.Went.{CarriedOn, IsOwing, Went, WentOwing}
 use Rattle.rpm_change.specs.inner.Leaving.{halt_bad, halted_by, then_by, whole_halt}
@@ -90,6 +92,7 @@ module _ {D : Type 0} (d : disk.Ghosts D) {a : D} {db : Database} {owed : RowCha
           (let l = w.limits told i (λ asked. owing_begun.owes (tells told) (rows asked)) in record { first = l.first; stores = tt; raised = tt; reached = tt });
       whole = w.whole;
       bad = w.bad;
+      given = λ told. tt;
       left = record { carried = tt; indexed = w.left.indexed; runs = w.left.runs; disk = w.left.disk };
     }
 
@@ -130,6 +133,11 @@ module _ {D : Type 0} (d : disk.Ghosts D) {a : D} {db : Database} {owed : RowCha
             };
         whole = λ told was. whole told (w.whole told was);
         bad = λ told. tt;
+        given = λ told.
+            let adds : more.adds ≡ all_added (state_in d a db) course.changes =
+            (w.given told).adds ∙ ap (λ (o : RowChange). o.adds ++ all_added (state_in d a db) course.changes) none in
+            subst (λ (rows : List Row). Gains rows (d.files a).idx (d.files e).idx) adds
+            (subst (λ (idx : Units). Gains more.adds idx (d.files e).idx) (w.left.carried.stays (tells told)) (settled.grows (tells told)));
         left = then_by d joins _ (IsSettledUp d m e mid after more) (CarriedOn d a e db after)
             (λ first second. record {
               going = second.going;
@@ -154,5 +162,6 @@ module _ {D : Type 0} (d : disk.Ghosts D) {a : D} {db : Database} {owed : RowCha
             whole = λ told was. whole_halt (d.files e).idx f (whole told (w.whole told was));
             bad = λ told. halt_bad more.drops (d.files a).idx f
                 (subst (λ (idx : Units). BadCause more.drops idx f) (w.left.carried.stays told) (bad told));
+            given = λ told. tt;
             left = then_by d joins _ C C (λ x y. y) a m e mid after tally (Err (halt_of f)) w.left (halted_by d C m e after runs later indexed f rose);
           }

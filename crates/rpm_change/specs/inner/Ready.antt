@@ -1,5 +1,5 @@
 -- A line on a database that can be changed further, and nothing else.
-use Rattle.std.proofs.Common.{List, ℕ, Result}
+use Rattle.std.proofs.Common.{List, ℕ, Result, refl, arith}
 use Rattle.rpm_outside.specs.declared.disk.Disk as disk
 use Rattle.rpm_outside.specs.declared.sink.Sink as sink
 use Rattle.rpm_outside.specs.declared.buffered.Buffered.{Buffered}
@@ -11,10 +11,11 @@ use Rattle.rpm_effects.specs.Lines.{Fails}
 use Rattle.rpm_effects.specs.Steps.{Bearer, ToErr, failing}
 use Rattle.rpm_effects.specs.Shown.{EndedOnErr}
 use Rattle.rpm_change.specs.Went.{Went}
-use Rattle.rpm_change.specs.inner.Going.{line_went}
-use Rattle.rpm_change.specs.inner.Leaving.{unchanged}
+use Rattle.rpm_change.specs.inner.Going.{line_by}
+use Rattle.rpm_change.specs.inner.Leaving.{none_by, unchanged}
 
 module _ {D : Type 0} (d : disk.Ghosts D) (stays : (x : D) → d.follows x x) {T : Type 0} {at : D} {db : Database} (ready : IsReady d at db) where
   pub ready_line : {S : Type 0} (e : sink.Ghosts S) {line : List ℕ} {x y : Buffered S} (r : Result Tally Halt) (for : Bearer) → Fails e line x y r
       → Went d T at at db db r (EndedOnErr e x y) (failing (ToErr for line))
-  ready_line e r for = line_went d stays (unchanged d at db ready) at db ready.indexed e r for
+  ready_line e r for = line_by d e r for (λ told. refl) refl (λ told. refl) (λ told. refl) (λ told. omega arith)
+      (λ other. none_by d stays _ (unchanged d at db ready) at db ready.indexed r other)

@@ -11,6 +11,7 @@ use Rattle.rpm_outside.specs.inner.Taken.{gained_none}
 use Rattle.rpm_db.specs.Changes.{Change}
 use Rattle.rpm_db.specs.Database.{Database}
 use Rattle.rpm_db.specs.Frame.{state_in}
+use Rattle.rpm_db.specs.State.{State}
 use Rattle.rpm_effects.specs.declared.tally.Tally.{Tally}
 use Rattle.rpm_effects.specs.declared.tally.Halt.{Halt}
 use Rattle.rpm_effects.specs.declared.tally.Halt.TheVariants as halt
@@ -30,11 +31,11 @@ abbrev with_text : List Change → Bearer → List ℕ → Course
 with_text changes for text = record { steps = ToOut for text ∷ []; failed = 0; changes = changes }
 
 module _ {D S : Type 0} (d : disk.Ghosts D) (of : sink.Ghosts S) (changes : List Change) (for : Bearer) (text : List ℕ) {C A : Type 0}
-    {from to : Files} {old new : D} {before after : Database} where
-  module _ {tally : Tally} (made : WentBy d C A (IsTrue d.tells) from to old new before after (Ok tally) EndedQuietly (quiet changes))
+    {G : List Change → State → Type 0} {from to : Files} {old new : D} {before after : Database} where
+  module _ {tally : Tally} (made : WentBy d C A (IsTrue d.tells) G from to old new before after (Ok tally) EndedQuietly (quiet changes))
       (x y : Buffered S) where
     pub told_all : (IsTrue d.tells → Gained of.tells (took of x) (took of y) text)
-        → WentBy d C A (IsTrue d.tells) from to old new before after (Ok tally) (EndedOnOut of x y) (with_text changes for text)
+        → WentBy d C A (IsTrue d.tells) G from to old new before after (Ok tally) (EndedOnOut of x y) (with_text changes for text)
     told_all gained = record {
       ended = λ told et e.
           let done = made.ended told true true [] [] in
@@ -50,11 +51,12 @@ module _ {D S : Type 0} (d : disk.Ghosts D) (of : sink.Ghosts S) (changes : List
       limits = made.limits;
       whole = made.whole;
       bad = made.bad;
+      given = made.given;
       left = made.left;
     }
 
     pub told_part : (IsTrue d.tells → GainedPart of.tells (took of x) (took of y) text)
-        → WentBy d C A (IsTrue d.tells) from to old new before after (Err halt.OutFault) (EndedOnOut of x y) (with_text changes for text)
+        → WentBy d C A (IsTrue d.tells) G from to old new before after (Err halt.OutFault) (EndedOnOut of x y) (with_text changes for text)
     told_part part = record {
       ended = λ told et e.
           let first = part told in
@@ -74,12 +76,13 @@ module _ {D S : Type 0} (d : disk.Ghosts D) (of : sink.Ghosts S) (changes : List
       limits = λ told i rows. other_stop i _ _ _ _ halt.OutFault refl;
       whole = λ told was. tt;
       bad = λ told. tt;
+      given = λ told. tt;
       left = after_by d C old new after tally made.left (Err halt.OutFault) (λ same. absurd cc);
     }
 
-  pub told_none : (h : Halt) → WentBy d C A (IsTrue d.tells) from to old new before after (Err h) EndedQuietly (quiet changes)
+  pub told_none : (h : Halt) → WentBy d C A (IsTrue d.tells) G from to old new before after (Err h) EndedQuietly (quiet changes)
       → h ≢ halt.OutFault → h ≢ halt.ErrFault → (x : Buffered S)
-      → WentBy d C A (IsTrue d.tells) from to old new before after (Err h) (EndedOnOut of x x) (with_text changes for text)
+      → WentBy d C A (IsTrue d.tells) G from to old new before after (Err h) (EndedOnOut of x x) (with_text changes for text)
   told_none h made out err x = record {
     ended = λ told et e.
         let all = with_text changes for text in
@@ -87,5 +90,6 @@ module _ {D S : Type 0} (d : disk.Ghosts D) (of : sink.Ghosts S) (changes : List
     limits = made.limits;
     whole = made.whole;
     bad = made.bad;
+    given = made.given;
     left = made.left;
   }

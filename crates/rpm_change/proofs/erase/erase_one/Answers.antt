@@ -3,6 +3,7 @@ use Rattle.rpm_change.proofs.Vocabulary.{changing, EndedOnErr, Erase, erase_faul
 use Rattle.rpm_change.proofs.Vocabulary.{one_made, one_refused, resumed, room, state_in, through_none, took, went_as, whole}
 use Rattle.rpm_change.proofs.Dropped.{some_is}
 use Rattle.rpm_change.proofs.Erased.{erasing_whole, kind_of_erasing}
+use Rattle.rpm_change.proofs.Gathered.{rows_owed}
 use Rattle.rpm_change.specs.inner.Owing.{owing_none}
 use Rattle.rpm_change.proofs.erase.erase_one.Goals as goal
 
@@ -28,6 +29,7 @@ returns-in_ok-erase-clause-went g c = λ j.
           made.generation (λ is. gathers.full told (rows is)) (omega (arith, done.end told)) (λ is. made.reach told (rows is));
       whole = λ told whole. rw (done.index told) whole;
       bad = λ told. tt;
+      given = λ told. rows_owed (made.rows told);
       left = record {
         carried = record { gathering = made.gathering; stays = done.index; owes = λ told has. made.owes told has };
         indexed = done.left.indexed;

@@ -2,6 +2,7 @@ use Rattle.std.proofs.Common.{◌≡◌, true, false, refl, sym, ◌∙◌, arit
 use Rattle.std.proofs.lemmas.Bool.Decides.{nat_tests}
 use Rattle.rpm_change.proofs.Vocabulary.{Add, changing, EndedOnErr, err_refused, halted_went, header_text, line_went, next-state, one_made}
 use Rattle.rpm_change.proofs.Vocabulary.{place_fails, resumed, room, state_in, through_none, took, turn_found, went_as, whole}
+use Rattle.rpm_change.proofs.Gathered.{rows_owed}
 use Rattle.rpm_change.proofs.Imported.{add_limits}
 use Rattle.rpm_change.specs.inner.Owing.{owing_none}
 use Rattle.rpm_change.proofs.turn.import_header.Goals as goal
@@ -37,6 +38,7 @@ returns-in-Ok-clause-went g c =
           (λ is. gathers.full told (rows is)) (done.end told) (λ is. made.reach told (rows is));
       whole = λ told whole. rw (done.index told) whole;
       bad = λ told. tt;
+      given = λ told. rows_owed (made.rows told);
       left = record {
         carried = record { gathering = made.gathering; stays = done.index; owes = λ told has. made.owes told has };
         indexed = done.left.indexed;
