@@ -3,12 +3,12 @@ use Rattle.rpm_commit.proofs.Vocabulary.{BadBy, begun, Change, command_limit, Co
 use Rattle.rpm_commit.proofs.Vocabulary.{ended_as}
 use Rattle.rpm_commit.proofs.Vocabulary.{exercise, exercise_ended, ExerciseFault, Files, first_limit, first_refusal, Halt, Halted, HasRows, HasStore, holds, idle}
 use Rattle.rpm_commit.proofs.Vocabulary.{in_file, is_halt, is_there, IsCurrent, IsIndexed, IsLawful, IsNext, IsOfOpening, IsPaged, IsRefused, Keeps, LimitsBy}
-use Rattle.rpm_commit.proofs.Vocabulary.{LimitsTurn, made_paged, makes, makes_small, MayBegin, MeetsFirst, must_make, nat_cmp, next_stores, none_gone, NotEmpty}
+use Rattle.rpm_commit.proofs.Vocabulary.{LimitsTurn, made_paged, is_rebuilt, makes_small, MayBegin, MeetsFirst, must_make, nat_cmp, next_stores, none_gone, NotEmpty}
 use Rattle.rpm_commit.proofs.Vocabulary.{OnceBegun, OpensBy, OpensIn, OpensOn, Outputs, Package, packages, reached_anew, reached_none, ReachedAnew}
-use Rattle.rpm_commit.proofs.Vocabulary.{ReachesBy, Renewed, room, RoomBecomes, Row, rows, rows_in, Runs, runs_then, SameLog, State, state, state_in, Stopped}
+use Rattle.rpm_commit.proofs.Vocabulary.{ReachesBy, Renewed, room, RoomBecomes, Row, rows, rows_in, Runs, runs_then, SameLog, State, state, state_in, UncommittedProgress}
 use Rattle.rpm_commit.proofs.Vocabulary.{StopsAt, with_spare}
-use Rattle.rpm_commit.proofs.Vocabulary.{Store, store, stores_paged, Tally, Through, Units, units_for, units_needed, Why, why_of, why_of_halt, WorkedBy}
-use Rattle.rpm_commit.proofs.Vocabulary.{WorkedWith, WorksOn}
+use Rattle.rpm_commit.proofs.Vocabulary.{Store, store, stores_paged, Tally, Through, Units, units_for, units_needed, Why, why_of, why_of_halt, WorkBy}
+use Rattle.rpm_commit.proofs.Vocabulary.{Work, WorksOn}
 use Rattle.std.proofs.Common.{◌≡◌, ℕ, ◌≤◌, Bool, true, false, [], Option, None, Result, Ok, Err, refl, sym, ap, ◌∙◌, subst, inl, inr, ⊎_elim, arith, ◌^◌}
 use Rattle.std.specs.Prelude.{IsTrue, IfOk, OnOk, List}
 use Rattle.rpm_change.specs.Went.{IsBlamed}
@@ -54,19 +54,19 @@ renewed file db changes r kept none stops = subst (λ (first : Option Halt). Sto
     (sym (makes_small true (state file (room db)) (room db) changes (λ made. room_of_none file db kept none))) stops
 
 stopped_open : (c : Course) (making : Bool) (needed : ℕ) (s : State) (new : Files) (w : Why) (before now : Outputs)
-    → OpensIn making needed s new (Err w) → Through [] before now → Stopped c w before now
+    → OpensIn making needed s new (Err w) → Through [] before now → UncommittedProgress c w before now
 stopped_open c making needed s new w before now opens none =
     let some = none_gone c before now none in
-    by_opening making needed s new (λ (given : Why). Stopped c given before now) (λ u full. some) some some w opens
+    by_opening making needed s new (λ (given : Why). UncommittedProgress c given before now) (λ u full. some) some some w opens
 
 unopened : (course : State → Course) (old new last : Files) (sr : Result Store Damage) (w : Why) (before now : Outputs) → OpensBy old sr new (Err w)
-    → Through [] before now → WorkedBy course old.pkg sr last (Err w) before now
+    → Through [] before now → WorkBy course old.pkg sr last (Err w) before now
 unopened course old new last (Ok s) w before now opens none =
     stopped_open (course (state old.pkg s)) (must_make old.idx (Ok s)) (units_needed old.pkg (Ok s)) (state old.pkg s) new w before now opens none
 unopened course old new last (Err d) w before now opens none = (opens, none)
 
 pub open_with : (anew changing : Bool) (course : State → Course) (old new : Files) (w : Why) (before now : Outputs) → OpensBy old (store old.pkg) new (Err w)
-    → Through [] before now → WorkedWith anew changing course old new (Err w) before now
+    → Through [] before now → Work anew changing course old new (Err w) before now
 open_with anew changing course old new w before now opens none = record {
   went = unopened course old new new (store old.pkg) w before now opens none;
   bad = λ unit is. absurd (open_unbroken old new (store old.pkg) w unit opens is);
@@ -127,17 +127,17 @@ module _ {D : Type 0} (d : disk.Ghosts D) (trans : (a b c : D) → d.follows a b
     -- what it meets first, where the index is asked or isn't
     abbrev Meets : IsTrue d.tells → (Bool → Option Halt → Type 0) → Type 0
     Meets told P = (indexed : Bool) → (indexed ≡ true → MayBegin anew Lawful)
-        → P indexed (command_limit indexed (makes anew (d.files old).idx (opened.found told).value) found (room db) changes)
+        → P indexed (command_limit indexed (is_rebuilt anew (d.files old).idx (opened.found told).value) found (room db) changes)
 
     all_runs : Runs d SameLog mid new → Runs d SameLog old new
     all_runs more = runs_then d trans SameLog SameLog SameLog old mid new (λ x y log. log) (λ x y z first second. second ∙ first) runs more
 
     limits_at : (w : Why) (t : T) → Meets t.0 (λ indexed first. MeetsFirst indexed first w) → LimitsBy anew Lawful course (d.files old) w
     limits_at w t meets = λ indexed may. found_if t.0
-        (λ value s v. MeetsFirst indexed (command_limit indexed (makes anew (d.files old).idx value) s v (course s).changes) w) (meets indexed may)
+        (λ value s v. MeetsFirst indexed (command_limit indexed (is_rebuilt anew (d.files old).idx value) s v (course s).changes) w) (meets indexed may)
 
     -- it was stopped
-    stopped_works : (w : Why) → is_halt w ≡ true → (T → Stopped (course found) w before behind) → (T → BadBy changing (d.files old).pkg (d.files old).idx w)
+    stopped_works : (w : Why) → is_halt w ≡ true → (T → UncommittedProgress (course found) w before behind) → (T → BadBy changing (d.files old).pkg (d.files old).idx w)
         → ((t : T) → Meets t.0 (λ indexed first. MeetsFirst indexed first w)) → (IsTrue d.tells → EmptyBy none (d.files old) w) → Runs d SameLog mid new
         → DiskFault d (w ≡ why.DiskFault) mid new → Works (Err w)
     stopped_works w halts stopped bad meets empty more fault = record {
@@ -249,7 +249,7 @@ module _ {D : Type 0} (d : disk.Ghosts D) (trans : (a b c : D) → d.follows a b
         let broken = λ (was : IsWholeIndex (d.files mid).idx). halt_unbroken (d.files new).idx h unit (went.whole t.0 was) is in
         let same = found_unmade (d.files old).idx (d.files mid).idx (λ made. made.rows_are.whole) (opened.finds t.0) broken in
         (refl, opened.broken t.0 broken, subst (λ (u : Units). IsBlamed u unit) same (halt_blames (d.files mid).idx h unit (went.bad t.0) is)))
-        (λ t indexed may. limits_halt indexed (makes false (d.files old).idx (opened.found t.0).value) found (room db) (course found).changes h
+        (λ t indexed may. limits_halt indexed (is_rebuilt false (d.files old).idx (opened.found t.0).value) found (room db) (course found).changes h
         (plain_stops (d.files old) (d.files mid) db (opens t.0) (opened.found t.0) indexed course (Err h)
         (went.limits (says t) indexed (λ asked. opened.rows t.0 (may asked))).first))
         (λ tells. (halts h).unheld) went.left.runs (halt_fault false true false course new before behind h went.left.disk refl)

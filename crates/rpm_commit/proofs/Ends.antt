@@ -1,8 +1,8 @@
--- How a group ends: it is committed, or let go.
+-- How a transaction ends: it is committed, or let go.
 use Rattle.std.proofs.Common.{◌≡◌, ℕ, Bool, true, Err, refl, sym, ap, ◌∙◌, subst}
 use Rattle.std.specs.Prelude.{IsTrue}
 use Rattle.rpm_outside.specs.declared.disk.Disk as disk
-use Rattle.rpm_commit.proofs.Vocabulary.{EndsGroup, File, Files, images, is_done, is_halt, IsShut, IsSound, KeepsBelow, LeavesIn, Log, log_state, LooksAt}
+use Rattle.rpm_commit.proofs.Vocabulary.{TransactionEnding, File, Files, images, is_done, is_halt, IsShut, IsSound, KeepsBelow, LeavesIn, Log, log_state, LooksAt}
 use Rattle.rpm_commit.proofs.Vocabulary.{reopened, ReopensAs, started, unless_starved, unlogged, Why}
 use Rattle.rpm_effects.specs.declared.answer.Why.TheVariants as why
 use Rattle.rpm_commit.specs.inner.ByEnding.{by_starved}
@@ -34,7 +34,7 @@ module _ {D : Type 0} (d : disk.Ghosts D) (after : Files) (old new : D) (shut : 
   released : LeavesIn d old new (ReopensAs before)
   released = subst (λ (it : D). LeavesIn d old it (ReopensAs before)) (sym same) (started d old (ReopensAs before) as_before)
 
-  pub release_ends : (starved : Bool) (was : Why) → is_halt was ≡ true → EndsGroup d (Err was) (unless_starved starved was) 0 after old new
+  pub release_ends : (starved : Bool) (was : Why) → is_halt was ≡ true → TransactionEnding d (Err was) (unless_starved starved was) 0 after old new
   release_ends starved was halts = record {
     says = (refl, starved_is starved was);
     done = λ is. absurd (let_go_undone starved was halts is);

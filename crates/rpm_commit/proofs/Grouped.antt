@@ -1,14 +1,14 @@
--- The changes of a command as one group: what they leave of a disk that was recovered.
+-- The changes of a command as one transaction: what they leave of a disk that was recovered.
 use Rattle.std.proofs.Common.{◌≡◌, ℕ, ◌^◌, ◌≤◌, Bool, true, false, None, Result, Ok, Err, refl, sym, ◌∙◌, subst, inl, inr, ⊎_elim}
 use Rattle.std.specs.Prelude.{IfOk, IfErr}
-use Rattle.rpm_commit.proofs.Vocabulary.{after, AllFit, AreLawfulGroups, BeforeOrAfter, begun, changes_index, command_limit, Course}
-use Rattle.rpm_commit.proofs.Vocabulary.{Damage, Did, DidLoaded, DidOn, DidOpened, done_why, EndsGroup, Files, HasCurrent}
+use Rattle.rpm_commit.proofs.Vocabulary.{after, AllRowsFit, AreLawfulDatabases, BeforeOrAfter, begun, changes_index, command_limit, Course}
+use Rattle.rpm_commit.proofs.Vocabulary.{Damage, ChangeProgress, ChangeProgressOnLog, ChangeProgressOn, ChangeProgressOnStore, done_why, TransactionEnding, Files, HasCurrent}
 use Rattle.rpm_commit.proofs.Vocabulary.{HasChanges, HasState, HasStore, images, is_anew, is_done_or_fault, is_halt, is_of_lawful, IsAllOrNone}
-use Rattle.rpm_commit.proofs.Vocabulary.{IsLawful, IsLawfulGroup, IsSound, KeepsLog, ReachedOn, ReachesBy}
-use Rattle.rpm_commit.proofs.Vocabulary.{IsMade, IsShut, IsUncommitted, leaves_then, leaves_weaker, LeavesIn, LimitsBy, Log, log_state, LogIs, LogOn, LogState}
-use Rattle.rpm_commit.proofs.Vocabulary.{makes, MayBegin, OneChange, Outputs, RecoverSays, reopened, ReopensAs}
-use Rattle.rpm_commit.proofs.Vocabulary.{ReopensAsOneOf, rows, RowsFit, Says, StandsStillOr, State, state, Store, store, Tally, TaskParts, Through, Units}
-use Rattle.rpm_commit.proofs.Vocabulary.{units_for, units_needed, unlogged, Why, why_of, with_file, WorkedBy, WorkedOn, WorkedWith}
+use Rattle.rpm_commit.proofs.Vocabulary.{IsLawful, IsLawfulDatabase, IsSound, KeepsLog, ReachedOn, ReachesBy}
+use Rattle.rpm_commit.proofs.Vocabulary.{IsDatabaseMade, IsShut, IsUncommitted, leaves_then, leaves_weaker, LeavesIn, LimitsBy, Log, log_state, LogIs, LogOn, LogState}
+use Rattle.rpm_commit.proofs.Vocabulary.{is_rebuilt, MayBegin, OneChange, Outputs, RecoverSays, reopened, ReopensAs}
+use Rattle.rpm_commit.proofs.Vocabulary.{ReopensAsOneOf, rows, RowsFit, Says, IsLawfulAndSameOr, State, state, Store, store, Tally, TaskParts, Through, Units}
+use Rattle.rpm_commit.proofs.Vocabulary.{units_for, units_needed, unlogged, Why, why_of, with_file, WorkBy, WorkOnStore, Work}
 use Rattle.rpm_commit.specs.inner.Brokens.{done_unbroken}
 use Rattle.rpm_commit.specs.inner.ByEnding.{by_ends, by_uncommitted}
 use Rattle.rpm_effects.specs.inner.Reaching.{some_all}
@@ -25,24 +25,24 @@ use Rattle.rpm_effects.specs.declared.answer.Why.TheVariants as why
 
 -- what was done was done of a database that can be read
 worked_store : (course : State → Course) (pkg : Units) (new : Files) (tally : Tally) (before now : Outputs) (sr : Result Store Damage)
-    → WorkedBy course pkg sr new (Ok tally) before now → (s : Store) × (sr ≡ Ok s)
+    → WorkBy course pkg sr new (Ok tally) before now → (s : Store) × (sr ≡ Ok s)
 worked_store course pkg new tally before now (Ok s) worked = (s, refl)
 worked_store course pkg new tally before now (Err d) worked = absurd worked
 
 -- a database that is recovered is told as one that was
 recovered_by : (course : Store → Course) (sr : Result Store Damage) (log : LogState) (finished : Bool) (given : Why) (old new : Outputs)
-    → RecoverSays log (Ok finished) → DidOpened course sr given old new → DidLoaded course sr log given old new
-recovered_by course sr log true given old new says did = subst (λ (l : LogState). DidLoaded course sr l given old new) (sym says) did
-recovered_by course sr log false given old new says did = subst (λ (l : LogState). DidLoaded course sr l given old new) (sym says) did
+    → RecoverSays log (Ok finished) → ChangeProgressOnStore course sr given old new → ChangeProgressOnLog course sr log given old new
+recovered_by course sr log true given old new says did = subst (λ (l : LogState). ChangeProgressOnLog course sr l given old new) (sym says) did
+recovered_by course sr log false given old new says did = subst (λ (l : LogState). ChangeProgressOnLog course sr l given old new) (sym says) did
 
 -- what stopped a command is told of it
 stopped_opened : (course : State → Course) (pkg : Units) (new : Files) (was : Why) (before now : Outputs) (sr : Result Store Damage)
-    → WorkedBy course pkg sr new (Err was) before now → DidOpened (λ s. course (state pkg s)) sr was before now
+    → WorkBy course pkg sr new (Err was) before now → ChangeProgressOnStore (λ s. course (state pkg s)) sr was before now
 stopped_opened course pkg new was before now (Ok s) worked = stopped_did (course (state pkg s)) was before now worked
 stopped_opened course pkg new was before now (Err e) worked = worked
 
 starved_opened : (course : State → Course) (pkg : Units) (new : Files) (before now : Outputs) (sr : Result Store Damage)
-    → WorkedBy course pkg sr new (Err why.DiskFault) before now → DidOpened (λ s. course (state pkg s)) sr why.NoMemory before now
+    → WorkBy course pkg sr new (Err why.DiskFault) before now → ChangeProgressOnStore (λ s. course (state pkg s)) sr why.NoMemory before now
 starved_opened course pkg new before now (Ok s) worked = worked
 starved_opened course pkg new before now (Err e) worked = (tt, worked.1)
 
@@ -62,7 +62,7 @@ module _ {D : Type 0} (d : disk.Ghosts D) (task : TaskParts) (course : State →
   past = images d old
 
   abbrev Lawful : Type 0
-  Lawful = IsLawfulGroup (d.files old)
+  Lawful = IsLawfulDatabase (d.files old)
 
   abbrev anew : Bool
   anew = is_anew task
@@ -74,13 +74,13 @@ module _ {D : Type 0} (d : disk.Ghosts D) (task : TaskParts) (course : State →
   One w n = OneChange d task course w n old final before now
 
   abbrev Worked : Result Tally Why → Type 0
-  Worked ended = WorkedWith anew (changes_index task) course (with_file Log log r) new ended before now
+  Worked ended = Work anew (changes_index task) course (with_file Log log r) new ended before now
 
   -- what its command met
   abbrev Meets : Why → Type 0
   Meets w = LimitsBy anew Lawful course r w
 
-  did_by : (w : Why) → DidOpened (λ s. course (s0 s)) (store r.pkg) w before now → DidOn course (d.files old) w before now
+  did_by : (w : Why) → ChangeProgressOnStore (λ s. course (s0 s)) (store r.pkg) w before now → ChangeProgressOn course (d.files old) w before now
   did_by w did = recovered_by (λ s. course (s0 s)) (store r.pkg) (log_state (d.files old).log) finished w before now says did
 
   -- a log that was recovered is kept, where the one that is left isn't malformed
@@ -109,7 +109,7 @@ module _ {D : Type 0} (d : disk.Ghosts D) (task : TaskParts) (course : State →
         still_one d task course old final still_final still_log still_run was before now (halt_undone was halts) (did_by was told) worked.bad
         (λ lawful. (let is = lawful_store r.pkg r.idx lawful.lawful in
         lawful_ending (course (s0 is.0)) _ was before now
-        (subst (λ (sr : Result Store Damage). DidOpened (λ s. course (s0 s)) sr was before now) is.1 told)
+        (subst (λ (sr : Result Store Damage). ChangeProgressOnStore (λ s. course (s0 s)) sr was before now) is.1 told)
         (if_ok_at _ (store r.pkg) is.0 is.1 (met true (λ asked. begins anew lawful)))))
         met (λ indexed may. halt_unlogged indexed course r was halts)
 
@@ -122,8 +122,8 @@ module _ {D : Type 0} (d : disk.Ghosts D) (task : TaskParts) (course : State →
 
   module _ (tally : Tally) (worked : Worked (Ok tally)) (met : Meets (done_why tally.failed)) (s : Store) (is : store r.pkg ≡ Ok s)
       (left : LeavesIn d last final (BeforeOrAfter (unlogged (d.files last)) (unlogged new))) where
-    on : WorkedOn (course (s0 s)) (s0 s) new (Ok tally) before now
-    on = subst (λ (sr : Result Store Damage). WorkedBy course r.pkg sr new (Ok tally) before now) is worked.went
+    on : WorkOnStore (course (s0 s)) (s0 s) new (Ok tally) before now
+    on = subst (λ (sr : Result Store Damage). WorkBy course r.pkg sr new (Ok tally) before now) is worked.went
 
     -- the state after all changes
     abbrev made : State
@@ -139,11 +139,11 @@ module _ {D : Type 0} (d : disk.Ghosts D) (task : TaskParts) (course : State →
     current may = worked.index (may_begin anew (λ group. group.lawful) may)
 
     none : (indexed : Bool) → (indexed ≡ true → MayBegin anew Lawful)
-        → command_limit indexed (makes anew r.idx s) (s0 s) (begun s) (course (s0 s)).changes ≡ None
+        → command_limit indexed (is_rebuilt anew r.idx s) (s0 s) (begun s) (course (s0 s)).changes ≡ None
     none indexed may = none_done indexed _ tally.failed (if_ok_at _ (store r.pkg) s is (met indexed may))
 
-    did_all : (w : Why) → ((c : Course) → Through c.steps before now → c.failed ≡ tally.failed → Did c w before now) → DidOn course (d.files old) w before now
-    did_all w each = did_by w (subst (λ (sr : Result Store Damage). DidOpened (λ t. course (s0 t)) sr w before now) (sym is)
+    did_all : (w : Why) → ((c : Course) → Through c.steps before now → c.failed ≡ tally.failed → ChangeProgress c w before now) → ChangeProgressOn course (d.files old) w before now
+    did_all w each = did_by w (subst (λ (sr : Result Store Damage). ChangeProgressOnStore (λ t. course (s0 t)) sr w before now) (sym is)
         (each (course (s0 s)) on.2.steps on.2.failed))
 
     group_run : (P : Files → Type 0) → ((image : Files) → ReopensAsOneOf past image → P image)
@@ -160,7 +160,7 @@ module _ {D : Type 0} (d : disk.Ghosts D) (task : TaskParts) (course : State →
     reaches_made indexed may =
         let it = reached indexed may in ok_is _ (store r.pkg) s is (record { pkg_is = it.pkg_is; idx_is = it.idx_is; idx_most = it.idx_most })
 
-    -- an image that stands for what was made has all changes
+    -- an image that represents what was made has all changes
     changes_in : (image : Files) → ReopensAs (unlogged new) image → HasChanges anew Lawful course r image
     changes_in image stands = record {
       value = s;
@@ -183,21 +183,21 @@ module _ {D : Type 0} (d : disk.Ghosts D) (task : TaskParts) (course : State →
     group_log : KeepsLog (d.files old) (d.files final)
     group_log = sound_log (d.files final) (final_sound (d.files final) (left.each (d.files final) as_read))
 
-    group_stops : AreLawfulGroups past → IfOk (store r.pkg) (λ s. LeavesIn d old final (StandsStillOr past (after course (s0 s))))
-    group_stops lawful = ok_is _ (store r.pkg) s is (group_run (StandsStillOr past made) (λ image was. inl (recovered_still past lawful image was))
+    group_stops : AreLawfulDatabases past → IfOk (store r.pkg) (λ s. LeavesIn d old final (IsLawfulAndSameOr past (after course (s0 s))))
+    group_stops lawful = ok_is _ (store r.pkg) s is (group_run (IsLawfulAndSameOr past made) (λ image was. inl (recovered_still past lawful image was))
         (λ image stands. inr (
           stands_lawful (unlogged new) image stands (current_lawful new.pkg new.idx (current (begins anew (lawful (d.files old) here)))),
           has_made image stands.same,
         )))
 
-    group_fits : AreLawfulGroups past → AllFit past → LeavesIn d old final RowsFit
+    group_fits : AreLawfulDatabases past → AllRowsFit past → LeavesIn d old final RowsFit
     group_fits lawful fit =
         let first_fits : units_for (rows (s0 s).packages) ≤ 2 ^ 28 =
         subst (λ (sr : Result Store Damage). units_needed r.pkg sr ≤ 2 ^ 28) is (fit (d.files old) here) in
         let last_fits : units_needed new.pkg (store new.pkg) ≤ 2 ^ 28 =
         subst (λ (sr : Result Store Damage). units_needed new.pkg sr ≤ 2 ^ 28) (sym on.1)
         (subst (λ (t : State). units_for (rows t.packages) ≤ 2 ^ 28) (sym on.2.state_is)
-        (limit_fits (makes anew r.idx s) (s0 s) (begun s) (course (s0 s)).changes (none true (λ asked. begins anew (lawful (d.files old) here)))
+        (limit_fits (is_rebuilt anew r.idx s) (s0 s) (begun s) (course (s0 s)).changes (none true (λ asked. begins anew (lawful (d.files old) here)))
         first_fits)) in
         group_run RowsFit (recovered_fits past fit)
         (λ image stands. subst (λ (f : Files). units_needed f.pkg (store f.pkg) ≤ 2 ^ 28) (sym stands.same) last_fits)
@@ -269,10 +269,10 @@ module _ {D : Type 0} (d : disk.Ghosts D) (task : TaskParts) (course : State →
           leaves = ok_is _ (store r.pkg) s is (leaves_done course (s0 s) tally.failed tally.changes (d.files final) (sym on.2.changes)
               (has_made (d.files final) final_is));
           refused = λ not. absurd (let wrong : true ≡ false = sym (fault_done_why tally.failed) ∙ not in cc);
-          made = λ _. subst (λ (f : Files). IsMade f.pkg) (sym final_is) worked.made;
+          made = λ _. subst (λ (f : Files). IsDatabaseMade f.pkg) (sym final_is) worked.made;
           index = λ may _. record { closed = shut.closed; indexed = subst (λ (f : Files). HasCurrent f.pkg f.idx) (sym done) (current may) };
           settled = λ _. shut.settled;
-          lawful = λ may _ image left. subst IsLawfulGroup (sym (shut.settled image left)) (shut_lawful (d.files final) shut.closed
+          lawful = λ may _ image left. subst IsLawfulDatabase (sym (shut.settled image left)) (shut_lawful (d.files final) shut.closed
               (subst (λ (f : Files). IsLawful f.pkg f.idx) (sym done) (current_lawful new.pkg new.idx (current may))));
           bad = λ unit bad. absurd (done_unbroken tally.failed unit bad);
           complete = λ _. by_done_why (λ (w : Why). is_of_lawful w ≡ true) tally.failed (λ _. refl) (λ _. refl);
@@ -293,11 +293,11 @@ module _ {D : Type 0} (d : disk.Ghosts D) (task : TaskParts) (course : State →
   -- ---- however it went
 
   abbrev Ends : Result Tally Why → Why → ℕ → Type 0
-  Ends ended given n = Worked ended → Meets (why_of ended) → IfErr ended (λ was. is_halt was ≡ true) → EndsGroup d ended given n (unlogged new) last final
+  Ends ended given n = Worked ended → Meets (why_of ended) → IfErr ended (λ was. is_halt was ≡ true) → TransactionEnding d ended given n (unlogged new) last final
       → LogIs new given → One given n
 
   pub group_one : (ended : Result Tally Why) (given : Why) (n : ℕ) → Worked ended → LimitsBy anew (IsLawful r.pkg r.idx) course r (why_of ended)
-      → IfErr ended (λ was. is_halt was ≡ true) → EndsGroup d ended given n (unlogged new) last final → LogIs new given → One given n
+      → IfErr ended (λ was. is_halt was ≡ true) → TransactionEnding d ended given n (unlogged new) last final → LogIs new given → One given n
   group_one ended given n worked met halted ends = by_ends Ends
       (λ tally worked met halted ends long. (let at = worked_store course r.pkg new tally before now (store r.pkg) worked.went in
       committed tally worked met at.0 at.1 ends.leaves (ends.done (is_done_why tally.failed)) (ends.shut (is_done_why tally.failed))))

@@ -16,15 +16,15 @@ pub use Rattle.rpm_effects.specs.inner.Courses.{none_gone}
 pub use Rattle.rpm_change.specs.inner.LimitLaws.{makes_small, never_bad_made}
 pub use Rattle.rpm_change.specs.inner.ReachLaws.{idx_more, pkg_more, reached_anew, reached_none}
 pub use Rattle.rpm_change.specs.inner.Stores.{stores_paged}
-pub use Rattle.rpm_commit.specs.Changing.{after, AllFit, BadBy, Did, DidLoaded, DidOn, DidOpened, EmptyBy, HasCurrent, HasState, IsMade, makes}
-pub use Rattle.rpm_commit.specs.Changing.{HasChanges, IsAllOrNone, RowsFit, StandsStillOr}
+pub use Rattle.rpm_commit.specs.Changing.{after, AllRowsFit, BadBy, ChangeProgress, ChangeProgressOnLog, ChangeProgressOn, ChangeProgressOnStore, EmptyBy, HasCurrent, HasState, IsDatabaseMade, is_rebuilt}
+pub use Rattle.rpm_commit.specs.Changing.{HasChanges, IsAllOrNone, RowsFit, IsLawfulAndSameOr}
 pub use Rattle.rpm_effects.specs.Endings.{unless_starved, why_of_load, why_of_recover, why_of_halt}
-pub use Rattle.rpm_commit.specs.Lawful.{AreLawfulGroups, IsLawfulGroup, MayBegin}
+pub use Rattle.rpm_commit.specs.Lawful.{AreLawfulDatabases, IsLawfulDatabase, MayBegin}
 pub use Rattle.rpm_commit.specs.Limits.{command_limit, LimitsBy, LogIs, LogOn, MeetsFirst, OneChange}
 pub use Rattle.rpm_commit.specs.Reaches.{begun, HasStore, ReachedOn, ReachesBy, ReachesOn, StoresOn}
 pub use Rattle.rpm_commit.specs.Tasks.{asked_task, changes_index, is_anew, needs_none, reads_shelf, task_course, task_parts, TaskParts}
-pub use Rattle.rpm_commit.specs.Working.{done_why, ended_as, EndsGroup, exercise_ended, IsShut, OpensBy, OpensIn, Stopped, why_of, WorkedBy, WorkedOn}
-pub use Rattle.rpm_commit.specs.Working.{WorkedWith}
+pub use Rattle.rpm_commit.specs.Working.{done_why, ended_as, TransactionEnding, exercise_ended, IsShut, OpensBy, OpensIn, UncommittedProgress, why_of, WorkBy, WorkOnStore}
+pub use Rattle.rpm_commit.specs.Working.{Work}
 pub use Rattle.rpm_commit.specs.OneChange.{FoundAs, OpensOn, Streams, WorksOn}
 pub use Rattle.rpm_db.specs.Changes.{apply, Change, Says}
 pub use Rattle.rpm_db.specs.Database.{Database, holds, IsIndexed, IsNext, IsPaged, Keeps}

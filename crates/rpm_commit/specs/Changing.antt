@@ -25,45 +25,45 @@ use Rattle.rpm_effects.specs.Answers.{Misread, Refused}
 use Rattle.rpm_effects.specs.Classes.{is_of_changing, is_done, is_done_or_fault, is_held, is_of_lawful}
 use Rattle.rpm_group.specs.Loads.{IsSound}
 use Rattle.rpm_group.specs.Settled.{KeepsLog, ReopensAsOneOf}
-use Rattle.rpm_commit.specs.Lawful.{IsLawfulGroup, AreLawfulGroups, MayBegin, StandsStill}
+use Rattle.rpm_commit.specs.Lawful.{IsLawfulDatabase, AreLawfulDatabases, MayBegin, IsLawfulAndSame}
 use Rattle.rpm_commit.specs.Reaches.{HasStore, ReachesBy, begun}
 
 -- ---- what a command answers
 
 -- a course went through all its steps, or some, or stopped within one, and this is the cause
-abbrev pub Did : Course → Why → Outputs → Outputs → Type 0
-Did course (why.NotEmpty held) old new = Through [] old new
-Did course given old new =
+abbrev pub ChangeProgress : Course → Why → Outputs → Outputs → Type 0
+ChangeProgress course (why.NotEmpty held) old new = Through [] old new
+ChangeProgress course given old new =
     Only (is_of_changing given) (Counted course.failed given (Progress course.steps given old new Anywhere))
 
 -- a course was done of a store that isn't damaged, and of one that is the damage alone was told
-abbrev pub DidOpened : (Store → Course) → Result Store Damage → Why → Outputs → Outputs → Type 0
-DidOpened course (Ok s) given old new = Did (course s) given old new
-DidOpened course (Err damage) given old new = Refused damage given × Through [] old new
+abbrev pub ChangeProgressOnStore : (Store → Course) → Result Store Damage → Why → Outputs → Outputs → Type 0
+ChangeProgressOnStore course (Ok s) given old new = ChangeProgress (course s) given old new
+ChangeProgressOnStore course (Err damage) given old new = Refused damage given × Through [] old new
 
 -- the log is read first
-abbrev pub DidLoaded : (Store → Course) → Result Store Damage → LogState → Why → Outputs → Outputs → Type 0
-DidLoaded course s Closed given old new = DidOpened course s given old new
-DidLoaded course s (Malformed unit) given old new = Misread unit given × Through [] old new
-DidLoaded course s (Open entries) given old new = DidOpened course s given old new
+abbrev pub ChangeProgressOnLog : (Store → Course) → Result Store Damage → LogState → Why → Outputs → Outputs → Type 0
+ChangeProgressOnLog course s Closed given old new = ChangeProgressOnStore course s given old new
+ChangeProgressOnLog course s (Malformed unit) given old new = Misread unit given × Through [] old new
+ChangeProgressOnLog course s (Open entries) given old new = ChangeProgressOnStore course s given old new
 
 -- a course was done of what the files represent
-abbrev pub DidOn : (State → Course) → Files → Why → Outputs → Outputs → Type 0
-DidOn course files given old new =
+abbrev pub ChangeProgressOn : (State → Course) → Files → Why → Outputs → Outputs → Type 0
+ChangeProgressOn course files given old new =
     let r = reopened files in
-    DidLoaded (λ s. course (state r.pkg s)) (store r.pkg) (log_state files.log) given old new
+    ChangeProgressOnLog (λ s. course (state r.pkg s)) (store r.pkg) (log_state files.log) given old new
 
 -- ---- what it leaves
 
--- the files stand for this state
+-- the files represent this state
 abbrev pub HasState : State → Files → Type 0
 HasState s files = Says (λ t. t ≡ s) (reopened files).pkg
 
--- the state after all changes of a course, which are one group
+-- the state after all changes of a course, which are one transaction
 abbrev pub after : (State → Course) → State → State
 after course s = apply_all (course s).changes s
 
--- done, the group is made and counted; a fault of the disk may come before it or after it; else nothing changed
+-- done, the transaction is committed and counted; a fault of the disk may come before it or after it; else nothing changed
 abbrev pub LeavesState : (State → Course) → State → Why → ℕ → Files → Type 0
 LeavesState course s why.Done changes files = (changes ≡ length (course s).changes) × HasState (after course s) files
 LeavesState course s (why.Failed n) changes files = (changes ≡ length (course s).changes) × HasState (after course s) files
@@ -78,13 +78,13 @@ pub record HasCurrent (pkg idx : Units) : Type 0 where
   pub rows_are : HasRows (packages pkg value) idx
 
 -- a database was made: its Packages.db isn't damaged, and has a slot page, which a blank one hasn't
-pub record IsMade (pkg : Units) : Type 0 where
+pub record IsDatabaseMade (pkg : Units) : Type 0 where
   pub value : Store
   pub undamaged : store pkg ≡ Ok value
   pub paged : 1 ≤ value.pages
 
--- a database has its index current and settled, and nothing is left of a change
-pub record IsSealed (files : Files) : Type 0 where
+-- a database has its index current and durable, and nothing is left of a change
+pub record HasDurableIndex (files : Files) : Type 0 where
   pub closed : log_state files.log ≡ Closed
   pub indexed : HasCurrent files.pkg files.idx
 
@@ -97,32 +97,32 @@ pub record HasChanges (anew : Bool) (Lawful : Type 0) (course : State → Course
   pub has : HasState (after course (state found.pkg value)) files
   pub stored : HasStore (begun value) (course (state found.pkg value)).changes (reopened files).pkg
   pub reaches : ReachesBy anew Lawful course found (reopened files)
-  pub lawful : MayBegin anew Lawful → IsLawfulGroup files
+  pub lawful : MayBegin anew Lawful → IsLawfulDatabase files
 
 -- ---- what a crash leaves
 
--- an image stands for what one of these stands for, or has all changes of a command that was done or whose disk failed
+-- an image represents what one of these represents, or has all changes of a command that was done or whose disk failed
 abbrev pub IsAllOrNone : (Files → Type 0) → Why → (Files → Type 0) → Files → Type 0
 IsAllOrNone images given Changed image = ReopensAsOneOf images image ⊎ ((is_done_or_fault given ≡ true) × Changed image)
 
--- a lawful image, which stands for the packages that one of these stands for, or for this state
-abbrev pub StandsStillOr : (Files → Type 0) → State → Files → Type 0
-StandsStillOr images s image = StandsStill images image ⊎ (IsLawfulGroup image × HasState s image)
+-- a lawful image, which represents the packages that one of these represents, or this state
+abbrev pub IsLawfulAndSameOr : (Files → Type 0) → State → Files → Type 0
+IsLawfulAndSameOr images s image = IsLawfulAndSame images image ⊎ (IsLawfulDatabase image × HasState s image)
 
--- the rows of the packages that files stand for fit into an index
+-- the rows of the packages that files represent fit into an index
 abbrev pub RowsFit : Files → Type 0
 RowsFit files = units_needed (reopened files).pkg (store (reopened files).pkg) ≤ 2 ^ 28
 
 -- each image has rows that fit into an index
-abbrev pub AllFit : (Files → Type 0) → Type 0
-AllFit images = (image : Files) → images image → RowsFit image
+abbrev pub AllRowsFit : (Files → Type 0) → Type 0
+AllRowsFit images = (image : Files) → images image → RowsFit image
 
 -- ---- limits
 
 -- the index is made where it isn't current; anew, whatever it is
-abbrev pub makes : Bool → Units → Store → Bool
-makes true idx value = true
-makes false idx value = must_make idx (Ok value)
+abbrev pub is_rebuilt : Bool → Units → Store → Bool
+is_rebuilt true idx value = true
+is_rebuilt false idx value = must_make idx (Ok value)
 
 -- a command that asks for no packages finds none, or is refused with the least number; what stops it before it looks comes either way
 abbrev pub EmptyIs : FinMap nat_cmp Package → Why → Type 0
@@ -144,7 +144,7 @@ EmptyBy true files given = EmptyOn files given
 EmptyBy false files given = is_held given ≡ false
 
 -- an index that is current, and isn't well formed as a whole
-pub record IsBroken (pkg idx : Units) : Type 0 where
+pub record HasBrokenIndex (pkg idx : Units) : Type 0 where
   pub value : Store
   pub undamaged : store pkg ≡ Ok value
   pub current : is_current_at value.generation idx ≡ true
@@ -153,7 +153,7 @@ pub record IsBroken (pkg idx : Units) : Type 0 where
 -- only a command that changes the index that it finds ever finds it bad, only where it is broken, and it names the
 -- first fault of a chain, or unit 1, which counts too little
 abbrev pub BadBy : Bool → Units → Units → Why → Type 0
-BadBy changing pkg idx given = (unit : ℕ) → given ≡ why.BadIndex unit → (changing ≡ true) × IsBroken pkg idx × IsBlamed idx unit
+BadBy changing pkg idx given = (unit : ℕ) → given ≡ why.BadIndex unit → (changing ≡ true) × HasBrokenIndex pkg idx × IsBlamed idx unit
 
 -- ---- a command that changes packages
 
@@ -164,19 +164,19 @@ module _ {D : Type 0} (d : disk.Ghosts D) where
     pub leaves : IfOk (store (reopened (d.files old)).pkg)
         (λ s. LeavesState course (state (reopened (d.files old)).pkg s) given changes (d.files new))
     pub refused : is_done_or_fault given ≡ false → reopened (d.files new) ≡ reopened (d.files old)
-    pub made : is_done given ≡ true → IsMade (reopened (d.files new)).pkg
-    pub index : MayBegin anew (IsLawfulGroup (d.files old)) → is_done given ≡ true → IsSealed (d.files new)
+    pub made : is_done given ≡ true → IsDatabaseMade (reopened (d.files new)).pkg
+    pub index : MayBegin anew (IsLawfulDatabase (d.files old)) → is_done given ≡ true → HasDurableIndex (d.files new)
     pub settled : is_done given ≡ true → AreSettled (d.files new) (images d new)
-    pub lawful : MayBegin anew (IsLawfulGroup (d.files old)) → is_done given ≡ true → AreLawfulGroups (images d new)
+    pub lawful : MayBegin anew (IsLawfulDatabase (d.files old)) → is_done given ≡ true → AreLawfulDatabases (images d new)
     pub bad : BadBy changing (reopened (d.files old)).pkg (reopened (d.files old)).idx given
-    pub complete : IsLawfulGroup (d.files old) → is_of_lawful given ≡ true
-    pub stops : AreLawfulGroups (images d old) → IfOk (store (reopened (d.files old)).pkg)
-        (λ s. LeavesIn d old new (StandsStillOr (images d old) (after course (state (reopened (d.files old)).pkg s))))
-    pub unmade : is_done_or_fault given ≡ false → AreLawfulGroups (images d old) → LeavesIn d old new (StandsStill (images d old))
-    pub fits : AreLawfulGroups (images d old) → AllFit (images d old) → LeavesIn d old new RowsFit
+    pub complete : IsLawfulDatabase (d.files old) → is_of_lawful given ≡ true
+    pub stops : AreLawfulDatabases (images d old) → IfOk (store (reopened (d.files old)).pkg)
+        (λ s. LeavesIn d old new (IsLawfulAndSameOr (images d old) (after course (state (reopened (d.files old)).pkg s))))
+    pub unmade : is_done_or_fault given ≡ false → AreLawfulDatabases (images d old) → LeavesIn d old new (IsLawfulAndSame (images d old))
+    pub fits : AreLawfulDatabases (images d old) → AllRowsFit (images d old) → LeavesIn d old new RowsFit
     pub held : is_done given ≡ true → IfOk (store (reopened (d.files old)).pkg)
         (λ s. (image : Files) → images d new image → HasState (after course (state (reopened (d.files old)).pkg s)) image)
     pub kept : KeepsLog (d.files old) (d.files new)
-    pub next : is_done given ≡ true → HasChanges anew (IsLawfulGroup (d.files old)) course (reopened (d.files old)) (d.files new)
+    pub next : is_done given ≡ true → HasChanges anew (IsLawfulDatabase (d.files old)) course (reopened (d.files old)) (d.files new)
     pub images : LeavesIn d old new
-        (IsAllOrNone (images d old) given (HasChanges anew (IsLawfulGroup (d.files old)) course (reopened (d.files old))))
+        (IsAllOrNone (images d old) given (HasChanges anew (IsLawfulDatabase (d.files old)) course (reopened (d.files old))))

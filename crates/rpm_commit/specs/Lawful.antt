@@ -1,4 +1,4 @@
--- Files and images that stand for a lawful database: what the page (`rpm_tool`, Theorem.antt) calls lawful.
+-- Files and images that represent a lawful database: what the page (`rpm_tool`, Theorem.antt) calls lawful.
 use Rattle.std.specs.Prelude.{◌≡◌, Bool, true, false}
 use Rattle.rpm_outside.specs.Frame.{images}
 use Rattle.rpm_outside.specs.Files.{Files}
@@ -7,8 +7,8 @@ use Rattle.rpm_group.specs.Loads.{IsSound}
 use Rattle.rpm_group.specs.Settled.{KeepsLog}
 use Rattle.rpm_db.specs.Lawful.{IsLawful}
 
--- files that stand for a lawful database: their log is closed, or a group that makes it of them
-pub record IsLawfulGroup (files : Files) : Type 0 where
+-- files that represent a lawful database: their log is closed, or has a transaction that makes it of them
+pub record IsLawfulDatabase (files : Files) : Type 0 where
   pub sound : IsSound (log_state files.log)
   pub lawful : IsLawful (reopened files).pkg (reopened files).idx
 
@@ -18,19 +18,19 @@ MayBegin true Lawful = Unit {0}
 MayBegin false Lawful = Lawful
 
 -- each of these images is
-abbrev pub AreLawfulGroups : (Files → Type 0) → Type 0
-AreLawfulGroups images = (image : Files) → images image → IsLawfulGroup image
+abbrev pub AreLawfulDatabases : (Files → Type 0) → Type 0
+AreLawfulDatabases images = (image : Files) → images image → IsLawfulDatabase image
 
--- an image, lawful or not, stands for the packages that one of these stands for, and keeps that one's log
+-- an image, lawful or not, represents the packages that one of these represents, and keeps that one's log
 pub record KeepsPackages (images : Files → Type 0) (image : Files) : Type 0 where
   pub from : Files
   pub was : images from
   pub pkg : (reopened image).pkg ≡ (reopened from).pkg
   pub log : KeepsLog from image
 
--- a lawful image, that stands for the packages that one of these stands for
-pub record StandsStill (images : Files → Type 0) (image : Files) : Type 0 where
+-- a lawful image, that represents the packages that one of these represents
+pub record IsLawfulAndSame (images : Files → Type 0) (image : Files) : Type 0 where
   pub from : Files
   pub was : images from
   pub pkg : (reopened image).pkg ≡ (reopened from).pkg
-  pub lawful : IsLawfulGroup image
+  pub lawful : IsLawfulDatabase image

@@ -17,8 +17,8 @@ use Rattle.rpm_change.specs.Limits.{first_refusal, first_limit}
 use Rattle.rpm_effects.specs.Steps.{Course}
 use Rattle.rpm_effects.specs.declared.answer.Why.{Why}
 use Rattle.rpm_effects.specs.declared.answer.Why.TheVariants as why
-use Rattle.rpm_commit.specs.Lawful.{IsLawfulGroup, AreLawfulGroups, MayBegin, StandsStill}
-use Rattle.rpm_commit.specs.Changing.{DidOn, ChangesWith, makes, after}
+use Rattle.rpm_commit.specs.Lawful.{IsLawfulDatabase, AreLawfulDatabases, MayBegin, IsLawfulAndSame}
+use Rattle.rpm_commit.specs.Changing.{ChangeProgressOn, ChangesWith, is_rebuilt, after}
 use Rattle.rpm_commit.specs.Reaches.{ReachedOn, begun}
 use Rattle.rpm_commit.specs.Tasks.{TaskParts, is_anew, changes_index}
 
@@ -44,7 +44,7 @@ MeetsFirst indexed first others = Unit {0}
 -- doesn't
 abbrev pub LimitsOn : Bool → Bool → (State → Course) → Files → Why → Type 0
 LimitsOn indexed anew course files given = IfOk (store files.pkg) (λ value. MeetsFirst indexed
-    (command_limit indexed (makes anew files.idx value) (state files.pkg value) (begun value) (course (state files.pkg value)).changes) given)
+    (command_limit indexed (is_rebuilt anew files.idx value) (state files.pkg value) (begun value) (course (state files.pkg value)).changes) given)
 
 -- the index is asked where it is rebuilt, and where the database is lawful
 abbrev pub LimitsBy : Bool → Type 0 → (State → Course) → Files → Why → Type 0
@@ -52,18 +52,18 @@ LimitsBy anew Lawful course files given = (indexed : Bool) → (indexed ≡ true
 
 -- ---- the log
 
--- a log of so many units is refused, which no log of a group that leaves these files is longer than
+-- a log of so many units is refused, which no log of a transaction that leaves these files is longer than
 abbrev pub LogIs : Files → Why → Type 0
 LogIs made (why.LogFull needed) = (2 ^ 28 < needed) × (needed ≤ longest_log made)
 LogIs made others = Unit {0}
 
 -- a transaction is too long for the log: some files with this state that reach no further have so long a log
-abbrev pub IsTooLong : ℕ → State → (Files → Type 0) → Type 0
-IsTooLong needed s Reached = (made : Files) × Says (λ t. t ≡ s) made.pkg × Reached made × (2 ^ 28 < needed) × (needed ≤ longest_log made)
+abbrev pub IsTransactionTooLong : ℕ → State → (Files → Type 0) → Type 0
+IsTransactionTooLong needed s Reached = (made : Files) × Says (λ t. t ≡ s) made.pkg × Reached made × (2 ^ 28 < needed) × (needed ≤ longest_log made)
 
 -- a course has LogFull told only where its transaction is too long, on files whose Packages.db isn't damaged
 abbrev pub LogOn : Bool → (State → Course) → Files → Why → Type 0
-LogOn indexed course files (why.LogFull needed) = IfOk (store files.pkg) (λ value. IsTooLong needed (after course (state files.pkg value))
+LogOn indexed course files (why.LogFull needed) = IfOk (store files.pkg) (λ value. IsTransactionTooLong needed (after course (state files.pkg value))
     (ReachedOn indexed files.pkg files.idx value (state files.pkg value) (course (state files.pkg value)).changes))
 LogOn indexed course files others = Unit {0}
 
@@ -82,19 +82,19 @@ module _ {D : Type 0} (d : disk.Ghosts D) where
   -- a fault came before the commit: nothing changed, whatever a crash leaves
   pub record StoodStill (old new : D) : Type 0 where
     pub same : reopened (d.files new) ≡ reopened (d.files old)
-    pub stops : AreLawfulGroups (images d old) → LeavesIn d old new (StandsStill (images d old))
+    pub stops : AreLawfulDatabases (images d old) → LeavesIn d old new (IsLawfulAndSame (images d old))
     pub images : LeavesIn d old new (ReopensAsOneOf (images d old))
 
   -- a fault of the disk came before the commit, and nothing changed, or all lines were printed and no limit was met
   abbrev pub FaultIs : Bool → (State → Course) → Why → D → D → Outputs → Outputs → Type 0
   FaultIs anew course given old new before now = given ≡ why.DiskFault
-      → StoodStill old new ⊎ ToldAll anew (IsLawfulGroup (d.files old)) course (reopened (d.files old)) before now
+      → StoodStill old new ⊎ ToldAll anew (IsLawfulDatabase (d.files old)) course (reopened (d.files old)) before now
 
   -- all of a command that changes packages, as the page says it of a run: what it answers, what it leaves, which limit it is answered, when the
   -- disk failed, and how long its log is where that is refused
   pub record OneChange (task : TaskParts) (course : State → Course) (given : Why) (changes : ℕ) (old new : D) (before behind : Outputs) : Type 0 where
-    pub did : DidOn course (d.files old) given before behind
+    pub did : ChangeProgressOn course (d.files old) given before behind
     pub changed : ChangesWith d (is_anew task) (changes_index task) course given changes old new
-    pub limits : LimitsBy (is_anew task) (IsLawfulGroup (d.files old)) course (reopened (d.files old)) given
+    pub limits : LimitsBy (is_anew task) (IsLawfulDatabase (d.files old)) course (reopened (d.files old)) given
     pub fault : FaultIs (is_anew task) course given old new before behind
-    pub log : LogBy (is_anew task) (IsLawfulGroup (d.files old)) course (reopened (d.files old)) given
+    pub log : LogBy (is_anew task) (IsLawfulDatabase (d.files old)) course (reopened (d.files old)) given

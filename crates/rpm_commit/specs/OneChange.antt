@@ -21,13 +21,13 @@ use Rattle.rpm_effects.specs.Steps.{Course}
 use Rattle.rpm_effects.specs.declared.answer.Why.{Why}
 use Rattle.rpm_effects.specs.declared.answer.Why.TheVariants as why
 use Rattle.rpm_commit.specs.declared.changing.CommandEnding.{CommandEnding}
-use Rattle.rpm_commit.specs.Changing.{EmptyBy, IsBroken}
+use Rattle.rpm_commit.specs.Changing.{EmptyBy, HasBrokenIndex}
 use Rattle.rpm_effects.specs.Classes.{is_done, is_halt, is_of_words}
 use Rattle.rpm_print.specs.Frame.{DiskFault, IsIndexed, Runs, state_in}
 use Rattle.rpm_effects.specs.Hands.{ShelfFault, Hands}
 use Rattle.rpm_commit.specs.Limits.{LimitsBy}
 use Rattle.rpm_commit.specs.Reaches.{begun}
-use Rattle.rpm_commit.specs.Working.{OpensWithin, WorkedWith, why_of}
+use Rattle.rpm_commit.specs.Working.{OpensWithin, Work, why_of}
 
 -- the store that a database is opened with: begun, where it is blank; and no file is longer than opening makes it
 pub record FoundAs (old new : Files) (db : Database) : Type 0 where
@@ -55,7 +55,7 @@ module _ {D : Type 0} (d : disk.Ghosts D) where
     pub ready : IsReady d new db
     pub not_blank : is_blank db ≡ false
     pub rows : IsTrue d.tells → IsLawful (d.files old).pkg (d.files old).idx → IsIndexed d new db
-    pub broken : IsTrue d.tells → ¬ IsWholeIndex (d.files new).idx → IsBroken (d.files old).pkg (d.files old).idx
+    pub broken : IsTrue d.tells → ¬ IsWholeIndex (d.files new).idx → HasBrokenIndex (d.files old).pkg (d.files old).idx
     pub finds : IsTrue d.tells → IsIndexed d new db ⊎ ((d.files new).idx ≡ (d.files old).idx)
     pub found : IsTrue d.tells → FoundAs (d.files old) (d.files new) db
 
@@ -63,7 +63,7 @@ module _ {D : Type 0} (d : disk.Ghosts D) where
   -- asks for none, once the contents are told; and what it leaves
   pub record WorksOn (anew changing none : Bool) (course : State → Course) (Told : Type 0) (before behind : Outputs) (old new : D)
       (ended : Result Tally Why) : Type 0 where
-    pub worked : Told → WorkedWith anew changing course (d.files old) (d.files new) ended before behind
+    pub worked : Told → Work anew changing course (d.files old) (d.files new) ended before behind
     pub limits : Told → LimitsBy anew (IsLawful (d.files old).pkg (d.files old).idx) course (d.files old) (why_of ended)
     pub empty : IsTrue d.tells → EmptyBy none (d.files old) (why_of ended)
     pub halted : IfErr ended (λ given. is_halt given ≡ true)
@@ -71,7 +71,7 @@ module _ {D : Type 0} (d : disk.Ghosts D) where
     pub disk : DiskFault d (ended ≡ Err why.DiskFault) old new
 
   -- what holds of a command on any disk: its changes count where it was done, and it isn't one of words
-  pub record Keeps (ended : CommandEnding) (old new : D) : Type 0 where
+  pub record KeepsAlways (ended : CommandEnding) (old new : D) : Type 0 where
     pub counted : is_done ended.why ≡ false → ended.changes ≡ 0
     pub of_words : is_of_words ended.why ≡ false
     pub goes_on : d.follows old new

@@ -15,8 +15,8 @@ pub use Rattle.rpm_commit.specs.Changing.{EmptyBy}
 pub use Rattle.rpm_commit.specs.Limits.{LogIs, OneChange}
 pub use Rattle.rpm_commit.specs.Tasks.{IsCountable, asked_task, changes_index, is_anew, needs_none, numbers_asked, reads_shelf, replacing}
 pub use Rattle.rpm_commit.specs.Tasks.{task_course, task_parts}
-pub use Rattle.rpm_commit.specs.Working.{EndsGroup, IsShut, OpensBy, done_why, ended_as, exercise_ended}
-pub use Rattle.rpm_commit.specs.OneChange.{BeginsOn, Keeps, OpensOn, Streams, WorksOn}
+pub use Rattle.rpm_commit.specs.Working.{TransactionEnding, IsShut, OpensBy, done_why, ended_as, exercise_ended}
+pub use Rattle.rpm_commit.specs.OneChange.{BeginsOn, KeepsAlways, OpensOn, Streams, WorksOn}
 pub use Rattle.rpm_effects.specs.Classes.{IsOfOpening, IsOutside, is_done, is_halt, is_of_streams, is_of_words}
 pub use Rattle.rpm_print.specs.Frame.{DiskFault, Runs, Serving, images}
 pub use Rattle.rpm_effects.specs.Shown.{shown}

@@ -51,7 +51,7 @@ abbrev pub replacing : List (List ℕ) → List ℕ → TaskParts
 replacing words (n ∷ path ∷ []) = Replacing (unwrap_or (number (text_at words n)) 0) (text_at words path)
 replacing words others = Making
 
--- the task that each changing mode stands for, with its arguments
+-- the task of each changing mode, with its arguments
 abbrev pub task_in : Mode → List (List ℕ) → AskParts → TaskParts
 task_in Addpkg words a = Adding (map (text_at words) a.arguments)
 task_in Replacepkg words a = replacing words a.arguments

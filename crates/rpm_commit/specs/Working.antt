@@ -1,4 +1,4 @@
--- What a changing command does on the disk over which its changes are held, and how the group ends. No field of the page (`rpm_tool`, Theorem.antt) rests on
+-- What a changing command does on the disk over which its changes are held, and how the transaction ends. No field of the page (`rpm_tool`, Theorem.antt) rests on
 -- it: so the functions below `run` say to each other what becomes `changes` there.
 use Rattle.rpm_db.specs.Frame.{room}
 use Rattle.std.specs.Prelude.{◌≡◌, ◌⊎◌, ℕ, ◌^◌, ◌<◌, ◌≤◌, ◌==◌, if◌then◌else◌, max, [], length, Bool, true, false, Result, Ok, Err, IfOk}
@@ -26,7 +26,7 @@ use Rattle.rpm_effects.specs.declared.answer.Why.{Why}
 use Rattle.rpm_effects.specs.declared.answer.Why.TheVariants as why
 use Rattle.rpm_effects.specs.Answers.{Refused}
 use Rattle.rpm_effects.specs.Endings.{why_of_halt}
-use Rattle.rpm_commit.specs.Changing.{Did, BadBy, HasCurrent, IsMade}
+use Rattle.rpm_commit.specs.Changing.{ChangeProgress, BadBy, HasCurrent, IsDatabaseMade}
 use Rattle.rpm_commit.specs.Lawful.{MayBegin}
 use Rattle.rpm_effects.specs.Classes.{is_done, is_done_or_fault, IsUncommitted}
 use Rattle.rpm_commit.specs.Reaches.{ReachesBy, StoresOn}
@@ -70,22 +70,22 @@ exercise_ended (Err fault) = Err (why_of_exercise fault)
 -- ---- from the opening to the last change
 
 -- stopped before its end; nothing was committed yet
-abbrev pub Stopped : Course → Why → Outputs → Outputs → Type 0
-Stopped course why.Done old new = ⊥
-Stopped course (why.Failed n) old new = ⊥
-Stopped course (why.LogFull units) old new = ⊥
-Stopped course given old new = Did course given old new
+abbrev pub UncommittedProgress : Course → Why → Outputs → Outputs → Type 0
+UncommittedProgress course why.Done old new = ⊥
+UncommittedProgress course (why.Failed n) old new = ⊥
+UncommittedProgress course (why.LogFull units) old new = ⊥
+UncommittedProgress course given old new = ChangeProgress course given old new
 
 -- all was done, and these files have the state after it; or it was stopped
-abbrev pub WorkedOn : Course → State → Files → Result Tally Why → Outputs → Outputs → Type 0
-WorkedOn course s new (Ok tally) before now = (value : Store) × (store new.pkg ≡ Ok value) × Done course s (state new.pkg value) tally before now
-WorkedOn course s new (Err given) before now = Stopped course given before now
+abbrev pub WorkOnStore : Course → State → Files → Result Tally Why → Outputs → Outputs → Type 0
+WorkOnStore course s new (Ok tally) before now = (value : Store) × (store new.pkg ≡ Ok value) × Done course s (state new.pkg value) tally before now
+WorkOnStore course s new (Err given) before now = UncommittedProgress course given before now
 
 -- a damaged store is reported, on any other the course was worked as far as it was
-abbrev pub WorkedBy : (State → Course) → Units → Result Store Damage → Files → Result Tally Why → Outputs → Outputs → Type 0
-WorkedBy course pkg (Ok s) new ended before now = WorkedOn (course (state pkg s)) (state pkg s) new ended before now
-WorkedBy course pkg (Err damage) new (Ok tally) before now = ⊥
-WorkedBy course pkg (Err damage) new (Err given) before now = Refused damage given × Through [] before now
+abbrev pub WorkBy : (State → Course) → Units → Result Store Damage → Files → Result Tally Why → Outputs → Outputs → Type 0
+WorkBy course pkg (Ok s) new ended before now = WorkOnStore (course (state pkg s)) (state pkg s) new ended before now
+WorkBy course pkg (Err damage) new (Ok tally) before now = ⊥
+WorkBy course pkg (Err damage) new (Err given) before now = Refused damage given × Through [] before now
 
 -- done, of which so many arguments failed
 abbrev pub done_why : ℕ → Why
@@ -98,25 +98,25 @@ why_of (Err given) = given
 
 -- a course worked from these files to those, of a command that makes the index anew or doesn't, and that changes the
 -- one that it finds or doesn't
-pub record WorkedWith (anew changing : Bool) (course : State → Course) (old new : Files) (ended : Result Tally Why) (before now : Outputs) : Type 0 where
-  pub went : WorkedBy course old.pkg (store old.pkg) new ended before now
+pub record Work (anew changing : Bool) (course : State → Course) (old new : Files) (ended : Result Tally Why) (before now : Outputs) : Type 0 where
+  pub went : WorkBy course old.pkg (store old.pkg) new ended before now
   pub bad : BadBy changing old.pkg old.idx (why_of ended)
-  pub made : IfOk ended (λ tally. IsMade new.pkg)
+  pub made : IfOk ended (λ tally. IsDatabaseMade new.pkg)
   pub index : MayBegin anew (IsLawful old.pkg old.idx) → IfOk ended (λ tally. HasCurrent new.pkg new.idx)
   pub stored : IfOk ended (λ tally. StoresOn course old.pkg new.pkg)
   pub reached : IfOk ended (λ tally. ReachesBy anew (IsLawful old.pkg old.idx) course old new)
 
--- ---- how the group ends
+-- ---- how the transaction ends
 
 -- the changes count where they are committed; a fault of the disk is want of memory where a write found none
-abbrev pub EndsAs : Result Tally Why → Why → ℕ → Type 0
-EndsAs (Ok tally) given changes = ((given ≡ done_why tally.failed) × (changes ≡ tally.changes)) ⊎ ((changes ≡ 0) × IsUncommitted given)
-EndsAs (Err was) given changes = (changes ≡ 0) × ((given ≡ was) ⊎ ((was ≡ why.DiskFault) × (given ≡ why.NoMemory)))
+abbrev pub TransactionCount : Result Tally Why → Why → ℕ → Type 0
+TransactionCount (Ok tally) given changes = ((given ≡ done_why tally.failed) × (changes ≡ tally.changes)) ⊎ ((changes ≡ 0) × IsUncommitted given)
+TransactionCount (Err was) given changes = (changes ≡ 0) × ((given ≡ was) ⊎ ((was ≡ why.DiskFault) × (given ≡ why.NoMemory)))
 
--- what a crash leaves meanwhile: the files before, or those after a group whose changes were all made
-abbrev pub GroupLeaves : Result Tally Why → Files → Files → Files → Type 0
-GroupLeaves (Ok tally) before after = BeforeOrAfter before after
-GroupLeaves (Err given) before after = ReopensAs before
+-- what a crash leaves meanwhile: the files before, or those after a transaction whose changes were all made
+abbrev pub TransactionImages : Result Tally Why → Files → Files → Files → Type 0
+TransactionImages (Ok tally) before after = BeforeOrAfter before after
+TransactionImages (Err given) before after = ReopensAs before
 
 module _ {D : Type 0} (d : disk.Ghosts D) where
   -- a database is shut: its log is closed, and no crash from now on leaves other files
@@ -124,10 +124,10 @@ module _ {D : Type 0} (d : disk.Ghosts D) where
     pub closed : log_state (d.files it).log ≡ Closed
     pub settled : AreSettled (d.files it) (images d it)
 
-  -- the group that makes these files of the disk's
-  pub record EndsGroup (ended : Result Tally Why) (given : Why) (changes : ℕ) (after : Files) (old new : D) : Type 0 where
-    pub says : EndsAs ended given changes
+  -- the transaction that makes these files of the disk's
+  pub record TransactionEnding (ended : Result Tally Why) (given : Why) (changes : ℕ) (after : Files) (old new : D) : Type 0 where
+    pub says : TransactionCount ended given changes
     pub done : is_done given ≡ true → unlogged (d.files new) ≡ after
     pub shut : is_done given ≡ true → IsShut new
-    pub leaves : LeavesIn d old new (GroupLeaves ended (unlogged (d.files old)) after)
+    pub leaves : LeavesIn d old new (TransactionImages ended (unlogged (d.files old)) after)
     pub unmade : is_done_or_fault given ≡ false → LeavesIn d old new (ReopensAs (unlogged (d.files old)))

@@ -1,7 +1,7 @@
 //! `AnswersChange` of the theorem: commands that change packages, all changes of a command line as one.
 
 ghost use Rattle.std.specs.Prelude.{◌≡◌, ◌⊎◌, ◌≤◌, true, false, IsTrue, Err, IfErr};
-ghost use Rattle.rpm_commit.specs.Prelude.{asked_task, done_why, EmptyBy, EndsGroup, is_done, is_halt, is_of_streams, is_of_words, IsShut, IsSound, Keeps, laid_files, LogIs, needs_none, OneChange, overlay_below, overlay_held, overlay_starved, reads_shelf, reopened, Rose, shown, Streams, task_course, unlogged};
+ghost use Rattle.rpm_commit.specs.Prelude.{asked_task, done_why, EmptyBy, TransactionEnding, is_done, is_halt, is_of_streams, is_of_words, IsShut, IsSound, KeepsAlways, laid_files, LogIs, needs_none, OneChange, overlay_below, overlay_held, overlay_starved, reads_shelf, reopened, Rose, shown, Streams, task_course, unlogged};
 
 use crate::courses::change_on;
 use crate::task::task_of;
@@ -38,10 +38,10 @@ fn unchanged(why: Why) -> CommandEnding
 }
 
 /// Ends a command on an overlay: its changes are committed where it was done, and count then; else they are let go.
-fn end_group<D: Disk>(overlay: Overlay<D>, ended: Result<Tally, Why>) -> (CommandEnding, D)
+fn end_transaction<D: Disk>(overlay: Overlay<D>, ended: Result<Tally, Why>) -> (CommandEnding, D)
     requires halted { IfErr ended (λ given. is_halt given ≡ true) }
     requires shut { IsTrue D.tells → IsShut D.Disk (overlay_below overlay) }
-    ensures ends { IsTrue D.tells → EndsGroup D.Disk ended result.0.why result.0.changes
+    ensures ends { IsTrue D.tells → TransactionEnding D.Disk ended result.0.why result.0.changes
         (unlogged (laid_files (overlay_held overlay) (D.files (overlay_below overlay)))) (overlay_below overlay)
         result.1 }
     ensures log { IsTrue D.tells → LogIs (laid_files (overlay_held overlay) (D.files (overlay_below overlay))) result.0.why }
@@ -83,7 +83,7 @@ fn end_group<D: Disk>(overlay: Overlay<D>, ended: Result<Tally, Why>) -> (Comman
 /// The changes are held in memory, over the disk, and committed after the last one: a crash at any moment leaves all
 /// of them or none. The ending is `Done`, or `Failed` with how many arguments failed; only then are changes counted,
 /// and on a lawful database the index is current then, and the disk lawful. Generation, slot pages and the lengths of
-/// the files are then those that the changes make. Any other ending leaves what the files stand for as it was,
+/// the files are then those that the changes make. Any other ending leaves what the files represent as it was,
 /// `DiskFault` aside, after which all changes or none are made. That a command line is one change is this project's
 /// own rule.
 ///
@@ -120,7 +120,7 @@ pub fn change_asked<D: Disk, S: Shelf, O: Sink + Drop, E: Sink + Drop>(
         (task_course (S.paths shelf.old) now (asked_task words.now ask.now)) result.0.why result.0.changes disk result.1
         (shown O.Sink E.Sink out.old err.old) (shown O.Sink E.Sink out.new err.new) }
     ensures empty { IsTrue D.tells → EmptyBy (needs_none (asked_task words.now ask.now)) (reopened (D.files disk)) result.0.why }
-    ensures keeps { Keeps D.Disk result.0 disk result.1 }
+    ensures keeps { KeepsAlways D.Disk result.0 disk result.1 }
     ensures streams { Streams S.Shelf O.Sink E.Sink (reads_shelf (asked_task words.now ask.now))
         (λ why. result.0.why ≡ why) (shelf.old, out.old, err.old)
         (shelf.new, out.new, err.new) }
@@ -135,7 +135,7 @@ pub fn change_asked<D: Disk, S: Shelf, O: Sink + Drop, E: Sink + Drop>(
             Ok(overlay) => {
                 let mut overlay = overlay;
                 let ended = change_on(alloc, &mut overlay, shelf, &task, now, out, err);
-                end_group(overlay, ended)
+                end_transaction(overlay, ended)
             }
             Err(refused) => (unchanged(why_of_load(refused.why)), refused.disk),
         },

@@ -2,9 +2,9 @@
 use Rattle.std.proofs.Common.{◌≡◌, ℕ, ◌≤◌, Bool, true, List, [], ◌∷◌, ◌++◌, Ok, refl, sym, ap, ◌∙◌, subst, inl, inr, ⊎_elim, arith}
 use Rattle.std.specs.Prelude.{IsTrue}
 use Rattle.std.proofs.lemmas.List.{append-nil}
-use Rattle.rpm_history.proofs.Vocabulary.{after, AllFit, AllStand, AreLawfulGroups, asks, Between, ChangesWith, Course, course_of, Cuts, Files, FromOneOf}
-use Rattle.rpm_history.proofs.Vocabulary.{given_on, HasState, images, InTurn, InTurnBefore, is_done, Leads, leaves_then, leaves_weaker, LeavesIn, LeavesState}
-use Rattle.rpm_history.proofs.Vocabulary.{LineIs, LineStays, Moves, Paths, reopened, RowsFit, RunCall, Says, StandsIn, started, State, state, Store, store}
+use Rattle.rpm_history.proofs.Vocabulary.{after, AllRowsFit, AllStand, AreLawfulDatabases, asks, Between, ChangesWith, Course, course_of, Cuts, Files, FromOneOf}
+use Rattle.rpm_history.proofs.Vocabulary.{given_on, HasState, images, InTurn, InTurnBefore, is_done, LeadsByLines, leaves_then, leaves_weaker, LeavesIn, LeavesState}
+use Rattle.rpm_history.proofs.Vocabulary.{LineIs, LineStays, Moves, Paths, reopened, RowsFit, RunCall, Says, RepresentsState, started, State, state, Store, store}
 use Rattle.rpm_history.proofs.Vocabulary.{TellsCalls, Units, Why}
 use Rattle.rpm_commit.specs.inner.Brokens.{by_bool}
 use Rattle.rpm_history.proofs.Fitting.{course_fits}
@@ -35,15 +35,15 @@ module _ {D S O E : Type 0} (d : disk.Ghosts D) (told : IsTrue d.tells) (s : she
   -- ---- the states
 
   abbrev LeadsFrom : (State → Type 0) → List RunCall → State → Type 0
-  LeadsFrom P calls t = (m : State) × P m × Leads paths calls m t
+  LeadsFrom P calls t = (m : State) × P m × LeadsByLines paths calls m t
 
   abbrev CutsFrom : (State → Type 0) → List RunCall → State → Type 0
   CutsFrom P calls t = (m : State) × P m × Cuts paths calls m t
 
   -- after them, within them, and that the rows fit meanwhile
   abbrev Led : (State → Type 0) → List RunCall → D → D → Type 0
-  Led P calls old new = AllStand (LeadsFrom P calls) (images d new) × LeavesIn d old new (StandsIn (CutsFrom P calls))
-      × (AllFit (images d old) → LeavesIn d old new RowsFit)
+  Led P calls old new = AllStand (LeadsFrom P calls) (images d new) × LeavesIn d old new (RepresentsState (CutsFrom P calls))
+      × (AllRowsFit (images d old) → LeavesIn d old new RowsFit)
 
   -- a crash within a line, or within those behind it
   cut_within : (call : RunCall) (calls : List RunCall) (P : State → Type 0) (t : State) → Cut (course_in call) call.outcome.why P t
@@ -65,13 +65,13 @@ module _ {D S O E : Type 0} (d : disk.Ghosts D) (told : IsTrue d.tells) (s : she
   lines_led : (calls : List RunCall) (old new : Between D S O E) → TellsCalls s.tells calls → Lines calls old new → (P : State → Type 0)
       → AllStand P (images d old.disk) → Led P calls old.disk new.disk
   lines_led [] old new tells same P all =
-      let itself : (image : Files) → images d old.disk image → StandsIn (LeadsFrom P []) image =
+      let itself : (image : Files) → images d old.disk image → RepresentsState (LeadsFrom P []) image =
       λ image left. stands_weaker P (LeadsFrom P []) image (λ t p. (t, p, refl)) (all image left) in
-      let crashed : (image : Files) → images d old.disk image → StandsIn (CutsFrom P []) image =
+      let crashed : (image : Files) → images d old.disk image → RepresentsState (CutsFrom P []) image =
       λ image left. stands_weaker P (CutsFrom P []) image (λ t p. (t, p, ([], [], refl, refl))) (all image left) in
       subst (λ (b : Between D S O E). Led P [] old.disk b.disk) (sym same) (
         itself,
-        started d old.disk (StandsIn (CutsFrom P [])) crashed,
+        started d old.disk (RepresentsState (CutsFrom P [])) crashed,
         started d old.disk RowsFit,
       )
   lines_led (call ∷ calls) old new tells (mid, line, rest) P all =
@@ -79,17 +79,17 @@ module _ {D S O E : Type 0} (d : disk.Ghosts D) (told : IsTrue d.tells) (s : she
       let given = call.outcome.why in
       let n = call.outcome.changes in
       let P1 : State → Type 0 = Next (course_in call) given P in
-      let Q : Files → Type 0 = StandsIn (CutsFrom P (call ∷ calls)) in
+      let Q : Files → Type 0 = RepresentsState (CutsFrom P (call ∷ calls)) in
       let here = as_read old.disk in
       let later = lines_led calls mid new tells.1 rest P1
       (next_all d (course_in call) given n old.disk mid.disk P all here (earlier mid.disk) does) in (
         λ image left. stands_weaker (LeadsFrom P1 calls) (LeadsFrom P (call ∷ calls)) image
             (λ t how. (how.1.0, how.1.1, (how.0, how.1.2, how.2))) (later.0 image left),
         leaves_then d old.disk mid.disk new.disk Q
-            (leaves_weaker d old.disk mid.disk (StandsIn (Cut (course_in call) given P)) Q
+            (leaves_weaker d old.disk mid.disk (RepresentsState (Cut (course_in call) given P)) Q
             (λ image. stands_weaker (Cut (course_in call) given P) (CutsFrom P (call ∷ calls)) image (cut_within call calls P))
             (cut_stands d (course_in call) given n old.disk mid.disk P all here does))
-            (leaves_weaker d mid.disk new.disk (StandsIn (CutsFrom P1 calls)) Q
+            (leaves_weaker d mid.disk new.disk (RepresentsState (CutsFrom P1 calls)) Q
             (λ image. stands_weaker (CutsFrom P1 calls) (CutsFrom P (call ∷ calls)) image (cut_behind call calls P)) later.1),
         λ fit.
             let so_far = line_fits d (course_in call) given n old.disk mid.disk P all here does fit in
@@ -99,16 +99,16 @@ module _ {D S O E : Type 0} (d : disk.Ghosts D) (told : IsTrue d.tells) (s : she
 
   -- from the images at first
   pub lines_stand : (calls : List RunCall) (old new : Between D S O E) → TellsCalls s.tells calls → Lines calls old new
-      → AreLawfulGroups (images d old.disk)
-      → AllStand (FromOneOf (images d old.disk) (Leads paths calls)) (images d new.disk)
-      × LeavesIn d old.disk new.disk (StandsIn (FromOneOf (images d old.disk) (Cuts paths calls)))
-      × (AllFit (images d old.disk) → LeavesIn d old.disk new.disk RowsFit)
+      → AreLawfulDatabases (images d old.disk)
+      → AllStand (FromOneOf (images d old.disk) (LeadsByLines paths calls)) (images d new.disk)
+      × LeavesIn d old.disk new.disk (RepresentsState (FromOneOf (images d old.disk) (Cuts paths calls)))
+      × (AllRowsFit (images d old.disk) → LeavesIn d old.disk new.disk RowsFit)
   lines_stand calls old new tells lines lawful =
       let at = images d old.disk in
       let P : State → Type 0 = FromOneOf at (λ m t. t ≡ m) in
       let led = lines_led calls old new tells lines P (λ image left. from_itself at (λ m t. t ≡ m) (λ m. refl) image left (lawful image left)) in (
-        λ image left. stands_weaker (LeadsFrom P calls) (FromOneOf at (Leads paths calls)) image (from_one at (Leads paths calls)) (led.0 image left),
-        leaves_weaker d old.disk new.disk (StandsIn (CutsFrom P calls)) (StandsIn (FromOneOf at (Cuts paths calls)))
+        λ image left. stands_weaker (LeadsFrom P calls) (FromOneOf at (LeadsByLines paths calls)) image (from_one at (LeadsByLines paths calls)) (led.0 image left),
+        leaves_weaker d old.disk new.disk (RepresentsState (CutsFrom P calls)) (RepresentsState (FromOneOf at (Cuts paths calls)))
             (λ image. stands_weaker (CutsFrom P calls) (FromOneOf at (Cuts paths calls)) image (from_one at (Cuts paths calls))) led.1,
         led.2,
       )
@@ -117,22 +117,22 @@ module _ {D S O E : Type 0} (d : disk.Ghosts D) (told : IsTrue d.tells) (s : she
 
   -- from the state after changes that were done
   acknowledged : (call : RunCall) (calls : List RunCall) (old mid new : Between D S O E) → TellsCalls s.tells calls → Lines calls mid new
-      → AreLawfulGroups (images d mid.disk) → {anew changing : Bool}
+      → AreLawfulDatabases (images d mid.disk) → {anew changing : Bool}
       → ChangesWith d anew changing (course_in call) call.outcome.why call.outcome.changes old.disk mid.disk → is_done call.outcome.why ≡ true
       → (value : Store) → store (reopened (d.files old.disk)).pkg ≡ Ok value
-      → LeavesIn d mid.disk new.disk (StandsIn (Cuts paths calls (after (course_in call) (state (reopened (d.files old.disk)).pkg value))))
+      → LeavesIn d mid.disk new.disk (RepresentsState (Cuts paths calls (after (course_in call) (state (reopened (d.files old.disk)).pkg value))))
   acknowledged call calls old mid new tells rest lawful did done value undamaged =
       let made = after (course_in call) (state (reopened (d.files old.disk)).pkg value) in
       let P : State → Type 0 = λ t. t ≡ made in
       let held : (image : Files) → images d mid.disk image → HasState made image =
       if_ok_at _ (store (reopened (d.files old.disk)).pkg) value undamaged (did.held done) in
-      leaves_weaker d mid.disk new.disk (StandsIn (CutsFrom P calls)) (StandsIn (Cuts paths calls made))
+      leaves_weaker d mid.disk new.disk (RepresentsState (CutsFrom P calls)) (RepresentsState (Cuts paths calls made))
       (λ image. stands_weaker (CutsFrom P calls) (Cuts paths calls made) image
       (λ t how. subst (λ (m : State). Cuts paths calls m t) how.1 how.2))
       (lines_led calls mid new tells rest P (λ image left. record { lawful = lawful image left; says = held image left })).1
 
   pub lines_stay : (calls : List RunCall) (old new : Between D S O E) → TellsCalls s.tells calls → Lines calls old new
-      → AreLawfulGroups (images d old.disk) → InTurnBefore (LineStays d s o e paths) calls old new
+      → AreLawfulDatabases (images d old.disk) → InTurnBefore (LineStays d s o e paths) calls old new
   lines_stay [] old new tells same lawful = same
   lines_stay (call ∷ calls) old new tells (mid, line, rest) lawful =
       let at = images d old.disk in
@@ -140,7 +140,7 @@ module _ {D S O E : Type 0} (d : disk.Ghosts D) (told : IsTrue d.tells) (s : she
       let all : AllStand P at = λ image left. from_itself at (λ m t. t ≡ m) (λ m. refl) image left (lawful image left) in
       let next = next_all d (course_in call) call.outcome.why call.outcome.changes old.disk mid.disk P all (as_read old.disk) (earlier mid.disk)
       (line_does d told s o e paths call old mid tells.0 line) in
-      let behind : AreLawfulGroups (images d mid.disk) = λ image left. (next image left).lawful in
+      let behind : AreLawfulDatabases (images d mid.disk) = λ image left. (next image left).lawful in
       let first = (all (d.files old.disk) (as_read old.disk)).says in (
         mid,
         record {
@@ -208,7 +208,7 @@ module _ {D S O E : Type 0} (d : disk.Ghosts D) (told : IsTrue d.tells) (s : she
   lines_rise (call ∷ calls) old new from tells (mid, line, rest) all = lines_rise calls mid new from tells.1 rest
       (line_rises call old mid line from all (line_does d told s o e paths call old mid tells.0 line))
 
--- the files stand for a state to which the line moves
+-- the files represent a state to which the line moves
 abbrev Stands : Why → State → State → Files → Type 0
 Stands w made s files = (t : State) × HasState t files × Moves w made s t
 
@@ -230,7 +230,7 @@ module _ {D : Type 0} (d : disk.Ghosts D) where
 
 module _ {D S O E : Type 0} (d : disk.Ghosts D) (told : IsTrue d.tells) (s : shelf.Ghosts S) (o : sink.Ghosts O) (e : sink.Ghosts E) (paths : Paths) where
   pub lines_lead : (calls : List RunCall) (old new : Between D S O E) → TellsCalls s.tells calls → InTurn (LineIs d s o e paths) calls old new
-      → (m : State) → HasState m (d.files old.disk) → (t : State) × HasState t (d.files new.disk) × Leads paths calls m t
+      → (m : State) → HasState m (d.files old.disk) → (t : State) × HasState t (d.files new.disk) × LeadsByLines paths calls m t
   lines_lead [] old new tells same m has = (m, subst (λ (b : Between D S O E). HasState m (d.files b.disk)) (sym same) has, refl)
   lines_lead (call ∷ calls) old new tells (mid, line, rest) m has =
       let first = line_moves d _ _ _ old.disk mid.disk m has (line_does d told s o e paths call old mid tells.0 line) in

@@ -1,7 +1,7 @@
--- One command line more: what the database stands for after it, given what it stood for before.
+-- One command line more: what the database represents after it, given what it represented before.
 use Rattle.std.proofs.Common.{◌≡◌, ◌⊎◌, ℕ, ◌≤◌, Bool, false, refl, sym, ap, subst, inl, inr, ⊎_elim, arith, true}
-use Rattle.rpm_history.proofs.Vocabulary.{after, AllFit, AllStand, apply_all, AreLawfulGroups, ChangesWith, Course, Files, HasState, idle, images, is_done}
-use Rattle.rpm_history.proofs.Vocabulary.{is_done_or_fault, leaves_weaker, LeavesIn, Moves, reopened, RowsFit, Says, StandsIn, StandsStill, StandsStillOr}
+use Rattle.rpm_history.proofs.Vocabulary.{after, AllRowsFit, AllStand, apply_all, AreLawfulDatabases, ChangesWith, Course, Files, HasState, idle, images, is_done}
+use Rattle.rpm_history.proofs.Vocabulary.{is_done_or_fault, leaves_weaker, LeavesIn, Moves, reopened, RowsFit, Says, RepresentsState, IsLawfulAndSame, IsLawfulAndSameOr}
 use Rattle.rpm_history.proofs.Vocabulary.{State, state, store, Units, Why}
 use Rattle.rpm_commit.specs.inner.Brokens.{by_bool}
 use Rattle.rpm_commit.specs.inner.Regrouped.{still_fits}
@@ -21,16 +21,16 @@ moves_are others s made = (λ is. absurd cc, λ is. absurd cc, λ is. refl, λ t
 pub moves_idle : (w : Why) (s : State) → Moves w s s s
 moves_idle w s = by_bool (is_done w) (moves_are w s s).0 (moves_are w s s).2
 
--- ---- what images stand for
+-- ---- what images represent
 
 pub says_weaker : (P Q : State → Type 0) (pkg : Units) → ((s : State) → P s → Q s) → Says P pkg → Says Q pkg
 says_weaker P Q pkg weaker says = record { value = says.value; undamaged = says.undamaged; is = weaker (state pkg says.value) says.is }
 
-pub stands_weaker : (P Q : State → Type 0) (image : Files) → ((s : State) → P s → Q s) → StandsIn P image → StandsIn Q image
+pub stands_weaker : (P Q : State → Type 0) (image : Files) → ((s : State) → P s → Q s) → RepresentsState P image → RepresentsState Q image
 stands_weaker P Q image weaker stands = record { lawful = stands.lawful; says = says_weaker P Q (reopened image).pkg weaker stands.says }
 
--- an image that stands still stands for a state of before
-still_stands : (P : State → Type 0) (images : Files → Type 0) (image : Files) → AllStand P images → StandsStill images image → StandsIn P image
+-- an image that keeps its packages represents a state of before
+still_stands : (P : State → Type 0) (images : Files → Type 0) (image : Files) → AllStand P images → IsLawfulAndSame images image → RepresentsState P image
 still_stands P images image all still = record {
   lawful = still.lawful;
   says = subst (λ (pkg : Units). Says P pkg) (sym still.pkg) (all still.from still.was).says;
@@ -42,7 +42,7 @@ still_stands P images image all still = record {
 pub record Stood {D : Type 0} (d : disk.Ghosts D) (course : State → Course) (old new : D) : Type 0 where
   pub nothing : (s : State) → course s ≡ idle
   pub pkg : (reopened (d.files new)).pkg ≡ (reopened (d.files old)).pkg
-  pub stops : AreLawfulGroups (images d old) → LeavesIn d old new (StandsStill (images d old))
+  pub stops : AreLawfulDatabases (images d old) → LeavesIn d old new (IsLawfulAndSame (images d old))
 
 -- or its course changed them
 abbrev pub LineDoes : {D : Type 0} (d : disk.Ghosts D) → (State → Course) → Why → ℕ → D → D → Type 0
@@ -66,15 +66,15 @@ module _ {D : Type 0} (d : disk.Ghosts D) (course : State → Course) (given : W
   past = images d old
 
   abbrev Behind : Files → Type 0
-  Behind = StandsIn (Next course given P)
+  Behind = RepresentsState (Next course given P)
 
-  lawful : AreLawfulGroups past
+  lawful : AreLawfulDatabases past
   lawful image is = (all image is).lawful
 
-  same_next : ((t : State) → Moves given (after course t) t t) → (image : Files) → StandsStill past image → Behind image
+  same_next : ((t : State) → Moves given (after course t) t t) → (image : Files) → IsLawfulAndSame past image → Behind image
   same_next moves image still = stands_weaker P (Next course given P) image (λ t p. (t, p, moves t)) (still_stands P past image all still)
 
-  same_cut : (image : Files) → StandsStill past image → StandsIn (Cut course given P) image
+  same_cut : (image : Files) → IsLawfulAndSame past image → RepresentsState (Cut course given P) image
   same_cut image still = stands_weaker P (Cut course given P) image (λ t p. (t, p, inl refl)) (still_stands P past image all still)
 
   -- ---- a command that changes packages
@@ -86,7 +86,7 @@ module _ {D : Type 0} (d : disk.Ghosts D) (course : State → Course) (given : W
     abbrev s0 : State
     s0 = state (reopened (d.files old)).pkg first.value
 
-    stops : LeavesIn d old new (StandsStillOr past (after course s0))
+    stops : LeavesIn d old new (IsLawfulAndSameOr past (after course s0))
     stops = if_ok_at _ (store (reopened (d.files old)).pkg) first.value first.undamaged (did.stops lawful)
 
     made_next : (image : Files) → HasState (after course s0) image → Moves given (after course s0) s0 (after course s0)
@@ -110,8 +110,8 @@ module _ {D : Type 0} (d : disk.Ghosts D) (course : State → Course) (given : W
         (stops.each image since))
         (λ refused. same_next (λ t. (moves_are given t (after course t)).2 undone) image ((did.unmade refused lawful).each image since)))
 
-    changed_cut : Moves given (after course s0) s0 (after course s0) → (image : Files) → StandsStillOr past (after course s0) image
-        → StandsIn (Cut course given P) image
+    changed_cut : Moves given (after course s0) s0 (after course s0) → (image : Files) → IsLawfulAndSameOr past (after course s0) image
+        → RepresentsState (Cut course given P) image
     changed_cut moves image = ⊎_elim (same_cut image) (λ both. record {
       lawful = both.0;
       says = record {
@@ -121,16 +121,16 @@ module _ {D : Type 0} (d : disk.Ghosts D) (course : State → Course) (given : W
       };
     })
 
-    changed_cuts : LeavesIn d old new (StandsIn (Cut course given P))
+    changed_cuts : LeavesIn d old new (RepresentsState (Cut course given P))
     changed_cuts = by_bool (is_done_or_fault given)
-        (λ may. leaves_weaker d old new (StandsStillOr past (after course s0)) (StandsIn (Cut course given P))
+        (λ may. leaves_weaker d old new (IsLawfulAndSameOr past (after course s0)) (RepresentsState (Cut course given P))
         (changed_cut ((moves_are given s0 (after course s0)).1 may)) stops)
-        (λ refused. leaves_weaker d old new (StandsStill past) (StandsIn (Cut course given P)) same_cut (did.unmade refused lawful))
+        (λ refused. leaves_weaker d old new (IsLawfulAndSame past) (RepresentsState (Cut course given P)) same_cut (did.unmade refused lawful))
 
   -- ---- any
 
-  pub cut_stands : LineDoes d course given n old new → LeavesIn d old new (StandsIn (Cut course given P))
-  cut_stands (inl stood) = leaves_weaker d old new (StandsStill past) (StandsIn (Cut course given P)) same_cut (stood.stops lawful)
+  pub cut_stands : LineDoes d course given n old new → LeavesIn d old new (RepresentsState (Cut course given P))
+  cut_stands (inl stood) = leaves_weaker d old new (IsLawfulAndSame past) (RepresentsState (Cut course given P)) same_cut (stood.stops lawful)
   cut_stands (inr (anew, changing, did)) = changed_cuts anew changing did
 
   next_stands : LineDoes d course given n old new → (image : Files) → d.left_since new (d.moment old) image → images d new image → Behind image
@@ -143,6 +143,6 @@ module _ {D : Type 0} (d : disk.Ghosts D) (course : State → Course) (given : W
       next_stands does image (earlier (d.moment old) (d.moment new) image (cut_stands does).later (omega arith) left) left
 
   -- the rows fit after it, whatever stops it
-  pub line_fits : LineDoes d course given n old new → AllFit past → LeavesIn d old new RowsFit
-  line_fits (inl stood) fit = leaves_weaker d old new (StandsStill past) RowsFit (still_fits past fit) (stood.stops lawful)
+  pub line_fits : LineDoes d course given n old new → AllRowsFit past → LeavesIn d old new RowsFit
+  line_fits (inl stood) fit = leaves_weaker d old new (IsLawfulAndSame past) RowsFit (still_fits past fit) (stood.stops lawful)
   line_fits (inr (anew, changing, did)) fit = did.fits lawful fit

@@ -2,9 +2,9 @@
 use Rattle.std.proofs.Common.{◌≡◌, ℕ, Bool, true, false, List, [], ◌∷◌, ◌++◌, length, ◌<◌, get_or, refl, sym, ap, subst, inl, inr, arith, ◌∙◌, Some}
 use Rattle.std.specs.Prelude.{Option, Some, None, IsTrue, if◌then◌else◌}
 use Rattle.rpm_history.proofs.Vocabulary.{Adding, asked_course, asked_task, AskParts, asks, Between, by_key, calls_of, changes_index, Course, course_of, Files}
-use Rattle.rpm_history.proofs.Vocabulary.{FromOneOf, idle, Importing, is_anew, is_changing, IsLawfulGroup, Leaves, Line, LineIs, of_files, Outcome, Paths}
-use Rattle.rpm_history.proofs.Vocabulary.{reads_shelf, reopened, Replacing, RunCall, StandsIn, StandsStill, State, state, task_course, TaskParts, TellsCalls}
-use Rattle.rpm_history.proofs.Vocabulary.{ChangesWith, Does, run_of, TellsLines, Tree, uses_in, uses_shelf}
+use Rattle.rpm_history.proofs.Vocabulary.{FromOneOf, idle, Importing, is_anew, is_changing, IsLawfulDatabase, Leaves, Line, LineIs, of_files, Outcome, Paths}
+use Rattle.rpm_history.proofs.Vocabulary.{reads_shelf, reopened, Replacing, RunCall, RepresentsState, IsLawfulAndSame, State, state, task_course, TaskParts, TellsCalls}
+use Rattle.rpm_history.proofs.Vocabulary.{ChangesWith, AnswersCommand, run_of, TellsLines, Tree, uses_in, uses_shelf}
 use Rattle.rpm_print.specs.Frame.{images, LeavesIn}
 use Rattle.rpm_commit.specs.inner.Brokens.{by_bool}
 use Rattle.rpm_history.proofs.Histories.{LineDoes, Stood}
@@ -21,9 +21,9 @@ pub from_one : (images : Files → Type 0) (Way : State → State → Type 0) (t
 from_one images Way t (s, (from, was, says), way) =
     (from, was, record { value = says.value; undamaged = says.undamaged; is = subst (λ (u : State). Way u t) says.is way })
 
--- a lawful image stands for its own state
+-- a lawful image represents its own state
 pub from_itself : (images : Files → Type 0) (Way : State → State → Type 0) → ((s : State) → Way s s) → (image : Files) → images image
-    → IsLawfulGroup image → StandsIn (FromOneOf images Way) image
+    → IsLawfulDatabase image → RepresentsState (FromOneOf images Way) image
 from_itself images Way still image left lawful =
     let is = lawful_store (reopened image).pkg (reopened image).idx lawful.lawful in
     record {
@@ -95,7 +95,7 @@ module _ {D S O E : Type 0} (d : disk.Ghosts D) (told : IsTrue d.tells) (s : she
   unread same = record {
     nothing = λ t. refl;
     pkg = ap (λ (it : D). (reopened (d.files it)).pkg) same;
-    stops = λ lawful. subst (λ (it : D). LeavesIn d old.disk it (StandsStill past)) (sym same) (record {
+    stops = λ lawful. subst (λ (it : D). LeavesIn d old.disk it (IsLawfulAndSame past)) (sym same) (record {
       later = omega arith;
       each = λ image left. record { from = image; was = left; pkg = refl; lawful = lawful image left };
       before = λ t image le left. inl left;
@@ -116,7 +116,7 @@ module _ {D S O E : Type 0} (d : disk.Ghosts D) (told : IsTrue d.tells) (s : she
 
   -- ---- what the page says of it
 
-  does : (a : AskParts) (tree : Tree) → asks words ≡ Some (a, tree) → Does (run_of d s o e call old new) a tree line.answers.mid
+  does : (a : AskParts) (tree : Tree) → asks words ≡ Some (a, tree) → AnswersCommand (run_of d s o e call old new) a tree line.answers.mid
   does a tree asked = line.answers.did.asked a tree asked
 
   -- the course is the same by what the shelf held at first

@@ -5,8 +5,8 @@ pub use Rattle.rpm_change.specs.Importing.{import_end, import_from, import_list,
 pub use Rattle.rpm_change.specs.Rebuilding.{drop_each}
 pub use Rattle.rpm_effects.specs.Steps.{apply_all, Course, idle, in_turn}
 pub use Rattle.rpm_change.specs.declared.add.Placing.{Placing}
-pub use Rattle.rpm_commit.specs.Changing.{after, AllFit, ChangesWith, HasState, LeavesState, RowsFit, StandsStillOr}
-pub use Rattle.rpm_commit.specs.Lawful.{AreLawfulGroups, IsLawfulGroup, StandsStill}
+pub use Rattle.rpm_commit.specs.Changing.{after, AllRowsFit, ChangesWith, HasState, LeavesState, RowsFit, IsLawfulAndSameOr}
+pub use Rattle.rpm_commit.specs.Lawful.{AreLawfulDatabases, IsLawfulDatabase, IsLawfulAndSame}
 pub use Rattle.rpm_commit.specs.Tasks.{Adding, asked_course, asked_task, changes_index, Erasing, Exercising, Importing, is_anew, Making, reads_shelf}
 pub use Rattle.rpm_commit.specs.Tasks.{Rebuilding, Replacing, task_course, TaskParts}
 pub use Rattle.rpm_db.specs.Changes.{Add, apply, Change, Erase, greatest_in, next, Put, Says}
@@ -20,7 +20,7 @@ pub use Rattle.rpm_header.specs.Header.{Header}
 unfoldable pub use Rattle.rpm_header.specs.Header.{header}
 pub use Rattle.rpm_header.specs.declared.form.HeaderFault.{HeaderFault}
 pub use Rattle.rpm_history.specs.Given.{given_in, given_on, IsAhead, numbers_given, RiseWithin}
-pub use Rattle.rpm_history.specs.History.{AllStand, calls_of, course_of, Cuts, FromOneOf, Leads, Moves, RunCall, StandsIn, TellsCalls, TellsLines}
+pub use Rattle.rpm_history.specs.History.{AllStand, calls_of, course_of, Cuts, FromOneOf, LeadsByLines, Moves, RunCall, RepresentsState, TellsCalls, TellsLines}
 pub use Rattle.rpm_history.specs.History.{uses_in, uses_shelf}
 pub use Rattle.rpm_history.specs.Lines.{between, Between, InTurn, InTurnBefore, LineIs, LineStays, run_of}
 pub use Rattle.rpm_history.specs.declared.several.Line.{Line}
@@ -38,7 +38,7 @@ pub use Rattle.rpm_print.specs.Frame.{Leaves}
 pub use Rattle.rpm_effects.specs.declared.answer.Outcome.{Outcome}
 pub use Rattle.rpm_effects.specs.declared.answer.Why.{Why}
 pub use Rattle.rpm_qfparse.specs.Tree.{Tree}
-pub use Rattle.rpm_tool.specs.Theorem.{Does}
+pub use Rattle.rpm_tool.specs.Theorem.{AnswersCommand}
 pub use Rattle.rpm_words.specs.Ask.{AskParts}
 pub use Rattle.std.specs.Cmp.{unsigned_tied}
 pub use Rattle.std.specs.FinMap.{FinMap}

@@ -1,4 +1,4 @@
--- Several command lines on one disk, one after the other: what the database stands for after them, and after a crash. On it rest `leads`,
+-- Several command lines on one disk, one after the other: what the database represents after them, and after a crash. On it rest `leads`,
 -- `cuts`, `kept` and `states` of `run_each`.
 use Rattle.std.specs.Prelude.{◌≡◌, ◌⊎◌, ℕ, List, [], ◌∷◌, ◌++◌, Bool, true, false, ◌||◌, IsTrue, Option, Some, None, if◌then◌else◌}
 use Rattle.std.specs.List.{AllByRecursion}
@@ -16,7 +16,7 @@ use Rattle.rpm_effects.specs.declared.answer.Why.TheVariants as why
 use Rattle.rpm_history.specs.declared.several.Line.{Line}
 use Rattle.rpm_print.specs.Asked.{of_files, is_changing, asks}
 use Rattle.rpm_commit.specs.Tasks.{asked_task, asked_course, reads_shelf}
-use Rattle.rpm_commit.specs.Lawful.{IsLawfulGroup}
+use Rattle.rpm_commit.specs.Lawful.{IsLawfulDatabase}
 use Rattle.rpm_commit.specs.Changing.{after}
 
 -- ---- one command line
@@ -54,14 +54,14 @@ calls_of (line ∷ lines) (outcome ∷ outcomes) = record { words = line.words.n
 
 -- a list of lines leads from state s to t: by all changes of each line that was done, and none of one that was
 -- refused
-abbrev pub Leads : Paths → List RunCall → State → State → Type 0
-Leads paths [] s t = t ≡ s
-Leads paths (call ∷ calls) s t =
-    (mid : State) × Moves call.outcome.why (made_by paths call.moment call.words s) s mid × Leads paths calls mid t
+abbrev pub LeadsByLines : Paths → List RunCall → State → State → Type 0
+LeadsByLines paths [] s t = t ≡ s
+LeadsByLines paths (call ∷ calls) s t =
+    (mid : State) × Moves call.outcome.why (made_by paths call.moment call.words s) s mid × LeadsByLines paths calls mid t
 
 -- the first few of these lines lead from state s to t: what a crash within the lines or after them may leave
 abbrev pub Cuts : Paths → List RunCall → State → State → Type 0
-Cuts paths calls s t = (first rest : List RunCall) × (calls ≡ first ++ rest) × Leads paths first s t
+Cuts paths calls s t = (first rest : List RunCall) × (calls ≡ first ++ rest) × LeadsByLines paths first s t
 
 -- ---- the shelf
 
@@ -84,9 +84,9 @@ TellsCalls tells calls = AllByRecursion (λ call. uses_shelf call.words ≡ true
 
 -- ---- images
 
--- a lawful image that stands for such a state
-pub record StandsIn (P : State → Type 0) (image : Files) : Type 0 where
-  pub lawful : IsLawfulGroup image
+-- a lawful image that represents such a state
+pub record RepresentsState (P : State → Type 0) (image : Files) : Type 0 where
+  pub lawful : IsLawfulDatabase image
   pub says : Says P (reopened image).pkg
 
 -- a state to which there is such a way from that of one of these images
@@ -95,4 +95,4 @@ FromOneOf images Way t = (from : Files) × images from × Says (λ s. Way s t) (
 
 -- each of these images does
 abbrev pub AllStand : (State → Type 0) → (Files → Type 0) → Type 0
-AllStand P images = (image : Files) → images image → StandsIn P image
+AllStand P images = (image : Files) → images image → RepresentsState P image

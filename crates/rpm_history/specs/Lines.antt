@@ -18,7 +18,7 @@ use Rattle.rpm_print.specs.Closing.{closing}
 use Rattle.rpm_print.specs.Frame.{images, LeavesIn}
 use Rattle.rpm_effects.specs.Shown.{outs}
 use Rattle.rpm_history.specs.Given.{given_on}
-use Rattle.rpm_history.specs.History.{RunCall, course_of, made_by, Cuts, FromOneOf, StandsIn}
+use Rattle.rpm_history.specs.History.{RunCall, course_of, made_by, Cuts, FromOneOf, RepresentsState}
 use Rattle.rpm_tool.specs.Theorem.{Run, ran, AnswersWords, Answers, Causes}
 
 -- what stands between two command lines: the disk, the shelf and both sinks, and the numbers that new packages were given by the lines that were done
@@ -63,9 +63,9 @@ module _ {D S O E : Type 0} (d : disk.Ghosts D) (s : shelf.Ghosts S) (o : sink.G
   -- what a command line leaves stays while those behind it are run, whenever a crash comes
   pub record LineStays (paths : Paths) (call : RunCall) (behind : List RunCall) (old mid new : Between D S O E) : Type 0 where
     pub line : LineIs paths call old mid
-    -- each image since then stands for a state of that moment, or for one to which lines behind it lead
-    pub since : LeavesIn d mid.disk new.disk (StandsIn (FromOneOf (images d mid.disk) (Cuts paths behind)))
-    -- and after changes that were done for the state with all of them, or for one to which lines behind it lead from there
+    -- each image since then represents a state of that moment, or one to which lines behind it lead
+    pub since : LeavesIn d mid.disk new.disk (RepresentsState (FromOneOf (images d mid.disk) (Cuts paths behind)))
+    -- and after changes that were done for the state with all of them, or one to which lines behind it lead from there
     pub acknowledged : (a : AskParts) (tree : Tree) → asks call.words ≡ Some (a, tree) → is_changing a ≡ true → is_done call.outcome.why ≡ true
         → IfOk (store (reopened (d.files old.disk)).pkg) (λ value. LeavesIn d mid.disk new.disk
-        (StandsIn (Cuts paths behind (made_by paths call.moment call.words (state (reopened (d.files old.disk)).pkg value)))))
+        (RepresentsState (Cuts paths behind (made_by paths call.moment call.words (state (reopened (d.files old.disk)).pkg value)))))

@@ -1,9 +1,9 @@
 -- The words of clauses, from one place.
 pub use Rattle.rpm_db.specs.Changes.{next}
 pub use Rattle.rpm_db.specs.State.{State}
-pub use Rattle.rpm_commit.specs.Changing.{AllFit, HasState, RowsFit}
-pub use Rattle.rpm_commit.specs.Lawful.{AreLawfulGroups}
+pub use Rattle.rpm_commit.specs.Changing.{AllRowsFit, HasState, RowsFit}
+pub use Rattle.rpm_commit.specs.Lawful.{AreLawfulDatabases}
 pub use Rattle.rpm_history.specs.Given.{IsAhead, RiseWithin}
-pub use Rattle.rpm_history.specs.History.{AllStand, Cuts, FromOneOf, Leads, StandsIn, TellsLines, calls_of}
+pub use Rattle.rpm_history.specs.History.{AllStand, Cuts, FromOneOf, LeadsByLines, RepresentsState, TellsLines, calls_of}
 pub use Rattle.rpm_history.specs.Lines.{InTurn, InTurnBefore, LineIs, LineStays, between}
 pub use Rattle.rpm_print.specs.Frame.{LeavesIn, images}

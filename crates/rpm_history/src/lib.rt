@@ -1,4 +1,4 @@
-//! Several command lines on one disk, one after the other: what the database stands for after them, and after a crash.
+//! Several command lines on one disk, one after the other: what the database represents after them, and after a crash.
 #![tactic(auto)]
 
 mod several;

@@ -1,6 +1,6 @@
 -- What a command does with the database that it opens: where nothing was done, and how it ends.
 use Rattle.std.proofs.Common.{◌≡◌, ℕ, Bool, true, false, List, [], refl}
-use Rattle.rpm_tool.proofs.Vocabulary.{always_keyed, Anywhere, AskParts, Bearer, check_files, Course, Deed, deed_of, DoesBy, export, graph_of}
+use Rattle.rpm_tool.proofs.Vocabulary.{always_keyed, Anywhere, AskParts, Bearer, check_files, Course, Deed, deed_of, RequestProgress, export, graph_of}
 use Rattle.rpm_tool.proofs.Vocabulary.{is_done_or_outside, is_foreign, is_query, Mode, opens_index, ordering, Outputs, packages, query, Store, Through, Tree}
 use Rattle.rpm_tool.proofs.Vocabulary.{Units, unless_starved, unsatisfied, verify, CommandProgress, Why}
 use Rattle.rpm_words.specs.declared.ask.Mode.TheVariants as mode
@@ -37,7 +37,7 @@ went_outside c others old new reads_to own went = absurd went
 module _ (tree : Tree) (file : Units) (s : Store) (words : List (List ℕ)) (a : AskParts) where
   -- where nothing was done
   module _ (reads_to : Bearer → Type 0) (x : Outputs) (none : Through [] x x) where
-    pub does_fault : (d : Deed) → DoesBy d tree file s words a reads_to why.DiskFault x x
+    pub does_fault : (d : Deed) → RequestProgress d tree file s words a reads_to why.DiskFault x x
     does_fault deed.Print = not_begun none
     does_fault deed.Export = not_begun none
     does_fault deed.Verify = not_begun none
@@ -47,21 +47,21 @@ module _ (tree : Tree) (file : Units) (s : Store) (words : List (List ℕ)) (a :
 
   module _ (reads_to : Bearer → Type 0) (old new : Outputs) where
     -- want of memory says the same as a fault of the disk
-    memory_does : (d : Deed) → DoesBy d tree file s words a reads_to why.DiskFault old new → DoesBy d tree file s words a reads_to why.NoMemory old new
+    memory_does : (d : Deed) → RequestProgress d tree file s words a reads_to why.DiskFault old new → RequestProgress d tree file s words a reads_to why.NoMemory old new
     memory_does deed.Print does = does
     memory_does others does = does
 
-    pub does_starved : (d : Deed) (starved : Bool) (w : Why) → DoesBy d tree file s words a reads_to w old new
-        → DoesBy d tree file s words a reads_to (unless_starved starved w) old new
+    pub does_starved : (d : Deed) (starved : Bool) (w : Why) → RequestProgress d tree file s words a reads_to w old new
+        → RequestProgress d tree file s words a reads_to (unless_starved starved w) old new
     does_starved d starved w = by_starved
-        (λ (was given : Why). DoesBy d tree file s words a reads_to was old new → DoesBy d tree file s words a reads_to given old new) (λ was does. does)
+        (λ (was given : Why). RequestProgress d tree file s words a reads_to was old new → RequestProgress d tree file s words a reads_to given old new) (λ was does. does)
         (memory_does d) starved w
 
-    pub does_unbroken : (d : Deed) (unit : ℕ) → DoesBy d tree file s words a reads_to (why.BadIndex unit) old new → ⊥
+    pub does_unbroken : (d : Deed) (unit : ℕ) → RequestProgress d tree file s words a reads_to (why.BadIndex unit) old new → ⊥
     does_unbroken deed.Order unit does = does.2
     does_unbroken others unit does = does
 
-    pub does_outside : (d : Deed) (w : Why) → is_foreign w ≡ false → DoesBy d tree file s words a reads_to w old new → is_done_or_outside w ≡ true
+    pub does_outside : (d : Deed) (w : Why) → is_foreign w ≡ false → RequestProgress d tree file s words a reads_to w old new → is_done_or_outside w ≡ true
     does_outside deed.Print w own does = went_outside (query tree (packages file s) words a) w old new reads_to own does
     does_outside deed.Export w own does = went_outside (export (packages file s)) w old new reads_to own does
     does_outside deed.Verify w own does = went_outside (verify file s) w old new reads_to own does
@@ -69,11 +69,11 @@ module _ (tree : Tree) (file : Units) (s : Store) (words : List (List ℕ)) (a :
     does_outside deed.Unmet w own does = went_outside (unsatisfied (packages file s)) w old new Anywhere own does
     does_outside deed.Order w own does = went_outside (ordering (packages file s) does.0) w old new Anywhere own does.2
 
-  pub does_memory : (reads_to : Bearer → Type 0) (x : Outputs) → Through [] x x → (d : Deed) → DoesBy d tree file s words a reads_to why.NoMemory x x
+  pub does_memory : (reads_to : Bearer → Type 0) (x : Outputs) → Through [] x x → (d : Deed) → RequestProgress d tree file s words a reads_to why.NoMemory x x
   does_memory reads_to x none d = memory_does reads_to x x d (does_fault reads_to x none d)
 
   pub does_reads : (d : Deed) (P Q : Bearer → Type 0) → ((for : Bearer) → P for → Q for) → (w : Why) (old new : Outputs)
-      → DoesBy d tree file s words a P w old new → DoesBy d tree file s words a Q w old new
+      → RequestProgress d tree file s words a P w old new → RequestProgress d tree file s words a Q w old new
   does_reads deed.Print P Q so w old new does = went_reads (query tree (packages file s) words a) w old new P Q so does
   does_reads deed.Export P Q so w old new does = went_reads (export (packages file s)) w old new P Q so does
   does_reads deed.Verify P Q so w old new does = went_reads (verify file s) w old new P Q so does

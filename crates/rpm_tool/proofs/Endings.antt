@@ -1,11 +1,11 @@
 -- The endings of a database that is opened with its index, and then asked.
 use Rattle.std.proofs.Common.{◌≡◌, ℕ, ◌^◌, ◌≤◌, Bool, true, false, refl}
-use Rattle.rpm_tool.proofs.Vocabulary.{FullByUnits, is_of_opening, is_refusal, Outputs, WentBy, Why}
+use Rattle.rpm_tool.proofs.Vocabulary.{FullByUnits, is_of_opening, is_refusal, Outputs, UnlessFull, Why}
 use Rattle.rpm_effects.specs.declared.answer.Why.TheVariants as why
 
 -- what is done with a database that was opened is what the command does
 pub went_by : (Do : Why → Outputs → Outputs → Type 0) (given : Why) (old new : Outputs) → is_of_opening given ≡ false → Do given old new
-    → WentBy Do given old new
+    → UnlessFull Do given old new
 went_by Do (why.IndexFull needed) old new opened does = absurd cc
 went_by Do others old new opened does = does
 

@@ -1,5 +1,5 @@
 -- A database that is opened with its index, and then asked.
-use Rattle.rpm_tool.proofs.Vocabulary.{asked_reaches, AskParts, BadIs, Bearer, blank_unpaged, CauseIs, Database, Files, has_index, HasIndex}
+use Rattle.rpm_tool.proofs.Vocabulary.{asked_reaches, AskParts, BadIs, Bearer, blank_unpaged, CauseIs, Database, Files, has_index, HasUsableIndex}
 use Rattle.rpm_tool.proofs.Vocabulary.{HasIndexRows, is_blank, is_indexed, IsOpened, IsUsable, kept_current, made_paged, must_make, no_index_rows}
 use Rattle.rpm_tool.proofs.Vocabulary.{packages, Peeks, Reach, reach_sum, reached_by, room, Runs, Store, store, unindexed, Units, Why}
 use Rattle.rpm_db.specs.Database.{IsIndexed}
@@ -83,7 +83,7 @@ module _ (old new : Files) (db : Database) (opened : IsOpened old new (Ok db)) (
   opened_rows usable = λ some. (opened_indexed (not_blank some) usable).rows_are
 
   -- it is there, and holds the rows
-  pub opened_index : IsUsable old.pkg old.idx → HasIndex new.pkg new.idx
+  pub opened_index : IsUsable old.pkg old.idx → HasUsableIndex new.pkg new.idx
   opened_index usable = record {
     value = (room db);
     undamaged = ap store pkg ∙ opened.store_is;

@@ -5,7 +5,7 @@ use Rattle.rpm_outside.specs.declared.disk.Disk as disk
 use Rattle.rpm_outside.specs.declared.shelf.Shelf as shelf
 use Rattle.rpm_outside.specs.declared.sink.Sink as sink
 use Rattle.rpm_tool.proofs.Vocabulary.{Answers, AnswersByKey, AnswersChange, AnswersKeyed, AnswersOfFiles, AnswersPlain, AnswersText, asked_course, ask, asked_task}
-use Rattle.rpm_tool.proofs.Vocabulary.{AskParts, asks_change, asks_format, Buffered, by_key, changes_in, Does, EmptyBy, is_changing, is_done, is_foreign}
+use Rattle.rpm_tool.proofs.Vocabulary.{AskParts, asks_change, asks_format, Buffered, by_key, changes_in, AnswersCommand, EmptyBy, is_changing, is_done, is_foreign}
 use Rattle.rpm_tool.proofs.Vocabulary.{HasCauseAt, inner, is_of_words, Leaves, needs_none, of_files, OneChange, Outputs, outputs, Pkg, ran, reads_shelf}
 use Rattle.rpm_tool.proofs.Vocabulary.{reopened, Run, Streams}
 use Rattle.rpm_tool.proofs.Vocabulary.{task_course, text_of, Tree, Why}
@@ -50,7 +50,7 @@ module _ {D S : Type 0} {d : disk.Ghosts D} {s : shelf.Ghosts S} {r : Run d s} {
   }
 
   pub does_plain : of_files a ≡ false → by_key a ≡ false → is_changing a ≡ false → text_of a.mode ≡ None
-      → (IsTrue d.tells → AnswersPlain r a tree mid) → Leaves d r.found r.left → r.shelf_left ≡ r.shelf_found → Does r a tree mid
+      → (IsTrue d.tells → AnswersPlain r a tree mid) → Leaves d r.found r.left → r.shelf_left ≡ r.shelf_found → AnswersCommand r a tree mid
   does_plain files keyed changing untold went looks shelf = record {
     plain = λ _f _k _c _t told. went told;
     files = λ is. clash is files;
@@ -62,7 +62,7 @@ module _ {D S : Type 0} {d : disk.Ghosts D} {s : shelf.Ghosts S} {r : Run d s} {
     shelf_unread = λ _f _r. shelf;
   }
 
-  pub does_files : of_files a ≡ true → AnswersOfFiles r a tree mid → Leaves d r.found r.left → Does r a tree mid
+  pub does_files : of_files a ≡ true → AnswersOfFiles r a tree mid → Leaves d r.found r.left → AnswersCommand r a tree mid
   does_files files went looks = record {
     plain = λ other _k _c _t told. clash files other;
     files = λ is. went;
@@ -76,7 +76,7 @@ module _ {D S : Type 0} {d : disk.Ghosts D} {s : shelf.Ghosts S} {r : Run d s} {
 
   pub does_keyed : by_key a ≡ true
       → (IsTrue d.tells → AnswersByKey d tree r.words a r.why r.before mid r.found r.left)
-      → r.shelf_left ≡ r.shelf_found → Does r a tree mid
+      → r.shelf_left ≡ r.shelf_found → AnswersCommand r a tree mid
   does_keyed keyed went shelf = record {
     plain = λ _f other _c _t told. clash keyed other;
     files = λ is. absurd (files_unkeyed a is keyed);
@@ -93,7 +93,7 @@ module _ {D S : Type 0} {d : disk.Ghosts D} {s : shelf.Ghosts S} {r : Run d s} {
       → OneChange d (asked_task r.words a) (task_course (s.paths r.shelf_found) r.moment (asked_task r.words a)) r.why r.changes r.found r.left r.before
       mid)
       → (IsTrue d.tells → EmptyBy (needs_none (asked_task r.words a)) (reopened (d.files r.found)) r.why)
-      → (reads_shelf (asked_task r.words a) ≡ false → r.shelf_left ≡ r.shelf_found) → Does r a tree mid
+      → (reads_shelf (asked_task r.words a) ≡ false → r.shelf_left ≡ r.shelf_found) → AnswersCommand r a tree mid
   does_change changing went empty shelf = record {
     plain = λ _f _k other _t told. clash changing other;
     files = λ is. absurd (files_unchanging a is changing);
@@ -105,7 +105,7 @@ module _ {D S : Type 0} {d : disk.Ghosts D} {s : shelf.Ghosts S} {r : Run d s} {
     shelf_unread = λ _f reads. shelf reads;
   }
 
-  pub does_text : {text : List ℕ} → text_of a.mode ≡ Some text → AnswersText r text mid → Leaves d r.found r.left → Does r a tree mid
+  pub does_text : {text : List ℕ} → text_of a.mode ≡ Some text → AnswersText r text mid → Leaves d r.found r.left → AnswersCommand r a tree mid
   does_text {text = text} said went looks = record {
     plain = λ _f _k _c none told. none_said none said;
     files = λ is. absurd (files_untold a text is said);
@@ -121,10 +121,10 @@ module _ {D S : Type 0} {d : disk.Ghosts D} {s : shelf.Ghosts S} {r : Run d s} {
   -- a command that was read is the one that the words ask for
   pub answered : (ask r.words ≡ Ok a) × (asks_format r.words ≡ Some (Ok tree)) → (is_changing a ≡ false → r.changes ≡ 0)
       → (is_done r.why ≡ false → r.changes ≡ 0) → (IsTrue s.tells → s.paths r.shelf_left ≡ s.paths r.shelf_found) → d.follows r.found r.left
-      → Does r a tree mid → Answers r mid
+      → AnswersCommand r a tree mid → Answers r mid
   unfolding asks_change
   answered read still counted paths goes_on does = record {
-    asked = λ b other asked. same_asked (λ x t. Does r x t mid) r.words (asked_is r.words read) asked does;
+    asked = λ b other asked. same_asked (λ x t. AnswersCommand r x t mid) r.words (asked_is r.words read) asked does;
     unasked = λ none. asked_some r.words read none;
     idle = λ no. still (sym (ap changes_in read.0) ∙ no);
     counted = counted;
@@ -173,7 +173,7 @@ module _ {w : Why} (ends : (w ≡ why.Done) ⊎ (w ≡ why.OutFault)) where
 -- a command for which memory is wanting does nothing, whatever is asked
 module _ {D S : Type 0} {d : disk.Ghosts D} {s : shelf.Ghosts S} (words : List (List ℕ)) (now : ℕ) (it : D) (at : S) (ot et : Bool) (o e : List ℕ)
     (stays : (x : D) → d.follows x x) where
-  pub does_nothing : (a : AskParts) (tree : Tree) → Does (ran d s words now why.NoMemory 0 (it, at) (outputs ot o et e) (it, at)) a tree (outputs ot o et e)
+  pub does_nothing : (a : AskParts) (tree : Tree) → AnswersCommand (ran d s words now why.NoMemory 0 (it, at) (outputs ot o et e) (it, at)) a tree (outputs ot o et e)
   does_nothing a tree = record {
     plain = λ _f _k _c _t told. record {
       went = not_begun tree words a (d.files it) ot et o e (d.bytes_read it Pkg);

@@ -3,18 +3,18 @@ use Rattle.std.proofs.Common.{◌≡◌, ℕ, ◌+◌, ◌≤◌, Bool, not, tru
 use Rattle.std.specs.Prelude.{IsTrue}
 use Rattle.rpm_outside.specs.declared.disk.Disk as disk
 use Rattle.rpm_outside.specs.Frame.{LeavesIn}
-use Rattle.rpm_tool.proofs.Vocabulary.{AnswersByKey, AreLawful, AreLawfulGroups, AreSettled, asked_reaches, AskParts, BadIs, Bearer, blocks_cost, Closed}
-use Rattle.rpm_tool.proofs.Vocabulary.{Damage, Database, deed_of, Deeds, DidByKey, DoesBy, Files, FullByUnits, FullIs, has_index, HasIndex, images, is_blank}
+use Rattle.rpm_tool.proofs.Vocabulary.{AnswersByKey, AreLawful, AreLawfulDatabases, AreSettled, asked_reaches, AskParts, BadIs, Bearer, blocks_cost, Closed}
+use Rattle.rpm_tool.proofs.Vocabulary.{Damage, Database, deed_of, Deeds, KeyedProgress, RequestProgress, Files, FullByUnits, IndexFullIs, has_index, HasUsableIndex, images, is_blank}
 use Rattle.rpm_tool.proofs.Vocabulary.{is_done, is_foreign, is_indexed, is_of_opening, is_query, IsAtRest, IsLawful, IsLawfulStill, IsOpened, IsSound}
 use Rattle.rpm_tool.proofs.Vocabulary.{IsUsable, keyed_cost, keyed_to, KeepsLog, KeepsPackages, leaves_then, leaves_weaker, log_state, LogState, must_make}
-use Rattle.rpm_tool.proofs.Vocabulary.{OnUsable, Opened, Outputs, outputs, pkg_read, reach_sum, reached_by, RecoverKeeps, RecoverSays, Remade, reopened}
-use Rattle.rpm_tool.proofs.Vocabulary.{ReopensAsOneOf, room, StandsStill, started, Store, store, Through, Tree, Units, units_needed, unlogged, Why}
+use Rattle.rpm_tool.proofs.Vocabulary.{OnUsable, StoreAnswer, Outputs, outputs, pkg_read, reach_sum, reached_by, RecoverKeeps, RecoverSays, Remade, reopened}
+use Rattle.rpm_tool.proofs.Vocabulary.{ReopensAsOneOf, room, IsLawfulAndSame, started, Store, store, Through, Tree, Units, units_needed, unlogged, Why}
 use Rattle.rpm_db.specs.Openings.{FullOpenIs, OpeningReads, OpensAs, WritesNothing}
 use Rattle.rpm_db.specs.Runs.{CameOf}
 use Rattle.rpm_group.specs.inner.KeptLogs.{same_kept, sound_kept}
 use Rattle.rpm_db.specs.declared.open_fault.DbOpenFault.{DbOpenFault}
 use Rattle.rpm_db.specs.declared.open_fault.DbOpenFault.TheVariants as opening
-use Rattle.rpm_tool.specs.Keyed.{DoesOn}
+use Rattle.rpm_tool.specs.Keyed.{OpenedAnswer}
 use Rattle.rpm_effects.specs.Endings.{why_of_open}
 use Rattle.rpm_effects.specs.declared.answer.Why.TheVariants as why
 use Rattle.rpm_tool.proofs.Completed.{completes}
@@ -29,16 +29,16 @@ use Rattle.rpm_tool.proofs.Unrecovered.{loaded_by}
 
 module _ (tree : Tree) (words : List (List ℕ)) (a : AskParts) where
   abbrev pub deeds : Files → ℕ → ℕ → Deeds
-  deeds files first now = OnUsable (IsUsable files.pkg files.idx) (DidByKey tree words a files first now)
+  deeds files first now = OnUsable (IsUsable files.pkg files.idx) (KeyedProgress tree words a files first now)
 
   -- what was done on these files, of whose packages so many bytes were read before and then, and what it left
   pub record DidIndexed (files new : Files) (given : Why) (before after : Outputs) (first now : ℕ) : Type 0 where
-    pub went : Opened (deeds files first now) (store files.pkg) given before after
+    pub went : StoreAnswer (deeds files first now) (store files.pkg) given before after
     pub reads : is_query a.mode ≡ true → IsUsable files.pkg files.idx → now ≤ first + keyed_cost files words a
     pub kind : is_foreign given ≡ false
-    pub full : FullIs files given
+    pub full : IndexFullIs files given
     pub bad : BadIs words a files given
-    pub index : IsUsable files.pkg files.idx → is_done given ≡ true → HasIndex new.pkg new.idx
+    pub index : IsUsable files.pkg files.idx → is_done given ≡ true → HasUsableIndex new.pkg new.idx
 
   -- ---- nothing was done
 
@@ -51,7 +51,7 @@ module _ (tree : Tree) (words : List (List ℕ)) (a : AskParts) where
 
     -- since it wasn't opened
     unopened : (s : Result Store Damage) (fault : DbOpenFault) → OpensAs s (Err fault)
-        → FullOpenIs {A = Unit {0}} (must_make files.idx s) (units_needed files.pkg s) (Err fault) → Opened (deeds files first now) s (why_of_open fault) x x
+        → FullOpenIs {A = Unit {0}} (must_make files.idx s) (units_needed files.pkg s) (Err fault) → StoreAnswer (deeds files first now) s (why_of_open fault) x x
         × FullByUnits (must_make files.idx s) (units_needed files.pkg s) (why_of_open fault)
         × (is_foreign (why_of_open fault) ≡ false) × (is_done (why_of_open fault) ≡ false) × BadIs words a files (why_of_open fault)
     unopened (Ok s) (opening.Damaged d) opens full = absurd cc
@@ -79,7 +79,7 @@ module _ (tree : Tree) (words : List (List ℕ)) (a : AskParts) where
   module _ {D : Type 0} (d : disk.Ghosts D) (mid ready new : D) (db : Database) (given : Why) (before after : Outputs) where
     pub did_opened : IsTrue d.tells → IsOpened (d.files mid) (d.files ready) (Ok db) → Remade (d.files mid) (d.files ready)
         → is_indexed db ≡ not (is_blank db) → OpeningReads (d.files mid) (pkg_read d mid) (pkg_read d ready)
-        → DoesOn d (deed_of a.mode) tree db words a given before after ready new → is_foreign given ≡ false → is_of_opening given ≡ false
+        → OpenedAnswer d (deed_of a.mode) tree db words a given before after ready new → is_foreign given ≡ false → is_of_opening given ≡ false
         → DidIndexed (d.files mid) (d.files new) given before after (pkg_read d mid) (pkg_read d new)
     did_opened told opened made indexed reads does own none =
         let files = d.files mid in
@@ -91,12 +91,12 @@ module _ (tree : Tree) (words : List (List ℕ)) (a : AskParts) where
         let rows = opened_rows files (d.files ready) db opened made.pkg indexed in
         let most = ap (λ (r : Result Store Damage). blocks_cost has_index files.pkg r words a) opened.store_is in
         record {
-          went = subst (λ (r : Result Store Damage). Opened (deeds files first now) r given before after) (sym opened.store_is) (
+          went = subst (λ (r : Result Store Damage). StoreAnswer (deeds files first now) r given before after) (sym opened.store_is) (
             unrefused given none,
-            λ usable. went_by (DidByKey tree words a files first now s) given before after none
+            λ usable. went_by (KeyedProgress tree words a files first now s) given before after none
                 (does_reads tree files.pkg s words a (deed_of a.mode) (read files.pkg) (λ for. now ≤ first + keyed_to files words a s for)
                 (λ for le. omega (arith, le, reads, keyed_by files.pkg db indexed words a for)) given before after
-                (subst (λ (u : Units). DoesBy (deed_of a.mode) tree u s words a (read u) given before after) made.pkg (does.went told (rows usable)))),
+                (subst (λ (u : Units). RequestProgress (deed_of a.mode) tree u s words a (read u) given before after) made.pkg (does.went told (rows usable)))),
           );
           reads = λ query usable.
               (let sum : now ≤ between + reach_sum (asked_reaches (is_indexed db) files.pkg s words a) db =
@@ -107,10 +107,10 @@ module _ (tree : Tree) (words : List (List ℕ)) (a : AskParts) where
           full = full_opened _ _ given none opened.full;
           bad = bad_opened files (d.files ready) db opened made.pkg indexed words a given (λ unit is rows. does_unbroken tree (d.files ready).pkg s words a
               (read (d.files ready).pkg) before after (deed_of a.mode) unit
-              (subst (λ (w : Why). DoesBy (deed_of a.mode) tree (d.files ready).pkg s words a (read (d.files ready).pkg) w before after) is
+              (subst (λ (w : Why). RequestProgress (deed_of a.mode) tree (d.files ready).pkg s words a (read (d.files ready).pkg) w before after) is
               (does.went told rows)))
               (does.bad told);
-          index = λ usable done. subst (λ (f : Files). HasIndex f.pkg f.idx) (sym (does.looks.untouched told).same)
+          index = λ usable done. subst (λ (f : Files). HasUsableIndex f.pkg f.idx) (sym (does.looks.untouched told).same)
               (opened_index files (d.files ready) db opened made.pkg indexed usable);
         }
 
@@ -127,7 +127,7 @@ unwritten making opening.NoMemory is = tt
 pub rest_same : (old new : Files) → RecoverKeeps (log_state old.log) old new → IsAtRest old → new ≡ old
 rest_same old new keeps rest = subst (λ (l : LogState). RecoverKeeps l old new) rest.closed keeps
 
--- on files that were recovered, and that have been settled
+-- on files that were recovered, and that have been made durable
 module _ {D : Type 0} (d : disk.Ghosts D) {old mid : D} (first : LeavesIn d old mid (ReopensAsOneOf (images d old))) (here : images d old (d.files old))
     (finished : Bool) (says : RecoverSays (log_state (d.files old).log) (Ok finished))
     (keeps : RecoverKeeps (log_state (d.files old).log) (d.files old) (d.files mid))
@@ -151,7 +151,7 @@ module _ {D : Type 0} (d : disk.Ghosts D) {old mid : D} (first : LeavesIn d old 
       let pkg = c.came.pkg ∙ ap (λ (f : Files). f.pkg) as_read in
       record { from = d.files old; was = here; pkg = same_packages image log pkg; log = keeps_log image log pkg }
 
-  opened_still : (image : Files) → IsLawfulStill (images d mid) image → StandsStill (images d old) image
+  opened_still : (image : Files) → IsLawfulStill (images d mid) image → IsLawfulAndSame (images d old) image
   opened_still image still =
       let as_read = settled still.from still.was in
       let log = still.log ∙ ap (λ (f : Files). f.log) as_read in
@@ -163,7 +163,7 @@ module _ {D : Type 0} (d : disk.Ghosts D) {old mid : D} (first : LeavesIn d old 
         lawful = shut_lawful image (shut image log pkg) still.lawful;
       }
 
-  still_lawful : AreLawfulGroups (images d old) → AreLawful (images d mid)
+  still_lawful : AreLawfulDatabases (images d old) → AreLawful (images d mid)
   still_lawful lawful image is = subst (λ (f : Files). IsLawful f.pkg f.idx) (sym (settled image is))
       (subst (λ (f : Files). IsLawful f.pkg f.idx) (sym stand) (lawful (d.files old) here).lawful)
 
@@ -201,15 +201,15 @@ module _ {D : Type 0} (d : disk.Ghosts D) {old mid : D} (first : LeavesIn d old 
         still = still_at (d.files new) stays;
         leaves = leaves_then d old mid new (KeepsPackages (images d old)) (recovering_packages d old mid first)
             (leaves_weaker d mid new (CameOf Remade (images d mid)) (KeepsPackages (images d old)) opened_packages any);
-        stops = λ lawful. leaves_then d old mid new (StandsStill (images d old)) (recovering_still d old mid first lawful)
-            (leaves_weaker d mid new (IsLawfulStill (images d mid)) (StandsStill (images d old)) opened_still
+        stops = λ lawful. leaves_then d old mid new (IsLawfulAndSame (images d old)) (recovering_still d old mid first lawful)
+            (leaves_weaker d mid new (IsLawfulStill (images d mid)) (IsLawfulAndSame (images d old)) opened_still
             (stops (still_lawful lawful)));
       }
 
 -- ---- nothing was begun
 
--- each lawful image stands for itself
-still_here : (images : Files → Type 0) → AreLawfulGroups images → (image : Files) → images image → StandsStill images image
+-- each lawful image represents itself
+still_here : (images : Files → Type 0) → AreLawfulDatabases images → (image : Files) → images image → IsLawfulAndSame images image
 still_here images lawful image is = record { from = image; was = is; pkg = refl; lawful = lawful image is }
 
 pub unbegun : {D : Type 0} (d : disk.Ghosts D) (tree : Tree) (words : List (List ℕ)) (a : AskParts) (ot et : Bool) (o e : List ℕ) (it : D)
@@ -231,5 +231,5 @@ unbegun d tree words a ot et o e it = record {
   kept = same_kept (d.files it);
   still = λ rest. refl;
   leaves = started d it (KeepsPackages (images d it)) (λ image is. record { from = image; was = is; pkg = refl; log = same_kept image });
-  stops = λ lawful. started d it (StandsStill (images d it)) (still_here (images d it) lawful);
+  stops = λ lawful. started d it (IsLawfulAndSame (images d it)) (still_here (images d it) lawful);
 }

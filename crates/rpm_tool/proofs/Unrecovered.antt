@@ -1,25 +1,25 @@
 -- What the log says of a database: it is gone through, or what is said where it can't be recovered.
 use Rattle.std.proofs.Common.{◌≡◌, ℕ, Bool, true, false, List, [], Result, Ok, Err, refl, sym, subst}
-use Rattle.rpm_tool.proofs.Vocabulary.{AskParts, BadIs, Damage, Deeds, Files, FullIs, is_done, is_done_or_outside, is_foreign}
-use Rattle.rpm_tool.proofs.Vocabulary.{is_of_streams, IsSound, Loaded, LogState}
-use Rattle.rpm_tool.proofs.Vocabulary.{Opened, Outputs, RecoverFault, RecoverSays, Store, Through, Why, why_of_recover}
+use Rattle.rpm_tool.proofs.Vocabulary.{AskParts, BadIs, Damage, Deeds, Files, IndexFullIs, is_done, is_done_or_outside, is_foreign}
+use Rattle.rpm_tool.proofs.Vocabulary.{is_of_streams, IsSound, LogAnswer, LogState}
+use Rattle.rpm_tool.proofs.Vocabulary.{StoreAnswer, Outputs, RecoverFault, RecoverSays, Store, Through, Why, why_of_recover}
 use Rattle.rpm_group.specs.declared.recovery.RecoverFault.TheVariants as recover
 use Rattle.rpm_effects.specs.declared.answer.Why.TheVariants as why
 use Rattle.rpm_tool.proofs.Loading.{loaded_fault}
 
 module _ (Do : Deeds) (s : Result Store Damage) where
-  pub loaded_by : (log : LogState) (finished : Bool) (given : Why) (old new : Outputs) → RecoverSays log (Ok finished) → Opened Do s given old new
-      → Loaded Do s log given old new
-  loaded_by log true given old new says opened = subst (λ (l : LogState). Loaded Do s l given old new) (sym says) opened
-  loaded_by log false given old new says opened = subst (λ (l : LogState). Loaded Do s l given old new) (sym says) opened
+  pub loaded_by : (log : LogState) (finished : Bool) (given : Why) (old new : Outputs) → RecoverSays log (Ok finished) → StoreAnswer Do s given old new
+      → LogAnswer Do s log given old new
+  loaded_by log true given old new says opened = subst (λ (l : LogState). LogAnswer Do s l given old new) (sym says) opened
+  loaded_by log false given old new says opened = subst (λ (l : LogState). LogAnswer Do s l given old new) (sym says) opened
 
   pub unrecovered : (x : Outputs) → Through [] x x → ((t : Store) → Do t why.DiskFault x x) → (log : LogState) (fault : RecoverFault)
-      → RecoverSays log (Err fault) → Loaded Do s log (why_of_recover fault) x x
-  unrecovered x none does log (recover.BadLog unit) says = subst (λ (l : LogState). Loaded Do s l (why.BadLog unit) x x) (sym says) (refl, none)
+      → RecoverSays log (Err fault) → LogAnswer Do s log (why_of_recover fault) x x
+  unrecovered x none does log (recover.BadLog unit) says = subst (λ (l : LogState). LogAnswer Do s l (why.BadLog unit) x x) (sym says) (refl, none)
   unrecovered x none does log recover.DiskFault says = loaded_fault Do s x none does log
 
 -- what else is said where it isn't recovered
-pub unrecovered_full : (files : Files) (fault : RecoverFault) → FullIs files (why_of_recover fault)
+pub unrecovered_full : (files : Files) (fault : RecoverFault) → IndexFullIs files (why_of_recover fault)
 unrecovered_full files (recover.BadLog unit) = tt
 unrecovered_full files recover.DiskFault = tt
 

@@ -18,16 +18,17 @@ use Rattle.rpm_select.specs.Reach.{Reach, Everything}
 use Rattle.rpm_print.specs.declared.reading.Deed.{Deed}
 use Rattle.rpm_print.specs.declared.reading.Deed.TheVariants as deed
 use Rattle.rpm_print.specs.Asked.{deed_of}
-use Rattle.rpm_effects.specs.Progress.{Through, Anywhere}
+use Rattle.rpm_effects.specs.Progress.{Through}
 use Rattle.rpm_effects.specs.Steps.{Bearer, Step, bearer_of}
-use Rattle.rpm_effects.specs.Answers.{CommandProgress, Misread, Refused}
+use Rattle.rpm_effects.specs.Answers.{Misread, Refused}
+pub use Rattle.rpm_effects.specs.Answers.{CommandProgress}
 use Rattle.rpm_effects.specs.Classes.{is_done}
 use Rattle.rpm_report.specs.FileReport.{check_files}
 use Rattle.rpm_query.specs.Queries.{query, export}
 use Rattle.rpm_print.specs.Reads.{reach_sum, reached_by}
 use Rattle.rpm_query.specs.Reach.{argument_reach, reaches_by}
 use Rattle.rpm_report.specs.Reports.{verify}
-pub use Rattle.rpm_effects.specs.Progress.{Outputs}
+pub use Rattle.rpm_effects.specs.Progress.{Anywhere, Outputs}
 pub use Rattle.rpm_db.specs.State.{Package, State}
 pub use Rattle.rpm_outside.specs.Logs.{reopened}
 pub use Rattle.rpm_effects.specs.declared.answer.Why.{Why}
@@ -53,33 +54,33 @@ blocks_cost indexed file (Err damage) words a = 0
 -- ---- what is done
 
 -- how far the order was told, by the order of the graph
-abbrev pub OrderIs : FinMap nat_cmp Package → Why → Outputs → Outputs → Type 0
-OrderIs packages given old new = (classes : List (List ℕ)) × IsListed (graph_of packages) (is_done given) classes
+abbrev pub OrderProgress : FinMap nat_cmp Package → Why → Outputs → Outputs → Type 0
+OrderProgress packages given old new = (classes : List (List ℕ)) × IsListed (graph_of packages) (is_done given) classes
     × CommandProgress (ordering packages classes) given old new Anywhere
 
 -- how far a command went, by a file and its store; how much is read isn't said of a report on requirements
-abbrev pub DoesBy : Deed → Tree → Units → Store → List (List ℕ) → AskParts → (Bearer → Type 0) → Why → Outputs → Outputs → Type 0
-DoesBy deed.Print tree file s words a reads_to given old new = CommandProgress (query tree (packages file s) words a) given old new reads_to
-DoesBy deed.Export tree file s words a reads_to given old new = CommandProgress (export (packages file s)) given old new reads_to
-DoesBy deed.Verify tree file s words a reads_to given old new = CommandProgress (verify file s) given old new reads_to
-DoesBy deed.CheckFiles tree file s words a reads_to given old new = CommandProgress (check_files (packages file s)) given old new reads_to
-DoesBy deed.Unmet tree file s words a reads_to given old new = CommandProgress (unsatisfied (packages file s)) given old new Anywhere
-DoesBy deed.Order tree file s words a reads_to given old new = OrderIs (packages file s) given old new
+abbrev pub RequestProgress : Deed → Tree → Units → Store → List (List ℕ) → AskParts → (Bearer → Type 0) → Why → Outputs → Outputs → Type 0
+RequestProgress deed.Print tree file s words a reads_to given old new = CommandProgress (query tree (packages file s) words a) given old new reads_to
+RequestProgress deed.Export tree file s words a reads_to given old new = CommandProgress (export (packages file s)) given old new reads_to
+RequestProgress deed.Verify tree file s words a reads_to given old new = CommandProgress (verify file s) given old new reads_to
+RequestProgress deed.CheckFiles tree file s words a reads_to given old new = CommandProgress (check_files (packages file s)) given old new reads_to
+RequestProgress deed.Unmet tree file s words a reads_to given old new = CommandProgress (unsatisfied (packages file s)) given old new Anywhere
+RequestProgress deed.Order tree file s words a reads_to given old new = OrderProgress (packages file s) given old new
 
 -- what a command does with a store
 abbrev pub Deeds : Type 1
 Deeds = Store → Why → Outputs → Outputs → Type 0
 
 -- a damaged store is reported and nothing is printed
-abbrev pub Opened : Deeds → Result Store Damage → Why → Outputs → Outputs → Type 0
-Opened Do (Ok s) given old new = Do s given old new
-Opened Do (Err damage) given old new = Refused damage given × Through [] old new
+abbrev pub StoreAnswer : Deeds → Result Store Damage → Why → Outputs → Outputs → Type 0
+StoreAnswer Do (Ok s) given old new = Do s given old new
+StoreAnswer Do (Err damage) given old new = Refused damage given × Through [] old new
 
 -- a malformed log is reported and nothing is printed, with any other the store is opened
-abbrev pub Loaded : Deeds → Result Store Damage → LogState → Why → Outputs → Outputs → Type 0
-Loaded Do s Closed given old new = Opened Do s given old new
-Loaded Do s (Malformed unit) given old new = Misread unit given × Through [] old new
-Loaded Do s (Open entries) given old new = Opened Do s given old new
+abbrev pub LogAnswer : Deeds → Result Store Damage → LogState → Why → Outputs → Outputs → Type 0
+LogAnswer Do s Closed given old new = StoreAnswer Do s given old new
+LogAnswer Do s (Malformed unit) given old new = Misread unit given × Through [] old new
+LogAnswer Do s (Open entries) given old new = StoreAnswer Do s given old new
 
 -- ---- without the index, as the database reads when an open log is gone through
 
@@ -88,15 +89,15 @@ abbrev pub read_to : Units → List (List ℕ) → AskParts → Store → Bearer
 read_to file words a s for = opening_cost file + reached_by (asked_reaches false file s words a) (unindexed s) for
 
 -- what it prints, of a file of which so many bytes were read before and then
-abbrev pub DidPlain : Tree → List (List ℕ) → AskParts → Units → ℕ → ℕ → Deeds
-DidPlain tree words a file before now s given old new =
-    DoesBy (deed_of a.mode) tree file s words a (λ for. now ≤ before + read_to file words a s for) given old new
+abbrev pub PlainProgress : Tree → List (List ℕ) → AskParts → Units → ℕ → ℕ → Deeds
+PlainProgress tree words a file before now s given old new =
+    RequestProgress (deed_of a.mode) tree file s words a (λ for. now ≤ before + read_to file words a s for) given old new
 
 -- what it prints, reports and reads
-abbrev pub Queried : Tree → List (List ℕ) → AskParts → Files → Why → Outputs → Outputs → ℕ → ℕ → Type 0
-Queried tree words a files given old new before now =
+abbrev pub PlainAnswer : Tree → List (List ℕ) → AskParts → Files → Why → Outputs → Outputs → ℕ → ℕ → Type 0
+PlainAnswer tree words a files given old new before now =
     let file = (reopened files).pkg in
-    Loaded (DidPlain tree words a file before now) (store file) (log_state files.log) given old new
+    LogAnswer (PlainProgress tree words a file before now) (store file) (log_state files.log) given old new
 
 -- the most that it reads
 abbrev pub query_cost : List (List ℕ) → AskParts → Units → ℕ

@@ -30,23 +30,23 @@ use Rattle.rpm_print.specs.Reads.{reach_sum, reached_by}
 use Rattle.rpm_query.specs.Reach.{IsOfChains}
 use Rattle.rpm_effects.specs.Progress.{Outputs, Through}
 use Rattle.rpm_effects.specs.Classes.{is_done, is_done_or_outside, is_foreign, is_refusal}
-use Rattle.rpm_tool.specs.Deeds.{Deeds, Loaded, DoesBy, reaches_of, asked_reaches, blocks_cost}
-pub use Rattle.rpm_commit.specs.Lawful.{AreLawfulGroups, IsLawfulGroup, KeepsPackages, StandsStill}
+use Rattle.rpm_tool.specs.Deeds.{Deeds, LogAnswer, RequestProgress, reaches_of, asked_reaches, blocks_cost}
+pub use Rattle.rpm_commit.specs.Lawful.{AreLawfulDatabases, IsLawfulDatabase, KeepsPackages, IsLawfulAndSame}
 pub use Rattle.rpm_group.specs.Settled.{KeepsLog}
 pub use Rattle.rpm_words.specs.declared.switch.Chosen.{Chosen}
 
 -- ---- an index that is ready
 
 -- the index is current, and holds the rows of the packages; a database that is blank needs none
-pub record HasIndex (pkg idx : Units) : Type 0 where
+pub record HasUsableIndex (pkg idx : Units) : Type 0 where
   pub value : Store
   pub undamaged : store pkg ≡ Ok value
   pub index : (value.pages ≡ 0) ⊎ ((is_current_at value.generation idx ≡ true) × HasRows (packages pkg value) idx)
 
 -- a database has its index, and nothing is left of a change
-pub record IsReady (files : Files) : Type 0 where
+pub record HasClosedIndex (files : Files) : Type 0 where
   pub closed : log_state files.log ≡ Closed
-  pub indexed : HasIndex files.pkg files.idx
+  pub indexed : HasUsableIndex files.pkg files.idx
 
 -- nothing is left of a change, and no index must be made, whatever the one that is there holds
 pub record IsAtRest (files : Files) : Type 0 where
@@ -64,21 +64,21 @@ pub lawful_usable : (pkg idx : Units) → IsLawful pkg idx → IsUsable pkg idx
 lawful_usable pkg idx (inl blank) = record { value = blank_store; undamaged = blank; index = λ current. inl refl }
 lawful_usable pkg idx (inr made) = record { value = made.0; undamaged = made.1; index = λ current. inr (made.2.rows_are current) }
 
--- files stand for a usable database: their log is closed, or a group that makes it of them
-pub record IsUsableGroup (files : Files) : Type 0 where
+-- files represent a usable database: their log is closed, or has a transaction that makes it of them
+pub record IsUsableDatabase (files : Files) : Type 0 where
   pub sound : IsSound (log_state files.log)
   pub usable : IsUsable (reopened files).pkg (reopened files).idx
 
 -- ---- the endings
 
 -- an index that has to be made may be too large, and then nothing is done
-abbrev pub WentBy : (Why → Outputs → Outputs → Type 0) → Why → Outputs → Outputs → Type 0
-WentBy Do (why.IndexFull needed) old new = Through [] old new
-WentBy Do others old new = Do others old new
+abbrev pub UnlessFull : (Why → Outputs → Outputs → Type 0) → Why → Outputs → Outputs → Type 0
+UnlessFull Do (why.IndexFull needed) old new = Through [] old new
+UnlessFull Do others old new = Do others old new
 
 -- a question is answered on a usable database; of any that can be read no damage is told
 abbrev pub OnUsable : Type 0 → Deeds → Deeds
-OnUsable Usable Do s given old new = (is_refusal given ≡ false) × (Usable → WentBy (Do s) given old new)
+OnUsable Usable Do s given old new = (is_refusal given ≡ false) × (Usable → UnlessFull (Do s) given old new)
 
 -- what is said where an index must be made, or needn't, that needs so many units
 abbrev pub FullByUnits : Bool → ℕ → Why → Type 0
@@ -89,8 +89,8 @@ FullByUnits making needed (why.BadLog unit) = Unit {0}
 FullByUnits making needed others = making ≡ true → needed ≤ 2 ^ 28
 
 -- the index is full exactly where it must be made and needs too many units; a malformed log, a fault of the disk or want of memory may come before
-abbrev pub FullIs : Files → Why → Type 0
-FullIs files given = FullByUnits (must_make files.idx (store files.pkg)) (units_needed files.pkg (store files.pkg)) given
+abbrev pub IndexFullIs : Files → Why → Type 0
+IndexFullIs files given = FullByUnits (must_make files.idx (store files.pkg)) (units_needed files.pkg (store files.pkg)) given
 
 -- what a malformed index is told with: of a query the fault of the chain of a key that is asked, of a report that of some key
 abbrev pub CauseBy : Deed → Chosen → List (List ℕ) → Units → Why → Type 0
@@ -132,9 +132,9 @@ keyed_cost files words a =
 -- ---- what is answered
 
 -- a database that is opened, on a disk that tells its contents: what is done, what is read, and what is blamed on the index
-pub record DoesOn {D : Type 0} (d : disk.Ghosts D) (deed : Deed) (tree : Tree) (db : Database) (words : List (List ℕ)) (a : AskParts) (given : Why)
+pub record OpenedAnswer {D : Type 0} (d : disk.Ghosts D) (deed : Deed) (tree : Tree) (db : Database) (words : List (List ℕ)) (a : AskParts) (given : Why)
     (before now : Outputs) (old new : D) : Type 0 where
-  pub went : IsTrue d.tells → HasIndexRows d old db → DoesBy deed tree (d.files old).pkg (room db) words a (λ for. pkg_read d new ≤ pkg_read d old
+  pub went : IsTrue d.tells → HasIndexRows d old db → RequestProgress deed tree (d.files old).pkg (room db) words a (λ for. pkg_read d new ≤ pkg_read d old
       + reached_by (reaches_of deed (is_indexed db) (packages_in d old db) words a) db for) given before now
   pub reads : always_keyed deed ≡ false → IsTrue d.tells → HasIndexRows d old db → pkg_read d new ≤ pkg_read d old
       + reach_sum (reaches_of deed (is_indexed db) (packages_in d old db) words a) db
@@ -142,29 +142,29 @@ pub record DoesOn {D : Type 0} (d : disk.Ghosts D) (deed : Deed) (tree : Tree) (
   pub looks : Peeks d (always_keyed deed || is_indexed db) old new
 
 -- a question by key is answered on these files, of whose Packages.db so many bytes were read before and then
-abbrev pub DidByKey : Tree → List (List ℕ) → AskParts → Files → ℕ → ℕ → Deeds
-DidByKey tree words a r before now s given old new =
-    DoesBy (deed_of a.mode) tree r.pkg s words a (λ for. now ≤ before + keyed_to r words a s for) given old new
+abbrev pub KeyedProgress : Tree → List (List ℕ) → AskParts → Files → ℕ → ℕ → Deeds
+KeyedProgress tree words a r before now s given old new =
+    RequestProgress (deed_of a.mode) tree r.pkg s words a (λ for. now ≤ before + keyed_to r words a s for) given old new
 
 -- what a question by key prints, reports and reads
-abbrev pub KeyedIs : Tree → List (List ℕ) → AskParts → Files → Why → Outputs → Outputs → ℕ → ℕ → Type 0
-KeyedIs tree words a files given old new before now =
+abbrev pub KeyedAnswer : Tree → List (List ℕ) → AskParts → Files → Why → Outputs → Outputs → ℕ → ℕ → Type 0
+KeyedAnswer tree words a files given old new before now =
     let r = reopened files in
-    Loaded (OnUsable (IsUsable r.pkg r.idx) (DidByKey tree words a r before now)) (store r.pkg) (log_state files.log) given old new
+    LogAnswer (OnUsable (IsUsable r.pkg r.idx) (KeyedProgress tree words a r before now)) (store r.pkg) (log_state files.log) given old new
 
 -- all that is said of it on a disk that tells its contents
 pub record AnswersByKey {D : Type 0} (d : disk.Ghosts D) (tree : Tree) (words : List (List ℕ)) (a : AskParts) (given : Why) (before now : Outputs)
     (old new : D) : Type 0 where
-  pub went : KeyedIs tree words a (d.files old) given before now (d.bytes_read old Pkg) (d.bytes_read new Pkg)
-  pub reads : is_query a.mode ≡ true → IsUsableGroup (d.files old)
+  pub went : KeyedAnswer tree words a (d.files old) given before now (d.bytes_read old Pkg) (d.bytes_read new Pkg)
+  pub reads : is_query a.mode ≡ true → IsUsableDatabase (d.files old)
       → d.bytes_read new Pkg ≤ d.bytes_read old Pkg + keyed_cost (reopened (d.files old)) words a
   pub kind : is_foreign given ≡ false
-  pub full : FullIs (reopened (d.files old)) given
+  pub full : IndexFullIs (reopened (d.files old)) given
   pub bad : BadIs words a (reopened (d.files old)) given
-  pub complete : IsUsableGroup (d.files old) → HasRoom (reopened (d.files old)) → is_done_or_outside given ≡ true
-  pub index : IsUsableGroup (d.files old) → is_done given ≡ true → IsReady (d.files new)
+  pub complete : IsUsableDatabase (d.files old) → HasRoom (reopened (d.files old)) → is_done_or_outside given ≡ true
+  pub index : IsUsableDatabase (d.files old) → is_done given ≡ true → HasClosedIndex (d.files new)
   pub packages : (reopened (d.files new)).pkg ≡ (reopened (d.files old)).pkg
   pub kept : KeepsLog (d.files old) (d.files new)
   pub still : IsAtRest (d.files old) → d.files new ≡ d.files old
   pub leaves : LeavesIn d old new (KeepsPackages (images d old))
-  pub stops : AreLawfulGroups (images d old) → LeavesIn d old new (StandsStill (images d old))
+  pub stops : AreLawfulDatabases (images d old) → LeavesIn d old new (IsLawfulAndSame (images d old))

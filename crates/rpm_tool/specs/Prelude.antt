@@ -12,6 +12,6 @@ pub use Rattle.rpm_print.specs.Frame.{DiskFault, IsAskable, Leaves, Looks, pkg_r
 pub use Rattle.rpm_effects.specs.Hands.{EndHands}
 pub use Rattle.rpm_effects.specs.Shown.{outs, shown}
 pub use Rattle.rpm_report.specs.Requirements.{why_of_report}
-pub use Rattle.rpm_tool.specs.Deeds.{DidPlain, Opened, Queried, query_cost}
-pub use Rattle.rpm_tool.specs.Keyed.{AnswersByKey, DoesOn}
+pub use Rattle.rpm_tool.specs.Deeds.{PlainProgress, StoreAnswer, PlainAnswer, query_cost}
+pub use Rattle.rpm_tool.specs.Keyed.{AnswersByKey, OpenedAnswer}
 pub use Rattle.rpm_tool.specs.Theorem.{Answers, AnswersWords, Causes, Laws, ran}

@@ -19,16 +19,15 @@ use Rattle.rpm_qfparse.specs.declared.fault.FormatFault.{FormatFault}
 use Rattle.rpm_qfparse.specs.declared.fault.FormatKind.TheVariants as wrong
 use Rattle.rpm_effects.specs.declared.answer.Why.TheVariants as why
 use Rattle.rpm_print.specs.Answers.{ComesWhere}
-use Rattle.rpm_effects.specs.Progress.{Anywhere}
-use Rattle.rpm_effects.specs.Answers.{CommandProgress}
 use Rattle.rpm_print.specs.Asked.{is_query, of_files, by_key, is_changing, asks_change, asks_format, asks}
-use Rattle.rpm_commit.specs.Changing.{DidOn, ChangesWith, EmptyBy}
+use Rattle.rpm_commit.specs.Changing.{ChangeProgressOn, ChangesWith, EmptyBy}
 use Rattle.rpm_effects.specs.Classes.{is_done, is_done_or_outside, is_foreign}
 use Rattle.rpm_print.specs.Texts.{Course, text_course, text_of}
-use Rattle.rpm_tool.specs.Deeds.{Outputs, Package, Queried, query_cost, reopened, State, steps_above, Tree, Why}
+use Rattle.rpm_tool.specs.Deeds.{Anywhere, CommandProgress, Outputs, Package, PlainAnswer, query_cost, reopened, State}
+use Rattle.rpm_tool.specs.Deeds.{steps_above, Tree, Why}
 use Rattle.rpm_print.specs.Frame.{images, pkg_read, Leaves, LeavesIn}
-use Rattle.rpm_tool.specs.Keyed.{AreLawfulGroups, Chosen, IsLawfulGroup, IsUsableGroup, KeepsLog, KeepsPackages, StandsStill}
-use Rattle.rpm_tool.specs.Keyed.{IsAtRest, IsReady, KeyedIs, FullIs, BadIs, HasRoom, keyed_cost}
+use Rattle.rpm_tool.specs.Keyed.{AreLawfulDatabases, Chosen, IsLawfulDatabase, IsUsableDatabase, KeepsLog, KeepsPackages, IsLawfulAndSame}
+use Rattle.rpm_tool.specs.Keyed.{IsAtRest, HasClosedIndex, KeyedAnswer, IndexFullIs, BadIs, HasRoom, keyed_cost}
 use Rattle.rpm_commit.specs.Limits.{LimitsBy, LogBy, FaultIs}
 use Rattle.rpm_query.specs.PackageFiles.{passing, query_files}
 use Rattle.rpm_query.specs.Queries.{picked, argument_part, query, query_of, AreOfEach, AreQuestions}
@@ -61,7 +60,7 @@ pub record AnswersWords (words : List (List ℕ)) (given : Why) : Type 0 where
 module _ {D S : Type 0} {d : disk.Ghosts D} {s : shelf.Ghosts S} where
   -- 2. PLAIN QUESTIONS ask no index. `mid` is what out and err took by the end, before the closing line.
   pub record AnswersPlain (r : Run d s) (a : AskParts) (tree : Tree) (mid : Outputs) : Type 0 where
-    pub went : Queried tree r.words a (d.files r.found) r.why r.before mid (pkg_read d r.found) (pkg_read d r.left)
+    pub went : PlainAnswer tree r.words a (d.files r.found) r.why r.before mid (pkg_read d r.found) (pkg_read d r.left)
     pub reads : pkg_read d r.left ≤ pkg_read d r.found + query_cost r.words a (reopened (d.files r.found)).pkg
 
   -- 3. PACKAGE FILES are queried with no call on the disk.
@@ -78,33 +77,33 @@ module _ {D S : Type 0} {d : disk.Ghosts D} {s : shelf.Ghosts S} where
   -- stays with the files beside it, and no other becomes malformed (`kept`). Where there is nothing to finish or to make, no file changes (`still`).
   -- A crash leaves the packages, and the log in the same way, whatever the index holds (`leaves`).
   pub record AnswersKeyed (r : Run d s) (a : AskParts) (tree : Tree) (mid : Outputs) : Type 0 where
-    pub went : KeyedIs tree r.words a (d.files r.found) r.why r.before mid (pkg_read d r.found) (pkg_read d r.left)
-    pub reads : is_query a.mode ≡ true → IsUsableGroup (d.files r.found)
+    pub went : KeyedAnswer tree r.words a (d.files r.found) r.why r.before mid (pkg_read d r.found) (pkg_read d r.left)
+    pub reads : is_query a.mode ≡ true → IsUsableDatabase (d.files r.found)
         → pkg_read d r.left ≤ pkg_read d r.found + keyed_cost (reopened (d.files r.found)) r.words a
     pub kind : is_foreign r.why ≡ false
-    pub full : FullIs (reopened (d.files r.found)) r.why
+    pub full : IndexFullIs (reopened (d.files r.found)) r.why
     pub bad : BadIs r.words a (reopened (d.files r.found)) r.why
-    pub complete : IsUsableGroup (d.files r.found) → HasRoom (reopened (d.files r.found)) → is_done_or_outside r.why ≡ true
-    pub index : IsUsableGroup (d.files r.found) → is_done r.why ≡ true → IsReady (d.files r.left)
+    pub complete : IsUsableDatabase (d.files r.found) → HasRoom (reopened (d.files r.found)) → is_done_or_outside r.why ≡ true
+    pub index : IsUsableDatabase (d.files r.found) → is_done r.why ≡ true → HasClosedIndex (d.files r.left)
     pub packages : (reopened (d.files r.left)).pkg ≡ (reopened (d.files r.found)).pkg
     pub kept : KeepsLog (d.files r.found) (d.files r.left)
     pub still : IsAtRest (d.files r.found) → d.files r.left ≡ d.files r.found
     pub leaves : LeavesIn d r.found r.left (KeepsPackages (images d r.found))
-    pub stops : AreLawfulGroups (images d r.found) → LeavesIn d r.found r.left (StandsStill (images d r.found))
+    pub stops : AreLawfulDatabases (images d r.found) → LeavesIn d r.found r.left (IsLawfulAndSame (images d r.found))
 
-  -- 6. CHANGES of a command are one group: all made and counted, or none; each ending leaves `ChangesWith`.
+  -- 6. CHANGES of a command are one transaction: all made and counted, or none; each ending leaves `ChangesWith`.
   pub record AnswersChange (r : Run d s) (a : AskParts) (course : State → Course) (mid : Outputs) : Type 0 where
-    pub did : DidOn course (d.files r.found) r.why r.before mid
+    pub did : ChangeProgressOn course (d.files r.found) r.why r.before mid
     pub changed : ChangesWith d (is_anew (asked_task r.words a)) (changes_index (asked_task r.words a)) course
         r.why r.changes r.found r.left
-    pub limits : LimitsBy (is_anew (asked_task r.words a)) (IsLawfulGroup (d.files r.found)) course
+    pub limits : LimitsBy (is_anew (asked_task r.words a)) (IsLawfulDatabase (d.files r.found)) course
         (reopened (d.files r.found)) r.why
     pub fault : FaultIs d (is_anew (asked_task r.words a)) course r.why r.found r.left r.before mid
-    pub log : LogBy (is_anew (asked_task r.words a)) (IsLawfulGroup (d.files r.found)) course
+    pub log : LogBy (is_anew (asked_task r.words a)) (IsLawfulDatabase (d.files r.found)) course
         (reopened (d.files r.found)) r.why
 
   -- What is done for a command that was read, by its kind.
-  pub record Does (r : Run d s) (a : AskParts) (tree : Tree) (mid : Outputs) : Type 0 where
+  pub record AnswersCommand (r : Run d s) (a : AskParts) (tree : Tree) (mid : Outputs) : Type 0 where
     pub plain : of_files a ≡ false → by_key a ≡ false → is_changing a ≡ false → text_of a.mode ≡ None
         → IsTrue d.tells → AnswersPlain r a tree mid
     pub files : of_files a ≡ true → AnswersOfFiles r a tree mid
@@ -120,7 +119,7 @@ module _ {D S : Type 0} {d : disk.Ghosts D} {s : shelf.Ghosts S} where
 
   -- What `run` answers for all words.
   pub record Answers (r : Run d s) (mid : Outputs) : Type 0 where
-    pub asked : (a : AskParts) (tree : Tree) → asks r.words ≡ Some (a, tree) → Does r a tree mid
+    pub asked : (a : AskParts) (tree : Tree) → asks r.words ≡ Some (a, tree) → AnswersCommand r a tree mid
     pub unasked : asks r.words ≡ None → mid ≡ r.before
     pub idle : asks_change r.words ≡ false → r.changes ≡ 0
     pub counted : is_done r.why ≡ false → r.changes ≡ 0

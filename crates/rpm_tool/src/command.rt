@@ -57,7 +57,7 @@ fn command<D: Disk, S: Shelf, O: Sink + Drop, E: Sink + Drop>(
 
 /// Does what a command line asks for, to a database or with package files, and writes the line that closes it.
 ///
-/// The disk is handed back beside every outcome. Queries leave what its files stand for, the index aside, and so do
+/// The disk is handed back beside every outcome. Queries leave what its files represent, the index aside, and so do
 /// the reports, `--exportdb` and `--verifydb`. The words are read first, by the rules of [`read`](rpm_words::read).
 /// Where they break one, the answer is `Usage` with the first that is broken. Then the format is read, by the rules
 /// of [`parse`](rpm_qfparse::parse): F, the list of files, or `%{NVRA}\n`. Where it has a fault, the answer is

@@ -1,7 +1,7 @@
 //! `AnswersPlain` and `AnswersKeyed` of the theorem: what a command does with a database that was opened.
 
 ghost use Rattle.std.specs.Prelude.{◌≡◌, [], false, Err, IfErr};
-ghost use Rattle.rpm_tool.specs.Prelude.{deed_of, DiskFault, DoesOn, EndHands, is_foreign, is_of_opening, IsAskable, IsOfPrint, shown, why_of_report};
+ghost use Rattle.rpm_tool.specs.Prelude.{deed_of, DiskFault, OpenedAnswer, EndHands, is_foreign, is_of_opening, IsAskable, IsOfPrint, shown, why_of_report};
 
 use rpm_db::Db;
 use rpm_effects::{Halt, Why};
@@ -45,7 +45,7 @@ pub fn answer_opened<D: Disk, O: Sink + Drop, E: Sink + Drop>(
 ) -> Why
     requires asked { IsAskable D.Disk disk.old db.now }
     requires deed { deed ≡ deed_of ask.now.mode }
-    ensures does { DoesOn D.Disk (deed_of ask.now.mode) format.now db.now words.now ask.now result
+    ensures does { OpenedAnswer D.Disk (deed_of ask.now.mode) format.now db.now words.now ask.now result
         (shown O.Sink E.Sink out.old err.old) (shown O.Sink E.Sink out.new err.new) disk.old disk.new }
     ensures done { is_foreign result ≡ false }
     ensures opened { is_of_opening result ≡ false }

@@ -1,7 +1,7 @@
 //! `AnswersPlain` of the theorem: commands on a database as it reads when an open log is gone through.
 
 ghost use Rattle.std.specs.Prelude.{◌≡◌, ◌+◌, ◌≤◌, [], false, IsTrue};
-ghost use Rattle.rpm_tool.specs.Prelude.{always_keyed, deed_of, DiskFault, EndHands, is_foreign, Leaves, pkg_read, Queried, query_cost, reopened, shown};
+ghost use Rattle.rpm_tool.specs.Prelude.{always_keyed, deed_of, DiskFault, EndHands, is_foreign, Leaves, pkg_read, PlainAnswer, query_cost, reopened, shown};
 
 use crate::unindexed::answer_unindexed;
 use rpm_effects::{Why, unless_starved, why_of_load};
@@ -12,7 +12,7 @@ use rpm_qfparse::Format;
 use rpm_words::{Ask, Words};
 use std::alloc::Global;
 
-/// Does what the words ask for on the files that the disk's files stand for, and hands the disk back as it was.
+/// Does what the words ask for on the files that the disk's files represent, and hands the disk back as it was.
 pub fn answer_loaded<D: Disk, O: Sink + Drop, E: Sink + Drop>(
     alloc: Global,
     disk: D,
@@ -25,7 +25,7 @@ pub fn answer_loaded<D: Disk, O: Sink + Drop, E: Sink + Drop>(
 ) -> (Why, D)
     requires deed { deed ≡ deed_of ask.now.mode }
     requires plain { always_keyed (deed_of ask.now.mode) ≡ false }
-    ensures went { IsTrue D.tells → Queried format.now words.now ask.now (D.files disk) result.0
+    ensures went { IsTrue D.tells → PlainAnswer format.now words.now ask.now (D.files disk) result.0
         (shown O.Sink E.Sink out.old err.old) (shown O.Sink E.Sink out.new err.new) (pkg_read D.Disk disk)
         (pkg_read D.Disk result.1) }
     ensures reads { IsTrue D.tells → pkg_read D.Disk result.1 ≤ pkg_read D.Disk disk + query_cost words.now ask.now (reopened (D.files disk)).pkg }

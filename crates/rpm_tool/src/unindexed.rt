@@ -1,7 +1,7 @@
 //! `AnswersPlain` of the theorem: the commands that open the database without its index.
 
 ghost use Rattle.std.specs.Prelude.{◌≡◌, ◌+◌, ◌≤◌, ℕ, [], false, IsTrue};
-ghost use Rattle.rpm_tool.specs.Prelude.{always_keyed, deed_of, DidPlain, DiskFault, EndHands, is_foreign, Looks, Opened, Pkg, pkg_read, query_cost, shown, store};
+ghost use Rattle.rpm_tool.specs.Prelude.{always_keyed, deed_of, PlainProgress, DiskFault, EndHands, is_foreign, Looks, StoreAnswer, Pkg, pkg_read, query_cost, shown, store};
 
 use crate::dispatch::answer_opened;
 use rpm_db::{Db, DbOpenFault};
@@ -27,7 +27,7 @@ pub fn answer_unindexed<D: Disk, O: Sink + Drop, E: Sink + Drop>(
 ) -> Why
     requires deed { deed ≡ deed_of ask.now.mode }
     requires plain { always_keyed (deed_of ask.now.mode) ≡ false }
-    ensures went { IsTrue D.tells → Opened (DidPlain format.now words.now ask.now (D.files disk.old).pkg
+    ensures went { IsTrue D.tells → StoreAnswer (PlainProgress format.now words.now ask.now (D.files disk.old).pkg
         (pkg_read D.Disk disk.old) (pkg_read D.Disk disk.new)) (store (D.files disk.old).pkg) result
         (shown O.Sink E.Sink out.old err.old) (shown O.Sink E.Sink out.new err.new) }
     ensures reads { IsTrue D.tells → pkg_read D.Disk disk.new ≤ pkg_read D.Disk disk.old + query_cost words.now ask.now (D.files disk.old).pkg }

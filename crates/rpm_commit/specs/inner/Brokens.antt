@@ -6,7 +6,7 @@ use Rattle.rpm_db.specs.Lawful.{IsWholeIndex}
 use Rattle.rpm_db.specs.Openings.{IsOpened, must_make}
 use Rattle.rpm_outside.specs.Files.{Files, Units}
 use Rattle.rpm_pkgdb.specs.declared.slot.Damage.{Damage}
-use Rattle.rpm_commit.specs.Changing.{IsBroken}
+use Rattle.rpm_commit.specs.Changing.{HasBrokenIndex}
 use Rattle.rpm_commit.specs.Working.{done_why, OpensBy}
 use Rattle.rpm_change.specs.Went.{BadTurn, IsBlamed, WholeTurn}
 use Rattle.rpm_db.specs.Frame.{room}
@@ -39,7 +39,7 @@ by_bool false holds fails = fails refl
 
 -- an index that isn't well formed after the opening was neither made there nor at first
 pub open_broken : (old mid new : Files) (db : Database) → IsOpened old mid (Ok db) → ((is_blank db ≡ false → IsWholeIndex mid.idx) → IsWholeIndex new.idx)
-    → ¬ IsWholeIndex new.idx → IsBroken old.pkg old.idx
+    → ¬ IsWholeIndex new.idx → HasBrokenIndex old.pkg old.idx
 open_broken old mid new db opened goes broken =
     by_bool (must_make old.idx (store old.pkg)) (λ making. absurd (broken (goes (λ some. (opened.made making).rows_are.whole))))
     (λ making. by_bool (is_blank db) (λ blank. absurd (broken (goes (λ some. absurd (let wrong : true ≡ false = sym blank ∙ some in cc)))))

@@ -5,7 +5,7 @@ use Rattle.rpm_db.specs.State.{State}
 use Rattle.rpm_outside.specs.Files.{Files}
 use Rattle.rpm_effects.specs.Classes.{is_done, IsUncommitted}
 use Rattle.rpm_effects.specs.Endings.{unless_starved}
-use Rattle.rpm_commit.specs.Working.{done_why, EndsAs, OpensIn}
+use Rattle.rpm_commit.specs.Working.{done_why, TransactionCount, OpensIn}
 use Rattle.rpm_effects.specs.declared.answer.Why.{Why}
 use Rattle.rpm_effects.specs.declared.answer.Why.TheVariants as why
 
@@ -20,10 +20,10 @@ by_uncommitted P full fault memory why.DiskFault un = fault
 by_uncommitted P full fault memory why.NoMemory un = memory
 by_uncommitted P full fault memory others un = absurd cc
 
--- how a group ends: committed, not committed, or stopped before, where want of memory may be told in place of a fault of the disk
+-- how a transaction ends: committed, not committed, or stopped before, where want of memory may be told in place of a fault of the disk
 pub by_ends : (P : Result Tally Why → Why → ℕ → Type 0) → ((tally : Tally) → P (Ok tally) (done_why tally.failed) tally.changes)
     → ((tally : Tally) (w : Why) → IsUncommitted w → P (Ok tally) w 0) → ((w : Why) → P (Err w) w 0) → P (Err why.DiskFault) why.NoMemory 0
-    → (ended : Result Tally Why) (given : Why) (n : ℕ) → EndsAs ended given n → P ended given n
+    → (ended : Result Tally Why) (given : Why) (n : ℕ) → TransactionCount ended given n → P ended given n
 by_ends P done un stopped starved (Ok tally) given n (inl both) = rw (both.0, both.1) (done tally)
 by_ends P done un stopped starved (Ok tally) given n (inr both) = rw both.0 (un tally given both.1)
 by_ends P done un stopped starved (Err was) given n (none, inl same) = rw (none, same) (stopped was)

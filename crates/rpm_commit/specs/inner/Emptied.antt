@@ -11,7 +11,7 @@ use Rattle.rpm_exercise.specs.declared.running.ExerciseFault.TheVariants.{Halted
 use Rattle.rpm_outside.specs.Files.{Files, Units}
 use Rattle.rpm_pkgdb.specs.declared.slot.Damage.{Damage}
 use Rattle.rpm_commit.specs.Changing.{EmptyBy, EmptyIs, EmptyOn}
-use Rattle.rpm_commit.specs.Working.{done_why, EndsAs, OpensBy, OpensIn, why_of, why_of_exercise}
+use Rattle.rpm_commit.specs.Working.{done_why, TransactionCount, OpensBy, OpensIn, why_of, why_of_exercise}
 use Rattle.rpm_commit.specs.OneChange.{FoundAs}
 use Rattle.rpm_db.specs.Frame.{room}
 use Rattle.rpm_db.specs.Openings.{must_make, units_needed}
@@ -51,8 +51,8 @@ pub memory_empty : (asks : Bool) (files : Files) → EmptyBy asks files why.NoMe
 memory_empty true files = if_ok (store files.pkg) (λ value is. tt)
 memory_empty false files = refl
 
--- how the group ends: a log that is full is told of one that was done
-pub group_empty : (asks : Bool) (files : Files) (ended : Result Tally Why) (given : Why) (n : ℕ) → EndsAs ended given n → EmptyBy asks files (why_of ended)
+-- how the transaction ends: a log that is full is told of one that was done
+pub group_empty : (asks : Bool) (files : Files) (ended : Result Tally Why) (given : Why) (n : ℕ) → TransactionCount ended given n → EmptyBy asks files (why_of ended)
     → EmptyBy asks files given
 group_empty asks files = by_ends (λ ended given n. EmptyBy asks files (why_of ended) → EmptyBy asks files given) (λ tally empty. empty)
     (λ tally. by_uncommitted (λ (w : Why). EmptyBy asks files (done_why tally.failed) → EmptyBy asks files w)

@@ -15,7 +15,7 @@ use Rattle.rpm_change.specs.inner.LimitLaws.{makes_large, makes_small, never_bad
 use Rattle.rpm_db.specs.Openings.{must_make}
 use Rattle.rpm_db.specs.Rows.{rows}
 use Rattle.rpm_db.specs.State.{State, state}
-use Rattle.rpm_commit.specs.Changing.{makes}
+use Rattle.rpm_commit.specs.Changing.{is_rebuilt}
 use Rattle.rpm_effects.specs.declared.tally.Tally.{Tally}
 use Rattle.rpm_hindex.specs.Sizes.{units_for}
 use Rattle.rpm_pkgdb.specs.Store.{Store, store}
@@ -35,7 +35,7 @@ large_command true made s v changes told is more same asked =
     ap (λ (b : Bool). first_limit b s v changes) is ∙ makes_large s v changes told more same
 
 -- an index that must be made is made
-more_makes : (anew : Bool) (idx : Units) (s : Store) → must_make idx (Ok s) ≡ true → makes anew idx s ≡ true
+more_makes : (anew : Bool) (idx : Units) (s : Store) → must_make idx (Ok s) ≡ true → is_rebuilt anew idx s ≡ true
 more_makes true idx s must = refl
 more_makes false idx s must = must
 
@@ -50,7 +50,7 @@ module _ (indexed made making : Bool) (more : making ≡ true → made ≡ true)
 pub limits_unopened : (indexed anew : Bool) (course : State → Course) (old new : Files) (w : Why) → OpensBy old (store old.pkg) new (Err w)
     → LimitsOn indexed anew course old w
 limits_unopened indexed anew course old new w opens = if_ok (store old.pkg)
-    (λ s is. limits_in indexed (makes anew old.idx s) (must_make old.idx (Ok s)) (more_makes anew old.idx s) (state old.pkg s) (begun s)
+    (λ s is. limits_in indexed (is_rebuilt anew old.idx s) (must_make old.idx (Ok s)) (more_makes anew old.idx s) (state old.pkg s) (begun s)
     (course (state old.pkg s)).changes (state old.pkg s) new w (subst (λ (sr : Result Store Damage). OpensBy old sr new (Err w)) is opens))
 
 -- ---- stopped later, or done

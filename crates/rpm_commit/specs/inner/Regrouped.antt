@@ -1,4 +1,4 @@
--- What a crash leaves meanwhile of a disk that stands for what it stood for.
+-- What a crash leaves meanwhile of a disk that represents what it represented.
 use Rattle.std.proofs.Common.{◌≡◌, ℕ, ◌^◌, ◌≤◌, Bool, true, false, Ok, sym, ap, subst, inl, arith}
 use Rattle.rpm_outside.specs.declared.disk.Disk as disk
 use Rattle.rpm_db.specs.Lawful.{IsLawful}
@@ -9,8 +9,8 @@ use Rattle.rpm_outside.specs.Files.{Files, Units}
 use Rattle.rpm_outside.specs.Frame.{images, LeavesIn}
 use Rattle.rpm_outside.specs.Logs.{LogState}
 use Rattle.rpm_outside.specs.inner.Moments.{leaves_weaker}
-use Rattle.rpm_commit.specs.Changing.{AllFit, RowsFit, StandsStillOr}
-use Rattle.rpm_commit.specs.Lawful.{AreLawfulGroups, KeepsPackages, StandsStill}
+use Rattle.rpm_commit.specs.Changing.{AllRowsFit, RowsFit, IsLawfulAndSameOr}
+use Rattle.rpm_commit.specs.Lawful.{AreLawfulDatabases, KeepsPackages, IsLawfulAndSame}
 use Rattle.rpm_db.specs.Openings.{units_needed}
 use Rattle.rpm_db.specs.State.{State}
 use Rattle.rpm_pkgdb.specs.Store.{store}
@@ -20,12 +20,12 @@ pub recovered_sound : (log : LogState) (finished : Bool) → RecoverSays log (Ok
 recovered_sound log true says = subst IsSound (sym says) tt
 recovered_sound log false says = subst IsSound (sym says) tt
 
--- an image that stands for what one of these stands for keeps its packages
+-- an image that represents what one of these represents keeps its packages
 pub recovered_packages : (images : Files → Type 0) (image : Files) → ReopensAsOneOf images image → KeepsPackages images image
 recovered_packages images image (from, was, stands) = record { from = from; was = was; pkg = ap (λ (f : Files). f.pkg) stands.same; log = stands.log }
 
--- an image stands still that stands for what one of these stands for
-pub recovered_still : (images : Files → Type 0) → AreLawfulGroups images → (image : Files) → ReopensAsOneOf images image → StandsStill images image
+-- an image is lawful and keeps its packages where it represents what one of these represents
+pub recovered_still : (images : Files → Type 0) → AreLawfulDatabases images → (image : Files) → ReopensAsOneOf images image → IsLawfulAndSame images image
 recovered_still images lawful image (from, was, stands) = record {
   from = from;
   was = was;
@@ -36,11 +36,11 @@ recovered_still images lawful image (from, was, stands) = record {
   };
 }
 
--- the rows of one that stands still fit where those of each do
-pub still_fits : (images : Files → Type 0) → AllFit images → (image : Files) → StandsStill images image → RowsFit image
+-- the rows of one that is lawful and keeps its packages fit where those of each do
+pub still_fits : (images : Files → Type 0) → AllRowsFit images → (image : Files) → IsLawfulAndSame images image → RowsFit image
 still_fits images fit image still = subst (λ (pkg : Units). units_needed pkg (store pkg) ≤ 2 ^ 28) (sym still.pkg) (fit still.from still.was)
 
-pub recovered_fits : (images : Files → Type 0) → AllFit images → (image : Files) → ReopensAsOneOf images image → RowsFit image
+pub recovered_fits : (images : Files → Type 0) → AllRowsFit images → (image : Files) → ReopensAsOneOf images image → RowsFit image
 recovered_fits images fit image (from, was, stands) =
     subst (λ (f : Files). units_needed f.pkg (store f.pkg) ≤ 2 ^ 28) (sym stands.same) (fit from was)
 
@@ -58,13 +58,13 @@ module _ {D : Type 0} (d : disk.Ghosts D) (old mid : D) where
     pub recovering_packages : LeavesIn d old mid (KeepsPackages (images d old))
     recovering_packages = leaves_weaker d old mid (ReopensAsOneOf (images d old)) (KeepsPackages (images d old)) (recovered_packages (images d old)) run
 
-    pub recovering_still : AreLawfulGroups (images d old) → LeavesIn d old mid (StandsStill (images d old))
-    recovering_still lawful = leaves_weaker d old mid (ReopensAsOneOf (images d old)) (StandsStill (images d old))
+    pub recovering_still : AreLawfulDatabases (images d old) → LeavesIn d old mid (IsLawfulAndSame (images d old))
+    recovering_still lawful = leaves_weaker d old mid (ReopensAsOneOf (images d old)) (IsLawfulAndSame (images d old))
         (recovered_still (images d old) lawful) run
 
-    pub recovering : AreLawfulGroups (images d old) → (s : State) → LeavesIn d old mid (StandsStillOr (images d old) s)
-    recovering lawful s = leaves_weaker d old mid (StandsStill (images d old)) (StandsStillOr (images d old) s)
+    pub recovering : AreLawfulDatabases (images d old) → (s : State) → LeavesIn d old mid (IsLawfulAndSameOr (images d old) s)
+    recovering lawful s = leaves_weaker d old mid (IsLawfulAndSame (images d old)) (IsLawfulAndSameOr (images d old) s)
         (λ image still. inl still) (recovering_still lawful)
 
-    pub recovering_fits : AllFit (images d old) → LeavesIn d old mid RowsFit
+    pub recovering_fits : AllRowsFit (images d old) → LeavesIn d old mid RowsFit
     recovering_fits fit = leaves_weaker d old mid (ReopensAsOneOf (images d old)) RowsFit (recovered_fits (images d old) fit) run

@@ -1,4 +1,4 @@
--- What holds of a result or a part of it, and images that stand for lawful files.
+-- What holds of a result or a part of it, and images that represent lawful files.
 use Rattle.std.proofs.Common.{◌≡◌, Bool, true, false, eqb, Result, Ok, Err, refl, sym, ap, subst, inl, inr, arith}
 use Rattle.std.specs.Prelude.{IfOk}
 use Rattle.std.proofs.lemmas.Bool.{and_parts, eqb-true}
@@ -9,7 +9,7 @@ use Rattle.rpm_outside.specs.Files.{Files, unit_at, Units}
 use Rattle.rpm_outside.specs.Logs.{Closed, log_state, LogState, reopened, unlogged, with_state}
 use Rattle.rpm_pkgdb.specs.Store.{blank_store, Store, store}
 use Rattle.rpm_commit.specs.Changing.{HasCurrent}
-use Rattle.rpm_commit.specs.Lawful.{IsLawfulGroup, MayBegin}
+use Rattle.rpm_commit.specs.Lawful.{IsLawfulDatabase, MayBegin}
 use Rattle.rpm_group.specs.Settled.{ReopensAs}
 
 pub if_ok : {T E : Type 0} {P : T → Type 0} (x : Result T E) → ((t : T) → x ≡ Ok t → P t) → IfOk x P
@@ -31,7 +31,7 @@ pub may_begin : {A B : Type 0} (anew : Bool) → (A → B) → MayBegin anew A �
 may_begin true f may = tt
 may_begin false f may = f may
 
--- files with a closed log stand for themselves
+-- files with a closed log represent themselves
 pub shut_stands : (files : Files) → log_state files.log ≡ Closed → reopened files ≡ unlogged files
 shut_stands files closed = ap (λ (l : LogState). with_state l (unlogged files)) closed
 
@@ -54,13 +54,13 @@ pub lawful_store : (pkg idx : Units) → IsLawful pkg idx → (s : Store) × (st
 lawful_store pkg idx (inl blank) = (blank_store, blank)
 lawful_store pkg idx (inr made) = (made.0, made.1)
 
--- an image that stands for lawful files
-pub stands_lawful : (files image : Files) → ReopensAs files image → IsLawful files.pkg files.idx → IsLawfulGroup image
+-- an image that represents lawful files
+pub stands_lawful : (files image : Files) → ReopensAs files image → IsLawful files.pkg files.idx → IsLawfulDatabase image
 stands_lawful files image stands lawful = record {
   sound = stands.sound;
   lawful = subst (λ (f : Files). IsLawful f.pkg f.idx) (sym stands.same) lawful;
 }
 
 -- files with a closed log are, where they are lawful
-pub shut_lawful : (files : Files) → log_state files.log ≡ Closed → IsLawful files.pkg files.idx → IsLawfulGroup files
+pub shut_lawful : (files : Files) → log_state files.log ≡ Closed → IsLawful files.pkg files.idx → IsLawfulDatabase files
 shut_lawful files closed = stands_lawful (unlogged files) files (record { same = shut_stands files closed; sound = subst IsSound (sym closed) tt })

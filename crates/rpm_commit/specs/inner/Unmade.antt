@@ -6,12 +6,12 @@ use Rattle.rpm_outside.specs.Files.{Files}
 use Rattle.rpm_outside.specs.Frame.{images, LeavesIn}
 use Rattle.rpm_outside.specs.Logs.{Closed, log_state, LogState, Malformed, reopened}
 use Rattle.rpm_pkgdb.specs.declared.slot.Damage.{Damage}
-use Rattle.rpm_commit.specs.Changing.{after, BadBy, Did, DidLoaded, DidOn, HasChanges, IsAllOrNone}
+use Rattle.rpm_commit.specs.Changing.{after, BadBy, ChangeProgress, ChangeProgressOnLog, ChangeProgressOn, HasChanges, IsAllOrNone}
 use Rattle.rpm_effects.specs.Classes.{is_done, is_of_lawful}
 use Rattle.rpm_commit.specs.Tasks.{changes_index, is_anew, TaskParts}
 use Rattle.rpm_group.specs.Loads.{IsSound, LoadSays}
 use Rattle.rpm_group.specs.declared.load.LoadFault.{LoadFault}
-use Rattle.rpm_commit.specs.Lawful.{IsLawfulGroup}
+use Rattle.rpm_commit.specs.Lawful.{IsLawfulDatabase}
 use Rattle.rpm_commit.specs.Limits.{LimitsBy, LogBy, OneChange}
 use Rattle.rpm_effects.specs.Progress.{Outputs, Through}
 use Rattle.rpm_effects.specs.inner.Courses.{none_gone}
@@ -54,8 +54,8 @@ early_load log shut closed (load.BadLog unit) says = absurd (let wrong : Closed 
 early_load log shut closed others says = tt
 
 module _ (course : Store → Course) (x : Outputs) where
-  early_any : (w : Why) → ((c : Course) → Did c w x x) → ((e : Damage) → Refused e w) → ((unit : ℕ) → Misread unit w) → (l : LogState)
-      (sr : Result Store Damage) → DidLoaded course sr l w x x
+  early_any : (w : Why) → ((c : Course) → ChangeProgress c w x x) → ((e : Damage) → Refused e w) → ((unit : ℕ) → Misread unit w) → (l : LogState)
+      (sr : Result Store Damage) → ChangeProgressOnLog course sr l w x x
   early_any w did refused misread (Malformed unit) sr = (misread unit, through_none x)
   early_any w did refused misread others (Ok s) = did (course s)
   early_any w did refused misread others (Err e) = (refused e, through_none x)
@@ -69,14 +69,14 @@ module _ {D : Type 0} (d : disk.Ghosts D) (task : TaskParts) (course : State →
   r = reopened (d.files old)
 
   abbrev Lawful : Type 0
-  Lawful = IsLawfulGroup (d.files old)
+  Lawful = IsLawfulDatabase (d.files old)
 
   unmade_images : (w : Why) → LeavesIn d old new
       (IsAllOrNone (images d old) w (HasChanges (is_anew task) Lawful course r))
   unmade_images w = leaves_weaker d old new (ReopensAsOneOf (images d old)) (IsAllOrNone (images d old) w (HasChanges (is_anew task) Lawful course r))
       (λ image stood. inl stood) run
 
-  pub still_one : (w : Why) (before now : Outputs) → (is_done w ≡ true → ⊥) → DidOn course (d.files old) w before now
+  pub still_one : (w : Why) (before now : Outputs) → (is_done w ≡ true → ⊥) → ChangeProgressOn course (d.files old) w before now
       → BadBy (changes_index task) r.pkg r.idx w → (Lawful → is_of_lawful w ≡ true) → LimitsBy (is_anew task) Lawful course r w
       → LogBy (is_anew task) Lawful course r w → OneChange d task course w 0 old new before now
   still_one w before now undone did bad complete limits log = record {
@@ -107,7 +107,7 @@ module _ {D : Type 0} (d : disk.Ghosts D) (task : TaskParts) (course : State →
 
   pub unmade_one : (x : Outputs) (w : Why) → IsEarly (log_state (d.files old).log) w → OneChange d task course w 0 old new x x
   unmade_one x (why.BadLog unit) is = still_one (why.BadLog unit) x x (λ done. cc)
-      (subst (λ (l : LogState). DidLoaded (λ s. course (state r.pkg s)) (store r.pkg) l (why.BadLog unit) x x) (sym is) (refl, through_none x))
+      (subst (λ (l : LogState). ChangeProgressOnLog (λ s. course (state r.pkg s)) (store r.pkg) l (why.BadLog unit) x x) (sym is) (refl, through_none x))
       (λ u bad. absurd cc) (λ lawful. absurd (subst IsSound is lawful.sound)) (λ indexed may. if_ok (store r.pkg) (λ s stored. tt)) (λ indexed may. tt)
   unmade_one x why.DiskFault is = still_one why.DiskFault x x (λ done. cc)
       (early_any (λ s. course (state r.pkg s)) x why.DiskFault (λ c. none_gone c x x (through_none x)) (λ e. tt) (λ unit. tt)

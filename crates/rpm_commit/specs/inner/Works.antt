@@ -17,8 +17,8 @@ use Rattle.rpm_db.specs.Frame.{room}
 use Rattle.rpm_db.specs.Openings.{must_make, units_needed}
 use Rattle.rpm_db.specs.Rows.{rows}
 use Rattle.rpm_db.specs.State.{packages, State, state}
-use Rattle.rpm_commit.specs.Changing.{makes}
-use Rattle.rpm_commit.specs.Working.{OpensBy, Stopped, WorkedBy, WorkedOn}
+use Rattle.rpm_commit.specs.Changing.{is_rebuilt}
+use Rattle.rpm_commit.specs.Working.{OpensBy, UncommittedProgress, WorkBy, WorkOnStore}
 use Rattle.rpm_effects.specs.declared.tally.Tally.{Tally}
 use Rattle.rpm_hindex.specs.Sizes.{units_for}
 use Rattle.rpm_effects.specs.Endings.{why_of_halt}
@@ -32,7 +32,7 @@ pub state-in_file : (file : Units) (value : Store) → state file (in_file value
 unfolding packages blobs
 state-in_file file value = refl
 
-pub halt_stopped : (c : Course) (s t : State) (h : Halt) (before now : Outputs) → CourseProgress c s t (Err h) before now → Stopped c (why_of_halt h) before now
+pub halt_stopped : (c : Course) (s t : State) (h : Halt) (before now : Outputs) → CourseProgress c s t (Err h) before now → UncommittedProgress c (why_of_halt h) before now
 halt_stopped c s t halt.NumbersSpent before now ended = ended
 halt_stopped c s t others before now ended = ended
 
@@ -54,14 +54,14 @@ module _ (old mid : Files) (db : Database) (opens : OpensBy old (store old.pkg) 
       (at_found (P is.value) holds)
 
   pub worked_by : (course : State → Course) (new : Files) (ended : Result Tally Why) (before now : Outputs)
-      → WorkedOn (course found) found new ended before now → WorkedBy course old.pkg (store old.pkg) new ended before now
-  worked_by course new ended before now worked = subst (λ (sr : Result Store Damage). WorkedBy course old.pkg sr new ended before now)
-      (sym is.undamaged) (at_found (λ s v. WorkedOn (course s) s new ended before now) worked)
+      → WorkOnStore (course found) found new ended before now → WorkBy course old.pkg (store old.pkg) new ended before now
+  worked_by course new ended before now worked = subst (λ (sr : Result Store Damage). WorkBy course old.pkg sr new ended before now)
+      (sym is.undamaged) (at_found (λ s v. WorkOnStore (course s) s new ended before now) worked)
 
   -- of a command that makes no index anew: where opening made one it had room
   pub plain_stops : (indexed : Bool) (course : State → Course) (r : Result Tally Halt)
       → StopsAt indexed (first_refusal indexed found (room db) (course found).changes) r
-      → StopsAt indexed (command_limit indexed (makes false old.idx is.value) found (room db) (course found).changes) r
+      → StopsAt indexed (command_limit indexed (is_rebuilt false old.idx is.value) found (room db) (course found).changes) r
   plain_stops indexed course r stops = subst (λ (first : Option Halt). StopsAt indexed first r)
-      (sym (small_command indexed (makes false old.idx is.value) found (room db) (course found).changes
+      (sym (small_command indexed (is_rebuilt false old.idx is.value) found (room db) (course found).changes
       (λ made. subst (λ (s : State). units_for (rows s.packages) ≤ 2 ^ 28) (sym opened.0) (opened.1 made)))) stops

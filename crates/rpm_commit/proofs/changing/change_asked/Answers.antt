@@ -4,7 +4,7 @@ use Rattle.rpm_commit.proofs.Vocabulary.{asked_task, changes_index, Course, Empt
 use Rattle.rpm_commit.proofs.Vocabulary.{KeepsLog, log_state, needs_none, OneChange, overlay_below, overlay_held, overlay_read, overlay_starved, reads_shelf}
 use Rattle.rpm_commit.proofs.Vocabulary.{recovered_kept, reopened, same_kept}
 use Rattle.rpm_commit.proofs.Vocabulary.{ReopensAsOneOf, Rose, shown, State, task_course, task_parts, TaskParts, unlogged, why_of, why_of_load, why_of_recover}
-use Rattle.rpm_commit.proofs.Vocabulary.{with_file, WorkedWith}
+use Rattle.rpm_commit.proofs.Vocabulary.{with_file, Work}
 use Rattle.rpm_effects.specs.declared.answer.Why.TheVariants as why
 use Rattle.rpm_commit.specs.inner.Emptied.{group_empty, same_empty}
 use Rattle.rpm_commit.proofs.Ends.{below_same, below_run}
@@ -20,7 +20,7 @@ returns-in-Ok-load-clause-one g c = λ told shelf.
     let first = c.recover.new.disk in
     let end = c.change_on-ended.new.disk in
     let last = overlay_below end in
-    let final = c.end_group.result.1 in
+    let final = c.end_transaction.result.1 in
     let new = laid_files (overlay_held end) (D.files last) in
     let log = (D.files first).log in
     let recovered = c.in-Ok-recover.ensures in
@@ -28,9 +28,9 @@ returns-in-Ok-load-clause-one g c = λ told shelf.
     let t = task_parts c.in-Ok.task in
     let course : State → Course = task_course (g.S.Shelf.paths c.args.shelf.now) c.args.now t in
     let ended = c.change_on-ended.result in
-    let given = c.end_group.result.0.why in
-    let n = c.end_group.result.0.changes in
-    let ends = c.end_group.ensures.ends told in
+    let given = c.end_transaction.result.0.why in
+    let n = c.end_transaction.result.0.changes in
+    let ends = c.end_transaction.ensures.ends told in
     let looks = c.in-Ok-load.ensures.looks in
     let mid = overlay_below c.in-Ok-load.overlay in
     let ro = overlay_read D c.in-Ok-load.overlay in
@@ -40,7 +40,7 @@ returns-in-Ok-load-clause-one g c = λ told shelf.
     let asked = c.in-Ok.ensures.asked in
     let telling : IsTrue D.tells × (reads_shelf t ≡ true → IsTrue g.S.Shelf.tells) = (told, λ reads. shelf (sym (ap reads_shelf asked) ∙ reads)) in
     let laid = c.in-Ok-load.ensures.files told ∙ ap (λ (f : Files). with_file Log log f) (recovered.stands told) in
-    let worked = subst (λ (f : Files). WorkedWith (is_anew t) (changes_index t) course f new ended before now) laid (works.worked telling) in
+    let worked = subst (λ (f : Files). Work (is_anew t) (changes_index t) course f new ended before now) laid (works.worked telling) in
     let met = subst (λ (f : Files). LimitsBy (is_anew t) (IsLawful f.pkg f.idx) course f (why_of ended)) laid (works.limits telling) in
     let same = ap unlogged (below_same D first mid last ro rn looks works.runs.goes_on told)
     ∙ sym (shut_stands (D.files first) (recovered.closed told)) ∙ recovered.stands told in
@@ -49,23 +49,23 @@ returns-in-Ok-load-clause-one g c = λ told shelf.
     subst (λ (k : TaskParts). OneChange D k (task_course (g.S.Shelf.paths c.args.shelf.now) c.args.now k) given n c.args.disk final before now) asked
     (group_one D t course c.args.disk last final log new before now (g.met.D.Disk.as_read c.args.disk told) _ (recovered.says told)
     (below_run D first mid last ro rn looks works.runs.goes_on told c.args.disk (ReopensAsOneOf (images D c.args.disk)) (recovered.images told)) same as_read
-    ended given n worked met works.halted ends (c.end_group.ensures.log told))
+    ended given n worked met works.halted ends (c.end_transaction.ensures.log told))
 
 pub returns-in-Ok-load-clause-empty : goal.returns-in-Ok-load-clause-empty
 returns-in-Ok-load-clause-empty g c = λ told.
     let needs = needs_none (task_parts c.in-Ok.task) in
     let r = reopened (g.D.Disk.files c.recover.new.disk) in
     let ended = c.change_on-ended.result in
-    let given = c.end_group.result.0.why in
+    let given = c.end_transaction.result.0.why in
     subst (λ (t : TaskParts). EmptyBy (needs_none t) (reopened (g.D.Disk.files c.args.disk)) given) c.in-Ok.ensures.asked
     (subst (λ (f : Files). EmptyBy needs f given) (c.in-Ok-recover.ensures.stands told)
-    (group_empty needs r ended given c.end_group.result.0.changes (c.end_group.ensures.ends told).says
+    (group_empty needs r ended given c.end_transaction.result.0.changes (c.end_transaction.ensures.ends told).says
     (same_empty needs _ r (why_of ended) (ap (λ (f : Files). f.pkg) (c.in-Ok-load.ensures.files told)) (c.change_on-ended.ensures.works.empty told))))
 
 pub returns-in-Ok-load-clause-keeps : goal.returns-in-Ok-load-clause-keeps
 returns-in-Ok-load-clause-keeps g c =
     let D = g.D.Disk in
-    let said = c.end_group.ensures in
+    let said = c.end_transaction.ensures in
     let works = c.change_on-ended.ensures.works in
     let goes = g.met.D.Disk.follows_trans in
     let old = c.args.disk in
@@ -73,7 +73,7 @@ returns-in-Ok-load-clause-keeps g c =
     let mid = overlay_below c.in-Ok-load.overlay in
     let end = c.change_on-ended.new.disk in
     let last = overlay_below end in
-    let final = c.end_group.result.1 in
+    let final = c.end_transaction.result.1 in
     let start : D.faults old ≤ D.faults mid = omega (arith, c.in-Ok-recover.ensures.cause.later, c.in-Ok-load.ensures.cause.later) in
     let so_far : D.faults mid ≤ D.faults last = works.runs.goes_on.later in
     let later : D.faults last ≤ D.faults final = said.later in
@@ -93,7 +93,7 @@ returns-in-Ok-load-clause-keeps g c =
 pub returns-in-Ok-load-clause-streams : goal.returns-in-Ok-load-clause-streams
 returns-in-Ok-load-clause-streams g c =
     let streams = c.change_on-ended.ensures.streams in
-    let kept = c.end_group.ensures.kept in
+    let kept = c.end_transaction.ensures.kept in
     let out = streams.hands.out in
     let err = streams.hands.err in
     record {

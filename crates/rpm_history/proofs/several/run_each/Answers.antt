@@ -1,6 +1,6 @@
 use Rattle.std.proofs.Common.{◌≡◌, ℕ, List, [], ◌∷◌, ◌++◌, length, length-append, ◌+◌, ◌<◌, get_or, refl, sym, ap, ◌∙◌, subst, arith}
 use Rattle.std.specs.Prelude.{IsTrue}
-use Rattle.rpm_history.proofs.Vocabulary.{AreLawfulGroups, asks, Between, between, calls_of, course_of, given_on, images, InTurn, Line, LineIs, RunCall}
+use Rattle.rpm_history.proofs.Vocabulary.{AreLawfulDatabases, asks, Between, between, calls_of, course_of, given_on, images, InTurn, Line, LineIs, RunCall}
 use Rattle.rpm_history.proofs.Vocabulary.{TellsLines}
 use Rattle.rpm_history.proofs.Chained.{in_turn_more, lines_rise, lines_stand, lines_stay, lines_lead}
 use Rattle.rpm_history.proofs.Lined.{tells_calls, call_of, calls_more}
@@ -74,7 +74,7 @@ returns g c =
     let paths = S.paths c.args.shelf.now in
     let calls = calls_of lines outcomes in
     let tells = tells_calls S.tells lines outcomes in
-    let stand = λ (told : IsTrue D.tells) (shelf : TellsLines S.tells lines) (lawful : AreLawfulGroups (images D c.args.disk)).
+    let stand = λ (told : IsTrue D.tells) (shelf : TellsLines S.tells lines) (lawful : AreLawfulDatabases (images D c.args.disk)).
     lines_stand D told S O E paths (λ it. g.met.D.Disk.as_read it told) (λ it a b image le lt left. g.met.D.Disk.earlier it a b image told le lt left)
     calls _ _ (tells shelf) ran.1 lawful in
     record {

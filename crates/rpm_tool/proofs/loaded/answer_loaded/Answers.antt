@@ -1,5 +1,5 @@
 use Rattle.std.proofs.Common.{◌≡◌, ◌+◌, ◌≤◌, true, refl, sym, ap, ◌∙◌, subst, arith}
-use Rattle.rpm_tool.proofs.Vocabulary.{deed_of, DidPlain, Files, Idx, inner, is_of_streams, laid_files, log_state, Opened, Pkg, pkg_read, query_cost, read_to}
+use Rattle.rpm_tool.proofs.Vocabulary.{deed_of, PlainProgress, Files, Idx, inner, is_of_streams, laid_files, log_state, StoreAnswer, Pkg, pkg_read, query_cost, read_to}
 use Rattle.rpm_tool.proofs.Vocabulary.{reopened, shown, store, Units, unless_starved, Why}
 use Rattle.rpm_effects.specs.declared.answer.Why.TheVariants as why
 use Rattle.rpm_commit.specs.inner.Starved.{starved_streams}
@@ -32,11 +32,11 @@ returns-in-Ok-clause-went g c = λ told.
     let over' = now + end.spared.pkg in
     let pkg : (laid_files ov.held (g.D.Disk.files ov.below)).pkg ≡ file = ap (λ (f : Files). f.pkg) (c.in-Ok.ensures.files told) in
     let keeps = c.answer_unindexed-ended.ensures.looks.1.goes_on in
-    let opened : Opened (DidPlain tree words a file over over') (store file) ended old new =
-    subst (λ (u : Units). Opened (DidPlain tree words a u over over') (store u) ended old new) pkg (c.answer_unindexed-ended.ensures.went told) in
-    rw (c.release.ensures, c.unless_starved-why.ensures) (loaded_sound (DidPlain tree words a file start now) (store file) (log_state files.log) given old new
+    let opened : StoreAnswer (PlainProgress tree words a file over over') (store file) ended old new =
+    subst (λ (u : Units). StoreAnswer (PlainProgress tree words a u over over') (store u) ended old new) pkg (c.answer_unindexed-ended.ensures.went told) in
+    rw (c.release.ensures, c.unless_starved-why.ensures) (loaded_sound (PlainProgress tree words a file start now) (store file) (log_state files.log) given old new
     (c.in-Ok.ensures.says told)
-    (opened_as (DidPlain tree words a file over over') (DidPlain tree words a file start now) (store file) ended given old new
+    (opened_as (PlainProgress tree words a file over over') (PlainProgress tree words a file start now) (store file) ended given old new
     (λ s does. does_starved tree file s words a (λ for. now ≤ start + read_to file words a s for) old new asked c.is_starved.result ended
     (does_reads tree file s words a asked (λ for. over' ≤ over + read_to file words a s for) (λ for. now ≤ start + read_to file words a s for)
     (λ b le. below_reads start below now over over' (read_to file words a s b) (omega (arith, c.in-Ok.ensures.looks.reads.pkg)) le (keeps.reads Pkg))

@@ -1,6 +1,6 @@
-use Rattle.rpm_tool.proofs.Vocabulary.{always_keyed, asked_reaches, Bearer, blocks_cost, Damage, deed_of, DidPlain, DoesBy}
+use Rattle.rpm_tool.proofs.Vocabulary.{always_keyed, asked_reaches, Bearer, blocks_cost, Damage, deed_of, PlainProgress, RequestProgress}
 use Rattle.rpm_tool.proofs.Vocabulary.{Files, inner, is_indexed, looks_then}
-use Rattle.rpm_tool.proofs.Vocabulary.{no_index_rows, Opened, Pkg, pkg_read, reach_sum, reached_by, read_to, room, shown, store, Store, Units}
+use Rattle.rpm_tool.proofs.Vocabulary.{no_index_rows, StoreAnswer, Pkg, pkg_read, reach_sum, reached_by, read_to, room, shown, store, Store, Units}
 use Rattle.std.proofs.Common.{◌≡◌, ◌+◌, ◌-◌, ◌^◌, ◌≤◌, ◌||◌, false, Result, refl, sym, ap, ◌∙◌, subst, arith}
 use Rattle.rpm_effects.specs.declared.answer.Why.TheVariants as why
 use Rattle.rpm_print.specs.inner.Askable.{keeps_none}
@@ -45,10 +45,10 @@ returns-in-Ok-clause-went g c = λ told.
     let said = c.in-Ok.ensures in
     let read : Units → Bearer → Type 0 = λ u for. now ≤ between + reached_by (asked_reaches false u s words a) db for in
     let went = rw said.unindexed at (c.answer_opened.ensures.does.went told (no_index_rows db mid.pkg mid.idx said.unindexed)) in
-    subst (λ (r : Result Store Damage). Opened (DidPlain tree words a file start now) r given old new) (sym (said.store told))
+    subst (λ (r : Result Store Damage). StoreAnswer (PlainProgress tree words a file start now) r given old new) (sym (said.store told))
     (does_reads tree file s words a (deed_of a.mode) (read file) (λ for. now ≤ start + read_to file words a s for)
     (λ for le. omega (arith, le, said.reads told, store_by (asked_reaches false file s words a) db for)) given old new
-    (subst (λ (f : Files). DoesBy (deed_of a.mode) tree f.pkg s words a (read f.pkg) given old new) (said.looks.untouched told).same went))
+    (subst (λ (f : Files). RequestProgress (deed_of a.mode) tree f.pkg s words a (read f.pkg) given old new) (said.looks.untouched told).same went))
 
 pub returns-in-Ok-clause-reads : goal.returns-in-Ok-clause-reads
 returns-in-Ok-clause-reads g c = λ told.

@@ -2,7 +2,7 @@ use Rattle.std.proofs.Common.{◌≡◌, true, Result, subst}
 use Rattle.std.specs.Prelude.{IfErr}
 use Rattle.rpm_commit.proofs.Vocabulary.{is_halt, laid_files, overlay_below, overlay_held, Tally, unlogged, Why}
 use Rattle.rpm_commit.proofs.Ends.{release_ends}
-use Rattle.rpm_commit.proofs.changing.end_group.Goals as goal
+use Rattle.rpm_commit.proofs.changing.end_transaction.Goals as goal
 
 pub returns-in-Err-clause-ends : goal.returns-in-Err-clause-ends
 returns-in-Err-clause-ends g c = λ told.
