@@ -5,16 +5,13 @@ use std::fs;
 use std::os::unix::fs::FileExt;
 
 /// The bytes of a page.
-const SIZE: u64 = 4096;
+const SIZE: u64 = 512;
 
 /// How many pages are held at most. Each has one place, which the next one with that place takes.
-const MOST: usize = 256;
+const MOST: usize = 2048;
 
 /// How many reads come before the first page: who reads less holds none.
-const FEW: u32 = 12_000;
-
-/// A page's room is made in pieces of so many bytes, which are cheaper to fill.
-const PIECE: usize = 1024;
+const FEW: u32 = 2048;
 
 /// A page: where it begins in the file, and as many bytes from there as the file had.
 #[derive(Drop)]
@@ -37,8 +34,8 @@ impl Page {
     /// Makes this the page that begins at a byte. Where it can't be read it has no bytes.
     fn load(&mut self, file: &fs::File, start: u64) -> Result<(), AllocError> {
         self.filled = 0;
-        for _ in self.room.len() / PIECE..SIZE as usize / PIECE {
-            self.room.extend_from_slice(&[0; PIECE])?;
+        if self.room.is_empty() {
+            self.room.extend_from_slice(&[0; SIZE as usize])?;
         }
         if let Ok(count) = file.read_at(&mut self.room, start) {
             self.start = start;
