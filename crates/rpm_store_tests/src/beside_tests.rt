@@ -27,7 +27,8 @@ fn of_two_changes_one_goes_on(rt: HostRuntime) -> Result<(), Fail> {
     let mut first = RealDisk::new(rt.alloc(), &watched, "two", Purpose::Change)?;
     let begun = first.len(File::Pkg);
     let mut second = RealDisk::new(rt.alloc(), &watched, "two", Purpose::Change)?;
-    let refused = (second.len(File::Pkg), second.write_at(File::Log, 0, &UNIT));
+    let unread = second.len(File::Pkg);
+    let refused = second.write_at(File::Log, 0, &UNIT);
     let obstacle = second.obstacle();
     let written = first.write_at(File::Log, 0, &UNIT);
     drop(first);
@@ -36,7 +37,8 @@ fn of_two_changes_one_goes_on(rt: HostRuntime) -> Result<(), Fail> {
     fs::remove_dir_all(&rt, "two")?;
     assert!(rt;
         begun == Ok(1)
-            && refused == (Err(Failed), Err(Failed))
+            && unread == Err(Failed)
+            && refused == Err(Failed)
             && obstacle == Some(Obstacle::Busy)
             && written == Ok(())
             && length == Ok(1)
@@ -50,22 +52,26 @@ fn a_change_waits_for_questions_before_it_writes(rt: HostRuntime) -> Result<(), 
     let watched = Watched::new(&rt);
     let mut change = RealDisk::new(rt.alloc(), &watched, "asked", Purpose::Change)?;
     let mut question = RealDisk::new(rt.alloc(), &watched, "asked", Purpose::Plain)?;
-    let begun = (change.len(File::Pkg), question.len(File::Pkg));
+    let begun = change.len(File::Pkg);
+    let asked = question.len(File::Pkg);
     let refused = change.write_at(File::Log, 0, &UNIT);
     let obstacle = change.obstacle();
     let log = fs::read(&rt, "asked/Hlog.db")?;
     drop(question);
     let written = change.write_at(File::Log, 0, &UNIT);
     let mut late = RealDisk::new(rt.alloc(), &watched, "asked", Purpose::Plain)?;
-    let unanswered = (late.len(File::Pkg), late.obstacle());
+    let unanswered = late.len(File::Pkg);
+    let cause = late.obstacle();
     fs::remove_dir_all(&rt, "asked")?;
     assert!(rt;
-        begun == (Ok(1), Ok(1))
+        begun == Ok(1)
+            && asked == Ok(1)
             && refused == Err(Failed)
             && obstacle == Some(Obstacle::Busy)
             && log.is_empty()
             && written == Ok(())
-            && unanswered == (Err(Failed), Some(Obstacle::Busy))
+            && unanswered == Err(Failed)
+            && cause == Some(Obstacle::Busy)
     );
     Ok(())
 }
@@ -77,14 +83,16 @@ fn a_question_by_key_is_answered_beside_a_change(rt: HostRuntime) -> Result<(), 
     let mut change = RealDisk::new(rt.alloc(), &watched, "keyed", Purpose::Change)?;
     let begun = change.len(File::Pkg);
     let mut question = RealDisk::new(rt.alloc(), &watched, "keyed", Purpose::Keyed)?;
-    let read = (question.sync(File::Pkg), question.len(File::Pkg));
+    let synced = question.sync(File::Pkg);
+    let read = question.len(File::Pkg);
     // It has no right to write while the change goes on.
     let refused = question.write_at(File::Idx, 0, &UNIT);
     let is_made = fs::exists(&rt, "keyed/Hindex.db")?;
     fs::remove_dir_all(&rt, "keyed")?;
     assert!(rt;
         begun == Ok(1)
-            && read == (Ok(()), Ok(1))
+            && synced == Ok(())
+            && read == Ok(1)
             && refused == Err(Failed)
             && question.obstacle() == Some(Obstacle::Busy)
             && !is_made
@@ -132,14 +140,13 @@ fn nothing_is_written_through_a_link(rt: HostRuntime) -> Result<(), Fail> {
         let mut disk = RealDisk::new(rt.alloc(), &rt, "odd", Purpose::Change)?;
         // A link is read, and each write of the log is refused, since all files would have to be written after it.
         let read = disk.len(file);
-        let refused = (
-            disk.write_at(File::Log, 0, &[7; 16]),
-            disk.write_at(file, 0, &[7; 16]),
-        );
+        let unlogged = disk.write_at(File::Log, 0, &[7; 16]);
+        let refused = disk.write_at(file, 0, &[7; 16]);
         let target = fs::read(&rt, "target")?;
         are_right = are_right
             && read == Ok(1)
-            && refused == (Err(Failed), Err(Failed))
+            && unlogged == Err(Failed)
+            && refused == Err(Failed)
             && disk.obstacle() == Some(Obstacle::NoPlainFile(name))
             && target.as_slice() == UNIT.as_slice();
         fs::remove_dir_all(&rt, "odd")?;
@@ -184,9 +191,11 @@ fn another_kind_of_database_is_named(rt: HostRuntime) -> Result<(), Fail> {
         fs::write(&rt, format!(in alloc; "other/{other}")?.as_str(), b"")?;
         for &purpose in &PURPOSES {
             let mut disk = RealDisk::new(alloc, &rt, "other", purpose)?;
-            let refused = (disk.len(File::Pkg), disk.write_at(File::Log, 0, &UNIT));
+            let unread = disk.len(File::Pkg);
+            let refused = disk.write_at(File::Log, 0, &UNIT);
             are_right = are_right
-                && refused == (Err(Failed), Err(Failed))
+                && unread == Err(Failed)
+                && refused == Err(Failed)
                 && disk.obstacle() == Some(Obstacle::OtherDatabase(other))
                 && !fs::exists(&rt, "other/Hlog.db")?;
         }

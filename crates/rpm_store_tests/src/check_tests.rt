@@ -107,7 +107,7 @@ fn has_edges(graph: &Graph) -> bool {
         return false;
     }
     let (first, second) = (&graph.edges()[0], &graph.edges()[1]);
-    (first.from, first.to, second.from, second.to) == (1, 3, 4, 3)
+    first.from == 1 && first.to == 3 && second.from == 4 && second.to == 3
 }
 
 #[test]

@@ -96,7 +96,7 @@ const GROUPS: &[(&[(File, u16, u8)], Both, u64)] = &[
 ];
 
 // The first failing call, and the first moment, at which a change is neither whole nor absent. 0 is no call.
-fn other_stop(
+fn other_crash(
     alloc: Global,
     units: &[(File, u16, u8)],
     new: Both,
@@ -116,10 +116,10 @@ fn other_stop(
 }
 
 #[test]
-fn a_stop_leaves_a_change_whole_or_not_at_all(rt: HostRuntime) -> Result<(), AllocError> {
+fn a_crash_leaves_a_change_whole_or_not_at_all(rt: HostRuntime) -> Result<(), AllocError> {
     let mut other = None;
     for &(units, files, calls) in GROUPS {
-        other = other.or(other_stop(rt.alloc(), units, files, calls)?);
+        other = other.or(other_crash(rt.alloc(), units, files, calls)?);
     }
     assert_eq!(rt; other, None);
     Ok(())
@@ -142,7 +142,7 @@ fn other_recovery(alloc: Global) -> Result<Option<(u64, Option<u64>)>, AllocErro
 }
 
 #[test]
-fn a_stop_while_recovering_is_recovered(rt: HostRuntime) -> Result<(), AllocError> {
+fn a_crash_while_recovering_is_recovered(rt: HostRuntime) -> Result<(), AllocError> {
     let other = other_recovery(rt.alloc())?;
     assert_eq!(rt; other, None);
     Ok(())
@@ -176,7 +176,7 @@ fn written(alloc: Global, units: &[(File, u16, u8)]) -> Result<(bool, u64, MemDi
 #[test]
 fn a_change_is_written_run_by_run(rt: HostRuntime) -> Result<(), AllocError> {
     let alloc = rt.alloc();
-    // nothing is held but of the log: only the three files are settled
+    // nothing is held but of the log: only the three files are durable
     let none = written(alloc, &[])?;
     let log = written(alloc, &[(File::Log, 3, 4)])?;
     let runs = written(alloc, RUNS)?;

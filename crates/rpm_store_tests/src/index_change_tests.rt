@@ -75,7 +75,7 @@ fn images_agree(alloc: Global, disk: &MemDisk, moment: u64, last: u32) -> Result
 
 // Whether the changes up to this generation fail exactly where this call of the disk does, and each image agrees with
 // it. 0 is no call.
-fn stops_well(alloc: Global, last: u32, failing: u64) -> Result<bool, AllocError> {
+fn crashes_well(alloc: Global, last: u32, failing: u64) -> Result<bool, AllocError> {
     let mut disk = MemDisk::new(alloc, &[], &[], &[])?;
     disk.fail_call(failing)?;
     let done = written(alloc, &mut disk, last)?;
@@ -91,10 +91,10 @@ fn stops_well(alloc: Global, last: u32, failing: u64) -> Result<bool, AllocError
 }
 
 // The first generation and the first failing call that leave another index.
-fn other_stop(alloc: Global) -> Result<Option<(u32, u64)>, AllocError> {
+fn other_crash(alloc: Global) -> Result<Option<(u32, u64)>, AllocError> {
     for last in 1..4 {
         for failing in 0..56 {
-            if !stops_well(alloc, last, failing)? {
+            if !crashes_well(alloc, last, failing)? {
                 return Ok(Some((last, failing)));
             }
         }
@@ -103,8 +103,8 @@ fn other_stop(alloc: Global) -> Result<Option<(u32, u64)>, AllocError> {
 }
 
 #[test]
-fn each_call_stops_and_fails_in_turn(rt: HostRuntime) -> Result<(), AllocError> {
-    let other = other_stop(rt.alloc())?;
+fn each_call_crashes_and_fails_in_turn(rt: HostRuntime) -> Result<(), AllocError> {
+    let other = other_crash(rt.alloc())?;
     assert_eq!(rt; other, None);
     Ok(())
 }

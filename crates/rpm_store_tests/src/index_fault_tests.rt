@@ -78,12 +78,9 @@ fn other_fault(alloc: Global) -> Result<Option<(usize, u8)>, AllocError> {
         let passed = key_fault(alloc, &mut disk, b"ef")?;
         let fault = Some(PrepareFault::BadIndex { unit });
         let front = if is_met { fault } else { None };
-        if (found, dropped, passed)
-            != (
-                Err(Some(FindFault::BadIndex { unit })),
-                Some(fault),
-                Some(front),
-            )
+        if found != Err(Some(FindFault::BadIndex { unit }))
+            || dropped != Some(fault)
+            || passed != Some(front)
         {
             return Ok(Some((at, byte)));
         }

@@ -10,7 +10,7 @@ mod commit_tests;
 #[cfg(test)]
 mod db_change_tests;
 #[cfg(test)]
-mod db_stop_tests;
+mod db_crash_tests;
 #[cfg(test)]
 mod db_tests;
 #[cfg(test)]
@@ -36,6 +36,6 @@ mod select_tests;
 #[cfg(test)]
 mod store_change_tests;
 #[cfg(test)]
-mod store_stop_tests;
+mod store_crash_tests;
 #[cfg(test)]
 mod watched;

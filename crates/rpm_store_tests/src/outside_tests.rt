@@ -7,7 +7,7 @@ use rpm_outside::{
 };
 use std::alloc::{AllocError, Global};
 
-// A disk of two units, the second of which is written over, and one after it; and then two files are settled.
+// A disk of two units, the second of which is written over, and one after it; and then two files are durable.
 fn written(alloc: Global) -> Result<MemDisk, AllocError> {
     let mut disk = MemDisk::new(alloc, &[1; 32], &[], &[])?;
     let _ = disk.write_at(File::Pkg, 1, &[2; 32]);
@@ -51,7 +51,7 @@ fn other_image(alloc: Global, disk: &MemDisk) -> Result<Option<usize>, AllocErro
 }
 
 #[test]
-fn a_stop_leaves_old_or_new_units(rt: HostRuntime) -> Result<(), AllocError> {
+fn a_crash_leaves_old_or_new_units(rt: HostRuntime) -> Result<(), AllocError> {
     let disk = written(rt.alloc())?;
     let other = other_image(rt.alloc(), &disk)?;
     let counts = (
@@ -75,25 +75,28 @@ fn a_named_call_fails_and_writes_the_first_half(rt: HostRuntime) -> Result<(), A
     let read = disk.read_at(File::Idx, 0, &mut unit);
     let none = disk.write_at(File::Idx, 9, &unit);
     let left = disk.copy_file(rt.alloc(), File::Idx)?;
-    let counts = (
+    let counts = [
         disk.now(),
         disk.faults(),
         disk.bytes_read(File::Idx),
         disk.bytes_read(File::Log),
-    );
-    let bytes = unit == [2; 16] && is_units(&left, &[2, 1]);
-    assert_eq!(rt;
-        (units, half, read, none, bytes, counts),
-        (Ok(2), Err(Failed), Ok(()), Err(Failed), true, (1, 2, 16, 0))
+    ];
+    assert!(rt;
+        units == Ok(2)
+            && half == Err(Failed)
+            && read == Ok(())
+            && none == Err(Failed)
+            && counts == [1, 2, 16, 0]
+            && unit == [2; 16]
+            && is_units(&left, &[2, 1])
     );
     Ok(())
 }
 
-// How many bytes a read of at most two bytes gives, and the first of them.
-fn taken(shelf: &mut MemShelf) -> (Result<usize, Failed>, u8) {
+// Whether a read of at most two bytes gives so many, of which this is the first.
+fn gives(shelf: &mut MemShelf, count: usize, first: u8) -> bool {
     let mut into = [0u8; 2];
-    let count = shelf.read(&mut into);
-    (count, into[0])
+    shelf.read(&mut into) == Ok(count) && into[0] == first
 }
 
 #[test]
@@ -102,21 +105,15 @@ fn a_shelf_gives_its_newest_item_once(rt: HostRuntime) -> Result<(), AllocError>
     shelf.put("a", b"old")?;
     shelf.put("-", b"input")?;
     shelf.put("a", b"new")?;
-    let absent = (shelf.open("b"), taken(&mut shelf));
-    let front = (shelf.open("a"), taken(&mut shelf));
+    let absent = shelf.open("b") == Err(Absent) && gives(&mut shelf, 0, 0);
+    let front = shelf.open("a") == Ok(()) && gives(&mut shelf, 2, b'n');
     shelf.fail_read(3);
-    let rest = (taken(&mut shelf), taken(&mut shelf), taken(&mut shelf));
-    let counts = (shelf.absences(), shelf.faults());
+    let failed = shelf.read(&mut [0u8; 2]) == Err(Failed);
+    let rest = gives(&mut shelf, 1, b'w') && gives(&mut shelf, 0, 0);
+    let counts = [shelf.absences(), shelf.faults()];
     shelf.at_most(1);
-    let single = (shelf.open("a"), taken(&mut shelf));
-    let expected = (
-        (Err(Absent), (Ok(0), 0)),
-        (Ok(()), (Ok(2), b'n')),
-        ((Err(Failed), 0), (Ok(1), b'w'), (Ok(0), 0)),
-        (Ok(()), (Ok(1), b'n')),
-        (1, 1),
-    );
-    assert!(rt; (absent, front, rest, single, counts) == expected);
+    let single = shelf.open("a") == Ok(()) && gives(&mut shelf, 1, b'n');
+    assert!(rt; absent && front && failed && rest && counts == [1, 1] && single);
     Ok(())
 }
 
@@ -127,13 +124,20 @@ fn a_sink_fails_after_its_limit(rt: HostRuntime) {
     sink.fail_after(3);
     let one = sink.write(b"cd");
     let none = put_all(&mut sink, b"d");
-    let counts = (sink.bytes().len(), sink.faults(), sink.starved());
+    let counts = [sink.bytes().len() as u64, sink.faults(), sink.starved()];
     sink.fail_after(9);
     sink.at_most(1);
-    let single = (sink.write(b"de"), put_all(&mut sink, b"e"));
-    let answers = (two, one, none, single);
-    let expected = (Ok(()), Ok(1), Err(Failed), (Ok(1), Ok(())));
-    assert!(rt; answers == expected && counts == (3, 1, 0) && sink.bytes() == b"abcde".as_slice());
+    let single = sink.write(b"de");
+    let last = put_all(&mut sink, b"e");
+    assert!(rt;
+        two == Ok(())
+            && one == Ok(1)
+            && none == Err(Failed)
+            && counts == [3, 1, 0]
+            && single == Ok(1)
+            && last == Ok(())
+            && sink.bytes() == b"abcde".as_slice()
+    );
 }
 
 const PIECES: [&[u8]; 4] = [&[1; 4000], &[2; 200], &[3; 4097], &[4; 4096]];

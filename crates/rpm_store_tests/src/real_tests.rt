@@ -12,18 +12,24 @@ fn a_disk_makes_its_files_by_writing_only(rt: HostRuntime) -> Result<(), Fail> {
     fs::create_dir_all(&rt, "written")?;
     let mut disk = RealDisk::new(rt.alloc(), &rt, "written", Purpose::Change)?;
     let mut unit = [0u8; 16];
-    let before = (disk.len(File::Idx), disk.read_at(File::Idx, 0, &mut unit));
+    let length = disk.len(File::Idx);
+    let before = disk.read_at(File::Idx, 0, &mut unit);
     let was_made = fs::exists(&rt, "written/Hindex.db")?;
-    let written = (disk.write_at(File::Idx, 2, &[7; 16]), disk.sync(File::Idx));
-    let behind = (disk.len(File::Idx), disk.read_at(File::Idx, 2, &mut unit));
+    let written = disk.write_at(File::Idx, 2, &[7; 16]);
+    let synced = disk.sync(File::Idx);
+    let longer = disk.len(File::Idx);
+    let behind = disk.read_at(File::Idx, 2, &mut unit);
     let bytes = unit;
     let past = disk.read_at(File::Idx, 3, &mut unit);
     fs::remove_dir_all(&rt, "written")?;
     assert!(rt;
-        before == (Ok(0), Err(Failed))
+        length == Ok(0)
+            && before == Err(Failed)
             && !was_made
-            && written == (Ok(()), Ok(()))
-            && behind == (Ok(3), Ok(()))
+            && written == Ok(())
+            && synced == Ok(())
+            && longer == Ok(3)
+            && behind == Ok(())
             && bytes == [7; 16]
             && past == Err(Failed)
     );
@@ -143,20 +149,26 @@ fn a_shelf_reads_files_and_sinks_write(rt: HostRuntime) -> Result<(), Fail> {
     fs::write(&rt, "item", "abc")?;
     let mut shelf = RealShelf::new(rt.alloc(), &rt);
     let mut into = [0u8; 8];
-    let absent = (shelf.open("no such item"), shelf.read(&mut into));
-    let opened = (shelf.open("item"), shelf.read(&mut into));
+    let absent = shelf.open("no such item");
+    let nothing = shelf.read(&mut into);
+    let opened = shelf.open("item");
+    let front = shelf.read(&mut into);
     let bytes = into;
-    let end = (shelf.read(&mut into), shelf.open("-"));
+    let end = shelf.read(&mut into);
+    let input = shelf.open("-");
     fs::remove_file(&rt, "item")?;
     let written = [
         RealSink::new(rt.stdout()).write(b"\n"),
         RealSink::new(rt.stderr()).write(b"\n"),
     ];
     assert!(rt;
-        absent == (Err(Absent), Ok(0))
-            && opened == (Ok(()), Ok(3))
+        absent == Err(Absent)
+            && nothing == Ok(0)
+            && opened == Ok(())
+            && front == Ok(3)
             && bytes == *b"abc\0\0\0\0\0"
-            && end == (Ok(0), Ok(()))
+            && end == Ok(0)
+            && input == Ok(())
             && written == [Ok(1), Ok(1)]
     );
     Ok(())

@@ -119,7 +119,7 @@ fn other_tally(alloc: Global, disk: &mut PlainDisk) -> Option<usize> {
         let indexed = tally(alloc, disk, &selection, true);
         let is_right = match (scanned, indexed) {
             (Some((a, b, most)), Some((c, d, read))) => {
-                (a, b, c, d) == (count, sum, count, sum) && read <= most
+                a == count && b == sum && c == count && d == sum && read <= most
             }
             _ => false,
         };

@@ -55,7 +55,7 @@ fn other_moment(alloc: Global) -> Result<Option<u64>, AllocError> {
 }
 
 #[test]
-fn a_stop_leaves_the_old_header_or_the_new_one(rt: HostRuntime) -> Result<(), AllocError> {
+fn a_crash_leaves_the_old_header_or_the_new_one(rt: HostRuntime) -> Result<(), AllocError> {
     let other = other_moment(rt.alloc())?;
     assert_eq!(rt; other, None);
     Ok(())

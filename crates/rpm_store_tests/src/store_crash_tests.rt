@@ -90,7 +90,7 @@ fn images_are_either(
 }
 
 // The first moment of a change of which an image has neither state.
-fn first_stop(
+fn first_crash(
     alloc: Global,
     file: &[u8],
     change: Change,
@@ -147,10 +147,10 @@ fn other_change(
 ) -> Result<Option<(usize, Option<u64>, Option<u64>)>, AllocError> {
     for (row, change) in changes.iter().enumerate() {
         let both = both_of(alloc, file, *change)?;
-        let stop = first_stop(alloc, file, *change, both)?;
+        let crash = first_crash(alloc, file, *change, both)?;
         let fault = first_fault(alloc, file, *change, both)?;
-        if stop.is_some() || fault.is_some() {
-            return Ok(Some((row, stop, fault)));
+        if crash.is_some() || fault.is_some() {
+            return Ok(Some((row, crash, fault)));
         }
     }
     Ok(None)
@@ -166,7 +166,7 @@ const CHANGES: &[Change] = &[
 ];
 
 #[test]
-fn each_stop_and_fault_leaves_the_packages_before_or_after(
+fn each_crash_and_fault_leaves_the_packages_before_or_after(
     rt: HostRuntime,
 ) -> Result<(), AllocError> {
     let alloc = rt.alloc();
